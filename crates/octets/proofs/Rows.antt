@@ -1,0 +1,52 @@
+-- Laws of refusal rows: `passes` hands out the fact of the row with a given number, whatever stands around it.
+use mathlib.Core.Path.{_≡_, refl, _∙_}
+use mathlib.Core.Logic.{_⊎_, inl, inr}
+use mathlib.Core.Bool.{Bool, true, false, cond, true≢false, false≢true}
+use mathlib.Core.List.{List, [], _∷_, _++_}
+use mathlib.Core.Option.{Option, none, some}
+use Prim.Native.Nat.{ℕ}
+use lib.Dec.{eqb}
+use Rattle.octets.specs.Rows.{Row, pickRow, refusal}
+use Rattle.octets.proofs.Bools.{some-none, bool-cases}
+
+pub pick-none : (b : Bool) (k : ℕ) (r : Option ℕ) → pickRow b k r ≡ none → (b ≡ false) × (r ≡ none)
+unfolding pickRow
+pick-none true k r e = absurd (some-none e)
+pick-none false k r e = (refl, e)
+
+pub pick-false : (b : Bool) (k : ℕ) (r : Option ℕ) → b ≡ false → pickRow b k r ≡ r
+unfolding pickRow
+pick-false true k r e = absurd (true≢false e)
+pick-false false k r e = refl
+
+pub pick-true : (b : Bool) (k : ℕ) (r : Option ℕ) → b ≡ true → pickRow b k r ≡ some k
+unfolding pickRow
+pick-true true k r e = refl
+pick-true false k r e = absurd (false≢true e)
+
+-- the test of the row with the number k
+abbrev pub testOf : ℕ → List Row → Bool
+testOf k [] = false
+testOf k (r ∷ rs) = cond (eqb k (r .number)) (r .holds) (testOf k rs)
+
+-- where no row holds, the row of each number does not: read off by number, whatever stands around it
+pub passes : (k : ℕ) (rs : List Row) → refusal rs ≡ none → testOf k rs ≡ false
+passes k [] e = refl
+passes k (r ∷ rs) e =
+    let w = pick-none (r .holds) (r .number) (refusal rs) e in go (bool-cases (eqb k (r .number))) (w .0) (passes k rs (w .1))
+  where
+    go : (eqb k (r .number) ≡ true) ⊎ (eqb k (r .number) ≡ false) → r .holds ≡ false → testOf k rs ≡ false → testOf k (r ∷ rs) ≡ false
+    go (inl q) a b = rw q a
+    go (inr q) a b = rw q b
+
+pub refusal-append : (rs qs : List Row) → refusal rs ≡ none → refusal (rs ++ qs) ≡ refusal qs
+refusal-append [] qs e = refl
+refusal-append (r ∷ rs) qs e =
+    let w = pick-none (r .holds) (r .number) (refusal rs) e in pick-false (r .holds) (r .number) (refusal (rs ++ qs)) (w .0) ∙ refusal-append rs qs (w .1)
+
+pub refusal-before : (rs qs : List Row) → refusal (rs ++ qs) ≡ none → (refusal rs ≡ none) × (refusal qs ≡ none)
+refusal-before [] qs e = (refl, e)
+refusal-before (r ∷ rs) qs e =
+    let w = pick-none (r .holds) (r .number) (refusal (rs ++ qs)) e in
+    let v = refusal-before rs qs (w .1) in
+    (pick-false (r .holds) (r .number) (refusal rs) (w .0) ∙ v .0, v .1)

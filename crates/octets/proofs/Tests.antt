@@ -1,0 +1,105 @@
+-- Laws of tests over lists: at an index, from every index, and along a loop.
+use mathlib.Core.Path.{_≡_, refl, ap, _∙_}
+use mathlib.Core.Logic.{_⊎_, inl, inr}
+use mathlib.Core.Bool.{Bool, true, false, true≢false, false≢true}
+use mathlib.Core.List.{List, [], _∷_}
+use Prim.Native.Nat.{ℕ, zero, suc, _+_, _≤_, _<_, zero-le, suc-le-suc}
+use native.Mathlib.Nat.{le-of-suc-le-suc, not-suc-le-zero, zero-lt-suc}
+use native.Mathlib.Numerals.{add-one}
+use lib.ListN.{length, getD, drop, drop-of-length-le}
+use lib.Seq.{drop-cons}
+use Rattle.octets.specs.Tests.{_and_, _or_, all, any, pairs, findIx}
+use Rattle.octets.proofs.Bools.{and-l, and-r, and-i, or-cases, or-il, or-ir, or-false-l, or-false-r, or-false-i, or-skip, bool-cases}
+
+module _ {A : Type 0} where
+  pub all-get : (p : A → Bool) (xs : List A) (d : A) → all p xs ≡ true → (i : ℕ) → i < length xs → p (getD xs i d) ≡ true
+  all-get p [] d e i h = absurd (not-suc-le-zero h)
+  all-get p (x ∷ xs) d e zero h = and-l _ _ e
+  all-get p (x ∷ xs) d e (suc i) h = all-get p xs d (and-r _ _ e) i (le-of-suc-le-suc h)
+
+  pub all-make : (p : A → Bool) (xs : List A) (d : A) → ((i : ℕ) → i < length xs → p (getD xs i d) ≡ true) → all p xs ≡ true
+  all-make p [] d f = refl
+  all-make p (x ∷ xs) d f = and-i _ _ (f zero (zero-lt-suc _)) (all-make p xs d (λ i h. f (suc i) (suc-le-suc h)))
+
+  pub any-get : (p : A → Bool) (xs : List A) (d : A) → any p xs ≡ true → (i : ℕ) × (i < length xs) × (p (getD xs i d) ≡ true)
+  any-get p [] d e = absurd (false≢true e)
+  any-get p (x ∷ xs) d e = go (or-cases (p x) (any p xs) e) (any-get p xs d)
+    where
+      go : (p x ≡ true) ⊎ (any p xs ≡ true) → (any p xs ≡ true → (i : ℕ) × (i < length xs) × (p (getD xs i d) ≡ true))
+          → (i : ℕ) × (i < suc (length xs)) × (p (getD (x ∷ xs) i d) ≡ true)
+      go (inl q) ih = (zero, zero-lt-suc _, q)
+      go (inr q) ih = let r = ih q in (suc (r .0), suc-le-suc (r .1), r .2)
+
+  pub any-make : (p : A → Bool) (xs : List A) (d : A) (i : ℕ) → i < length xs → p (getD xs i d) ≡ true → any p xs ≡ true
+  any-make p [] d i h e = absurd (not-suc-le-zero h)
+  any-make p (x ∷ xs) d zero h e = or-il _ _ e
+  any-make p (x ∷ xs) d (suc i) h e = or-ir _ _ (any-make p xs d i (le-of-suc-le-suc h) e)
+
+  pub any-none : (p : A → Bool) (xs : List A) (d : A) → any p xs ≡ false → (i : ℕ) → i < length xs → p (getD xs i d) ≡ false
+  any-none p [] d e i h = absurd (not-suc-le-zero h)
+  any-none p (x ∷ xs) d e zero h = or-false-l _ _ e
+  any-none p (x ∷ xs) d e (suc i) h = any-none p xs d (or-false-r _ _ e) i (le-of-suc-le-suc h)
+
+  pub any-false : (p : A → Bool) (xs : List A) (d : A) → ((i : ℕ) → i < length xs → p (getD xs i d) ≡ false) → any p xs ≡ false
+  any-false p [] d f = refl
+  any-false p (x ∷ xs) d f = or-false-i _ _ (f zero (zero-lt-suc _)) (any-false p xs d (λ i h. f (suc i) (suc-le-suc h)))
+
+  pub pairs-get : (r : A → A → Bool) (xs : List A) (d : A) → pairs r xs ≡ true
+      → (i j : ℕ) → i < j → j < length xs → r (getD xs i d) (getD xs j d) ≡ true
+  pairs-get r [] d e i j h k = absurd (not-suc-le-zero k)
+  pairs-get r (x ∷ xs) d e i zero h k = absurd (not-suc-le-zero h)
+  pairs-get r (x ∷ xs) d e zero (suc j) h k = all-get (r x) xs d (and-l _ _ e) j (le-of-suc-le-suc k)
+  pairs-get r (x ∷ xs) d e (suc i) (suc j) h k = pairs-get r xs d (and-r _ _ e) i j (le-of-suc-le-suc h) (le-of-suc-le-suc k)
+
+  pub pairs-make : (r : A → A → Bool) (xs : List A) (d : A)
+      → ((i j : ℕ) → i < j → j < length xs → r (getD xs i d) (getD xs j d) ≡ true) → pairs r xs ≡ true
+  pairs-make r [] d f = refl
+  pairs-make r (x ∷ xs) d f =
+      and-i _ _ (all-make (r x) xs d (λ j h. f zero (suc j) (zero-lt-suc _) (suc-le-suc h)))
+        (pairs-make r xs d (λ i j h k. f (suc i) (suc j) (suc-le-suc h) (suc-le-suc k)))
+
+  pub findIx-get : (p : A → Bool) (xs : List A) (d : A) → any p xs ≡ true → (findIx p xs < length xs) × (p (getD xs (findIx p xs) d) ≡ true)
+  findIx-get p [] d e = absurd (false≢true e)
+  findIx-get p (x ∷ xs) d e = go (bool-cases (p x)) (findIx-get p xs d)
+    where
+      go : (p x ≡ true) ⊎ (p x ≡ false) → (any p xs ≡ true → (findIx p xs < length xs) × (p (getD xs (findIx p xs) d) ≡ true))
+          → (findIx p (x ∷ xs) < suc (length xs)) × (p (getD (x ∷ xs) (findIx p (x ∷ xs)) d) ≡ true)
+      go (inl q) ih = rw (q, findIx) (zero-lt-suc _, q)
+      go (inr q) ih = rw (q, findIx) (let r = ih (or-skip _ _ q e) in (suc-le-suc (r .0), r .1))
+
+  -- ---- a loop against `all`, `any` and `pairs`: the rest decides. On: the element at i is passed over; stop: it decides; done: nothing is left
+
+  pub all-on : (p : A → Bool) (xs : List A) (d : A) (i : ℕ) → i < length xs → p (getD xs i d) ≡ true → all p (drop i xs) ≡ all p (drop (i + 1) xs)
+  unfolding _and_
+  all-on p xs d i h e = rw (drop-cons xs i d, e, add-one)
+
+  pub all-stop : (p : A → Bool) (xs : List A) (d : A) (i : ℕ) → i < length xs → p (getD xs i d) ≡ false → all p (drop i xs) ≡ false
+  unfolding _and_
+  all-stop p xs d i h e = rw (drop-cons xs i d, e)
+
+  pub all-done : (p : A → Bool) (xs : List A) (i : ℕ) → length xs ≤ i → all p (drop i xs) ≡ true
+  all-done p xs i h = rw (drop-of-length-le xs {i = i} h)
+
+  pub any-on : (p : A → Bool) (xs : List A) (d : A) (i : ℕ) → i < length xs → p (getD xs i d) ≡ false → any p (drop i xs) ≡ any p (drop (i + 1) xs)
+  unfolding _or_
+  any-on p xs d i h e = rw (drop-cons xs i d, e, add-one)
+
+  pub any-stop : (p : A → Bool) (xs : List A) (d : A) (i : ℕ) → i < length xs → p (getD xs i d) ≡ true → any p (drop i xs) ≡ true
+  unfolding _or_
+  any-stop p xs d i h e = rw (drop-cons xs i d, e)
+
+  pub any-done : (p : A → Bool) (xs : List A) (i : ℕ) → length xs ≤ i → any p (drop i xs) ≡ false
+  any-done p xs i h = rw (drop-of-length-le xs {i = i} h)
+
+  pub pairs-on : (r : A → A → Bool) (xs : List A) (d : A) (i : ℕ) → i < length xs → all (r (getD xs i d)) (drop (i + 1) xs) ≡ true
+      → pairs r (drop i xs) ≡ pairs r (drop (i + 1) xs)
+  unfolding _and_
+  pairs-on r xs d i h e = rw (drop-cons xs i d, ← add-one i, e, add-one)
+
+  pub pairs-stop : (r : A → A → Bool) (xs : List A) (d : A) (i : ℕ) → i < length xs → all (r (getD xs i d)) (drop (i + 1) xs) ≡ false
+      → pairs r (drop i xs) ≡ false
+  unfolding _and_
+  pairs-stop r xs d i h e = rw (drop-cons xs i d, ← add-one i, e)
+
+  pub pairs-done : (r : A → A → Bool) (xs : List A) (i : ℕ) → length xs ≤ i → pairs r (drop i xs) ≡ true
+  pairs-done r xs i h = rw (drop-of-length-le xs {i = i} h)
