@@ -52,4 +52,4 @@ module _ (w : ℕ) where
       let d : length (drop w xs) ≡ k * w = length-drop w xs ∙ omega arith in
       let t : length (take w xs) ≡ w = length-take-le w xs (omega arith) in
       ap₂ _∷_ (take-at (take w xs) (putChunk w i e (drop w xs)) w t)
-        (ap (chunks w k) (drop-at (take w xs) (putChunk w i e (drop w xs)) w t) ∙ chunks-put k i e (drop w xs) le (le-of-suc-le-suc h) d)
+      (ap (chunks w k) (drop-at (take w xs) (putChunk w i e (drop w xs)) w t) ∙ chunks-put k i e (drop w xs) le (le-of-suc-le-suc h) d)

@@ -38,6 +38,9 @@ same-false xs ys f = go (same xs ys) refl
     go true e = absurd (f (same-true xs ys e))
     go false e = refl
 
+pub same-length : (xs ys : List ℕ) → (length xs ≡ length ys → ⊥) → same xs ys ≡ false
+same-length xs ys f = same-false xs ys (λ e. f (ap length e))
+
 pub same-append : (xs us vs : List ℕ) → same (xs ++ us) (xs ++ vs) ≡ same us vs
 unfolding same _and_
 same-append [] us vs = refl
@@ -76,15 +79,18 @@ same-done i xs ys h k = rw (drop-of-length-le xs {i = i} h, drop-of-length-le ys
 
 -- fields of one width are equal exactly where their bytes are
 module _ (i n : ℕ) (xs ys : List ℕ) (h : i + n ≤ length xs) (k : i + n ≤ length ys)
-    (f : (j : ℕ) → getD xs j 0 < 256) (g : (j : ℕ) → getD ys j 0 < 256) where
+    (f : (j : ℕ) → j < length xs → getD xs j 0 < 256) (g : (j : ℕ) → j < length ys → getD ys j 0 < 256) where
   pub field-same : field i n xs ≡ field i n ys → part i n xs ≡ part i n ys
   field-same e =
       let a = length-part xs i n h in
       let b = length-part ys i n k in
       unle-inj (part i n xs) (part i n ys) (a ∙ sym b)
-      (λ j l. rw (getD-part xs i n j (omega (arith, l, a))) (f (i + j)))
-      (λ j l. rw (getD-part ys i n j (omega (arith, l, b))) (g (i + j)))
+      (λ j l. rw (getD-part xs i n j (omega (arith, l, a))) (f (i + j) (omega (arith, l, a))))
+      (λ j l. rw (getD-part ys i n j (omega (arith, l, b))) (g (i + j) (omega (arith, l, b))))
       e
+
+pub field-differ : (i n : ℕ) (xs ys : List ℕ) (x y : ℕ) → x ≡ field i n xs → y ≡ field i n ys → (x ≡ y → ⊥) → part i n xs ≡ part i n ys → ⊥
+field-differ i n xs ys x y p q f e = f (p ∙ ap unle e ∙ sym q)
 
 -- ---- the zero test
 

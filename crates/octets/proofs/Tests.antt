@@ -56,7 +56,7 @@ module _ {A : Type 0} where
   pairs-make r [] d f = refl
   pairs-make r (x ∷ xs) d f =
       and-i _ _ (all-make (r x) xs d (λ j h. f zero (suc j) (zero-lt-suc _) (suc-le-suc h)))
-        (pairs-make r xs d (λ i j h k. f (suc i) (suc j) (suc-le-suc h) (suc-le-suc k)))
+      (pairs-make r xs d (λ i j h k. f (suc i) (suc j) (suc-le-suc h) (suc-le-suc k)))
 
   pub findIx-get : (p : A → Bool) (xs : List A) (d : A) → any p xs ≡ true → (findIx p xs < length xs) × (p (getD xs (findIx p xs) d) ≡ true)
   findIx-get p [] d e = absurd (false≢true e)

@@ -42,9 +42,11 @@ loop-again : tie.Need-loop-again Inv-loop μ-loop
 loop-again c =
     let t = c .before .before .before .args in
     let l = c .before .before .loop in
-    let h : l .i < length (now (t .src)) = omega arith in
-    (omega arith, simp length-set (l .inv .1),
-    rw (add-one, take-suc (now (t .src)) (l .i) 0, put-snoc, length-take-le (l .i) (now (t .src)) (omega arith), ← l .inv .2))
+    let h : l .i < length (now (t .src)) = omega arith in (
+      omega arith,
+      simp length-set (l .inv .1),
+      rw (add-one, take-suc (now (t .src)) (l .i) 0, put-snoc, length-take-le (l .i) (now (t .src)) (omega arith), ← l .inv .2),
+    )
 
 same-length : tie.Need-same-length Inv-loop μ-loop
 same-length c = search needs

@@ -25,7 +25,7 @@ load64-requires : tie.Need-load64-requires Inv-loop μ-loop
 load64-requires c κs = search needs
 
 returns : tie.Need-returns Inv-loop μ-loop
-returns c = 
+returns c =
     let s = now (c .before .before .before .before .before .args .s) in
     let l = c .before .before .before .loop in
     sym (l .inv .1 ∙ zero-stop (l .i) 8 s (λ z. c .if1 .taken (c .before .load64 .ensures ∙ z)))
@@ -37,7 +37,7 @@ loop-less : tie.Need-loop-less Inv-loop μ-loop
 loop-less c = search needs
 
 loop-again : tie.Need-loop-again Inv-loop μ-loop
-loop-again c = 
+loop-again c =
     let s = now (c .before .before .before .before .before .args .s) in
     let l = c .before .before .before .loop in
     (omega arith, l .inv .1 ∙ zero-on (l .i) 8 s (omega arith) (sym (c .before .load64 .ensures) ∙ c .if1 .left))

@@ -1,59 +1,69 @@
+use mathlib.Core.Path.{_≡_, sym, _∙_}
+use Prim.Native.Nat.{ℕ, _≤_, _<_, _-_, _+_}
+use native.Mathlib.Omega.{arith}
+use lib.ListN.{length, getD, drop}
+use denote.Ref.{now}
+use borrow.Author.Needs.{needs}
+use Rattle.octets.specs.Bytes.{same, part}
+use Rattle.octets.proofs.Equal.{same-on, same-stop, same-length, field-same, field-differ}
 use Rattle.octets.proofs.same.Statement.{statement}
 use Rattle.octets.proofs.same.Tie as tie
-use Rattle.octets.proofs.same.Reads as reads
-use Rattle.octets.proofs.same.Lts as lts
-use Rattle.octets.proofs.load64.Reads as load64-reads
-use Rattle.octets.proofs.same_from.Reads as same-from-reads
 
 abbrev Inv-loop : tie.InvT-loop
-Inv-loop a b i₀ i = ?
+Inv-loop a b i₀ i = (i ≤ length a) × (length a ≡ length b) × (same a b ≡ same (drop i a) (drop i b))
 
 abbrev μ-loop : tie.MeasureT-loop
-μ-loop a b i₀ i = ?
+μ-loop a b i₀ i = length a - i
 
--- src/lib.rt:102:9
 returns : tie.Need-returns Inv-loop μ-loop
-returns c = ?
+returns c = sym (same-length _ _ (c .if1 .taken))
 
--- src/lib.rt:105:5
 loop-holds : tie.Need-loop-holds Inv-loop μ-loop
-loop-holds c = ?
+loop-holds c = search needs
 
--- src/lib.rt:105:16
 sub-loop : tie.Need-sub-loop Inv-loop μ-loop
-sub-loop c = ?
+sub-loop c = search needs
 
--- src/lib.rt:106:12
 load64-requires : tie.Need-load64-requires Inv-loop μ-loop
-load64-requires c κs = ?
+load64-requires c κs = search needs
 
--- src/lib.rt:106:28
 load64-requires-2 : tie.Need-load64-requires-2 Inv-loop μ-loop
-load64-requires-2 c κs = ?
+load64-requires-2 c κs = search needs
 
--- src/lib.rt:107:13
 returns-2 : tie.Need-returns-2 Inv-loop μ-loop
-returns-2 c = ?
+returns-2 c =
+    let t = c .before .before .before .before .before .before .before .before .args in
+    let l = c .before .before .before .before .loop in
+    sym
+    (l .inv .2
+    ∙ same-stop (l .i) 8 (now (t .a)) (now (t .b))
+    (field-differ (l .i) 8 (now (t .a)) (now (t .b)) _ _ (c .before .before .load64 .ensures) (c .before .load642 .ensures) (c .if2 .taken)))
 
--- src/lib.rt:109:9
 add-i : tie.Need-add-i Inv-loop μ-loop
-add-i c = ?
+add-i c = search needs
 
--- src/lib.rt:105:5
 loop-less : tie.Need-loop-less Inv-loop μ-loop
-loop-less c = ?
+loop-less c = search needs
 
--- src/lib.rt:105:5
 loop-again : tie.Need-loop-again Inv-loop μ-loop
-loop-again c = ?
+loop-again c =
+    let t = c .before .before .before .before .before .before .before .before .args in
+    let l = c .before .before .before .before .loop in (
+      omega arith,
+      l .inv .1,
+      l .inv .2
+          ∙ same-on (l .i) 8 (now (t .a)) (now (t .b))
+          (field-same (l .i) 8 (now (t .a)) (now (t .b)) (omega arith) (omega arith)
+          (λ j h. c .before .before .before .before .before .before .before .shared-slice-known .given j .fits)
+          (λ j h. c .before .before .before .before .before .before .shared-slice-known2 .given j .fits)
+          (sym (c .before .before .load64 .ensures) ∙ c .if2 .left ∙ c .before .load642 .ensures)),
+    )
 
--- src/lib.rt:111:5
 same-from-requires : tie.Need-same-from-requires Inv-loop μ-loop
-same-from-requires c κs = ?
+same-from-requires c κs = search needs
 
--- src/lib.rt:98:1
 returns-3 : tie.Need-returns-3 Inv-loop μ-loop
-returns-3 c = ?
+returns-3 c = c .same-from .ensures ∙ sym (c .before .before .loop .inv .2)
 
 pub same-spec : {M : Type 1} → statement M
 same-spec =

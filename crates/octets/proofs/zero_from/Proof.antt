@@ -24,7 +24,7 @@ shared-slice-read-if1 : tie.Need-shared-slice-read-if1 Inv-loop μ-loop
 shared-slice-read-if1 c = search needs
 
 returns : tie.Need-returns Inv-loop μ-loop
-returns c = 
+returns c =
     let s = now (c .before .before .before .before .args .s) in
     let l = c .before .before .before .loop in
     sym (l .inv .1 ∙ all-stop (eqb 0) s 0 (l .i) (omega arith) (ne-eqb 0 (getD s (l .i) 0) (λ e. c .if1 .taken (sym e))))
@@ -36,13 +36,13 @@ loop-less : tie.Need-loop-less Inv-loop μ-loop
 loop-less c = search needs
 
 loop-again : tie.Need-loop-again Inv-loop μ-loop
-loop-again c = 
+loop-again c =
     let s = now (c .before .before .before .before .args .s) in
     let l = c .before .before .before .loop in
     (search needs, l .inv .1 ∙ all-on (eqb 0) s 0 (l .i) (omega arith) (eq-eqb 0 (getD s (l .i) 0) (sym (c .if1 .left))))
 
 returns-2 : tie.Need-returns-2 Inv-loop μ-loop
-returns-2 c = 
+returns-2 c =
     let s = now (c .before .before .args .s) in
     sym (c .before .loop .inv .1 ∙ all-done (eqb 0) s (c .before .loop .i) (omega arith))
 
