@@ -1,0 +1,59 @@
+use denote.Ref.{now}
+use mathlib.Core.Path.{_∙_}
+use native.Mathlib.Omega.{arith}
+use borrow.Author.Needs.{needs}
+use Rattle.crc_lanes.proofs.Digits.{eight-bytes, sum-steps}
+use Rattle.crc_lanes.proofs.far_word.Statement.{statement}
+use Rattle.crc_lanes.proofs.far_word.Tie as tie
+
+far-entry-requires : tie.Need-far-entry-requires
+far-entry-requires c κs = search needs
+
+far-entry-requires-2 : tie.Need-far-entry-requires-2
+far-entry-requires-2 c κs = search needs
+
+far-entry-requires-3 : tie.Need-far-entry-requires-3
+far-entry-requires-3 c κs = search needs
+
+far-entry-requires-4 : tie.Need-far-entry-requires-4
+far-entry-requires-4 c κs = search needs
+
+far-entry-requires-5 : tie.Need-far-entry-requires-5
+far-entry-requires-5 c κs = search needs
+
+far-entry-requires-6 : tie.Need-far-entry-requires-6
+far-entry-requires-6 c κs = search needs
+
+far-entry-requires-7 : tie.Need-far-entry-requires-7
+far-entry-requires-7 c κs = search needs
+
+far-entry-requires-8 : tie.Need-far-entry-requires-8
+far-entry-requires-8 c κs = search needs
+
+returns : tie.Need-returns
+returns c =
+    let a = c .before .before .before .before .before .before .before .before .args in
+    eight-bytes (now (a .t)) (a .x)
+    (c .before .far-entry7 .ensures)
+    (c .far-entry8 .ensures)
+    (c .before .before .before .far-entry5 .ensures)
+    (c .before .before .far-entry6 .ensures)
+    (c .before .before .before .before .before .far-entry3 .ensures)
+    (c .before .before .before .before .far-entry4 .ensures)
+    (c .before .before .before .before .before .before .before .far-entry .ensures)
+    (c .before .before .before .before .before .before .far-entry2 .ensures)
+    ∙ sum-steps 8 192 8 (now (a .t)) (c .before .before .before .before .before .before .before .before .pre) 8 (a .x) (omega arith) (search needs)
+
+pub far-word-spec : {M : Type 1} → statement M
+far-word-spec =
+    tie.close
+    (tie.spec
+    far-entry-requires
+    far-entry-requires-2
+    far-entry-requires-3
+    far-entry-requires-4
+    far-entry-requires-5
+    far-entry-requires-6
+    far-entry-requires-7
+    far-entry-requires-8
+    returns)
