@@ -41,11 +41,12 @@ loop-again : tie.Need-loop-again Inv-loop μ-loop Inv-loop2 μ-loop2
 loop-again c =
     let s = now (c .before .before .before .before .args .s) in
     let i = c .before .before .loop .i in
-    let h : i + 8 ≤ length s = omega arith in
-    (search needs,
-    ap (λ (x : ℕ). crcUpdate x (drop (i + 8) s)) (c .near-step .ensures)
-    ∙ word-on 8 _ s i h (λ k. c .before .before .before .shared-slice-known .given k .fits)
-    ∙ c .before .before .loop .inv .1)
+    let h : i + 8 ≤ length s = omega arith in (
+      search needs,
+      ap (λ (x : ℕ). crcUpdate x (drop (i + 8) s)) (c .near-step .ensures)
+          ∙ word-on 8 _ s i h (λ k. c .before .before .before .shared-slice-known .given k .fits)
+          ∙ c .before .before .loop .inv .1,
+    )
 
 loop2-holds : tie.Need-loop2-holds Inv-loop μ-loop Inv-loop2 μ-loop2
 loop2-holds c = c .before .loop .inv
@@ -64,11 +65,12 @@ loop2-less : tie.Need-loop2-less Inv-loop μ-loop Inv-loop2 μ-loop2
 loop2-less c = search needs
 
 loop2-again : tie.Need-loop2-again Inv-loop μ-loop Inv-loop2 μ-loop2
-loop2-again c =
-    (search needs,
-    ap (λ (x : ℕ). crcUpdate x (drop (c .before .before .before .loop2 .i + 1) (now (c .before .before .before .before .before .before .before .args .s)))) (c .byte-step .ensures)
-    ∙ update-on _ _ _ (c .before .before .loop2-test .taken)
-    ∙ c .before .before .before .loop2 .inv .1)
+loop2-again c = (
+  search needs,
+  ap (λ (x : ℕ). crcUpdate x (drop (c .before .before .before .loop2 .i + 1) (now (c .before .before .before .before .before .before .before .args .s)))) (c .byte-step .ensures)
+      ∙ update-on _ _ _ (c .before .before .loop2-test .taken)
+      ∙ c .before .before .before .loop2 .inv .1,
+)
 
 returns : tie.Need-returns Inv-loop μ-loop Inv-loop2 μ-loop2
 returns c = sym (update-done _ _ _ (c .loop2-test .left)) ∙ c .before .loop2 .inv .1

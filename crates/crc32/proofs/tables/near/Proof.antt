@@ -1,0 +1,13 @@
+-- The constant's numbers pass the test.
+use lib.Dec.{lit≤}
+use Rattle.crc_lanes.specs.Crc.{bitStep, bitSteps}
+use Rattle.crc32.proofs.Linear.{tables-are}
+use Rattle.crc32.proofs.tables.near.Statement.{statement}
+use Rattle.crc32.proofs.tables.near.Tie as tie
+
+returns : tie.Need-returns
+unfolding bitSteps bitStep
+returns c = tables-are 4 16 4 _ (lit≤ tt) tt
+
+pub near-spec : {M : Type 1} → statement M
+near-spec = tie.close (tie.spec returns)
