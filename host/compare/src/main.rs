@@ -17,8 +17,10 @@ use variants::{Variant, RULES_TO_BREAK, VARIANTS};
 
 const SEED: u64 = 0x5551_4752_414D_4241;
 
+type Part = (&'static str, fn(&mut Run) -> Outcome);
+
 /// The slow ones last: a wrong variant is compared only up to its first difference.
-const PARTS: &[(&str, fn(&mut Run) -> Outcome)] = &[
+const PARTS: &[Part] = &[
     ("guid: each byte in each place", guid::each_byte_in_each_place),
     ("guid: each length", guid::each_length),
     ("guid: random texts", guid::random_texts),
