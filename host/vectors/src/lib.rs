@@ -1,4 +1,4 @@
-//! Published CRC-32 values (crc32.txt), and whether a samples program printed them.
+//! Published CRC-32 values (crc32.txt; three are derived and say so), and whether a samples program printed them.
 
 /// One line of crc32.txt; its source stands in the file alone.
 pub struct Vector {
