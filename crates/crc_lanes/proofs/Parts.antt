@@ -1,14 +1,15 @@
 -- Laws of the CRC over parts: lists one after the other, and a list that holds its own CRC in a field that counts as zero.
 use mathlib.Core.Path.{_≡_, refl, sym, ap, _∙_}
 use mathlib.Core.List.{List, [], _∷_, _++_, append-assoc}
-use Prim.Native.Nat.{ℕ, suc, _+_, _≤_, _<_}
+use Prim.Native.Nat.{ℕ, _+_, _≤_, _<_}
 use native.Mathlib.Numerals.{add-one}
 use native.Mathlib.Omega.{arith}
-use lib.ListN.{length, getD, take, drop, drop-of-length-le, length-replicate}
+use lib.ListN.{length, getD, take, drop, drop-of-length-le}
 use lib.Seq.{drop-cons}
 use lib.Bits.{bitXor}
 use Rattle.octets.specs.Bytes.{le, part, rest, put, zeros}
 use Rattle.octets.proofs.Numbers.{length-le}
+use Rattle.octets.proofs.Parts.{length-zeros}
 use Rattle.octets.proofs.Puts.{put-eq, put-over}
 use Rattle.crc_lanes.specs.Crc.{crcByte, crcUpdate, crc32}
 
@@ -28,10 +29,6 @@ crc-parts x y z {a} {b} {c} p q r =
     ap (λ (n : ℕ). bitXor n 0xFFFF_FFFF) e
 
 -- ---- a list h whose CRC covers h with the field of k bytes at `at` as zero
-
-length-zeros : (k : ℕ) → length (zeros k) ≡ k
-unfolding zeros
-length-zeros k = length-replicate k 0
 
 -- by three updates: what stands before the field, k zeros, what stands behind it
 pub crc-field-zero : (at k : ℕ) (h : List ℕ) → at + k ≤ length h → {a b c : ℕ}
