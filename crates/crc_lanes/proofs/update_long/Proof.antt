@@ -6,7 +6,7 @@ use native.Mathlib.Omega.{arith}
 use lib.ListN.{length}
 use borrow.Author.Needs.{needs}
 use Rattle.crc_lanes.specs.Crc.{crcUpdate}
-use Rattle.crc_lanes.proofs.Lanes.{pending, start4, turn4, close4}
+use Rattle.crc_lanes.proofs.Lanes.{pending, lanes4-start, lanes4-on, lanes4-end}
 use Rattle.crc_lanes.proofs.update_long.Statement.{statement}
 use Rattle.crc_lanes.proofs.update_long.Tie as tie
 
@@ -18,7 +18,7 @@ abbrev μ-loop : tie.MeasureT-loop
 μ-loop near far state s c0₀ c1₀ c2₀ c3₀ i₀ c0 c1 c2 c3 i = length s - i
 
 loop-holds : tie.Need-loop-holds Inv-loop μ-loop
-loop-holds c = (search needs, start4 _ (λ k. c .shared-slice-known .given k .fits) _ (omega arith))
+loop-holds c = (search needs, lanes4-start _ (λ k. c .shared-slice-known .given k .fits) _ (omega arith))
 
 sub-loop : tie.Need-sub-loop Inv-loop μ-loop
 sub-loop c = search needs
@@ -56,7 +56,7 @@ loop-again c =
     let l = c .before .before .before .before .before .loop in
     let h : l .i + 64 ≤ length s = omega arith in (
       search needs,
-      turn4 s (λ k. c .before .before .before .before .before .before .shared-slice-known .given k .fits) (l .i) (l .c0) (l .c1) (l .c2) (l .c3) h
+      lanes4-on s (λ k. c .before .before .before .before .before .before .shared-slice-known .given k .fits) (l .i) (l .c0) (l .c1) (l .c2) (l .c3) h
           (c .before .before .before .far-step .ensures) (c .before .before .far-step2 .ensures) (c .before .far-step3 .ensures) (c .far-step4 .ensures)
           ∙ l .inv .1,
     )
@@ -92,7 +92,7 @@ returns : tie.Need-returns Inv-loop μ-loop
 returns c =
     let l = c .before .before .before .before .before .before .loop in
     c .update-from .ensures
-    ∙ close4 (now (c .before .before .before .before .before .before .before .before .args .s)) (l .i) (l .c0) (l .c1) (l .c2) (l .c3)
+    ∙ lanes4-end (now (c .before .before .before .before .before .before .before .before .args .s)) (l .i) (l .c0) (l .c1) (l .c2) (l .c3)
     (c .before .before .before .before .near-step .ensures) (c .before .before .before .near-step2 .ensures) (c .before .before .near-step3 .ensures) (c .before .near-step4 .ensures)
     ∙ l .inv .1
 
