@@ -32,8 +32,8 @@ far-entry-requires-8 c κs = search needs
 
 returns : tie.Need-returns
 returns c =
-    let a = c .before .before .before .before .before .before .before .before .args in
-    let t = now (a .t) in
+    let start = c .before .before .before .before .before .before .before .before in
+    let t = now (start .args .t) in
     sum-on 8 t 7 _ (c .before .far-entry7 .ensures)
     (sum-on 8 t 6 _ (c .far-entry8 .ensures)
     (sum-on 8 t 5 _ (c .before .before .before .far-entry5 .ensures)
@@ -42,7 +42,7 @@ returns c =
     (sum-on 8 t 2 _ (c .before .before .before .before .far-entry4 .ensures)
     (sum-on 8 t 1 _ (c .before .before .before .before .before .before .before .far-entry .ensures)
     (sum-first 8 t _ (c .before .before .before .before .before .before .far-entry2 .ensures))))))))
-    ∙ sum-steps 8 192 8 t (c .before .before .before .before .before .before .before .before .pre) 8 (a .x) (omega arith) (search needs)
+    ∙ sum-steps 8 192 8 t (start .pre) 8 (start .args .x) (omega arith) (search needs)
 
 pub far-word-spec : {M : Type 1} → statement M
 far-word-spec =

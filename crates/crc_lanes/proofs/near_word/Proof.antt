@@ -56,8 +56,8 @@ near-entry-requires-16 c κs = search needs
 
 returns : tie.Need-returns
 returns c =
-    let a = c .before .before .before .before .before .before .before .before .before .before .before .before .before .before .before .before .args in
-    let t = now (a .t) in
+    let start = c .before .before .before .before .before .before .before .before .before .before .before .before .before .before .before .before in
+    let t = now (start .args .t) in
     sum-on 4 t 15 _ (c .before .near-entry15 .ensures)
     (sum-on 4 t 14 _ (c .near-entry16 .ensures)
     (sum-on 4 t 13 _ (c .before .before .before .near-entry13 .ensures)
@@ -74,7 +74,7 @@ returns c =
     (sum-on 4 t 2 _ (c .before .before .before .before .before .before .before .before .before .before .before .before .near-entry4 .ensures)
     (sum-on 4 t 1 _ (c .before .before .before .before .before .before .before .before .before .before .before .before .before .before .before .near-entry .ensures)
     (sum-first 4 t _ (c .before .before .before .before .before .before .before .before .before .before .before .before .before .before .near-entry2 .ensures))))))))))))))))
-    ∙ sum-steps 4 0 16 t (c .before .before .before .before .before .before .before .before .before .before .before .before .before .before .before .before .pre) 16 (a .x) (omega arith) (c .before .before .before .before .before .before .before .before .before .before .before .before .before .before .before .before .fits .x .fits)
+    ∙ sum-steps 4 0 16 t (start .pre) 16 (start .args .x) (omega arith) (start .fits .x .fits)
 
 pub near-word-spec : {M : Type 1} → statement M
 near-word-spec =
