@@ -44,47 +44,13 @@ module _ (b m r : ℕ) (t : List ℕ) (h : Digits b r (b + m) t) where
   pub sum-steps : (n x : ℕ) → n ≤ r → x < 2 ^ (n * b) → sumOf b t n x ≡ bitSteps (n * b + m) x
   sum-steps n x l f = sum-is n x l f ∙ sym (steps-add (n * b) m x)
 
--- ---- the sums as the code makes them
-pub eight-bytes : (t : List ℕ) (x : ℕ) → {r7 r6 r5 r4 r3 r2 r1 r0 : ℕ}
-    → r7 ≡ getD t (1792 + x % 256) 0
-    → r6 ≡ getD t (1536 + x / 256 % 256) 0
-    → r5 ≡ getD t (1280 + x / 256 / 256 % 256) 0
-    → r4 ≡ getD t (1024 + x / 256 / 256 / 256 % 256) 0
-    → r3 ≡ getD t (768 + x / 256 / 256 / 256 / 256 % 256) 0
-    → r2 ≡ getD t (512 + x / 256 / 256 / 256 / 256 / 256 % 256) 0
-    → r1 ≡ getD t (256 + x / 256 / 256 / 256 / 256 / 256 / 256 % 256) 0
-    → r0 ≡ getD t (0 + x / 256 / 256 / 256 / 256 / 256 / 256 / 256 % 256) 0
-    → bitXor r7 (bitXor r6 (bitXor r5 (bitXor r4 (bitXor r3 (bitXor r2 (bitXor r1 r0)))))) ≡ sumOf 8 t 8 x
-unfolding sumOf
-eight-bytes t x e7 e6 e5 e4 e3 e2 e1 e0 =
-    ap₂ bitXor e7 (ap₂ bitXor e6 (ap₂ bitXor e5 (ap₂ bitXor e4 (ap₂ bitXor e3 (ap₂ bitXor e2 (ap₂ bitXor e1 (e0 ∙ sym (xor-zero-r _))))))))
+-- ---- the sum as the code makes it, one entry more at each step
 
-pub sixteen-digits : (t : List ℕ) (x : ℕ) → {r15 r14 r13 r12 r11 r10 r9 r8 r7 r6 r5 r4 r3 r2 r1 r0 : ℕ}
-    → r15 ≡ getD t (240 + x % 16) 0
-    → r14 ≡ getD t (224 + x / 16 % 16) 0
-    → r13 ≡ getD t (208 + x / 16 / 16 % 16) 0
-    → r12 ≡ getD t (192 + x / 16 / 16 / 16 % 16) 0
-    → r11 ≡ getD t (176 + x / 16 / 16 / 16 / 16 % 16) 0
-    → r10 ≡ getD t (160 + x / 16 / 16 / 16 / 16 / 16 % 16) 0
-    → r9 ≡ getD t (144 + x / 16 / 16 / 16 / 16 / 16 / 16 % 16) 0
-    → r8 ≡ getD t (128 + x / 16 / 16 / 16 / 16 / 16 / 16 / 16 % 16) 0
-    → r7 ≡ getD t (112 + x / 16 / 16 / 16 / 16 / 16 / 16 / 16 / 16 % 16) 0
-    → r6 ≡ getD t (96 + x / 16 / 16 / 16 / 16 / 16 / 16 / 16 / 16 / 16 % 16) 0
-    → r5 ≡ getD t (80 + x / 16 / 16 / 16 / 16 / 16 / 16 / 16 / 16 / 16 / 16 % 16) 0
-    → r4 ≡ getD t (64 + x / 16 / 16 / 16 / 16 / 16 / 16 / 16 / 16 / 16 / 16 / 16 % 16) 0
-    → r3 ≡ getD t (48 + x / 16 / 16 / 16 / 16 / 16 / 16 / 16 / 16 / 16 / 16 / 16 / 16 % 16) 0
-    → r2 ≡ getD t (32 + x / 16 / 16 / 16 / 16 / 16 / 16 / 16 / 16 / 16 / 16 / 16 / 16 / 16 % 16) 0
-    → r1 ≡ getD t (16 + x / 16 / 16 / 16 / 16 / 16 / 16 / 16 / 16 / 16 / 16 / 16 / 16 / 16 / 16 % 16) 0
-    → r0 ≡ getD t (0 + x / 16 / 16 / 16 / 16 / 16 / 16 / 16 / 16 / 16 / 16 / 16 / 16 / 16 / 16 / 16 % 16) 0
-    → bitXor r15 (bitXor r14 (bitXor r13 (bitXor r12 (bitXor r11 (bitXor r10 (bitXor r9 (bitXor r8 (bitXor r7 (bitXor r6 (bitXor r5 (bitXor r4 (bitXor r3 (bitXor r2 (bitXor r1 r0)))))))))))))) ≡ sumOf 4 t 16 x
+pub sum-first : (b : ℕ) (t : List ℕ) (x : ℕ) {r : ℕ} → r ≡ getD t (0 * 2 ^ b + x % 2 ^ b) 0 → r ≡ sumOf b t 1 x
 unfolding sumOf
-sixteen-digits t x e15 e14 e13 e12 e11 e10 e9 e8 e7 e6 e5 e4 e3 e2 e1 e0 =
-    ap₂ bitXor e15 (ap₂ bitXor e14 (ap₂ bitXor e13 (ap₂ bitXor e12 (ap₂ bitXor e11 (ap₂ bitXor e10 (ap₂ bitXor e9 (ap₂ bitXor e8 (ap₂ bitXor e7 (ap₂ bitXor e6 (ap₂ bitXor e5 (ap₂ bitXor e4 (ap₂ bitXor e3 (ap₂ bitXor e2 (ap₂ bitXor e1 (e0 ∙ sym (xor-zero-r _))))))))))))))))
+sum-first b t x e = e ∙ sym (xor-zero-r _)
 
-pub two-digits : (t : List ℕ) (x : ℕ) → {r1 r0 : ℕ}
-    → r1 ≡ getD t (16 + x % 16) 0
-    → r0 ≡ getD t (0 + x / 16 % 16) 0
-    → bitXor r1 r0 ≡ sumOf 4 t 2 x
+pub sum-on : (b : ℕ) (t : List ℕ) (n x : ℕ) {r q : ℕ} → r ≡ getD t (n * 2 ^ b + x % 2 ^ b) 0 → q ≡ sumOf b t n (x / 2 ^ b)
+    → bitXor r q ≡ sumOf b t (suc n) x
 unfolding sumOf
-two-digits t x e1 e0 =
-    ap₂ bitXor e1 (e0 ∙ sym (xor-zero-r _))
+sum-on b t n x e f = ap₂ bitXor e f

@@ -1,14 +1,13 @@
 -- Several bytes at once: their number, the lowest byte first, is added to the state, and all their bits leave.
-use mathlib.Core.Path.{_≡_, refl, sym, ap, _∙_, subst}
-use mathlib.Core.List.{List, [], _∷_, _++_}
+use mathlib.Core.Path.{_≡_, sym, ap, _∙_, subst}
+use mathlib.Core.List.{List, [], _∷_}
 use Prim.Native.Nat.{ℕ, zero, suc, _+_, _*_, _^_, _≤_, _<_, suc-le-suc}
 use native.Mathlib.Nat.{zero-lt-suc}
 use native.Mathlib.Omega.{arith}
-use lib.ListN.{length, getD, take, drop, take-append-drop}
-use lib.Seq.{drop-drop}
+use lib.ListN.{length, getD, drop}
 use lib.Bits.{bitXor, xor-shifted, xor-comm, xor-zero-r}
-use Rattle.octets.specs.Bytes.{unle, part, field}
-use Rattle.octets.proofs.Parts.{length-part, getD-part}
+use Rattle.octets.specs.Bytes.{unle, part, rest, field}
+use Rattle.octets.proofs.Parts.{length-part, getD-part, part-on}
 use Rattle.crc_lanes.specs.Crc.{bitSteps, crcByte, crcUpdate}
 use Rattle.crc_lanes.proofs.Xor.{xor-assoc}
 use Rattle.crc_lanes.proofs.Steps.{no-steps, steps-xor, steps-add, steps-shifted}
@@ -35,17 +34,14 @@ at-once (b ∷ bs) c f =
     ∙ ap (bitSteps (8 * length bs)) (byte-word c b (unle bs) (f zero (zero-lt-suc _)))
     ∙ at-once bs (crcByte c b) (λ i h. f (suc i) (suc-le-suc h))
 
-parts : (k i : ℕ) (s : List ℕ) → part i k s ++ drop (i + k) s ≡ drop i s
-unfolding part
-parts k i s = ap (λ (l : List ℕ). take k (drop i s) ++ l) (sym (drop-drop k i s)) ∙ take-append-drop k (drop i s)
-
 -- along a loop: the k bytes at i, and the rest decides
 pub word-on : (k c : ℕ) (s : List ℕ) (i : ℕ) → i + k ≤ length s → ((j : ℕ) → getD s j 0 < 256)
     → crcUpdate (bitSteps (8 * k) (bitXor c (field i k s))) (drop (i + k) s) ≡ crcUpdate c (drop i s)
+unfolding rest
 word-on k c s i h b =
     ap (λ (x : ℕ). crcUpdate x (drop (i + k) s)) here
     ∙ sym (update-append c (part i k s) (drop (i + k) s))
-    ∙ ap (crcUpdate c) (parts k i s)
+    ∙ ap (crcUpdate c) (part-on s i k)
   where
     long : length (part i k s) ≡ k
     long = length-part s i k h

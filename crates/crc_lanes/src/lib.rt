@@ -100,8 +100,22 @@ fn byte_step(t: &[u32; 256], c: u32, b: u8) -> u32
     (near_entry(t, 16, x) ^ near_entry(t, 0, x >> 4)) ^ (c >> 8)
 }
 
-// The bytes from a place on, eight a step and then one a step.
-fn update_from(near: &[u32; 256], state: u32, s: &[u8], from: usize) -> u32
+// The bytes from a place on, one a step.
+fn update_bytes(near: &[u32; 256], state: u32, s: &[u8], from: usize) -> u32
+    requires { ⌜ Near (now near) × (from ≤ length (now s)) ⌝ }
+    ensures { λ r. ⌜ r ≡ crcUpdate state (drop from (now (s .entry))) ⌝ }
+{
+    let mut c = state;
+    let mut i = from;
+    while i < s.len() {
+        c = byte_step(near, c, s[i]);
+        i += 1;
+    }
+    c
+}
+
+// The bytes from a place on, eight a step while there are eight.
+fn update_words(near: &[u32; 256], state: u32, s: &[u8], from: usize) -> u32
     requires { ⌜ Near (now near) × (from ≤ length (now s)) ⌝ }
     ensures { λ r. ⌜ r ≡ crcUpdate state (drop from (now (s .entry))) ⌝ }
 {
@@ -111,11 +125,7 @@ fn update_from(near: &[u32; 256], state: u32, s: &[u8], from: usize) -> u32
         c = near_step(near, c, s, i);
         i += 8;
     }
-    while i < s.len() {
-        c = byte_step(near, c, s[i]);
-        i += 1;
-    }
-    c
+    update_bytes(near, c, s, i)
 }
 
 // For short inputs: by the near tables alone.
@@ -123,7 +133,7 @@ pub fn update_short(near: &[u32; 256], state: u32, s: &[u8]) -> u32
     requires { ⌜ Near (now near) ⌝ }
     ensures { λ r. ⌜ r ≡ crcUpdate state (now (s .entry)) ⌝ }
 {
-    update_from(near, state, s, 0)
+    update_words(near, state, s, 0)
 }
 
 // The lanes hold what their next words, those at i, are still to be added to.
@@ -153,7 +163,7 @@ fn update_long(near: &[u32; 256], far: &[u32; 2048], state: u32, s: &[u8]) -> u3
     let a1 = near_step(near, a0 ^ c1, s, j);
     let a2 = near_step(near, a1 ^ c2, s, k);
     let a3 = near_step(near, a2 ^ c3, s, l);
-    update_from(near, a3, s, l + 8)
+    update_words(near, a3, s, l + 8)
 }
 
 pub fn update(near: &[u32; 256], far: &[u32; 2048], state: u32, s: &[u8]) -> u32

@@ -2,7 +2,7 @@ use denote.Ref.{now}
 use mathlib.Core.Path.{_∙_}
 use native.Mathlib.Omega.{arith}
 use borrow.Author.Needs.{needs}
-use Rattle.crc_lanes.proofs.Digits.{sixteen-digits, sum-steps}
+use Rattle.crc_lanes.proofs.Digits.{sum-first, sum-on, sum-steps}
 use Rattle.crc_lanes.proofs.near_word.Statement.{statement}
 use Rattle.crc_lanes.proofs.near_word.Tie as tie
 
@@ -56,25 +56,25 @@ near-entry-requires-16 c κs = search needs
 
 returns : tie.Need-returns
 returns c =
-    let a = c .before .before .before .before .before .before .before .before .before .before .before .before .before .before .before .before .args in
-    sixteen-digits (now (a .t)) (a .x)
-    (c .before .near-entry15 .ensures)
-    (c .near-entry16 .ensures)
-    (c .before .before .before .near-entry13 .ensures)
-    (c .before .before .near-entry14 .ensures)
-    (c .before .before .before .before .before .near-entry11 .ensures)
-    (c .before .before .before .before .near-entry12 .ensures)
-    (c .before .before .before .before .before .before .before .near-entry9 .ensures)
-    (c .before .before .before .before .before .before .near-entry10 .ensures)
-    (c .before .before .before .before .before .before .before .before .before .near-entry7 .ensures)
-    (c .before .before .before .before .before .before .before .before .near-entry8 .ensures)
-    (c .before .before .before .before .before .before .before .before .before .before .before .near-entry5 .ensures)
-    (c .before .before .before .before .before .before .before .before .before .before .near-entry6 .ensures)
-    (c .before .before .before .before .before .before .before .before .before .before .before .before .before .near-entry3 .ensures)
-    (c .before .before .before .before .before .before .before .before .before .before .before .before .near-entry4 .ensures)
-    (c .before .before .before .before .before .before .before .before .before .before .before .before .before .before .before .near-entry .ensures)
-    (c .before .before .before .before .before .before .before .before .before .before .before .before .before .before .near-entry2 .ensures)
-    ∙ sum-steps 4 0 16 (now (a .t)) (c .before .before .before .before .before .before .before .before .before .before .before .before .before .before .before .before .pre) 16 (a .x) (omega arith) (c .before .before .before .before .before .before .before .before .before .before .before .before .before .before .before .before .fits .x .fits)
+    let start = c .before .before .before .before .before .before .before .before .before .before .before .before .before .before .before .before in
+    let t = now (start .args .t) in
+    sum-on 4 t 15 _ (c .before .near-entry15 .ensures)
+    (sum-on 4 t 14 _ (c .near-entry16 .ensures)
+    (sum-on 4 t 13 _ (c .before .before .before .near-entry13 .ensures)
+    (sum-on 4 t 12 _ (c .before .before .near-entry14 .ensures)
+    (sum-on 4 t 11 _ (c .before .before .before .before .before .near-entry11 .ensures)
+    (sum-on 4 t 10 _ (c .before .before .before .before .near-entry12 .ensures)
+    (sum-on 4 t 9 _ (c .before .before .before .before .before .before .before .near-entry9 .ensures)
+    (sum-on 4 t 8 _ (c .before .before .before .before .before .before .near-entry10 .ensures)
+    (sum-on 4 t 7 _ (c .before .before .before .before .before .before .before .before .before .near-entry7 .ensures)
+    (sum-on 4 t 6 _ (c .before .before .before .before .before .before .before .before .near-entry8 .ensures)
+    (sum-on 4 t 5 _ (c .before .before .before .before .before .before .before .before .before .before .before .near-entry5 .ensures)
+    (sum-on 4 t 4 _ (c .before .before .before .before .before .before .before .before .before .before .near-entry6 .ensures)
+    (sum-on 4 t 3 _ (c .before .before .before .before .before .before .before .before .before .before .before .before .before .near-entry3 .ensures)
+    (sum-on 4 t 2 _ (c .before .before .before .before .before .before .before .before .before .before .before .before .near-entry4 .ensures)
+    (sum-on 4 t 1 _ (c .before .before .before .before .before .before .before .before .before .before .before .before .before .before .before .near-entry .ensures)
+    (sum-first 4 t _ (c .before .before .before .before .before .before .before .before .before .before .before .before .before .before .near-entry2 .ensures))))))))))))))))
+    ∙ sum-steps 4 0 16 t (start .pre) 16 (start .args .x) (omega arith) (start .fits .x .fits)
 
 pub near-word-spec : {M : Type 1} → statement M
 near-word-spec =

@@ -6,7 +6,7 @@ use native.Mathlib.Omega.{arith}
 use lib.ListN.{length}
 use borrow.Author.Needs.{needs}
 use Rattle.crc_lanes.specs.Crc.{crcUpdate}
-use Rattle.crc_lanes.proofs.Lanes.{pending, start4, turn4, close4}
+use Rattle.crc_lanes.proofs.Lanes.{pending, lanes4-start, lanes4-on, lanes4-end}
 use Rattle.crc_lanes.proofs.update_long.Statement.{statement}
 use Rattle.crc_lanes.proofs.update_long.Tie as tie
 
@@ -18,7 +18,7 @@ abbrev μ-loop : tie.MeasureT-loop
 μ-loop near far state s c0₀ c1₀ c2₀ c3₀ i₀ c0 c1 c2 c3 i = length s - i
 
 loop-holds : tie.Need-loop-holds Inv-loop μ-loop
-loop-holds c = (search needs, start4 _ (λ k. c .shared-slice-known .given k .fits) _ (omega arith))
+loop-holds c = (search needs, lanes4-start _ (λ k. c .shared-slice-known .given k .fits) _ (omega arith))
 
 sub-loop : tie.Need-sub-loop Inv-loop μ-loop
 sub-loop c = search needs
@@ -56,8 +56,11 @@ loop-again c =
     let l = c .before .before .before .before .before .loop in
     let h : l .i + 64 ≤ length s = omega arith in (
       search needs,
-      turn4 s (λ k. c .before .before .before .before .before .before .shared-slice-known .given k .fits) (l .i) (l .c0) (l .c1) (l .c2) (l .c3) h
-          (c .before .before .before .far-step .ensures) (c .before .before .far-step2 .ensures) (c .before .far-step3 .ensures) (c .far-step4 .ensures)
+      lanes4-on s (λ k. c .before .before .before .before .before .before .shared-slice-known .given k .fits) (l .i) (l .c0) (l .c1) (l .c2) (l .c3) h
+          (c .before .before .before .far-step .ensures)
+          (c .before .before .far-step2 .ensures)
+          (c .before .far-step3 .ensures)
+          (c .far-step4 .ensures)
           ∙ l .inv .1,
     )
 
@@ -82,18 +85,21 @@ near-step-requires-3 c κs = search needs
 near-step-requires-4 : tie.Need-near-step-requires-4 Inv-loop μ-loop
 near-step-requires-4 c κs = search needs
 
-add-update-from : tie.Need-add-update-from Inv-loop μ-loop
-add-update-from c = search needs
+add-update-words : tie.Need-add-update-words Inv-loop μ-loop
+add-update-words c = search needs
 
-update-from-requires : tie.Need-update-from-requires Inv-loop μ-loop
-update-from-requires c κs = search needs
+update-words-requires : tie.Need-update-words-requires Inv-loop μ-loop
+update-words-requires c κs = search needs
 
 returns : tie.Need-returns Inv-loop μ-loop
 returns c =
     let l = c .before .before .before .before .before .before .loop in
-    c .update-from .ensures
-    ∙ close4 (now (c .before .before .before .before .before .before .before .before .args .s)) (l .i) (l .c0) (l .c1) (l .c2) (l .c3)
-    (c .before .before .before .before .near-step .ensures) (c .before .before .before .near-step2 .ensures) (c .before .before .near-step3 .ensures) (c .before .near-step4 .ensures)
+    c .update-words .ensures
+    ∙ lanes4-end (now (c .before .before .before .before .before .before .before .before .args .s)) (l .i) (l .c0) (l .c1) (l .c2) (l .c3)
+    (c .before .before .before .before .near-step .ensures)
+    (c .before .before .before .near-step2 .ensures)
+    (c .before .before .near-step3 .ensures)
+    (c .before .near-step4 .ensures)
     ∙ l .inv .1
 
 pub update-long-spec : {M : Type 1} → statement M
@@ -121,6 +127,6 @@ update-long-spec =
     near-step-requires-2
     near-step-requires-3
     near-step-requires-4
-    add-update-from
-    update-from-requires
+    add-update-words
+    update-words-requires
     returns)
