@@ -1,0 +1,3 @@
+-- Laws that the proofs of this crate cite, and the promises of specs/Promises.antt.
+pub mod Hex
+pub mod Text

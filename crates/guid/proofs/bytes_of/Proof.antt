@@ -1,0 +1,93 @@
+use Rattle.guid.proofs.bytes_of.Statement.{statement}
+use Rattle.guid.proofs.bytes_of.Tie as tie
+use Rattle.guid.proofs.bytes_of.Reads as reads
+use Rattle.guid.proofs.bytes_of.Lts as lts
+use Rattle.guid.proofs.value.Reads as value-reads
+
+abbrev Inv-loop : tie.InvT-loop
+Inv-loop digits bytes₀ i₀ bytes i = ?
+
+abbrev μ-loop : tie.MeasureT-loop
+μ-loop digits bytes₀ i₀ bytes i = ?
+
+-- src/lib.rt:145:5
+loop-holds : tie.Need-loop-holds Inv-loop μ-loop
+loop-holds c = ?
+
+-- src/lib.rt:146:38
+mul-value : tie.Need-mul-value Inv-loop μ-loop
+mul-value c = ?
+
+-- src/lib.rt:146:31
+shared-slice-read-value : tie.Need-shared-slice-read-value Inv-loop μ-loop
+shared-slice-read-value c = ?
+
+-- src/lib.rt:146:25
+value-requires : tie.Need-value-requires Inv-loop μ-loop
+value-requires c κs = ?
+
+-- src/lib.rt:146:20
+mul-bytes : tie.Need-mul-bytes Inv-loop μ-loop
+mul-bytes c = ?
+
+-- src/lib.rt:146:61
+mul-value-2 : tie.Need-mul-value-2 Inv-loop μ-loop
+mul-value-2 c = ?
+
+-- src/lib.rt:146:61
+add-value : tie.Need-add-value Inv-loop μ-loop
+add-value c = ?
+
+-- src/lib.rt:146:54
+shared-slice-read-value-2 : tie.Need-shared-slice-read-value-2 Inv-loop μ-loop
+shared-slice-read-value-2 c = ?
+
+-- src/lib.rt:146:48
+value-requires-2 : tie.Need-value-requires-2 Inv-loop μ-loop
+value-requires-2 c κs = ?
+
+-- src/lib.rt:146:20
+add-bytes : tie.Need-add-bytes Inv-loop μ-loop
+add-bytes c = ?
+
+-- src/lib.rt:146:9
+array-write-bytes : tie.Need-array-write-bytes Inv-loop μ-loop
+array-write-bytes c = ?
+
+-- src/lib.rt:147:9
+add-i : tie.Need-add-i Inv-loop μ-loop
+add-i c = ?
+
+-- src/lib.rt:145:5
+loop-less : tie.Need-loop-less Inv-loop μ-loop
+loop-less c = ?
+
+-- src/lib.rt:145:5
+loop-again : tie.Need-loop-again Inv-loop μ-loop
+loop-again c = ?
+
+-- src/lib.rt:139:1
+returns : tie.Need-returns Inv-loop μ-loop
+returns c = ?
+
+pub bytes-of-spec : {M : Type 1} → statement M
+bytes-of-spec =
+    tie.close
+    (tie.spec
+    Inv-loop
+    μ-loop
+    loop-holds
+    mul-value
+    shared-slice-read-value
+    value-requires
+    mul-bytes
+    mul-value-2
+    add-value
+    shared-slice-read-value-2
+    value-requires-2
+    add-bytes
+    array-write-bytes
+    add-i
+    loop-less
+    loop-again
+    returns)

@@ -1,0 +1,88 @@
+use Rattle.guid.proofs.digits_of.Statement.{statement}
+use Rattle.guid.proofs.digits_of.Tie as tie
+use Rattle.guid.proofs.digits_of.Reads as reads
+use Rattle.guid.proofs.digits_of.Lts as lts
+use Rattle.guid.proofs.digit.Reads as digit-reads
+
+abbrev Inv-loop : tie.InvT-loop
+Inv-loop bytes digits₀ i₀ digits i = ?
+
+abbrev μ-loop : tie.MeasureT-loop
+μ-loop bytes digits₀ i₀ digits i = ?
+
+-- src/lib.rt:159:5
+loop-holds : tie.Need-loop-holds Inv-loop μ-loop
+loop-holds c = ?
+
+-- src/lib.rt:160:31
+shared-slice-read-digit : tie.Need-shared-slice-read-digit Inv-loop μ-loop
+shared-slice-read-digit c = ?
+
+-- src/lib.rt:160:25
+digit-requires : tie.Need-digit-requires Inv-loop μ-loop
+digit-requires c κs = ?
+
+-- src/lib.rt:160:16
+mul-digits : tie.Need-mul-digits Inv-loop μ-loop
+mul-digits c = ?
+
+-- src/lib.rt:160:9
+array-write-digits : tie.Need-array-write-digits Inv-loop μ-loop
+array-write-digits c = ?
+
+-- src/lib.rt:161:35
+shared-slice-read-digit-2 : tie.Need-shared-slice-read-digit-2 Inv-loop μ-loop
+shared-slice-read-digit-2 c = ?
+
+-- src/lib.rt:161:29
+digit-requires-2 : tie.Need-digit-requires-2 Inv-loop μ-loop
+digit-requires-2 c κs = ?
+
+-- src/lib.rt:161:16
+mul-digits-2 : tie.Need-mul-digits-2 Inv-loop μ-loop
+mul-digits-2 c = ?
+
+-- src/lib.rt:161:16
+add-digits : tie.Need-add-digits Inv-loop μ-loop
+add-digits c = ?
+
+-- src/lib.rt:161:9
+array-write-digits-2 : tie.Need-array-write-digits-2 Inv-loop μ-loop
+array-write-digits-2 c = ?
+
+-- src/lib.rt:162:9
+add-i : tie.Need-add-i Inv-loop μ-loop
+add-i c = ?
+
+-- src/lib.rt:159:5
+loop-less : tie.Need-loop-less Inv-loop μ-loop
+loop-less c = ?
+
+-- src/lib.rt:159:5
+loop-again : tie.Need-loop-again Inv-loop μ-loop
+loop-again c = ?
+
+-- src/lib.rt:153:1
+returns : tie.Need-returns Inv-loop μ-loop
+returns c = ?
+
+pub digits-of-spec : {M : Type 1} → statement M
+digits-of-spec =
+    tie.close
+    (tie.spec
+    Inv-loop
+    μ-loop
+    loop-holds
+    shared-slice-read-digit
+    digit-requires
+    mul-digits
+    array-write-digits
+    shared-slice-read-digit-2
+    digit-requires-2
+    mul-digits-2
+    add-digits
+    array-write-digits-2
+    add-i
+    loop-less
+    loop-again
+    returns)

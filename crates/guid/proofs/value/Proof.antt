@@ -1,0 +1,55 @@
+use borrow.Author.Needs.{needs}
+use Rattle.guid.proofs.value.Statement.{statement}
+use Rattle.guid.proofs.value.Tie as tie
+use Rattle.guid.proofs.value.Reads as reads
+use Rattle.guid.proofs.value.Lts as lts
+
+-- src/lib.rt:69:9
+returns : tie.Need-returns
+returns c = ?
+
+-- src/lib.rt:72:9
+returns-2 : tie.Need-returns-2
+returns-2 c = ?
+
+-- src/lib.rt:75:9
+returns-3 : tie.Need-returns-3
+returns-3 c = ?
+
+-- src/lib.rt:78:16
+sub-result : tie.Need-sub-result
+sub-result c = search needs
+
+-- src/lib.rt:78:9
+returns-4 : tie.Need-returns-4
+returns-4 c = ?
+
+-- src/lib.rt:81:9
+returns-5 : tie.Need-returns-5
+returns-5 c = ?
+
+-- src/lib.rt:84:16
+sub-result-2 : tie.Need-sub-result-2
+sub-result-2 c = search needs
+
+-- src/lib.rt:84:9
+returns-6 : tie.Need-returns-6
+returns-6 c = ?
+
+-- src/lib.rt:65:1
+returns-7 : tie.Need-returns-7
+returns-7 c = ?
+
+pub value-spec : {M : Type 1} → statement M
+value-spec =
+    tie.close
+    (tie.spec
+    returns
+    returns-2
+    returns-3
+    sub-result
+    returns-4
+    returns-5
+    sub-result-2
+    returns-6
+    returns-7)
