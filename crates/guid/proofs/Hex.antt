@@ -7,10 +7,12 @@ use Prim.Native.Nat.{ℕ, zero, suc, _+_, _-_, _*_, _/_, _%_, _≤_, _<_}
 use native.Mathlib.Nat.{suc-inj, suc-ne-zero}
 use native.Mathlib.Omega.{arith}
 use lib.Dec.{leb, ltb}
-use lib.ListN.{length, getD}
+use lib.ListN.{length, getD, set}
 use borrow.Author.Tests.{leb-true, ltb-true, ltb-false, le-leb, lt-leb, lt-ltb, le-ltb}
 use Rattle.octets.specs.Tests.{_and_, all}
 use Rattle.octets.proofs.Bools.{and-l, and-r, and-i, and-false-l, bool-cases, clash}
+use Rattle.octets.proofs.Tests.{all-get}
+use Rattle.octets.proofs.Filled.{Filled, filled-on}
 use Rattle.guid.specs.Hex.{valueOf, isDigit, bytesOf, digitOf, digitsOf, upper}
 
 -- ---- ranges
@@ -136,6 +138,9 @@ digits-bytes (suc k) (h ∷ (m ∷ ds)) l e =
 
 -- ---- element by element
 
+pub digit-below : (ds : List ℕ) → all isDigit ds ≡ true → (i : ℕ) → i < length ds → valueOf (getD ds i 0) < 16
+digit-below ds e i h = ltb-true (valueOf (getD ds i 0)) 16 (all-get isDigit ds 0 e i h)
+
 pub bytes-at : (i : ℕ) (ds : List ℕ) → 2 * i + 1 < length ds
     → getD (bytesOf ds) i 0 ≡ 16 * valueOf (getD ds (2 * i) 0) + valueOf (getD ds (2 * i + 1) 0)
 unfolding bytesOf
@@ -158,3 +163,13 @@ unfolding digitsOf
 low-at i [] h = absurd (omega arith)
 low-at zero (b ∷ bs) h = refl
 low-at (suc i) (b ∷ bs) h = let a : 2 * suc i + 1 ≡ suc (suc (2 * i + 1)) = omega arith in rw a (low-at i bs (omega arith))
+
+-- both digits of byte i of 16 are put in place
+pub digits-on : (bs a : List ℕ) (i u v : ℕ) → length bs ≡ 16 → i < 16 → u ≡ digitOf (getD bs i 0 / 16) → v ≡ digitOf (getD bs i 0 % 16)
+    → Filled 32 (digitsOf bs) a (2 * i) → Filled 32 (digitsOf bs) (set (set a (2 * i) u) (2 * i + 1) v) (2 * (i + 1))
+digits-on bs a i u v l h p q f =
+    let n : length (digitsOf bs) ≡ 32 = length-digits bs ∙ omega arith in
+    let e : 2 * i + 1 + 1 ≡ 2 * (i + 1) = omega arith in
+    let b : Filled 32 (digitsOf bs) (set a (2 * i) u) (2 * i + 1) = filled-on u n (omega arith) (high-at i bs (omega arith) ∙ sym p) f in
+    subst (λ (k : ℕ). Filled 32 (digitsOf bs) (set (set a (2 * i) u) (2 * i + 1) v) k) e
+    (filled-on v n (omega arith) (low-at i bs (omega arith) ∙ sym q) b)

@@ -5,7 +5,7 @@ ghost use Prim.Native.Nat.{_<_};
 ghost use lib.ListN.{length};
 ghost use Rattle.octets.specs.Tests.{all};
 ghost use Rattle.guid.specs.Hex.{valueOf, isDigit, bytesOf, digitOf, digitsOf};
-ghost use Rattle.guid.specs.Text.{digitsIn, isGuidText, grouped, reordered as inOrder};
+ghost use Rattle.guid.specs.Text.{digitsIn, isGuidText, grouped as inGroups, reordered as inOrder};
 ghost use Rattle.guid.specs.Types.{shortAt};
 ghost use Rattle.guid.specs.Table.{agree};
 ghost use Rattle.guid.specs.Calls.{numberOf, readOf, readTypeOf, writeOf};
@@ -113,7 +113,7 @@ fn all_digits(s: &[u8]) -> bool
 {
     let mut i = 0;
     while i < s.len() {
-        if value(s[i]) == 16 {
+        if 16 <= value(s[i]) {
             return false;
         }
         i += 1;
@@ -174,20 +174,18 @@ fn reordered(b: &[u8]) -> [u8; 16]
     ]
 }
 
-// Writes 32 digits as a text.
-fn put_grouped(text: &mut [u8], digits: &[u8])
-    requires { ⌜ (length (now text) ≡ 36) × (length (now digits) ≡ 32) ⌝ }
-    ensures { λ _. ⌜ now (text .exit) ≡ grouped (now (digits .entry)) ⌝ }
+// 32 digits as a text; the dashes are those that no group is copied over.
+fn grouped(digits: &[u8]) -> [u8; 36]
+    requires { ⌜ length (now digits) ≡ 32 ⌝ }
+    ensures { λ r. ⌜ r ≡ inGroups (now (digits .entry)) ⌝ }
 {
-    octets::copy(text, 0, &digits[0..8]);
-    text[8] = 45;
-    octets::copy(text, 9, &digits[8..12]);
-    text[13] = 45;
-    octets::copy(text, 14, &digits[12..16]);
-    text[18] = 45;
-    octets::copy(text, 19, &digits[16..20]);
-    text[23] = 45;
-    octets::copy(text, 24, &digits[20..32]);
+    let mut text = [45u8; 36];
+    octets::copy(&mut text, 0, &digits[0..8]);
+    octets::copy(&mut text, 9, &digits[8..12]);
+    octets::copy(&mut text, 14, &digits[12..16]);
+    octets::copy(&mut text, 19, &digits[16..20]);
+    octets::copy(&mut text, 24, &digits[20..32]);
+    text
 }
 
 // Reads a GUID text into 16 bytes.
@@ -262,6 +260,7 @@ pub fn write(guid: &[u8], text: &mut [u8]) -> Answer
     }
     let bytes = reordered(guid);
     let digits = digits_of(&bytes);
-    put_grouped(text, &digits);
+    let new = grouped(&digits);
+    octets::copy(text, 0, &new);
     Answer::Done
 }

@@ -6,6 +6,7 @@ use mathlib.Core.List.{List, [], _∷_}
 use Prim.Native.Nat.{ℕ, zero, suc, _+_, _≤_, _<_, zero-le, suc-le-suc}
 use native.Mathlib.Nat.{le-of-suc-le-suc, not-suc-le-zero, zero-lt-suc}
 use native.Mathlib.Numerals.{add-one}
+use native.Mathlib.Omega.{arith}
 use lib.ListN.{length, getD, drop, drop-of-length-le}
 use lib.Seq.{drop-cons}
 use Rattle.octets.specs.Tests.{_and_, _or_, all, any, pairs, findIx}
@@ -103,3 +104,17 @@ module _ {A : Type 0} where
 
   pub pairs-done : (r : A → A → Bool) (xs : List A) (i : ℕ) → length xs ≤ i → pairs r (drop i xs) ≡ true
   pairs-done r xs i h = rw (drop-of-length-le xs {i = i} h)
+
+  -- a loop against `findIx`: i elements passed over, and what is found in the rest
+  pub findIx-on : (p : A → Bool) (xs : List A) (d : A) (i : ℕ) → i < length xs → p (getD xs i d) ≡ false
+      → findIx p xs ≡ i + findIx p (drop i xs) → findIx p xs ≡ i + 1 + findIx p (drop (i + 1) xs)
+  findIx-on p xs d i h e q =
+      let s : findIx p (drop i xs) ≡ suc (findIx p (drop (i + 1) xs)) = rw (drop-cons xs i d, e, findIx, add-one) in omega arith
+
+  pub findIx-stop : (p : A → Bool) (xs : List A) (d : A) (i : ℕ) → i < length xs → p (getD xs i d) ≡ true
+      → findIx p xs ≡ i + findIx p (drop i xs) → findIx p xs ≡ i
+  findIx-stop p xs d i h e q =
+      let s : findIx p (drop i xs) ≡ 0 = rw (drop-cons xs i d, e, findIx) in omega arith
+
+  pub findIx-done : (p : A → Bool) (xs : List A) (i : ℕ) → length xs ≤ i → findIx p xs ≡ i + findIx p (drop i xs) → findIx p xs ≡ i
+  findIx-done p xs i h q = let s : findIx p (drop i xs) ≡ 0 = rw (drop-of-length-le xs {i = i} h) in omega arith

@@ -1,3 +1,6 @@
+use Rattle.guid.specs.Hex.{digitOf}
+use borrow.Author.Tests.{lt-ltb, le-ltb}
+use native.Mathlib.Omega.{arith}
 use borrow.Author.Needs.{needs}
 use Rattle.guid.proofs.digit.Statement.{statement}
 use Rattle.guid.proofs.digit.Tie as tie
@@ -14,11 +17,13 @@ add-result-2 c = search needs
 
 -- src/lib.rt:90:1
 returns : tie.Need-returns
-returns c = ?
+unfolding digitOf
+returns c = rw (lt-ltb (c .before .args .n) 10 (c .if1 .taken))
 
 -- src/lib.rt:90:1
 returns-2 : tie.Need-returns-2
-returns-2 c = ?
+unfolding digitOf
+returns-2 c = rw (le-ltb (c .before .args .n) 10 (c .if1 .left)) (omega arith)
 
 pub digit-spec : {M : Type 1} → statement M
 digit-spec = tie.close (tie.spec add-result add-result-2 returns returns-2)

@@ -1,3 +1,7 @@
+use Rattle.guid.proofs.Text.{reordered-each}
+use Rattle.guid.specs.Text.{reordered}
+use Rattle.octets.specs.Bytes.{part, rest}
+use denote.Ref.{now}
 use borrow.Author.Needs.{needs}
 use Rattle.guid.proofs.reordered.Statement.{statement}
 use Rattle.guid.proofs.reordered.Tie as tie
@@ -70,7 +74,8 @@ shared-slice-read-t33 c = search needs
 
 -- src/lib.rt:168:1
 returns : tie.Need-returns
-returns c = ?
+unfolding reordered part rest
+returns c = reordered-each (now (c .before .before .before .before .before .before .before .before .before .before .before .before .before .before .before .before .args .b)) (c .before .before .before .before .before .before .before .before .before .before .before .before .before .before .before .before .pre)
 
 pub reordered-spec : {M : Type 1} → statement M
 reordered-spec =

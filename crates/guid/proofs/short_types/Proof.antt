@@ -1,3 +1,10 @@
+use borrow.Author.Needs.{needs}
+use Rattle.guid.specs.Table.{agree}
+use Rattle.guid.specs.Text.{digitsIn, dashesIn, isGuidText, reordered, storedOf}
+use Rattle.guid.specs.Hex.{valueOf, bytesOf}
+use Rattle.octets.specs.Bytes.{part, rest, same}
+use Rattle.octets.specs.Tests.{_and_}
+use mathlib.Core.Path.{refl}
 use Rattle.guid.proofs.short_types.Statement.{statement}
 use Rattle.guid.proofs.short_types.Tie as tie
 use Rattle.guid.proofs.short_types.Reads as reads
@@ -5,7 +12,8 @@ use Rattle.guid.proofs.short_types.Lts as lts
 
 -- src/lib.rt:211:1
 returns : tie.Need-returns
-returns c = ?
+unfolding agree isGuidText storedOf digitsIn dashesIn reordered bytesOf valueOf part rest same _and_
+returns c = refl
 
 pub short-types-spec : {M : Type 1} → statement M
 short-types-spec = tie.close (tie.spec returns)

@@ -1,0 +1,1 @@
+-- The promises of specs/Promises.antt, proved.

@@ -1,0 +1,75 @@
+use borrow.Author.Needs.{needs}
+use Rattle.guid.proofs.read.Statement.{statement}
+use Rattle.guid.proofs.read.Tie as tie
+use Rattle.guid.proofs.read.Reads as reads
+use Rattle.guid.proofs.read.Lts as lts
+use Rattle.guid.proofs.bytes_of.Reads as bytes-of-reads
+use Rattle.guid.proofs.digits_in.Reads as digits-in-reads
+use Rattle.guid.proofs.is_text.Reads as is-text-reads
+use Rattle.guid.proofs.reordered.Reads as reordered-reads
+use Rattle.octets.proofs.copy.Reads as copy-reads
+
+-- src/lib.rt:196:9
+returns : tie.Need-returns
+returns c = ?
+
+-- src/lib.rt:198:9
+is-text-requires : tie.Need-is-text-requires
+is-text-requires c κs = search needs
+
+-- src/lib.rt:199:9
+returns-2 : tie.Need-returns-2
+returns-2 c = ?
+
+-- src/lib.rt:201:18
+digits-in-requires : tie.Need-digits-in-requires
+digits-in-requires c κs = ?
+
+-- src/lib.rt:202:26
+slice-aggregate-bytes-of : tie.Need-slice-aggregate-bytes-of
+slice-aggregate-bytes-of c = search needs
+
+-- src/lib.rt:202:17
+bytes-of-requires : tie.Need-bytes-of-requires
+bytes-of-requires c κs = ?
+
+-- src/lib.rt:203:28
+slice-aggregate-reordered : tie.Need-slice-aggregate-reordered
+slice-aggregate-reordered c = search needs
+
+-- src/lib.rt:203:18
+reordered-requires : tie.Need-reordered-requires
+reordered-requires c κs = search needs
+
+-- src/lib.rt:204:27
+slice-aggregate-copy : tie.Need-slice-aggregate-copy
+slice-aggregate-copy c = search needs
+
+-- src/lib.rt:204:5
+copy-requires : tie.Need-copy-requires
+copy-requires c κs = search needs
+
+-- src/lib.rt:192:1
+same-length : tie.Need-same-length
+same-length c = search needs
+
+-- src/lib.rt:192:1
+returns-3 : tie.Need-returns-3
+returns-3 c = ?
+
+pub read-spec : {M : Type 1} → statement M
+read-spec =
+    tie.close
+    (tie.spec
+    returns
+    is-text-requires
+    returns-2
+    digits-in-requires
+    slice-aggregate-bytes-of
+    bytes-of-requires
+    slice-aggregate-reordered
+    reordered-requires
+    slice-aggregate-copy
+    copy-requires
+    same-length
+    returns-3)
