@@ -1,4 +1,5 @@
 -- The short names of types. Definitions only.
+use mathlib.Core.Bool.{Bool}
 use mathlib.Core.List.{List, [], _∷_, map}
 use Prim.Native.Nat.{ℕ}
 use Prim.Native.String.{String}
@@ -27,9 +28,12 @@ shorts =
     ∷ (short "swap" "0657FD6D-A4AB-43C4-84E5-0933C84B4F4F"
     ∷ []))))
 
--- the place of a short name in the list, or the list's length
-abbrev pub shortAt : List ℕ → ℕ
-shortAt t = findIx (λ s. same t (s .name)) shorts
+abbrev pub isNamed : List ℕ → Short → Bool
+isNamed t s = same t (s .name)
+
+-- the place of a short name in the list; for any other text the list's length
+unfoldable pub shortAt : List ℕ → ℕ
+shortAt t = findIx (isNamed t) shorts
 
 -- the text that a short name stands for; any other text stands for itself
 unfoldable pub expand : List ℕ → List ℕ

@@ -222,7 +222,7 @@ fn short_at(text: &[u8]) -> usize
         let short = types[i];
         let name = short.name;
         let length = short.length;
-        if octets::same(text, &name[0..length]) {
+        if octets::same(text, &name[..length]) {
             return i;
         }
         i += 1;

@@ -1,3 +1,6 @@
+use Rattle.guid.proofs.Text.{groups-copied}
+use Rattle.octets.specs.Bytes.{part}
+use denote.Ref.{now}
 use borrow.Author.Needs.{needs}
 use Rattle.guid.proofs.grouped.Statement.{statement}
 use Rattle.guid.proofs.grouped.Tie as tie
@@ -107,7 +110,8 @@ copy-requires-5 c κs = search needs
 
 -- src/lib.rt:178:1
 returns : tie.Need-returns
-returns c = ?
+unfolding part
+returns c = groups-copied (now (c .before .before .before .before .before .before .before .before .before .before .before .before .before .before .before .before .before .before .before .before .before .args .digits)) (c .before .before .before .before .before .before .before .before .before .before .before .before .before .before .before .before .before .before .before .before .before .pre) _ _ _ _ _ (c .before .before .before .before .before .before .before .before .before .before .before .before .before .before .before .before .before .copy .ensures) (c .before .before .before .before .before .before .before .before .before .before .before .before .before .copy2 .ensures) (c .before .before .before .before .before .before .before .before .before .copy3 .ensures) (c .before .before .before .before .before .copy4 .ensures) (c .before .copy5 .ensures)
 
 pub grouped-spec : {M : Type 1} → statement M
 grouped-spec =

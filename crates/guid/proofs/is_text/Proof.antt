@@ -1,3 +1,10 @@
+use Rattle.guid.proofs.Calls.{text-short, text-other, text-digits}
+use Rattle.guid.specs.Text.{dashesIn}
+use Rattle.guid.specs.Hex.{isDigit}
+use Rattle.octets.specs.Tests.{all}
+use borrow.Author.Tests.{not-true, not-false}
+use denote.Ref.{now}
+use mathlib.Core.Path.{sym, ap, _∙_}
 use borrow.Author.Needs.{needs}
 use Rattle.guid.proofs.is_text.Statement.{statement}
 use Rattle.guid.proofs.is_text.Tie as tie
@@ -9,7 +16,7 @@ use Rattle.octets.proofs.same.Reads as same-reads
 
 -- src/lib.rt:128:9
 returns : tie.Need-returns
-returns c = ?
+returns c = text-short (now (c .before .before .args .text)) (c .if1 .taken)
 
 -- src/lib.rt:130:19
 shared-slice-read-t8 : tie.Need-shared-slice-read-t8
@@ -41,7 +48,8 @@ same-requires c κs = search needs
 
 -- src/lib.rt:132:9
 returns-2 : tie.Need-returns-2
-returns-2 c = ?
+unfolding dashesIn
+returns-2 c = text-other (now (c .before .before .before .before .before .before .before .before .before .before .args .text)) (c .before .before .before .before .before .before .before .before .if1 .left) (sym (c .before .same .ensures) ∙ not-true _ (c .if2 .taken))
 
 -- src/lib.rt:134:18
 digits-in-requires : tie.Need-digits-in-requires
@@ -57,7 +65,8 @@ all-digits-requires c κs = search needs
 
 -- src/lib.rt:124:1
 returns-3 : tie.Need-returns-3
-returns-3 c = ?
+unfolding dashesIn
+returns-3 c = c .all-digits .ensures ∙ ap (all isDigit) (c .before .before .digits-in .ensures) ∙ text-digits (now (c .before .before .before .before .before .before .before .before .before .before .before .before .before .args .text)) (c .before .before .before .before .before .before .before .before .before .before .before .if1 .left) (sym (c .before .before .before .before .same .ensures) ∙ not-false _ (c .before .before .before .if2 .left))
 
 pub is-text-spec : {M : Type 1} → statement M
 is-text-spec =

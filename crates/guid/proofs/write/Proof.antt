@@ -1,3 +1,11 @@
+use Rattle.guid.proofs.Calls.{write-guid, write-text, write-done}
+use Rattle.guid.specs.Text.{grouped, textOf}
+use Rattle.guid.specs.Hex.{digitsOf}
+use Rattle.octets.specs.Bytes.{put}
+use denote.Ref.{now}
+use Prim.Native.Nat.{ℕ}
+use mathlib.Core.List.{List}
+use mathlib.Core.Path.{ap, _∙_}
 use borrow.Author.Needs.{needs}
 use Rattle.guid.proofs.write.Statement.{statement}
 use Rattle.guid.proofs.write.Tie as tie
@@ -10,11 +18,11 @@ use Rattle.octets.proofs.copy.Reads as copy-reads
 
 -- src/lib.rt:256:9
 returns : tie.Need-returns
-returns c = ?
+returns c = write-guid (now (c .before .before .before .args .guid)) (now (c .before .before .before .args .text)) (c .if1 .taken)
 
 -- src/lib.rt:259:9
 returns-2 : tie.Need-returns-2
-returns-2 c = ?
+returns-2 c = write-text (now (c .before .before .before .before .args .guid)) (now (c .before .before .before .before .args .text)) (c .before .if1 .left) (c .if2 .taken)
 
 -- src/lib.rt:261:17
 reordered-requires : tie.Need-reordered-requires
@@ -50,7 +58,8 @@ same-length c = search needs
 
 -- src/lib.rt:252:1
 returns-3 : tie.Need-returns-3
-returns-3 c = ?
+unfolding textOf
+returns-3 c = let s = c .before .before .before .before .before .grouped .ensures ∙ ap grouped (c .before .before .before .before .before .before .before .digits-of .ensures ∙ ap digitsOf (c .before .before .before .before .before .before .before .before .before .reordered .ensures)) in write-done (now (c .before .before .before .before .before .before .before .before .before .before .before .before .before .before .args .guid)) (now (c .before .before .before .before .before .before .before .before .before .before .before .before .before .before .args .text)) _ (c .before .before .before .before .before .before .before .before .before .before .before .if1 .left) (c .before .before .before .before .before .before .before .before .before .before .if2 .left) (c .before .before .copy .ensures ∙ ap (λ (l : List ℕ). put 0 l (now (c .before .before .before .before .before .before .before .before .before .before .before .before .before .before .args .text))) s)
 
 pub write-spec : {M : Type 1} → statement M
 write-spec =
