@@ -6,7 +6,7 @@ use Prim.Native.Nat.{ℕ}
 use lib.Dec.{eqb}
 use lib.ListN.{length}
 use Rattle.octets.specs.Tests.{_or_}
-use Rattle.octets.specs.Rows.{row, refusal}
+use Rattle.octets.specs.Rows.{Row, row, refusal}
 use Rattle.guid.specs.Text.{isGuidText, storedOf, textOf}
 use Rattle.guid.specs.Types.{expand}
 use Rattle.guid.specs.declared.Answer.{Answer}
@@ -31,14 +31,24 @@ outcome (some k) new old = record { number = some k; buffer = old }
 abbrev pub isNot : ℕ → List ℕ → Bool
 isNot k xs = not (eqb (length xs) k)
 
--- R4 and R14, in this order: a GUID text read into 16 bytes
+-- ---- reading a GUID text into 16 bytes
+
+-- R4, then R14
+abbrev pub readRows : List ℕ → List ℕ → List Row
+readRows text guid = row (isNot 16 guid) 1 ∷ (row (not (isGuidText text)) 30 ∷ [])
+
 unfoldable pub readOf : List ℕ → List ℕ → Outcome
-readOf text guid = outcome (refusal (row (isNot 16 guid) 1 ∷ (row (not (isGuidText text)) 30 ∷ []))) (storedOf text) guid
+readOf text guid = outcome (refusal (readRows text guid)) (storedOf text) guid
 
 -- G1: a type may also be a short name
 abbrev pub readTypeOf : List ℕ → List ℕ → Outcome
 readTypeOf text guid = readOf (expand text) guid
 
--- R4: 16 bytes written as a text of 36
+-- ---- writing 16 bytes as a text of 36
+
+-- R4
+abbrev pub writeRows : List ℕ → List ℕ → List Row
+writeRows guid text = row (isNot 16 guid or isNot 36 text) 1 ∷ []
+
 unfoldable pub writeOf : List ℕ → List ℕ → Outcome
-writeOf guid text = outcome (refusal (row (isNot 16 guid or isNot 36 text) 1 ∷ [])) (textOf guid) text
+writeOf guid text = outcome (refusal (writeRows guid text)) (textOf guid) text

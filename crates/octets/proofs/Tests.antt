@@ -2,12 +2,12 @@
 use mathlib.Core.Path.{_≡_, refl, ap, _∙_}
 use mathlib.Core.Logic.{_⊎_, inl, inr}
 use mathlib.Core.Bool.{Bool, true, false, true≢false, false≢true}
-use mathlib.Core.List.{List, [], _∷_}
+use mathlib.Core.List.{List, [], _∷_, _++_, reverseAux, reverse}
 use Prim.Native.Nat.{ℕ, zero, suc, _+_, _≤_, _<_, zero-le, suc-le-suc}
 use native.Mathlib.Nat.{le-of-suc-le-suc, not-suc-le-zero, zero-lt-suc}
 use native.Mathlib.Numerals.{add-one}
 use native.Mathlib.Omega.{arith}
-use lib.ListN.{length, getD, drop, drop-of-length-le}
+use lib.ListN.{length, getD, take, drop, drop-of-length-le}
 use lib.Seq.{drop-cons}
 use Rattle.octets.specs.Tests.{_and_, _or_, all, any, pairs, findIx}
 use Rattle.octets.proofs.Bools.{and-l, and-r, and-i, or-cases, or-il, or-ir, or-false-l, or-false-r, or-false-i, or-skip, bool-cases}
@@ -67,6 +67,29 @@ module _ {A : Type 0} where
           → (findIx p (x ∷ xs) < suc (length xs)) × (p (getD (x ∷ xs) (findIx p (x ∷ xs)) d) ≡ true)
       go (inl q) ih = rw (q, findIx) (zero-lt-suc _, q)
       go (inr q) ih = rw (q, findIx) (let r = ih (or-skip _ _ q e) in (suc-le-suc (r .0), r .1))
+
+  -- ---- `all` of lists made from lists that pass
+
+  pub all-append : (p : A → Bool) (xs ys : List A) → all p xs ≡ true → all p ys ≡ true → all p (xs ++ ys) ≡ true
+  all-append p [] ys e f = f
+  all-append p (x ∷ xs) ys e f = and-i _ _ (and-l _ _ e) (all-append p xs ys (and-r _ _ e) f)
+
+  pub all-take : (p : A → Bool) (k : ℕ) (xs : List A) → all p xs ≡ true → all p (take k xs) ≡ true
+  all-take p zero xs e = refl
+  all-take p (suc k) [] e = refl
+  all-take p (suc k) (x ∷ xs) e = and-i _ _ (and-l _ _ e) (all-take p k xs (and-r _ _ e))
+
+  pub all-drop : (p : A → Bool) (k : ℕ) (xs : List A) → all p xs ≡ true → all p (drop k xs) ≡ true
+  all-drop p zero xs e = e
+  all-drop p (suc k) [] e = refl
+  all-drop p (suc k) (x ∷ xs) e = all-drop p k xs (and-r _ _ e)
+
+  all-reverse-on : (p : A → Bool) (xs ys : List A) → all p xs ≡ true → all p ys ≡ true → all p (reverseAux xs ys) ≡ true
+  all-reverse-on p [] ys e f = f
+  all-reverse-on p (x ∷ xs) ys e f = all-reverse-on p xs (x ∷ ys) (and-r _ _ e) (and-i _ _ (and-l _ _ e) f)
+
+  pub all-reverse : (p : A → Bool) (xs : List A) → all p xs ≡ true → all p (reverse xs) ≡ true
+  all-reverse p xs e = all-reverse-on p xs [] e refl
 
   -- ---- a loop against `all`, `any` and `pairs`: the rest decides. On: the element at i is passed over; stop: it decides; done: nothing is left
 
