@@ -1,11 +1,10 @@
 -- Laws of the judgement of a text, and of each way out of the calls.
-use mathlib.Core.Path.{_≡_, refl, sym, ap, _∙_}
-use mathlib.Core.Bool.{Bool, true, false}
-use mathlib.Core.List.{List, [], _∷_}
+use mathlib.Core.Path.{_≡_, sym, _∙_}
+use mathlib.Core.Bool.{true, false}
+use mathlib.Core.List.{List}
 use mathlib.Core.Option.{none, some}
-use Prim.Native.Nat.{ℕ, _*_}
+use Prim.Native.Nat.{ℕ}
 use native.Mathlib.Omega.{arith}
-use lib.Dec.{eqb}
 use lib.ListN.{length}
 use borrow.Author.Tests.{eqb-true, eq-eqb, ne-eqb}
 use Rattle.octets.specs.Ascii.{ascii}
@@ -16,7 +15,7 @@ use Rattle.octets.proofs.Bools.{and-l, and-r}
 use Rattle.octets.proofs.Equal.{same-true}
 use Rattle.octets.proofs.Puts.{put-all}
 use Rattle.guid.specs.Hex.{isDigit, bytesOf, digitsOf}
-use Rattle.guid.specs.Text.{digitsIn, dashesIn, isGuidText, grouped, reordered, storedOf, textOf}
+use Rattle.guid.specs.Text.{digitsIn, dashesIn, isGuidText, reordered, storedOf, textOf}
 use Rattle.guid.specs.Calls.{outcome, readOf, writeOf}
 use Rattle.guid.proofs.Hex.{length-bytes, length-digits}
 use Rattle.guid.proofs.Text.{length-digitsIn, length-reordered, length-grouped}

@@ -4,13 +4,12 @@ use mathlib.Core.Logic.{_⊎_, inl, inr}
 use mathlib.Core.Bool.{Bool, true, false, cond}
 use mathlib.Core.List.{List, [], _∷_, map}
 use Prim.Native.Nat.{ℕ, zero, suc, _+_, _-_, _*_, _/_, _%_, _≤_, _<_}
-use native.Mathlib.Nat.{suc-inj, suc-ne-zero}
 use native.Mathlib.Omega.{arith}
 use lib.Dec.{leb, ltb}
 use lib.ListN.{length, getD, set}
 use borrow.Author.Tests.{leb-true, ltb-true, ltb-false, le-leb, lt-leb, lt-ltb, le-ltb}
 use Rattle.octets.specs.Tests.{_and_, all}
-use Rattle.octets.proofs.Bools.{and-l, and-r, and-i, and-false-l, bool-cases, clash}
+use Rattle.octets.proofs.Bools.{and-l, and-r, and-i, and-false-l, bool-cases}
 use Rattle.octets.proofs.Tests.{all-get}
 use Rattle.octets.proofs.Filled.{Filled, filled-on}
 use Rattle.guid.specs.Hex.{valueOf, isDigit, bytesOf, digitOf, digitsOf, upper}

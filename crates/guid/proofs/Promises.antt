@@ -1,23 +1,23 @@
 -- The promises of specs/Promises.antt, proved.
 use mathlib.Core.Path.{_≡_, refl, sym, ap, _∙_}
-use mathlib.Core.Bool.{Bool, true, false}
-use mathlib.Core.List.{List, [], _∷_, _++_, map, reverse}
+use mathlib.Core.Bool.{true}
+use mathlib.Core.List.{List, map, reverse}
 use mathlib.Core.Option.{Option, none, some}
-use Prim.Native.Nat.{ℕ, _*_}
+use Prim.Native.Nat.{ℕ}
 use native.Mathlib.Omega.{arith}
 use lib.ListN.{length, drop}
 use borrow.Author.Tests.{eqb-true, eq-eqb}
 use Rattle.octets.specs.Ascii.{ascii}
 use Rattle.octets.specs.Bytes.{part, rest, put, same}
 use Rattle.octets.specs.Rows.{refusal}
-use Rattle.octets.specs.Tests.{_and_, _or_, all}
+use Rattle.octets.specs.Tests.{all}
 use Rattle.octets.proofs.Bools.{and-i, or-false-l, not-f, some-none}
 use Rattle.octets.proofs.Equal.{same-refl}
 use Rattle.octets.proofs.Puts.{put-all}
 use Rattle.octets.proofs.Rows.{passes}
 use Rattle.octets.proofs.Tests.{all-append, all-take, all-drop, all-reverse}
 use Rattle.guid.specs.Hex.{isDigit, bytesOf, digitsOf, upper}
-use Rattle.guid.specs.Text.{digitsIn, dashesIn, isGuidText, grouped, reordered, storedOf, textOf}
+use Rattle.guid.specs.Text.{digitsIn, isGuidText, grouped, reordered, storedOf, textOf}
 use Rattle.guid.specs.Calls.{outcome, readRows, readOf, writeRows, writeOf}
 use Rattle.guid.specs.Promises.{WrittenReadsBack, ReadWritesUpper}
 use Rattle.guid.proofs.Hex.{areBytes, length-digits, digits-are, bytes-digits, length-bytes, digits-bytes}

@@ -1,6 +1,6 @@
 -- The rule of the constant table at each of its entries, from one computed test; and short names in reading.
 use mathlib.Core.Path.{_≡_, refl, sym, ap, _∙_}
-use mathlib.Core.Bool.{Bool, true, false, false≢true}
+use mathlib.Core.Bool.{true, false, false≢true}
 use mathlib.Core.List.{List, [], _∷_, map}
 use mathlib.Core.Option.{none}
 use Prim.Native.Nat.{ℕ, zero, suc, _+_, _≤_, _<_}
@@ -38,7 +38,7 @@ entry c s e =
       within = leb-true (c .length) 6 (and-r _ _ a);
       name = same-true _ _ (and-l _ _ b);
       text = and-l _ _ (and-r _ _ b);
-      guid = same-true _ _ (and-r _ _ (and-r _ _ b))
+      guid = same-true _ _ (and-r _ _ (and-r _ _ b));
     }
 
 entries : (cs : List ShortType) (ss : List Short) (c : ShortType) (s : Short) → eachAgrees cs ss ≡ true

@@ -1,6 +1,6 @@
 -- Laws of the text's form and of the byte order. A list of known length is taken apart element by element, and both sides compute.
-use mathlib.Core.Path.{_≡_, refl, sym, ap, _∙_}
-use mathlib.Core.List.{List, [], _∷_, map}
+use mathlib.Core.Path.{_≡_, sym, ap, _∙_}
+use mathlib.Core.List.{List, map}
 use Prim.Native.Nat.{ℕ}
 use lib.ListN.{length, getD, replicate}
 use Rattle.octets.specs.Ascii.{ascii}

@@ -8,7 +8,7 @@ use lib.Dec.{ltb}
 use lib.ListN.{length}
 use Rattle.octets.specs.Tests.{all}
 use Rattle.guid.specs.Hex.{upper}
-use Rattle.guid.specs.Calls.{Outcome, readOf, writeOf}
+use Rattle.guid.specs.Calls.{readOf, writeOf}
 
 -- reading what was written gives the bytes back, for every GUID and all buffers of the right lengths
 abbrev pub WrittenReadsBack : Type 0

@@ -1,5 +1,5 @@
 -- Laws of lists of known length: element by element, and filled one element a turn.
-use mathlib.Core.Path.{_≡_, refl, sym, ap, _∙_}
+use mathlib.Core.Path.{_≡_, sym, ap, _∙_}
 use mathlib.Core.List.{List, [], _∷_}
 use Prim.Native.Nat.{ℕ, zero, suc, _+_, _≤_, _<_}
 use native.Mathlib.Nat.{suc-add, add-suc}
@@ -35,7 +35,7 @@ filled-on {m} {xs} {a} {i} v l h e p =
     record {
       below = omega arith;
       width = length-set a i v ∙ p .width;
-      same = rw (add-one, take-suc-set a i v ha, take-suc xs i 0 hx, p .same, e)
+      same = rw (add-one, take-suc-set a i v ha, take-suc xs i 0 hx, p .same, e);
     }
 
 pub filled-all : {m : ℕ} {xs a : List ℕ} {i : ℕ} → length xs ≡ m → m ≤ i → Filled m xs a i → a ≡ xs

@@ -8,9 +8,6 @@ use Prim.Native.Nat.{_+_, _*_, _-_}
 use mathlib.Core.Path.{refl}
 use Rattle.guid.proofs.bytes_of.Statement.{statement}
 use Rattle.guid.proofs.bytes_of.Tie as tie
-use Rattle.guid.proofs.bytes_of.Reads as reads
-use Rattle.guid.proofs.bytes_of.Lts as lts
-use Rattle.guid.proofs.value.Reads as value-reads
 
 abbrev Inv-loop : tie.InvT-loop
 Inv-loop digits bytes₀ i₀ bytes i = Filled 16 (bytesOf digits) bytes i
@@ -18,63 +15,48 @@ Inv-loop digits bytes₀ i₀ bytes i = Filled 16 (bytesOf digits) bytes i
 abbrev μ-loop : tie.MeasureT-loop
 μ-loop digits bytes₀ i₀ bytes i = 16 - i
 
--- src/lib.rt:145:5
 loop-holds : tie.Need-loop-holds Inv-loop μ-loop
 loop-holds c = record { below = search needs; width = refl; same = refl }
 
--- src/lib.rt:146:38
 mul-value : tie.Need-mul-value Inv-loop μ-loop
 mul-value c = search needs
 
--- src/lib.rt:146:31
 shared-slice-read-value : tie.Need-shared-slice-read-value Inv-loop μ-loop
 shared-slice-read-value c = search needs
 
--- src/lib.rt:146:25
 value-requires : tie.Need-value-requires Inv-loop μ-loop
 value-requires c κs = search needs
 
--- src/lib.rt:146:20
 mul-bytes : tie.Need-mul-bytes Inv-loop μ-loop
 mul-bytes c = let ds = now (c .before .before .before .before .before .args .digits) in let i = c .before .before .before .loop .i in omega (arith, c .value .ensures, digit-below ds (c .before .before .before .before .before .pre .1) (2 * i) (omega arith))
 
--- src/lib.rt:146:61
 mul-value-2 : tie.Need-mul-value-2 Inv-loop μ-loop
 mul-value-2 c = search needs
 
--- src/lib.rt:146:61
 add-value : tie.Need-add-value Inv-loop μ-loop
 add-value c = search needs
 
--- src/lib.rt:146:54
 shared-slice-read-value-2 : tie.Need-shared-slice-read-value-2 Inv-loop μ-loop
 shared-slice-read-value-2 c = search needs
 
--- src/lib.rt:146:48
 value-requires-2 : tie.Need-value-requires-2 Inv-loop μ-loop
 value-requires-2 c κs = search needs
 
--- src/lib.rt:146:20
 add-bytes : tie.Need-add-bytes Inv-loop μ-loop
 add-bytes c = let ds = now (c .before .before .before .before .before .before .before .args .digits) in let i = c .before .before .before .before .before .loop .i in omega (arith, c .before .before .value .ensures, c .value2 .ensures, digit-below ds (c .before .before .before .before .before .before .before .pre .1) (2 * i) (omega arith), digit-below ds (c .before .before .before .before .before .before .before .pre .1) (2 * i + 1) (omega arith))
 
--- src/lib.rt:146:9
 array-write-bytes : tie.Need-array-write-bytes Inv-loop μ-loop
 array-write-bytes c = let w = c .before .before .before .before .before .loop .inv .width in search needs
 
--- src/lib.rt:147:9
 add-i : tie.Need-add-i Inv-loop μ-loop
 add-i c = search needs
 
--- src/lib.rt:145:5
 loop-less : tie.Need-loop-less Inv-loop μ-loop
 loop-less c = search needs
 
--- src/lib.rt:145:5
 loop-again : tie.Need-loop-again Inv-loop μ-loop
 loop-again c = let ds = now (c .before .before .before .before .before .before .before .args .digits) in let l = c .before .before .before .before .before .loop in filled-on _ (length-bytes 16 ds (c .before .before .before .before .before .before .before .pre .0)) (c .before .before .before .before .loop-test .taken) (omega (arith, bytes-at (l .i) ds (omega arith), c .before .before .value .ensures, c .value2 .ensures)) (l .inv)
 
--- src/lib.rt:139:1
 returns : tie.Need-returns Inv-loop μ-loop
 returns c = filled-all (length-bytes 16 (now (c .before .before .before .args .digits)) (c .before .before .before .pre .0)) (c .loop-test .left) (c .before .loop .inv)
 

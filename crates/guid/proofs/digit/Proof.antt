@@ -4,23 +4,17 @@ use native.Mathlib.Omega.{arith}
 use borrow.Author.Needs.{needs}
 use Rattle.guid.proofs.digit.Statement.{statement}
 use Rattle.guid.proofs.digit.Tie as tie
-use Rattle.guid.proofs.digit.Reads as reads
-use Rattle.guid.proofs.digit.Lts as lts
 
--- src/lib.rt:94:17
 add-result : tie.Need-add-result
 add-result c = search needs
 
--- src/lib.rt:94:33
 add-result-2 : tie.Need-add-result-2
 add-result-2 c = search needs
 
--- src/lib.rt:90:1
 returns : tie.Need-returns
 unfolding digitOf
 returns c = rw (lt-ltb (c .before .args .n) 10 (c .if1 .taken))
 
--- src/lib.rt:90:1
 returns-2 : tie.Need-returns-2
 unfolding digitOf
 returns-2 c = rw (le-ltb (c .before .args .n) 10 (c .if1 .left)) (omega arith)

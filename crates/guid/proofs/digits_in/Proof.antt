@@ -4,111 +4,82 @@ use denote.Ref.{now}
 use borrow.Author.Needs.{needs}
 use Rattle.guid.proofs.digits_in.Statement.{statement}
 use Rattle.guid.proofs.digits_in.Tie as tie
-use Rattle.guid.proofs.digits_in.Reads as reads
-use Rattle.guid.proofs.digits_in.Lts as lts
-use Rattle.octets.proofs.copy.Reads as copy-reads
 
--- src/lib.rt:103:18
 slice-aggregate-copy : tie.Need-slice-aggregate-copy
 slice-aggregate-copy c = search needs
 
--- src/lib.rt:103:34
 sub-copy : tie.Need-sub-copy
 sub-copy c = search needs
 
--- src/lib.rt:103:34
 part-copy-start : tie.Need-part-copy-start
 part-copy-start c = search needs
 
--- src/lib.rt:103:34
 part-copy-end : tie.Need-part-copy-end
 part-copy-end c = search needs
 
--- src/lib.rt:103:5
 copy-requires : tie.Need-copy-requires
 copy-requires c κs = search needs
 
--- src/lib.rt:104:18
 slice-aggregate-copy-2 : tie.Need-slice-aggregate-copy-2
 slice-aggregate-copy-2 c = search needs
 
--- src/lib.rt:104:34
 sub-copy-2 : tie.Need-sub-copy-2
 sub-copy-2 c = search needs
 
--- src/lib.rt:104:34
 part-copy-start-2 : tie.Need-part-copy-start-2
 part-copy-start-2 c = search needs
 
--- src/lib.rt:104:34
 part-copy-end-2 : tie.Need-part-copy-end-2
 part-copy-end-2 c = search needs
 
--- src/lib.rt:104:5
 copy-requires-2 : tie.Need-copy-requires-2
 copy-requires-2 c κs = search needs
 
--- src/lib.rt:105:18
 slice-aggregate-copy-3 : tie.Need-slice-aggregate-copy-3
 slice-aggregate-copy-3 c = search needs
 
--- src/lib.rt:105:35
 sub-copy-3 : tie.Need-sub-copy-3
 sub-copy-3 c = search needs
 
--- src/lib.rt:105:35
 part-copy-start-3 : tie.Need-part-copy-start-3
 part-copy-start-3 c = search needs
 
--- src/lib.rt:105:35
 part-copy-end-3 : tie.Need-part-copy-end-3
 part-copy-end-3 c = search needs
 
--- src/lib.rt:105:5
 copy-requires-3 : tie.Need-copy-requires-3
 copy-requires-3 c κs = search needs
 
--- src/lib.rt:106:18
 slice-aggregate-copy-4 : tie.Need-slice-aggregate-copy-4
 slice-aggregate-copy-4 c = search needs
 
--- src/lib.rt:106:35
 sub-copy-4 : tie.Need-sub-copy-4
 sub-copy-4 c = search needs
 
--- src/lib.rt:106:35
 part-copy-start-4 : tie.Need-part-copy-start-4
 part-copy-start-4 c = search needs
 
--- src/lib.rt:106:35
 part-copy-end-4 : tie.Need-part-copy-end-4
 part-copy-end-4 c = search needs
 
--- src/lib.rt:106:5
 copy-requires-4 : tie.Need-copy-requires-4
 copy-requires-4 c κs = search needs
 
--- src/lib.rt:107:18
 slice-aggregate-copy-5 : tie.Need-slice-aggregate-copy-5
 slice-aggregate-copy-5 c = search needs
 
--- src/lib.rt:107:35
 sub-copy-5 : tie.Need-sub-copy-5
 sub-copy-5 c = search needs
 
--- src/lib.rt:107:35
 part-copy-start-5 : tie.Need-part-copy-start-5
 part-copy-start-5 c = search needs
 
--- src/lib.rt:107:35
 part-copy-end-5 : tie.Need-part-copy-end-5
 part-copy-end-5 c = search needs
 
--- src/lib.rt:107:5
 copy-requires-5 : tie.Need-copy-requires-5
 copy-requires-5 c κs = search needs
 
--- src/lib.rt:98:1
 returns : tie.Need-returns
 unfolding part
 returns c = digits-copied (now (c .before .before .before .before .before .before .before .before .before .before .before .before .before .before .before .before .before .before .before .before .before .args .text)) (c .before .before .before .before .before .before .before .before .before .before .before .before .before .before .before .before .before .before .before .before .before .pre) _ _ _ _ _ (c .before .before .before .before .before .before .before .before .before .before .before .before .before .before .before .before .before .copy .ensures) (c .before .before .before .before .before .before .before .before .before .before .before .before .before .copy2 .ensures) (c .before .before .before .before .before .before .before .before .before .copy3 .ensures) (c .before .before .before .before .before .copy4 .ensures) (c .before .copy5 .ensures)

@@ -9,9 +9,6 @@ use Prim.Native.Nat.{_*_, _-_}
 use mathlib.Core.Path.{refl}
 use Rattle.guid.proofs.digits_of.Statement.{statement}
 use Rattle.guid.proofs.digits_of.Tie as tie
-use Rattle.guid.proofs.digits_of.Reads as reads
-use Rattle.guid.proofs.digits_of.Lts as lts
-use Rattle.guid.proofs.digit.Reads as digit-reads
 
 abbrev Inv-loop : tie.InvT-loop
 Inv-loop bytes digits₀ i₀ digits i = Filled 32 (digitsOf bytes) digits (2 * i)
@@ -19,59 +16,45 @@ Inv-loop bytes digits₀ i₀ digits i = Filled 32 (digitsOf bytes) digits (2 * 
 abbrev μ-loop : tie.MeasureT-loop
 μ-loop bytes digits₀ i₀ digits i = 16 - i
 
--- src/lib.rt:159:5
 loop-holds : tie.Need-loop-holds Inv-loop μ-loop
 loop-holds c = record { below = search needs; width = refl; same = refl }
 
--- src/lib.rt:160:31
 shared-slice-read-digit : tie.Need-shared-slice-read-digit Inv-loop μ-loop
 shared-slice-read-digit c = search needs
 
--- src/lib.rt:160:25
 digit-requires : tie.Need-digit-requires Inv-loop μ-loop
 digit-requires c κs = omega (arith, c .before .before .before .shared-slice-known .given (c .before .before .loop .i))
 
--- src/lib.rt:160:16
 mul-digits : tie.Need-mul-digits Inv-loop μ-loop
 mul-digits c = search needs
 
--- src/lib.rt:160:9
 array-write-digits : tie.Need-array-write-digits Inv-loop μ-loop
 array-write-digits c = search needs
 
--- src/lib.rt:161:35
 shared-slice-read-digit-2 : tie.Need-shared-slice-read-digit-2 Inv-loop μ-loop
 shared-slice-read-digit-2 c = search needs
 
--- src/lib.rt:161:29
 digit-requires-2 : tie.Need-digit-requires-2 Inv-loop μ-loop
 digit-requires-2 c κs = omega (arith, c .before .before .before .before .before .shared-slice-known .given (c .before .before .before .before .loop .i))
 
--- src/lib.rt:161:16
 mul-digits-2 : tie.Need-mul-digits-2 Inv-loop μ-loop
 mul-digits-2 c = search needs
 
--- src/lib.rt:161:16
 add-digits : tie.Need-add-digits Inv-loop μ-loop
 add-digits c = search needs
 
--- src/lib.rt:161:9
 array-write-digits-2 : tie.Need-array-write-digits-2 Inv-loop μ-loop
 array-write-digits-2 c = search needs
 
--- src/lib.rt:162:9
 add-i : tie.Need-add-i Inv-loop μ-loop
 add-i c = search needs
 
--- src/lib.rt:159:5
 loop-less : tie.Need-loop-less Inv-loop μ-loop
 loop-less c = search needs
 
--- src/lib.rt:159:5
 loop-again : tie.Need-loop-again Inv-loop μ-loop
 loop-again c = let l = c .before .before .before .before .before .loop in digits-on (now (c .before .before .before .before .before .before .before .args .bytes)) (l .digits) (l .i) _ _ (c .before .before .before .before .before .before .before .pre) (c .before .before .before .before .loop-test .taken) (c .before .before .digit .ensures) (c .digit2 .ensures) (l .inv)
 
--- src/lib.rt:153:1
 returns : tie.Need-returns Inv-loop μ-loop
 returns c = let bs = now (c .before .before .before .args .bytes) in filled-all (length-digits bs ∙ omega arith) (omega arith) (c .before .loop .inv)
 

@@ -1,5 +1,4 @@
 use Rattle.guid.proofs.Calls.{text-length, text-all, read-length, read-text, read-done}
-use Rattle.guid.proofs.Text.{length-digitsIn}
 use Rattle.guid.specs.Text.{reordered, storedOf}
 use Rattle.guid.specs.Hex.{isDigit, bytesOf}
 use Rattle.octets.specs.Tests.{all}
@@ -12,59 +11,40 @@ use mathlib.Core.Path.{sym, ap, _∙_}
 use borrow.Author.Needs.{needs}
 use Rattle.guid.proofs.read.Statement.{statement}
 use Rattle.guid.proofs.read.Tie as tie
-use Rattle.guid.proofs.read.Reads as reads
-use Rattle.guid.proofs.read.Lts as lts
-use Rattle.guid.proofs.bytes_of.Reads as bytes-of-reads
-use Rattle.guid.proofs.digits_in.Reads as digits-in-reads
-use Rattle.guid.proofs.is_text.Reads as is-text-reads
-use Rattle.guid.proofs.reordered.Reads as reordered-reads
-use Rattle.octets.proofs.copy.Reads as copy-reads
 
--- src/lib.rt:196:9
 returns : tie.Need-returns
 returns c = read-length (now (c .before .before .before .args .text)) (now (c .before .before .before .args .guid)) (c .if1 .taken)
 
--- src/lib.rt:198:9
 is-text-requires : tie.Need-is-text-requires
 is-text-requires c κs = search needs
 
--- src/lib.rt:199:9
 returns-2 : tie.Need-returns-2
 returns-2 c = read-text (now (c .before .before .before .before .before .args .text)) (now (c .before .before .before .before .before .args .guid)) (c .before .before .if1 .left) (sym (c .before .is-text .ensures) ∙ not-true _ (c .if2 .taken))
 
--- src/lib.rt:201:18
 digits-in-requires : tie.Need-digits-in-requires
 digits-in-requires c κs = text-length (now (c .before .before .before .before .before .args .text)) (sym (c .before .is-text .ensures) ∙ not-false _ (c .if2 .left))
 
--- src/lib.rt:202:26
 slice-aggregate-bytes-of : tie.Need-slice-aggregate-bytes-of
 slice-aggregate-bytes-of c = search needs
 
--- src/lib.rt:202:17
 bytes-of-requires : tie.Need-bytes-of-requires
 bytes-of-requires c κs = let t = now (c .before .before .before .before .before .before .before .args .text) in let e = sym (c .before .before .before .is-text .ensures) ∙ not-false _ (c .before .before .if2 .left) in (search needs, ap (all isDigit) (c .before .digits-in .ensures) ∙ text-all t e)
 
--- src/lib.rt:203:28
 slice-aggregate-reordered : tie.Need-slice-aggregate-reordered
 slice-aggregate-reordered c = search needs
 
--- src/lib.rt:203:18
 reordered-requires : tie.Need-reordered-requires
 reordered-requires c κs = search needs
 
--- src/lib.rt:204:27
 slice-aggregate-copy : tie.Need-slice-aggregate-copy
 slice-aggregate-copy c = search needs
 
--- src/lib.rt:204:5
 copy-requires : tie.Need-copy-requires
 copy-requires c κs = search needs
 
--- src/lib.rt:192:1
 same-length : tie.Need-same-length
 same-length c = search needs
 
--- src/lib.rt:192:1
 returns-3 : tie.Need-returns-3
 unfolding storedOf
 returns-3 c = let e = sym (c .before .before .before .before .before .before .before .before .before .before .before .is-text .ensures) ∙ not-false _ (c .before .before .before .before .before .before .before .before .before .before .if2 .left) in let s = c .before .before .before .before .before .reordered .ensures ∙ ap reordered (c .before .before .before .before .before .before .before .bytes-of .ensures ∙ ap bytesOf (c .before .before .before .before .before .before .before .before .before .digits-in .ensures)) in read-done (now (c .before .before .before .before .before .before .before .before .before .before .before .before .before .before .before .args .text)) (now (c .before .before .before .before .before .before .before .before .before .before .before .before .before .before .before .args .guid)) _ (c .before .before .before .before .before .before .before .before .before .before .before .before .if1 .left) e (c .before .before .copy .ensures ∙ ap (λ (l : List ℕ). put 0 l (now (c .before .before .before .before .before .before .before .before .before .before .before .before .before .before .before .args .guid))) s)

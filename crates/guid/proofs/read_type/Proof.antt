@@ -10,58 +10,40 @@ use mathlib.Core.Path.{sym, ap, _∙_}
 use borrow.Author.Needs.{needs}
 use Rattle.guid.proofs.read_type.Statement.{statement}
 use Rattle.guid.proofs.read_type.Tie as tie
-use Rattle.guid.proofs.read_type.Reads as reads
-use Rattle.guid.proofs.read_type.Lts as lts
-use Rattle.guid.proofs.read.Reads as read-reads
-use Rattle.guid.proofs.short_at.Reads as short-at-reads
-use Rattle.guid.proofs.short_types.Reads as short-types-reads
-use Rattle.octets.proofs.copy.Reads as copy-reads
 
--- src/lib.rt:238:9
 returns : tie.Need-returns
 returns c = read-length (expand (now (c .before .before .before .args .text))) (now (c .before .before .before .args .guid)) (c .if1 .taken)
 
--- src/lib.rt:240:9
 short-at-requires : tie.Need-short-at-requires
 short-at-requires c κs = search needs
 
--- src/lib.rt:242:21
 short-types-requires : tie.Need-short-types-requires
 short-types-requires c κs = search needs
 
--- src/lib.rt:243:21
 mul-short : tie.Need-mul-short
 mul-short c = search needs
 
--- src/lib.rt:243:21
 array-copy-out-short : tie.Need-array-copy-out-short
 array-copy-out-short c = search needs
 
--- src/lib.rt:245:31
 slice-aggregate-copy : tie.Need-slice-aggregate-copy
 slice-aggregate-copy c = let n = length-guid (c .before .before .before .before .short-types .result) (c .before .before .before .before .short-types .ensures) (c .before .before .before .before .before .before .short-at .result) (c .before .before .before .before .before .if2 .taken) in sym n
 
--- src/lib.rt:245:9
 copy-requires : tie.Need-copy-requires
 copy-requires c κs = let n = length-guid (c .before .before .before .before .short-types .result) (c .before .before .before .before .short-types .ensures) (c .before .before .before .before .before .before .short-at .result) (c .before .before .before .before .before .if2 .taken) in omega arith
 
--- src/lib.rt:246:9
 same-length : tie.Need-same-length
 same-length c = search needs
 
--- src/lib.rt:246:9
 returns-2 : tie.Need-returns-2
 returns-2 c = type-short (now (c .before .before .before .before .before .before .before .before .before .before .before .before .before .args .text)) (now (c .before .before .before .before .before .before .before .before .before .before .before .before .before .args .guid)) _ (c .before .before .before .before .before .before .before .short-types .result) (c .before .before .before .before .before .before .before .before .before .short-at .result) (c .before .before .before .before .before .before .before .before .before .before .if1 .left) (c .before .before .before .before .before .before .before .short-types .ensures) (c .before .before .before .before .before .before .before .before .before .short-at .ensures) (c .before .before .before .before .before .before .before .before .if2 .taken) (c .before .before .copy .ensures)
 
--- src/lib.rt:248:5
 read-requires : tie.Need-read-requires
 read-requires c κs = search needs
 
--- src/lib.rt:234:1
 same-length-2 : tie.Need-same-length-2
 same-length-2 c = search needs
 
--- src/lib.rt:234:1
 returns-3 : tie.Need-returns-3
 returns-3 c = c .before .before .read .ensures ∙ ap (λ (t : List ℕ). readOf t (now (c .before .before .before .before .before .before .before .before .before .args .guid))) (sym (expand-other (now (c .before .before .before .before .before .before .before .before .before .args .text)) (c .before .before .before .before .before .short-at .result) (c .before .before .before .before .before .short-at .ensures) (c .before .before .before .before .if2 .left)))
 

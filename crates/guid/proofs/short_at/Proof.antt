@@ -1,15 +1,10 @@
 use borrow.Author.Needs.{needs}
 use Rattle.guid.proofs.Table.{name-fits, length-name, Passed, passed-none, passed-on, found, passed-all}
 use denote.Ref.{now}
-use native.Mathlib.Omega.{arith}
 use Prim.Native.Nat.{_-_}
 use mathlib.Core.Path.{sym, _∙_}
 use Rattle.guid.proofs.short_at.Statement.{statement}
 use Rattle.guid.proofs.short_at.Tie as tie
-use Rattle.guid.proofs.short_at.Reads as reads
-use Rattle.guid.proofs.short_at.Lts as lts
-use Rattle.guid.proofs.short_types.Reads as short-types-reads
-use Rattle.octets.proofs.same.Reads as same-reads
 
 abbrev Inv-loop : tie.InvT-loop
 Inv-loop text types i₀ i = Passed text i
@@ -17,51 +12,39 @@ Inv-loop text types i₀ i = Passed text i
 abbrev μ-loop : tie.MeasureT-loop
 μ-loop text types i₀ i = 5 - i
 
--- src/lib.rt:219:17
 short-types-requires : tie.Need-short-types-requires Inv-loop μ-loop
 short-types-requires c κs = search needs
 
--- src/lib.rt:221:5
 loop-holds : tie.Need-loop-holds Inv-loop μ-loop
 loop-holds c = passed-none (now (c .before .before .args .text))
 
--- src/lib.rt:222:21
 mul-short : tie.Need-mul-short Inv-loop μ-loop
 mul-short c = search needs
 
--- src/lib.rt:222:21
 array-copy-out-short : tie.Need-array-copy-out-short Inv-loop μ-loop
 array-copy-out-short c = search needs
 
--- src/lib.rt:225:31
 array-share-prefix-name : tie.Need-array-share-prefix-name Inv-loop μ-loop
 array-share-prefix-name c = name-fits (c .before .before .before .before .short-types .result) (c .before .before .before .before .short-types .ensures) (c .before .before .before .loop .i) (c .before .before .loop-test .taken)
 
--- src/lib.rt:225:31
 slice-aggregate-same : tie.Need-slice-aggregate-same Inv-loop μ-loop
 slice-aggregate-same c = sym (length-name (c .before .before .before .before .before .short-types .result) (c .before .before .before .before .before .short-types .ensures) (c .before .before .before .before .loop .i) (c .before .before .before .loop-test .taken))
 
--- src/lib.rt:225:12
 same-requires : tie.Need-same-requires Inv-loop μ-loop
 same-requires c κs = search needs
 
--- src/lib.rt:226:13
 returns : tie.Need-returns Inv-loop μ-loop
 returns c = found (now (c .before .before .before .before .before .before .before .before .before .args .text)) (c .before .before .before .before .before .before .before .short-types .result) (c .before .before .before .before .before .before .before .short-types .ensures) (c .before .before .before .before .before .before .loop .i) (c .before .before .before .before .before .loop-test .taken) (sym (c .before .same .ensures) ∙ c .if1 .taken) (c .before .before .before .before .before .before .loop .inv)
 
--- src/lib.rt:228:9
 add-i : tie.Need-add-i Inv-loop μ-loop
 add-i c = search needs
 
--- src/lib.rt:221:5
 loop-less : tie.Need-loop-less Inv-loop μ-loop
 loop-less c = search needs
 
--- src/lib.rt:221:5
 loop-again : tie.Need-loop-again Inv-loop μ-loop
 loop-again c = passed-on (now (c .before .before .before .before .before .before .before .before .before .args .text)) (c .before .before .before .before .before .before .before .short-types .result) (c .before .before .before .before .before .before .before .short-types .ensures) (c .before .before .before .before .before .before .loop .i) (c .before .before .before .before .before .loop-test .taken) (sym (c .before .same .ensures) ∙ c .if1 .left) (c .before .before .before .before .before .before .loop .inv)
 
--- src/lib.rt:216:1
 returns-2 : tie.Need-returns-2 Inv-loop μ-loop
 returns-2 c = passed-all (now (c .before .before .before .before .args .text)) (c .before .loop .i) (c .loop-test .left) (c .before .loop .inv)
 

@@ -1,4 +1,3 @@
-use borrow.Author.Needs.{needs}
 use Rattle.guid.specs.Table.{agree}
 use Rattle.guid.specs.Text.{digitsIn, dashesIn, isGuidText, reordered, storedOf}
 use Rattle.guid.specs.Hex.{valueOf, bytesOf}
@@ -7,10 +6,7 @@ use Rattle.octets.specs.Tests.{_and_}
 use mathlib.Core.Path.{refl}
 use Rattle.guid.proofs.short_types.Statement.{statement}
 use Rattle.guid.proofs.short_types.Tie as tie
-use Rattle.guid.proofs.short_types.Reads as reads
-use Rattle.guid.proofs.short_types.Lts as lts
 
--- src/lib.rt:211:1
 returns : tie.Need-returns
 unfolding agree isGuidText storedOf digitsIn dashesIn reordered bytesOf valueOf part rest same _and_
 returns c = refl

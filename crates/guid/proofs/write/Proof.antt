@@ -9,54 +9,37 @@ use mathlib.Core.Path.{ap, _∙_}
 use borrow.Author.Needs.{needs}
 use Rattle.guid.proofs.write.Statement.{statement}
 use Rattle.guid.proofs.write.Tie as tie
-use Rattle.guid.proofs.write.Reads as reads
-use Rattle.guid.proofs.write.Lts as lts
-use Rattle.guid.proofs.digits_of.Reads as digits-of-reads
-use Rattle.guid.proofs.grouped.Reads as grouped-reads
-use Rattle.guid.proofs.reordered.Reads as reordered-reads
-use Rattle.octets.proofs.copy.Reads as copy-reads
 
--- src/lib.rt:256:9
 returns : tie.Need-returns
 returns c = write-guid (now (c .before .before .before .args .guid)) (now (c .before .before .before .args .text)) (c .if1 .taken)
 
--- src/lib.rt:259:9
 returns-2 : tie.Need-returns-2
 returns-2 c = write-text (now (c .before .before .before .before .args .guid)) (now (c .before .before .before .before .args .text)) (c .before .if1 .left) (c .if2 .taken)
 
--- src/lib.rt:261:17
 reordered-requires : tie.Need-reordered-requires
 reordered-requires c κs = search needs
 
--- src/lib.rt:262:28
 slice-aggregate-digits-of : tie.Need-slice-aggregate-digits-of
 slice-aggregate-digits-of c = search needs
 
--- src/lib.rt:262:18
 digits-of-requires : tie.Need-digits-of-requires
 digits-of-requires c κs = search needs
 
--- src/lib.rt:263:23
 slice-aggregate-grouped : tie.Need-slice-aggregate-grouped
 slice-aggregate-grouped c = search needs
 
--- src/lib.rt:263:15
 grouped-requires : tie.Need-grouped-requires
 grouped-requires c κs = search needs
 
--- src/lib.rt:264:27
 slice-aggregate-copy : tie.Need-slice-aggregate-copy
 slice-aggregate-copy c = search needs
 
--- src/lib.rt:264:5
 copy-requires : tie.Need-copy-requires
 copy-requires c κs = search needs
 
--- src/lib.rt:252:1
 same-length : tie.Need-same-length
 same-length c = search needs
 
--- src/lib.rt:252:1
 returns-3 : tie.Need-returns-3
 unfolding textOf
 returns-3 c = let s = c .before .before .before .before .before .grouped .ensures ∙ ap grouped (c .before .before .before .before .before .before .before .digits-of .ensures ∙ ap digitsOf (c .before .before .before .before .before .before .before .before .before .reordered .ensures)) in write-done (now (c .before .before .before .before .before .before .before .before .before .before .before .before .before .before .args .guid)) (now (c .before .before .before .before .before .before .before .before .before .before .before .before .before .before .args .text)) _ (c .before .before .before .before .before .before .before .before .before .before .before .if1 .left) (c .before .before .before .before .before .before .before .before .before .before .if2 .left) (c .before .before .copy .ensures ∙ ap (λ (l : List ℕ). put 0 l (now (c .before .before .before .before .before .before .before .before .before .before .before .before .before .before .args .text))) s)
