@@ -1,12 +1,12 @@
-use borrow.Author.Needs.{needs}
-use Rattle.guid.specs.Hex.{isDigit}
-use Rattle.octets.proofs.Tests.{all-on, all-stop, all-done}
-use Rattle.octets.specs.Tests.{all}
-use borrow.Author.Tests.{lt-ltb, le-ltb}
-use denote.Ref.{now}
-use lib.ListN.{length, drop}
-use Prim.Native.Nat.{_≤_, _-_}
 use mathlib.Core.Path.{_≡_, sym, _∙_}
+use Prim.Native.Nat.{_≤_, _-_}
+use lib.ListN.{length, drop}
+use denote.Ref.{now}
+use borrow.Author.Needs.{needs}
+use borrow.Author.Tests.{lt-ltb, le-ltb}
+use Rattle.octets.specs.Tests.{all}
+use Rattle.octets.proofs.Tests.{all-on, all-stop, all-done}
+use Rattle.guid.specs.Hex.{isDigit}
 use Rattle.guid.proofs.all_digits.Statement.{statement}
 use Rattle.guid.proofs.all_digits.Tie as tie
 

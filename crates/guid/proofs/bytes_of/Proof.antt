@@ -1,11 +1,11 @@
-use borrow.Author.Needs.{needs}
-use Rattle.guid.proofs.Hex.{length-bytes, bytes-at, digit-below}
-use Rattle.guid.specs.Hex.{bytesOf}
-use Rattle.octets.proofs.Filled.{Filled, filled-on, filled-all}
-use denote.Ref.{now}
-use native.Mathlib.Omega.{arith}
-use Prim.Native.Nat.{_+_, _*_, _-_}
 use mathlib.Core.Path.{refl}
+use Prim.Native.Nat.{_+_, _*_, _-_}
+use native.Mathlib.Omega.{arith}
+use denote.Ref.{now}
+use borrow.Author.Needs.{needs}
+use Rattle.octets.proofs.Filled.{Filled, filled-on, filled-all}
+use Rattle.guid.specs.Hex.{bytesOf}
+use Rattle.guid.proofs.Hex.{length-bytes, bytes-at, digit-below}
 use Rattle.guid.proofs.bytes_of.Statement.{statement}
 use Rattle.guid.proofs.bytes_of.Tie as tie
 

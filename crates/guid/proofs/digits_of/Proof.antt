@@ -1,12 +1,12 @@
 use mathlib.Core.Path.{_∙_}
-use borrow.Author.Needs.{needs}
-use Rattle.guid.proofs.Hex.{length-digits, digits-on}
-use Rattle.guid.specs.Hex.{digitsOf}
-use Rattle.octets.proofs.Filled.{Filled, filled-all}
-use denote.Ref.{now}
-use native.Mathlib.Omega.{arith}
-use Prim.Native.Nat.{_*_, _-_}
 use mathlib.Core.Path.{refl}
+use Prim.Native.Nat.{_*_, _-_}
+use native.Mathlib.Omega.{arith}
+use denote.Ref.{now}
+use borrow.Author.Needs.{needs}
+use Rattle.octets.proofs.Filled.{Filled, filled-all}
+use Rattle.guid.specs.Hex.{digitsOf}
+use Rattle.guid.proofs.Hex.{length-digits, digits-on}
 use Rattle.guid.proofs.digits_of.Statement.{statement}
 use Rattle.guid.proofs.digits_of.Tie as tie
 

@@ -1,11 +1,11 @@
-use Rattle.guid.proofs.Calls.{text-short, text-other, text-digits}
+use mathlib.Core.Path.{sym, ap, _∙_}
+use denote.Ref.{now}
+use borrow.Author.Tests.{not-true, not-false}
+use borrow.Author.Needs.{needs}
+use Rattle.octets.specs.Tests.{all}
 use Rattle.guid.specs.Text.{dashesIn}
 use Rattle.guid.specs.Hex.{isDigit}
-use Rattle.octets.specs.Tests.{all}
-use borrow.Author.Tests.{not-true, not-false}
-use denote.Ref.{now}
-use mathlib.Core.Path.{sym, ap, _∙_}
-use borrow.Author.Needs.{needs}
+use Rattle.guid.proofs.Calls.{text-short, text-other, text-digits}
 use Rattle.guid.proofs.is_text.Statement.{statement}
 use Rattle.guid.proofs.is_text.Tie as tie
 

@@ -1,8 +1,8 @@
-use Rattle.guid.proofs.Text.{reordered-each}
-use Rattle.guid.specs.Text.{reordered}
-use Rattle.octets.specs.Bytes.{part, rest}
 use denote.Ref.{now}
 use borrow.Author.Needs.{needs}
+use Rattle.octets.specs.Bytes.{part, rest}
+use Rattle.guid.specs.Text.{reordered}
+use Rattle.guid.proofs.Text.{reordered-each}
 use Rattle.guid.proofs.reordered.Statement.{statement}
 use Rattle.guid.proofs.reordered.Tie as tie
 

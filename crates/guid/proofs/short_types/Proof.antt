@@ -1,9 +1,9 @@
+use mathlib.Core.Path.{refl}
+use Rattle.octets.specs.Bytes.{part, rest, same}
+use Rattle.octets.specs.Tests.{_and_}
 use Rattle.guid.specs.Table.{agree}
 use Rattle.guid.specs.Text.{digitsIn, dashesIn, isGuidText, reordered, storedOf}
 use Rattle.guid.specs.Hex.{valueOf, bytesOf}
-use Rattle.octets.specs.Bytes.{part, rest, same}
-use Rattle.octets.specs.Tests.{_and_}
-use mathlib.Core.Path.{refl}
 use Rattle.guid.proofs.short_types.Statement.{statement}
 use Rattle.guid.proofs.short_types.Tie as tie
 

@@ -1,6 +1,6 @@
-use Rattle.guid.proofs.Hex.{before, after, value-decimal, value-upper, value-lower, value-none}
 use native.Mathlib.Omega.{arith}
 use borrow.Author.Needs.{needs}
+use Rattle.guid.proofs.Hex.{before, after, value-decimal, value-upper, value-lower, value-none}
 use Rattle.guid.proofs.value.Statement.{statement}
 use Rattle.guid.proofs.value.Tie as tie
 

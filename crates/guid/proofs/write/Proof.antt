@@ -1,12 +1,12 @@
-use Rattle.guid.proofs.Calls.{write-guid, write-text, write-done}
-use Rattle.guid.specs.Text.{grouped, textOf}
-use Rattle.guid.specs.Hex.{digitsOf}
-use Rattle.octets.specs.Bytes.{put}
-use denote.Ref.{now}
-use Prim.Native.Nat.{ℕ}
 use mathlib.Core.List.{List}
 use mathlib.Core.Path.{ap, _∙_}
+use Prim.Native.Nat.{ℕ}
+use denote.Ref.{now}
 use borrow.Author.Needs.{needs}
+use Rattle.octets.specs.Bytes.{put}
+use Rattle.guid.specs.Text.{grouped, textOf}
+use Rattle.guid.specs.Hex.{digitsOf}
+use Rattle.guid.proofs.Calls.{write-guid, write-text, write-done}
 use Rattle.guid.proofs.write.Statement.{statement}
 use Rattle.guid.proofs.write.Tie as tie
 
