@@ -109,7 +109,9 @@ pub written-reads-back : WrittenReadsBack
 written-reads-back guid text buffer b e n =
     let l = write-length guid text e in
     ap (λ (t : List ℕ). readOf t buffer) (write-buffer guid text e)
-    ∙ sym (read-done (textOf guid) buffer guid n (text-is guid l b) (sym (put-all guid buffer (l ∙ sym n)) ∙ ap (λ (v : List ℕ). put 0 v buffer) (sym (stored-text guid l b))))
+    ∙ sym
+    (read-done (textOf guid) buffer guid n (text-is guid l b)
+    (sym (put-all guid buffer (l ∙ sym n)) ∙ ap (λ (v : List ℕ). put 0 v buffer) (sym (stored-text guid l b))))
 
 pub read-writes-upper : ReadWritesUpper
 read-writes-upper text guid buffer e n =
