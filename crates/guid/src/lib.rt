@@ -7,7 +7,7 @@ ghost use Rattle.octets.specs.Tests.{all};
 ghost use Rattle.guid.specs.Hex.{valueOf, isDigit, bytesOf, digitOf, digitsOf};
 ghost use Rattle.guid.specs.Text.{digitsIn, isGuidText, grouped as groupedOf, reordered as reorderedOf};
 ghost use Rattle.guid.specs.Types.{shortAt};
-ghost use Rattle.guid.specs.Table.{agree};
+ghost use Rattle.guid.specs.Table.{tableAgrees};
 ghost use Rattle.guid.specs.Calls.{numberOf, readOf, readTypeOf, writeOf};
 
 pub enum Answer {
@@ -212,7 +212,7 @@ pub fn read(text: &[u8], guid: &mut [u8]) -> Answer
 
 // The short names with their GUIDs; they agree with the rules' texts.
 fn short_types() -> [ShortType; 5]
-    ensures { λ r. ⌜ agree r ≡ true ⌝ }
+    ensures { λ r. ⌜ tableAgrees r ≡ true ⌝ }
 {
     SHORT_TYPES
 }

@@ -30,13 +30,13 @@ slice-aggregate-copy : tie.Need-slice-aggregate-copy
 slice-aggregate-copy c =
     let t = c .before .before .before .before .short-types in
     let s = c .before .before .before .before .before .before .short-at in
-    sym (length-guid (t .result) (t .ensures) (s .result) (c .before .before .before .before .before .if2 .taken))
+    sym (length-guid (t .result) (t .ensures) (s .result) (omega arith))
 
 copy-requires : tie.Need-copy-requires
 copy-requires c κs =
     let t = c .before .before .before .before .short-types in
     let s = c .before .before .before .before .before .before .short-at in
-    let n = length-guid (t .result) (t .ensures) (s .result) (c .before .before .before .before .before .if2 .taken) in
+    let n = length-guid (t .result) (t .ensures) (s .result) (omega arith) in
     omega arith
 
 same-length : tie.Need-same-length
@@ -49,7 +49,7 @@ returns-2 c =
     let s = c .before .before .before .before .before .before .before .before .before .short-at in
     type-short (now (a .text)) (now (a .guid)) _ (t .result) (s .result)
     (c .before .before .before .before .before .before .before .before .before .before .if1 .left) (t .ensures) (s .ensures)
-    (c .before .before .before .before .before .before .before .before .if2 .taken) (c .before .before .copy .ensures)
+    (omega arith) (c .before .before .copy .ensures)
 
 read-requires : tie.Need-read-requires
 read-requires c κs = search needs
@@ -63,7 +63,7 @@ returns-3 c =
     let s = c .before .before .before .before .before .short-at in
     c .before .before .read .ensures
     ∙ ap (λ (t : List ℕ). readOf t (now (a .guid)))
-    (sym (expand-other (now (a .text)) (s .result) (s .ensures) (c .before .before .before .before .if2 .left)))
+    (sym (expand-other (now (a .text)) (s .result) (s .ensures) (omega arith)))
 
 pub read-type-spec : {M : Type 1} → statement M
 read-type-spec =
