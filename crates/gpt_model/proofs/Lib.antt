@@ -1,0 +1,5 @@
+pub mod Room
+pub mod Counts
+pub mod Longest
+pub mod Walk
+pub mod Fields
