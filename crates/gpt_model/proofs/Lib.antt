@@ -5,3 +5,5 @@ pub mod Walk
 pub mod Fields
 pub mod Entries
 pub mod Edits
+pub mod Copies
+pub mod States

@@ -1,17 +1,12 @@
--- Lists of calls: the ledger of blocks granted and given back, what stands after a list, and what is claimed of it.
+-- Lists of calls: the ledger of blocks granted and given back, and what stands after a list. Definitions only.
 use mathlib.Core.Path.{_≡_}
-use mathlib.Core.Logic.{_↔_, _⊎_}
-use mathlib.Core.Bool.{Bool, true, false}
-use mathlib.Core.List.{List, [], _∷_, _++_, map}
-use mathlib.Core.Option.{none}
-use Prim.Native.Nat.{ℕ, _+_, _-_, _*_, _≤_, _<_}
+use mathlib.Core.List.{List, [], _∷_, map}
+use Prim.Native.Nat.{ℕ, _+_, _-_}
 use lib.ListN.{length, getD, set, replicate}
-use Rattle.octets.specs.Rows.{refusal}
-use Rattle.octets.specs.Bytes.{isZero, zeros}
-use Rattle.gpt_model.specs.Ranges.{Slot, vacant, sizeOf, inside, roomAt, taken, freeCount, longestFree}
-use Rattle.gpt_model.specs.Table.{slotCount, tableBytes, entryBytes, slots}
-use Rattle.gpt_model.specs.Disk.{Shape, lastUsable, usable, inRange, Side, primary, backup, headerBytes, lentBytes, headerAt, entriesAt, state, tableOf}
-use Rattle.gpt_model.specs.Calls.{Edit, add, delete, resize, rename, Call, read, freeCounts, repair, edit, Answer, refused, accepted, Out, addRows, indexOf, edited, openRows, rowsOf, step, format}
+use Rattle.gpt_model.specs.Ranges.{Slot, sizeOf}
+use Rattle.gpt_model.specs.Table.{slotCount, slots}
+use Rattle.gpt_model.specs.Disk.{Shape, primary, backup, lentBytes, state, tableOf}
+use Rattle.gpt_model.specs.Calls.{Edit, add, delete, resize, rename, Call, read, freeCounts, repair, edit, Answer, refused, accepted, Out, edited, step}
 
 -- ---- D22: The sums come from calls and replies alone
 
@@ -60,6 +55,20 @@ abbrev pub answers : Shape → ℕ → List Call → Run → List Answer
 answers g n [] r = []
 answers g n (c ∷ cs) r = step g n (r .head) (r .tail) c .answer ∷ answers g n cs (next g n c r)
 
+-- the table es after the call c was answered a: an accepted edit writes its one entry
+abbrev pub tableNext : ℕ → ℕ → List ℕ → Call → Answer → List ℕ
+tableNext first last es read a = es
+tableNext first last es freeCounts a = es
+tableNext first last es repair a = es
+tableNext first last es (edit d) (refused k) = es
+tableNext first last es (edit d) (accepted values) = edited first last es d
+
+-- the accepted calls, applied in order
+abbrev pub applied : ℕ → ℕ → List ℕ → List Call → List Answer → List ℕ
+applied first last es [] as = es
+applied first last es (c ∷ cs) [] = es
+applied first last es (c ∷ cs) (a ∷ as) = applied first last (tableNext first last es c a) cs as
+
 -- D20: The list follows an accepted formatting: nothing is granted yet
 abbrev pub begun : Out → Run
 begun o = record { head = o .head; tail = o .tail; ledger = record { granted = 0; back = 0; sizes = replicate slotCount 0 } }
@@ -80,37 +89,3 @@ pub record StartsAfresh (g : Shape) (n : ℕ) (es : List ℕ) (r : Run) : Type 0
   pub sizes : r .ledger .sizes ≡ map sizeOf (slots es)
   pub granted : r .ledger .granted ≡ total (map sizeOf (slots es))
   pub back : r .ledger .back ≡ 0
-
--- ---- demand 3
-
--- an add that comes next, its checks before the one for room
-abbrev pub Passes : Shape → ℕ → Run → List ℕ → List ℕ → ℕ → ℕ → List ℕ → Type 0
-Passes g n r type unique size attributes name =
-    refusal (openRows g n (r .head) (r .tail) (add type unique size attributes name)
-      ++ addRows (g .first) (lastUsable g n) (tableOf g n (r .head) (r .tail)) type unique size name) ≡ none
-
-pub record Sound (g : Shape) (n : ℕ) (r : Run) : Type 0 where
-  -- No usable block lies in two partitions.
-  pub one : (b i j : ℕ) → g .first ≤ b → b ≤ lastUsable g n → i < slotCount → j < slotCount
-      → inside b (getD (slotsOf g n r) i vacant) ≡ true → inside b (getD (slotsOf g n r) j vacant) ≡ true → i ≡ j
-  -- The blocks lying in partitions, counted one by one, equal all blocks granted by accepted calls less all given back.
-  pub counted : taken (slotsOf g n r) (g .first) (lastUsable g n) + r .ledger .back ≡ r .ledger .granted
-  -- An add that comes next, once its earlier checks pass, is refused for room exactly when no run of as many free blocks as it asks exists, freed ones included.
-  pub room : (type unique : List ℕ) (size attributes : ℕ) (name : List ℕ) → Passes g n r type unique size attributes name
-      → (step g n (r .head) (r .tail) (edit (add type unique size attributes name)) .answer ≡ refused 25)
-        ↔ ((s : ℕ) → g .first ≤ s → roomAt (slotsOf g n r) (lastUsable g n) size s ≡ false)
-
--- a legal formatting: any N in its range, any nonzero disk GUID, whatever head and tail held
-pub record Formats (g : Shape) (n : ℕ) (guid h t : List ℕ) : Type 0 where
-  pub fits : headerBytes ≤ g .block
-  pub range : inRange g n ≡ true
-  pub len-guid : length guid ≡ 16
-  pub nonzero : isZero guid ≡ false
-  pub len-head : length h ≡ lentBytes g primary
-  pub len-tail : length t ≡ lentBytes g backup
-
--- D19: Demand 3 is one claim about the whole list, not one for each call.
-abbrev pub Demand3 : Type 0
-Demand3 =
-    (g : Shape) (n : ℕ) (guid h t : List ℕ) → Formats g n guid h t
-    → (cs : List Call) → (format g n guid h t .answer ≡ accepted []) × Sound g n (run g n cs (begun (format g n guid h t)))
