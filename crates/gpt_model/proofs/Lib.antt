@@ -7,3 +7,4 @@ pub mod Entries
 pub mod Edits
 pub mod Copies
 pub mod States
+pub mod Steps

@@ -65,9 +65,9 @@ tableNext first last es (edit d) (accepted values) = edited first last es d
 
 -- the accepted calls, applied in order
 abbrev pub applied : ℕ → ℕ → List ℕ → List Call → List Answer → List ℕ
-applied first last es [] as = es
+applied first last es [] replies = es
 applied first last es (c ∷ cs) [] = es
-applied first last es (c ∷ cs) (a ∷ as) = applied first last (tableNext first last es c a) cs as
+applied first last es (c ∷ cs) (a ∷ replies) = applied first last (tableNext first last es c a) cs replies
 
 -- D20: The list follows an accepted formatting: nothing is granted yet
 abbrev pub begun : Out → Run
