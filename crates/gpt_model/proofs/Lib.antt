@@ -8,3 +8,4 @@ pub mod Edits
 pub mod Copies
 pub mod States
 pub mod Steps
+pub mod Demand3

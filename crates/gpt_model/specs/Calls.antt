@@ -175,8 +175,11 @@ module _ (g : Shape) (n : ℕ) (h t : List ℕ) where
   unfoldable pub step : Call → Out
   step c = decided (refusal (rowsOf c)) h t (made c)
 
--- R25: Order: format 1, 2, 3. D13: Formatting writes both copies with no entries and block 0
+-- R25: Order: format 1, 2, 3.
+abbrev pub formatRows : Shape → ℕ → List ℕ → List ℕ → List ℕ → List Row
+formatRows g n guid h t = row (not (lengthsOk g h t and eqb (length guid) 16)) 1 ∷ row (not (inRange g n)) 2 ∷ row (isZero guid) 3 ∷ []
+
+-- D13: Formatting writes both copies with no entries and block 0
 unfoldable pub format : Shape → ℕ → List ℕ → List ℕ → List ℕ → Out
 format g n guid h t =
-    decided (refusal (row (not (lengthsOk g h t and eqb (length guid) 16)) 1 ∷ row (not (inRange g n)) 2 ∷ row (isZero guid) 3 ∷ [])) h t
-    (out (accepted []) (freshHead g n guid (zeros tableBytes)) (freshTail g n guid (zeros tableBytes)))
+    decided (refusal (formatRows g n guid h t)) h t (out (accepted []) (freshHead g n guid (zeros tableBytes)) (freshTail g n guid (zeros tableBytes)))
