@@ -9,3 +9,4 @@ pub mod Copies
 pub mod States
 pub mod Steps
 pub mod Demand3
+pub mod Touches
