@@ -1,3 +1,4 @@
+
 pub mod Room
 pub mod Counts
 pub mod Longest
@@ -10,3 +11,4 @@ pub mod States
 pub mod Steps
 pub mod Demand3
 pub mod Touches
+pub mod Samples

@@ -18,7 +18,7 @@ use Rattle.octets.proofs.Chunks.{length-putChunk}
 use Rattle.gpt_model.specs.Ranges.{Slot, vacant, sizeOf}
 use Rattle.gpt_model.specs.Table.{slotOf, slots, goodTable}
 use Rattle.gpt_model.specs.Disk.{Shape, lastUsable, inRange, primary, backup, lentBytes, guidIn, entriesIn, state, tableOf, withTable, withCopy}
-use Rattle.gpt_model.specs.Calls.{Edit, add, delete, resize, rename, Call, read, freeCounts, repair, edit, Answer, refused, accepted, Out, out, decided, valuesOf, indexOf, newEntry, edited, tableRows, lengthsOf, lengthsOk, readRows, openRows, rowsOf, repaired, made, step}
+use Rattle.gpt_model.specs.Calls.{Edit, add, delete, resize, rename, Call, read, freeCounts, repair, edit, Answer, refused, accepted, Out, out, decided, change, edited, tableRows, lengthsOf, lengthsOk, readRows, openRows, rowsOf, repaired, made, step}
 use Rattle.gpt_model.specs.Lists.{Ledger, bookEdit, book, Run, next, run, answers, tableNext, applied, total}
 use Rattle.gpt_model.proofs.Counts.{total-set}
 use Rattle.gpt_model.proofs.Entries.{map-set, getD-slot, length-slots, entryAt, slots-put, good-put}
@@ -42,6 +42,7 @@ repair-answer g n h t = go (eqb (state g n h t) 1) (eqb (state g n h t) 4)
   where
     a : Answer
     a = accepted (state g n h t ∷ [])
+
     go : (p q : Bool) → cond p (out a h t) (cond q (out a (withCopy g n primary (guidIn g backup t) (entriesIn g backup t) h) t) (out a h (withCopy g n backup (guidIn g primary h) (entriesIn g primary h) t))) .answer ≡ a
     go true q = refl
     go false true = refl
@@ -138,10 +139,10 @@ open-none g n h t d lh lt ld range s =
 
 module _ (first last : ℕ) (es : List ℕ) (len : length es ≡ 16384) (d : Edit) (f : FitsEdit first last es d) where
   abbrev i : ℕ
-  i = indexOf first last es d
+  i = change first last es d .index
 
   abbrev e : List ℕ
-  e = newEntry first last es d
+  e = change first last es d .entry
 
   pub length-edited : length (edited first last es d) ≡ 16384
   length-edited = length-putChunk 128 128 i e es (f .len) (f .index) len
@@ -160,19 +161,19 @@ pub record Agrees (es : List ℕ) (l : Ledger) : Type 0 where
 pub edit-agrees : (first last : ℕ) (es : List ℕ) (len : length es ≡ 16384) (d : Edit) (f : FitsEdit first last es d) (l : Ledger)
     → Agrees es l → Agrees (edited first last es d) (bookEdit l d (replied first last es d))
 edit-agrees first last es len d f l v =
-    let i : ℕ = indexOf first last es d in
-    let s : ℕ = sizeOf (slotOf (newEntry first last es d)) in
+    let i : ℕ = change first last es d .index in
+    let s : ℕ = sizeOf (slotOf (change first last es d .entry)) in
     let p = sizes-edited first last es len d f in
-    let z : getD (map sizeOf (slots es)) (indexOf first last es d) 0 ≡ sizeOf (slotOf (entryAt es (indexOf first last es d))) =
-        List·getD-map sizeOf (slots es) (indexOf first last es d) vacant ∙ ap sizeOf (getD-slot es (indexOf first last es d)) in
+    let z : getD (map sizeOf (slots es)) (change first last es d .index) 0 ≡ sizeOf (slotOf (entryAt es (change first last es d .index))) =
+    List·getD-map sizeOf (slots es) (change first last es d .index) vacant ∙ ap sizeOf (getD-slot es (change first last es d .index)) in
     record {
       sizes = f .sizes l (v .sizes) ∙ ap (λ (x : List ℕ). set x i s) (v .sizes) ∙ sym p;
       sum =
-        let a = total-set (map sizeOf (slots es)) i s (omega (arith, length-map (slots es) sizeOf, length-slots es, f .index)) in
-        let b = ap total p in
-        let c = f .balance l (v .sizes) in
-        let d = v .sum in
-        omega arith
+          let a = total-set (map sizeOf (slots es)) i s (omega (arith, length-map (slots es) sizeOf, length-slots es, f .index)) in
+          let b = ap total p in
+          let c = f .balance l (v .sizes) in
+          let d = v .sum in
+          omega arith;
     }
 
 -- ---- what every call keeps
@@ -198,9 +199,11 @@ edit-made g n h t d wide e =
     let one = row11 g n h t d o in
     let len : length (tableOf g n h t) ≡ 16384 = ap length (one-primary g n h t one) ∙ length-entries g wide n primary h (l .0) in
     let good = readable-good g n h t (λ z. omega arith) in
-    let f = fits (g .first) (lastUsable g n) (omega arith) (tableOf g n h t) len good d (l .2) (edit-table g n h t d e) in
-    (f, edit-holds g wide n h t (l .0) (l .1) _ (length-edited (g .first) (lastUsable g n) (tableOf g n h t) len d f)
-      (edited-good (g .first) (lastUsable g n) (tableOf g n h t) len d f good) one)
+    let f = fits (g .first) (lastUsable g n) (omega arith) (tableOf g n h t) len good d (l .2) (edit-table g n h t d e) in (
+      f,
+      edit-holds g wide n h t (l .0) (l .1) _ (length-edited (g .first) (lastUsable g n) (tableOf g n h t) len d f)
+          (edited-good (g .first) (lastUsable g n) (tableOf g n h t) len d f good) one,
+    )
 
 module _ (g : Shape) (wide : 92 ≤ g .block) (n : ℕ) (r : Run) (v : Kept g n r) where
   abbrev es : List ℕ
@@ -237,7 +240,7 @@ module _ (g : Shape) (wide : 92 ≤ g .block) (n : ℕ) (r : Run) (v : Kept g n 
 -- after a list
 pub keeps-all : (g : Shape) → 92 ≤ g .block → (n : ℕ) (cs : List Call) (r : Run) → Kept g n r
     → Kept g n (run g n cs r)
-      × (tableOf g n (run g n cs r .head) (run g n cs r .tail) ≡ applied (g .first) (lastUsable g n) (tableOf g n (r .head) (r .tail)) cs (answers g n cs r))
+    × (tableOf g n (run g n cs r .head) (run g n cs r .tail) ≡ applied (g .first) (lastUsable g n) (tableOf g n (r .head) (r .tail)) cs (answers g n cs r))
 keeps-all g wide n [] r v = (v, refl)
 keeps-all g wide n (c ∷ cs) r v =
     let w = keeps g wide n r v c in

@@ -16,7 +16,7 @@ use Rattle.octets.proofs.Chunks.{length-putChunk, putChunk-put}
 use Rattle.crc_lanes.specs.Crc.{crc32}
 use Rattle.gpt_model.specs.Table.{writeAll}
 use Rattle.gpt_model.specs.Disk.{Shape, lastUsable, Side, primary, backup, other, headerBlock, entriesBlock, lentBytes, headerAt, entriesAt, headerIn, guidIn, entriesIn, headerFields, headerWith, headerCrc, header, goodCopy, lent, state, tableOf, withTable}
-use Rattle.gpt_model.specs.Calls.{Edit, edit, Out, indexOf, newEntry, edited, lengthsOf, rowsOf, made, step}
+use Rattle.gpt_model.specs.Calls.{Edit, edit, Out, change, edited, lengthsOf, rowsOf, made, step}
 use Rattle.gpt_model.specs.Claims.{Outside, EditTouches}
 use Rattle.gpt_model.proofs.Fields.{put-before}
 use Rattle.gpt_model.proofs.Edits.{FitsEdit}
@@ -33,8 +33,8 @@ module _ (g : Shape) (n : ℕ) (side : Side) (guid es es′ : List ℕ) where
       let front = writeAll (take 3 (headerFields g n side guid es crc)) (zeros 92) in
       let behind = drop 4 (headerFields g n side guid es′ crc′) in
       sym (ap (put 16 (le 4 crc′)) (put-over (le 4 (crc32 es)) (le 4 (crc32 es′)) _ 88 (length-le 4 _ ∙ sym (length-le 4 _)))
-        ∙ put-before behind (le 4 crc′) (put 16 (le 4 crc) front) 16 4 (length-le 4 crc′) refl
-        ∙ ap (writeAll behind) (put-over (le 4 crc) (le 4 crc′) front 16 (length-le 4 _ ∙ sym (length-le 4 _))))
+      ∙ put-before behind (le 4 crc′) (put 16 (le 4 crc) front) 16 4 (length-le 4 crc′) refl
+      ∙ ap (writeAll behind) (put-over (le 4 crc) (le 4 crc′) front 16 (length-le 4 _ ∙ sym (length-le 4 _))))
 
   pub header-changes : header g n side guid es′ ≡ put 16 (le 4 (headerCrc g n side guid es′)) (put 88 (le 4 (crc32 es′)) (header g n side guid es))
   unfolding header
@@ -50,7 +50,7 @@ two-fields u v b a k i j h p q =
     let lc : a + k ≤ length c = omega (arith, length-put (a + j) v b) in
     ap (λ (x : List ℕ). put a (put i u x) b) (sym (part-put-in v b a k j q))
     ∙ sym (put-over (put j v (part a k b)) (put i u (part a k c)) b a
-        (length-put j v (part a k b) ∙ length-part b a k h ∙ sym (length-put i u (part a k c) ∙ length-part c a k lc)))
+    (length-put j v (part a k b) ∙ length-part b a k h ∙ sym (length-put i u (part a k c) ∙ length-part c a k lc)))
     ∙ ap (put a (put i u (part a k c))) (put-inside v b a k j h q)
     ∙ put-inside u c a k i lc p
 
@@ -75,14 +75,14 @@ module _ (g : Shape) (wide : 92 ≤ g .block) (n : ℕ) (side : Side) (b : List 
   -- the copy with one entry replaced: three writes
   pub three-writes : withTable g n side (guidIn g side b) es′ b
       ≡ put (headerAt g side + 16) (le 4 (headerCrc g n side (guidIn g side b) es′))
-        (put (headerAt g side + 88) (le 4 (crc32 es′)) (put (entriesAt g side + i * 128) e b))
+      (put (headerAt g side + 88) (le 4 (crc32 es′)) (put (entriesAt g side + i * 128) e b))
   unfolding withTable
   three-writes =
       let c = put (entriesAt g side + i * 128) e b in
       ap₂ (put (headerAt g side)) (header-changes g n side (guidIn g side b) (entriesIn g side b) es′ ∙ ap (λ (x : List ℕ). put 16 (le 4 (headerCrc g n side (guidIn g side b) es′)) (put 88 (le 4 (crc32 es′)) x)) (sym header-stays)) entry-written
       ∙ two-fields (le 4 (headerCrc g n side (guidIn g side b) es′)) (le 4 (crc32 es′)) c (headerAt g side) 92 16 88
-          (let h = header-inside g wide side in omega (arith, length-put (entriesAt g side + i * 128) e b))
-          (omega (arith, length-le 4 (headerCrc g n side (guidIn g side b) es′))) (omega (arith, length-le 4 (crc32 es′)))
+      (let h = header-inside g wide side in omega (arith, length-put (entriesAt g side + i * 128) e b))
+      (omega (arith, length-le 4 (headerCrc g n side (guidIn g side b) es′))) (omega (arith, length-le 4 (crc32 es′)))
 
   pub others-stay : (k : ℕ) → Outside (entriesAt g side + i * 128) 128 k → Outside (headerAt g side + 16) 4 k → Outside (headerAt g side + 88) 4 k
       → getD (withTable g n side (guidIn g side b) es′ b) k 0 ≡ getD b k 0
@@ -103,21 +103,25 @@ Stays g side i b b′ =
 stays : (g : Shape) → 92 ≤ g .block → (n : ℕ) (side : Side) (b es : List ℕ) (i : ℕ) (e : List ℕ) → length b ≡ lentBytes g side → goodCopy g n side b ≡ true
     → es ≡ entriesIn g side b → i < 128 → length e ≡ 128 → Stays g side i b (withTable g n side (guidIn g side b) (putChunk 128 i e es) b)
 stays g wide n side b es i e lb good q hi le′ =
-    subst (λ (x : List ℕ). Stays g side i b (withTable g n side (guidIn g side b) (putChunk 128 i e x) b)) (sym q)
-    (length-withTable g wide n side _ _ b (length-putChunk 128 128 i e _ le′ hi (length-entries g wide n side b lb)) lb ∙ sym lb,
-      others-stay g wide n side b lb good i hi e le′)
+    subst (λ (x : List ℕ). Stays g side i b (withTable g n side (guidIn g side b) (putChunk 128 i e x) b)) (sym q) (
+      length-withTable g wide n side _ _ b (length-putChunk 128 128 i e _ le′ hi (length-entries g wide n side b lb)) lb ∙ sym lb,
+      others-stay g wide n side b lb good i hi e le′,
+    )
 
 pub editTouches : EditTouches
 editTouches g n h t d wide e =
-    subst (λ (o : Out). (side : Side) → Stays g side (indexOf (g .first) (lastUsable g n) (tableOf g n h t) d) (lent side h t) (lent side (o .head) (o .tail)))
+    subst (λ (o : Out). (side : Side) → Stays g side (change (g .first) (lastUsable g n) (tableOf g n h t) d .index) (lent side h t) (lent side (o .head) (o .tail)))
     (sym (step-made g n h t (edit d) e)) both
   where
     l : (length h ≡ lentBytes g primary) × (length t ≡ lentBytes g backup) × (lengthsOf d ≡ true)
     l = row1 g n h t (lengthsOf d) (open-read g n h t d (edit-open g n h t d e))
+
     one : state g n h t ≡ 1
     one = row11 g n h t d (edit-open g n h t d e)
+
     f : FitsEdit (g .first) (lastUsable g n) (tableOf g n h t) d
     f = edit-made g n h t d wide e .0
-    both : (side : Side) → Stays g side (indexOf (g .first) (lastUsable g n) (tableOf g n h t) d) (lent side h t) (lent side (made g n h t (edit d) .head) (made g n h t (edit d) .tail))
+
+    both : (side : Side) → Stays g side (change (g .first) (lastUsable g n) (tableOf g n h t) d .index) (lent side h t) (lent side (made g n h t (edit d) .head) (made g n h t (edit d) .tail))
     both primary = stays g wide n primary h _ _ _ (l .0) (one-good g n h t one .0) (one-primary g n h t one) (f .index) (f .len)
     both backup = stays g wide n backup t _ _ _ (l .1) (one-good g n h t one .1) (one-backup g n h t one) (f .index) (f .len)

@@ -167,6 +167,7 @@ getD-put-out (v ∷ vs) xs at k h = getD-put-out vs (set xs at v) (suc at) k (on
     on : (k < at) ⊎ (at + suc (length vs) ≤ k) → (k < suc at) ⊎ (suc at + length vs ≤ k)
     on (inl w) = inl (omega arith)
     on (inr w) = inr (omega arith)
+
     ne : (k < at) ⊎ (at + suc (length vs) ≤ k) → k ≢ at
     ne (inl w) e = omega arith
     ne (inr w) e = omega arith
