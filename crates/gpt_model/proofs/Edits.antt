@@ -1,8 +1,8 @@
 -- An edit that no row refuses: the one entry that it writes keeps the table's rules, and the ledger's change is the slot's.
 use mathlib.Core.Path.{_≡_, refl, sym, ap, ap₂, subst, _∙_}
 use mathlib.Core.Logic.{_≢_}
-use mathlib.Core.Bool.{Bool, true, false, not, true≢false}
-use mathlib.Core.List.{List, [], _∷_, map}
+use mathlib.Core.Bool.{true, false, not, true≢false}
+use mathlib.Core.List.{List, [], map}
 use mathlib.Core.Option.{Option, none, some}
 use Prim.Native.Nat.{ℕ, suc, _+_, _-_, _^_, _≤_, _<_}
 use native.Mathlib.Omega.{arith}
@@ -18,8 +18,7 @@ use Rattle.octets.proofs.Tests.{findIx-get, any-none}
 use Rattle.octets.proofs.Parts.{length-zeros}
 use Rattle.octets.proofs.Rows.{passes}
 use Rattle.octets.proofs.Chunks.{length-chunks, length-chunk}
-use Rattle.gpt_model.specs.Ranges.{Slot, vacant, spans, sizeOf, bounded, apart, place}
-use Rattle.gpt_model.specs.Table.{uniqueOf, firstOf, unused, slotOf, entryOk, entries, slots, goodTable, entryWith}
+use Rattle.gpt_model.specs.Table.{Slot, vacant, spans, sizeOf, bounded, apart, uniqueOf, firstOf, unused, slotOf, entryOk, entries, slots, goodTable, entryWith}
 use Rattle.gpt_model.specs.Calls.{Edit, add, delete, resize, rename, carries, isNone, valueOf, tableRows, lowestUnused, startOf, change, lengthsOf}
 use Rattle.gpt_model.specs.Lists.{Ledger, bookEdit}
 use Rattle.gpt_model.proofs.Room.{Room, room-get, place-some}

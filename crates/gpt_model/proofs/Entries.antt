@@ -1,7 +1,7 @@
 -- Entries, and a table with one entry replaced.
 use mathlib.Core.Path.{_≡_, refl, sym, ap, ap₂, subst, subst₂, _∙_}
 use mathlib.Core.Logic.{_⊎_, inl, inr, ⊎-elim, _≢_}
-use mathlib.Core.Bool.{Bool, true, false, not}
+use mathlib.Core.Bool.{true, false, not}
 use mathlib.Core.List.{List, [], _∷_, map}
 use Prim.Native.Nat.{ℕ, zero, suc, _+_, _-_, _≤_, _<_}
 use native.Mathlib.Nat.{le-refl}
@@ -17,8 +17,8 @@ use Rattle.octets.proofs.Bools.{and-l, and-r, and-i, or-cases, or-il, or-ir, or
 use Rattle.octets.proofs.Tests.{all-get, all-make, pairs-get, pairs-make, any-none}
 use Rattle.octets.proofs.Equal.{same-true, same-refl, zero-zeros}
 use Rattle.octets.proofs.Chunks.{length-chunks, chunks-put}
-use Rattle.gpt_model.specs.Ranges.{Slot, vacant, spans, sizeOf, bounded, apart, inside}
-use Rattle.gpt_model.specs.Table.{typeOf, uniqueOf, firstOf, lastOf, unused, slotOf, entryOk, beside, entries, slots, goodTable}
+use Rattle.gpt_model.specs.Table.{Slot, vacant, spans, sizeOf, bounded, apart, typeOf, uniqueOf, firstOf, lastOf, unused, slotOf, entryOk, beside, entries, slots, goodTable}
+use Rattle.gpt_model.specs.Ranges.{inside}
 use Rattle.gpt_model.proofs.Room.{Room, inside-make}
 use Rattle.gpt_model.proofs.Counts.{bounded-get, bounded-make}
 

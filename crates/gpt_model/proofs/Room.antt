@@ -8,9 +8,9 @@ use Prim.Native.Nat.{ℕ, zero, suc, _+_, _-_, _≤_, _<_}
 use native.Mathlib.Decide.{decLt, ℕ-discrete}
 use native.Mathlib.Omega.{arith}
 use borrow.Author.Tests.{leb-true, le-leb}
-use Rattle.octets.specs.Tests.{_and_}
 use Rattle.octets.proofs.Bools.{and-l, and-r, and-i, bool-cases, clash, not-t, some-none, option-cases}
-use Rattle.gpt_model.specs.Ranges.{Slot, vacant, spans, inside, lies, free, allFrom, firstFrom, roomAt, place}
+use Rattle.gpt_model.specs.Table.{Slot, vacant, spans}
+use Rattle.gpt_model.specs.Ranges.{inside, lies, free, allFrom, firstFrom, roomAt, place}
 
 -- ---- a block in a range
 

@@ -1,24 +1,22 @@
 -- What each state says of head and tail, and what a write of both copies, a formatting and a repair leave: state 1 with the table that was written.
-use mathlib.Core.Path.{_≡_, refl, sym, ap, ap₂, subst, _∙_}
+use mathlib.Core.Path.{_≡_, refl, sym, subst, _∙_}
 use mathlib.Core.Logic.{_≢_}
 use mathlib.Core.Bool.{Bool, true, false}
 use mathlib.Core.List.{List}
-use Prim.Native.Nat.{ℕ, _+_, _≤_}
+use Prim.Native.Nat.{ℕ, _≤_}
 use native.Mathlib.Decide.{ℕ-discrete}
 use native.Mathlib.Omega.{arith}
 use lib.ListN.{length}
 use borrow.Author.Tests.{eq-eqb, ne-eqb}
-use Rattle.octets.specs.Tests.{_and_}
-use Rattle.octets.specs.Bytes.{part, put, zeros, same}
+use Rattle.octets.specs.Bytes.{put, zeros, same}
 use Rattle.octets.proofs.Bools.{and-l, and-r, and-i}
 use Rattle.octets.proofs.Parts.{length-part, length-zeros}
 use Rattle.octets.proofs.Puts.{length-put}
 use Rattle.octets.proofs.Equal.{same-true, same-refl}
-use Rattle.gpt_model.specs.Table.{writeAll, goodTable}
+use Rattle.gpt_model.specs.Table.{goodTable}
 use Rattle.gpt_model.specs.Disk.{Shape, lastUsable, Side, primary, backup, lentBytes, headerAt, headerIn, guidIn, entriesIn, header, goodCopy, stateOf, sameCopies, state, tableOf, withTable, withCopy, block0, freshHead, freshTail}
 use Rattle.gpt_model.specs.Calls.{repaired}
 use Rattle.gpt_model.proofs.Fields.{length-writeAll}
-use Rattle.gpt_model.proofs.Entries.{empty-good}
 use Rattle.gpt_model.proofs.Copies.{header-inside, entries-inside, length-withTable, written-entries, written-guid, written-good}
 
 -- head and tail read as state 1 with the table es

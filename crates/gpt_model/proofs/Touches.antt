@@ -7,7 +7,6 @@ use Prim.Native.Nat.{ℕ, _+_, _*_, _≤_, _<_}
 use native.Mathlib.Omega.{arith}
 use lib.ListN.{length, getD, take, drop}
 use Rattle.octets.specs.Tests.{_and_}
-use Rattle.octets.specs.Rows.{refusal}
 use Rattle.octets.specs.Bytes.{le, part, put, zeros, putChunk}
 use Rattle.octets.proofs.Numbers.{length-le}
 use Rattle.octets.proofs.Parts.{length-part}
@@ -15,14 +14,15 @@ use Rattle.octets.proofs.Puts.{length-put, put-over, put-inside, part-put-in, p
 use Rattle.octets.proofs.Chunks.{length-putChunk, putChunk-put}
 use Rattle.crc_lanes.specs.Crc.{crc32}
 use Rattle.gpt_model.specs.Table.{writeAll}
-use Rattle.gpt_model.specs.Disk.{Shape, lastUsable, Side, primary, backup, other, headerBlock, entriesBlock, lentBytes, headerAt, entriesAt, headerIn, guidIn, entriesIn, headerFields, headerWith, headerCrc, header, goodCopy, lent, state, tableOf, withTable}
-use Rattle.gpt_model.specs.Calls.{Edit, edit, Out, change, edited, lengthsOf, rowsOf, made, step}
+use Rattle.gpt_model.specs.Disk.{Shape, lastUsable, Side, primary, backup, lentBytes, headerAt, entriesAt, guidIn, entriesIn, headerFields, headerWith, headerCrc, header, goodCopy, lent, state, tableOf, withTable}
+use Rattle.gpt_model.specs.Calls.{edit, Out, change, lengthsOf, made}
 use Rattle.gpt_model.specs.Claims.{Outside, EditTouches}
 use Rattle.gpt_model.proofs.Fields.{put-before}
 use Rattle.gpt_model.proofs.Edits.{FitsEdit}
-use Rattle.gpt_model.proofs.Copies.{length-header, header-inside, entries-inside, places-apart, length-withTable}
+use Rattle.gpt_model.proofs.Copies.{header-inside, entries-inside, places-apart, length-withTable}
 use Rattle.gpt_model.proofs.States.{good-header, one-good, one-primary, one-backup, length-entries}
-use Rattle.gpt_model.proofs.Steps.{step-made, row1, row11, open-read, edit-open, edit-made, length-edited}
+use Rattle.gpt_model.proofs.Ways.{step-made, row1, row11, open-read, edit-open}
+use Rattle.gpt_model.proofs.Steps.{edit-fits}
 
 -- ---- the header of another table under the same disk GUID: fields 16 and 88 differ
 
@@ -120,7 +120,7 @@ editTouches g n h t d wide e =
     one = row11 g n h t d (edit-open g n h t d e)
 
     f : FitsEdit (g .first) (lastUsable g n) (tableOf g n h t) d
-    f = edit-made g n h t d wide e .0
+    f = edit-fits g wide n h t d e
 
     both : (side : Side) → Stays g side (change (g .first) (lastUsable g n) (tableOf g n h t) d .index) (lent side h t) (lent side (made g n h t (edit d) .head) (made g n h t (edit d) .tail))
     both primary = stays g wide n primary h _ _ _ (l .0) (one-good g n h t one .0) (one-primary g n h t one) (f .index) (f .len)

@@ -11,8 +11,8 @@ use native.Mathlib.Omega.{arith}
 use lib.ListN.{length, getD}
 use Rattle.octets.proofs.Bools.{bool-cases, clash}
 use Rattle.octets.proofs.Tests.{any-get, any-make}
-use Rattle.gpt_model.specs.Ranges.{Slot, vacant, spans, inside, lies, free, place, countFrom, freeCount, longest, longestFree}
-use Rattle.gpt_model.specs.Table.{slotCount}
+use Rattle.gpt_model.specs.Table.{Slot, vacant, spans}
+use Rattle.gpt_model.specs.Ranges.{inside, lies, free, place, countFrom, freeCount, longest, longestFree}
 use Rattle.gpt_model.proofs.Room.{Room, place-is, place-is-none, inside-make, inside-get, inside-vacant}
 use Rattle.gpt_model.proofs.Counts.{count-false, count-true, count-add}
 use Rattle.gpt_model.proofs.Longest.{longest-skip, longest-gap}

@@ -8,9 +8,9 @@ use lib.ListN.{length, getD, set}
 use Rattle.octets.specs.Tests.{_and_, _or_, any, findIx}
 use Rattle.octets.specs.Rows.{Row, row, refusal}
 use Rattle.octets.specs.Bytes.{le, put, zeros, isZero, same, putChunk}
-use Rattle.gpt_model.specs.Ranges.{vacant, roomAt, place, freeCount, longestFree}
-use Rattle.gpt_model.specs.Table.{entryBytes, slotCount, tableBytes, uniqueOf, firstOf, nameBytes, entryWith, unused, entries, slots}
+use Rattle.gpt_model.specs.Table.{vacant, entryBytes, slotCount, tableBytes, uniqueOf, firstOf, nameBytes, entryWith, unused, entries, slots}
 use Rattle.gpt_model.specs.Disk.{Shape, lastUsable, inRange, primary, backup, lentBytes, guidIn, entriesIn, state, tableOf, withTable, withCopy, freshHead, freshTail}
+use Rattle.gpt_model.specs.Ranges.{roomAt, place, freeCount, longestFree}
 
 -- D15: Add is given type, unique GUID (16 stored bytes each), size in blocks, attributes and name (36 units). A slot is named by its number, from 1 on.
 pub data Edit : Type 0 where

@@ -3,7 +3,6 @@ use mathlib.Core.Bool.{Bool, true, false, cond}
 use mathlib.Core.List.{List, [], _∷_, _++_}
 use Prim.Native.Nat.{ℕ, suc, _+_, _-_, _*_}
 use lib.Dec.{leb, eqb}
-use lib.ListN.{length}
 use Rattle.octets.specs.Tests.{_and_}
 use Rattle.octets.specs.Bytes.{le, part, put, zeros, same}
 use Rattle.crc_lanes.specs.Crc.{crc32}

@@ -1,32 +1,11 @@
--- Ranges of blocks: which blocks lie in partitions, where there is room, how many blocks are free. Definitions only.
--- `first` and `last` are the first and the last usable block.
+-- Blocks: which lie in partitions, where there is room, how many are free. Definitions only; `first` and `last` are the first and the last usable block.
 use mathlib.Core.Bool.{Bool, true, false, not}
-use mathlib.Core.List.{List, [], _∷_}
+use mathlib.Core.List.{List}
 use mathlib.Core.Option.{Option, none, some}
 use Prim.Native.Nat.{ℕ, zero, suc, _+_, _-_, max}
-use lib.Dec.{leb, ltb}
-use Rattle.octets.specs.Tests.{_and_, _or_, any}
-
--- what an entry takes: nothing where it is unused, else the blocks from its first to its last
-pub data Slot : Type 0 where
-  vacant : Slot
-  spans : ℕ → ℕ → Slot
-
--- D5: last block (inclusive)
-abbrev pub sizeOf : Slot → ℕ
-sizeOf vacant = 0
-sizeOf (spans f l) = suc l - f
-
--- D7: 34 ≤ first ≤ last ≤ N−34
-unfoldable pub bounded : ℕ → ℕ → Slot → Bool
-bounded first last vacant = true
-bounded first last (spans f l) = leb first f and leb f l and leb l last
-
--- D7: ranges share no block
-unfoldable pub apart : Slot → Slot → Bool
-apart vacant t = true
-apart (spans f l) vacant = true
-apart (spans f l) (spans g m) = ltb l g or ltb m f
+use lib.Dec.{leb}
+use Rattle.octets.specs.Tests.{_and_, any}
+use Rattle.gpt_model.specs.Table.{Slot, vacant, spans}
 
 -- D21: A block lies in a partition when it is one of first to last of a used entry
 unfoldable pub inside : ℕ → Slot → Bool

@@ -1,10 +1,10 @@
 -- An entry, and the table of 128 entries. Definitions only.
 use mathlib.Core.Bool.{Bool, true, false, not}
 use mathlib.Core.List.{List, [], _∷_, map}
-use Prim.Native.Nat.{ℕ}
+use Prim.Native.Nat.{ℕ, suc, _-_}
+use lib.Dec.{leb, ltb}
 use Rattle.octets.specs.Tests.{_and_, _or_, all, pairs}
 use Rattle.octets.specs.Bytes.{le, part, field, put, zeros, isZero, same, chunks, flat}
-use Rattle.gpt_model.specs.Ranges.{Slot, vacant, spans, bounded, apart}
 
 -- fields written at their byte positions, one after the other
 abbrev pub writeAll : List (ℕ × List ℕ) → List ℕ → List ℕ
@@ -38,8 +38,29 @@ entryWith type unique f l attributes name =
 unfoldable pub unused : List ℕ → Bool
 unused e = isZero e
 
+-- what an entry takes: nothing where it is unused, else the blocks from its first to its last
+pub data Slot : Type 0 where
+  vacant : Slot
+  spans : ℕ → ℕ → Slot
+
+-- D5: last block (inclusive)
+abbrev pub sizeOf : Slot → ℕ
+sizeOf vacant = 0
+sizeOf (spans f l) = suc l - f
+
 unfoldable pub slotOf : List ℕ → Slot
 slotOf e = elim (unused e) [ true ↦ vacant | false ↦ spans (firstOf e) (lastOf e) ]
+
+-- D7: 34 ≤ first ≤ last ≤ N−34
+unfoldable pub bounded : ℕ → ℕ → Slot → Bool
+bounded first last vacant = true
+bounded first last (spans f l) = leb first f and leb f l and leb l last
+
+-- D7: ranges share no block
+unfoldable pub apart : Slot → Slot → Bool
+apart vacant t = true
+apart (spans f l) vacant = true
+apart (spans f l) (spans g m) = ltb l g or ltb m f
 
 -- D7: A used entry has nonzero type and unique GUID and 34 ≤ first ≤ last ≤ N−34
 unfoldable pub entryOk : ℕ → ℕ → List ℕ → Bool
