@@ -8,6 +8,7 @@ pub mod Entries
 pub mod Edits
 pub mod Copies
 pub mod States
+pub mod Writes
 pub mod Ways
 pub mod Steps
 pub mod Demand3

@@ -21,6 +21,7 @@ use Rattle.gpt_model.proofs.Fields.{put-before}
 use Rattle.gpt_model.proofs.Edits.{FitsEdit}
 use Rattle.gpt_model.proofs.Copies.{header-inside, entries-inside, places-apart, length-withTable}
 use Rattle.gpt_model.proofs.States.{good-header, one-good, one-primary, one-backup, length-entries}
+use Rattle.gpt_model.proofs.Writes.{entry-written}
 use Rattle.gpt_model.proofs.Ways.{step-made, row1, row11, open-read, edit-open}
 use Rattle.gpt_model.proofs.Steps.{edit-fits}
 
@@ -58,12 +59,6 @@ module _ (g : Shape) (wide : 92 ≤ g .block) (n : ℕ) (side : Side) (b : List 
   abbrev es′ : List ℕ
   es′ = putChunk 128 i e (entriesIn g side b)
 
-  entry-written : put (entriesAt g side) es′ b ≡ put (entriesAt g side + i * 128) e b
-  entry-written =
-      let h = entries-inside g wide side in
-      ap (λ (x : List ℕ). put (entriesAt g side) x b) (putChunk-put 128 128 i e (entriesIn g side b) le′ hi (length-entries g wide n side b lb))
-      ∙ put-inside e b (entriesAt g side) 16384 (i * 128) (omega arith) (omega arith)
-
   header-stays : part (headerAt g side) 92 (put (entriesAt g side + i * 128) e b) ≡ header g n side (guidIn g side b) (entriesIn g side b)
   header-stays = part-put-out e b (headerAt g side) 92 (entriesAt g side + i * 128) (clear (places-apart g wide side)) ∙ good-header g n side b good
     where
@@ -79,7 +74,7 @@ module _ (g : Shape) (wide : 92 ≤ g .block) (n : ℕ) (side : Side) (b : List 
   unfolding withTable
   three-writes =
       let c = put (entriesAt g side + i * 128) e b in
-      ap₂ (put (headerAt g side)) (header-changes g n side (guidIn g side b) (entriesIn g side b) es′ ∙ ap (λ (x : List ℕ). put 16 (le 4 (headerCrc g n side (guidIn g side b) es′)) (put 88 (le 4 (crc32 es′)) x)) (sym header-stays)) entry-written
+      ap₂ (put (headerAt g side)) (header-changes g n side (guidIn g side b) (entriesIn g side b) es′ ∙ ap (λ (x : List ℕ). put 16 (le 4 (headerCrc g n side (guidIn g side b) es′)) (put 88 (le 4 (crc32 es′)) x)) (sym header-stays)) (entry-written g wide n side b lb i hi e le′)
       ∙ two-fields (le 4 (headerCrc g n side (guidIn g side b) es′)) (le 4 (crc32 es′)) c (headerAt g side) 92 16 88
       (let h = header-inside g wide side in omega (arith, length-put (entriesAt g side + i * 128) e b))
       (omega (arith, length-le 4 (headerCrc g n side (guidIn g side b) es′))) (omega (arith, length-le 4 (crc32 es′)))
