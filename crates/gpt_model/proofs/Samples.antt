@@ -15,16 +15,16 @@ use Rattle.octets.specs.Bytes.{le, unle, part, field, put, zeros, same, chunks,
 use Rattle.octets.proofs.Bools.{and-l, and-r, and-i}
 use Rattle.octets.proofs.Numbers.{length-le, unle-le}
 use Rattle.octets.proofs.Parts.{length-zeros}
-use Rattle.octets.proofs.Rows.{pick-true, pick-false, refusal-append}
+use Rattle.octets.proofs.Rows.{pick-true, pick-false}
 use Rattle.gpt_model.specs.Table.{Slot, vacant, spans, unused, slotOf, slots}
 use Rattle.gpt_model.specs.Disk.{Shape, disk512, lastUsable, inRange, Side, primary, backup, block0, headerFields, headerIn, headerCrc, header, tableOf, headerBlock, entriesBlock, lentBytes}
 use Rattle.gpt_model.specs.Ranges.{inside, allFrom, roomAt, firstFrom, place, countFrom, taken, freeCount}
-use Rattle.gpt_model.specs.Calls.{Edit, resize, Call, read, freeCounts, repair, edit, Answer, refused, accepted, Out, tableRows, change, lengthsOf, lengthsOk, openRows, rowsOf, step, format, add, delete}
+use Rattle.gpt_model.specs.Calls.{Edit, resize, Call, read, freeCounts, repair, edit, Answer, refused, accepted, Out, tableRows, change, lengthsOf, lengthsOk, rowsOf, step, format, add, delete}
 use Rattle.gpt_model.specs.Lists.{Ledger, book, Run, next, run, answers, tableNext, applied, begun, slotsOf}
 use Rattle.gpt_model.specs.Claims.{Formats}
 use Rattle.gpt_model.proofs.Fields.{length-writeAll, behind}
 use Rattle.gpt_model.proofs.Copies.{header-reads, written-header}
-use Rattle.gpt_model.proofs.Ways.{step-refused, step-made, open-none}
+use Rattle.gpt_model.proofs.Ways.{step-refused, step-made, edit-decides, open-none}
 use Rattle.gpt_model.proofs.Steps.{Kept, keeps}
 use Rattle.gpt_model.proofs.Demand3.{format-refused, formatted, format-starts, starts-kept, notEmpty}
 
@@ -105,8 +105,7 @@ module _ (g : Shape) (wide : 92 ≤ g .block) (n : ℕ) (range : inRange g n ≡
   answer-table r d v l = go (refusal (tableRows (g .first) (lastUsable g n) (tableOf g n (r .head) (r .tail)) d)) refl
     where
       rows : refusal (rowsOf g n (r .head) (r .tail) (edit d)) ≡ refusal (tableRows (g .first) (lastUsable g n) (tableOf g n (r .head) (r .tail)) d)
-      rows = refusal-append (openRows g n (r .head) (r .tail) d) (tableRows (g .first) (lastUsable g n) (tableOf g n (r .head) (r .tail)) d) (open-none g n (r .head) (r .tail) d (v .len-head) (v .len-tail) l range (v .reads))
-
+      rows = edit-decides g n (r .head) (r .tail) d (open-none g n (r .head) (r .tail) d (v .len-head) (v .len-tail) l range (v .reads))
       go : (q : Option ℕ) → refusal (tableRows (g .first) (lastUsable g n) (tableOf g n (r .head) (r .tail)) d) ≡ q
           → step g n (r .head) (r .tail) (edit d) .answer ≡ answerT (g .first) (lastUsable g n) (tableOf g n (r .head) (r .tail)) d
       go none e = rw e (ap (λ (o : Out). o .answer) (step-made g n (r .head) (r .tail) (edit d) (rows ∙ e)))

@@ -55,6 +55,18 @@ pub good-header : (g : Shape) (n : ℕ) (side : Side) (b : List ℕ) → goodCop
 unfolding goodCopy
 good-header g n side b k = same-true _ _ (and-l _ _ k)
 
+-- D9: a copy is judged by its header's 92 bytes and its entries alone
+pub good-by-parts : (g : Shape) (n : ℕ) (side : Side) (b b′ : List ℕ) → headerIn g side b ≡ headerIn g side b′ → entriesIn g side b ≡ entriesIn g side b′
+    → goodCopy g n side b ≡ goodCopy g n side b′
+unfolding goodCopy
+good-by-parts g n side b b′ p q = rw (p, q)
+
+pub state-by-parts : (g : Shape) (n : ℕ) (h t h′ t′ : List ℕ)
+    → headerIn g primary h ≡ headerIn g primary h′ → entriesIn g primary h ≡ entriesIn g primary h′
+    → headerIn g backup t ≡ headerIn g backup t′ → entriesIn g backup t ≡ entriesIn g backup t′ → state g n h t ≡ state g n h′ t′
+unfolding state
+state-by-parts g n h t h′ t′ p q r s = rw (good-by-parts g n primary h h′ p q, good-by-parts g n backup t t′ r s, p, q, r, s)
+
 module _ (g : Shape) (n : ℕ) (h t : List ℕ) where
   pub four : state g n h t ≡ 4 → goodCopy g n backup t ≡ true
   unfolding state

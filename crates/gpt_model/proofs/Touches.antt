@@ -11,7 +11,7 @@ use Rattle.octets.specs.Bytes.{le, part, put, zeros, putChunk}
 use Rattle.octets.proofs.Numbers.{length-le}
 use Rattle.octets.proofs.Parts.{length-part}
 use Rattle.octets.proofs.Puts.{length-put, put-over, put-inside, part-put-in, part-put-out, getD-put-out}
-use Rattle.octets.proofs.Chunks.{length-putChunk, putChunk-put}
+use Rattle.octets.proofs.Chunks.{length-putChunk}
 use Rattle.crc_lanes.specs.Crc.{crc32}
 use Rattle.gpt_model.specs.Table.{writeAll}
 use Rattle.gpt_model.specs.Disk.{Shape, lastUsable, Side, primary, backup, lentBytes, headerAt, entriesAt, guidIn, entriesIn, headerFields, headerWith, headerCrc, header, goodCopy, lent, state, tableOf, withTable}
@@ -19,7 +19,7 @@ use Rattle.gpt_model.specs.Calls.{edit, Out, change, lengthsOf, made}
 use Rattle.gpt_model.specs.Claims.{Outside, EditTouches}
 use Rattle.gpt_model.proofs.Fields.{put-before}
 use Rattle.gpt_model.proofs.Edits.{FitsEdit}
-use Rattle.gpt_model.proofs.Copies.{header-inside, entries-inside, places-apart, length-withTable}
+use Rattle.gpt_model.proofs.Copies.{header-inside, places-apart, length-withTable}
 use Rattle.gpt_model.proofs.States.{good-header, one-good, one-primary, one-backup, length-entries}
 use Rattle.gpt_model.proofs.Writes.{entry-written}
 use Rattle.gpt_model.proofs.Ways.{step-made, row1, row11, open-read, edit-open}

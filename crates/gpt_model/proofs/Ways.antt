@@ -12,7 +12,7 @@ use borrow.Author.Tests.{eqb-true, eqb-false, eq-eqb}
 use Rattle.octets.specs.Tests.{_and_, _or_, any}
 use Rattle.octets.specs.Rows.{row, refusal}
 use Rattle.octets.proofs.Bools.{and-l, and-r, and-i, clash, not-f}
-use Rattle.octets.proofs.Rows.{passes, pick-false, refusal-before, refusal-holds}
+use Rattle.octets.proofs.Rows.{passes, pick-false, refusal-append, refusal-first, refusal-before, refusal-holds}
 use Rattle.gpt_model.specs.Disk.{Shape, lastUsable, inRange, primary, backup, lentBytes, guidIn, entriesIn, state, tableOf, withCopy}
 use Rattle.gpt_model.specs.Calls.{Edit, add, delete, resize, rename, Call, read, freeCounts, repair, edit, Answer, refused, accepted, Out, out, decided, tableRows, lengthsOf, readRows, openRows, rowsOf, made, step}
 
@@ -116,6 +116,17 @@ module _ (g : Shape) (n : ℕ) (h t : List ℕ) where
 
     pub edit-table : refusal (tableRows (g .first) (lastUsable g n) (tableOf g n h t) d) ≡ none
     edit-table = refusal-before (openRows g n h t d) (tableRows (g .first) (lastUsable g n) (tableOf g n h t) d) e .1
+
+-- an edit's own rows decide where those before them do not hold; else those before them do
+module _ (g : Shape) (n : ℕ) (h t : List ℕ) (d : Edit) where
+  pub edit-decides : refusal (openRows g n h t d) ≡ none → refusal (rowsOf g n h t (edit d)) ≡ refusal (tableRows (g .first) (lastUsable g n) (tableOf g n h t) d)
+  edit-decides e = refusal-append (openRows g n h t d) (tableRows (g .first) (lastUsable g n) (tableOf g n h t) d) e
+
+  pub edit-stops : (k : ℕ) → refusal (openRows g n h t d) ≡ some k → refusal (rowsOf g n h t (edit d)) ≡ some k
+  edit-stops k e = refusal-first (openRows g n h t d) (tableRows (g .first) (lastUsable g n) (tableOf g n h t) d) k e
+
+  pub read-stops : (k : ℕ) → refusal (readRows g n h t (lengthsOf d)) ≡ some k → refusal (openRows g n h t d) ≡ some k
+  read-stops k e = refusal-first (readRows g n h t (lengthsOf d)) (row (not (eqb (state g n h t) 1)) 11 ∷ []) k e
 
 -- where lengths and N are right and the disk reads as state 1, the rows before an edit's own do not hold
 pub open-none : (g : Shape) (n : ℕ) (h t : List ℕ) (d : Edit) → length h ≡ lentBytes g primary → length t ≡ lentBytes g backup

@@ -8,7 +8,7 @@ use Rattle.octets.specs.Tests.{_and_}
 use Rattle.octets.specs.Bytes.{le, part, put, zeros, putChunk, flat}
 use Rattle.octets.proofs.Numbers.{length-le}
 use Rattle.octets.proofs.Parts.{length-zeros, part-zeros}
-use Rattle.octets.proofs.Puts.{length-put, put-put, put-all, put-over, put-inside, put-self, part-put-in, part-put-below}
+use Rattle.octets.proofs.Puts.{put-put, put-all, put-over, put-inside, put-self, part-put-in, part-put-below}
 use Rattle.octets.proofs.Chunks.{putChunk-put}
 use Rattle.gpt_model.specs.Table.{writeAll}
 use Rattle.gpt_model.specs.Disk.{Shape, Side, primary, backup, lentBytes, headerAt, entriesAt, entriesIn, headerFields, headerWith, headerCrc, header, withTable, block0, freshHead, freshTail}
