@@ -9,7 +9,7 @@ use lib.ListN.{length, getD, drop}
 use Rattle.octets.specs.Tests.{_and_}
 use Rattle.octets.specs.Bytes.{part, put, zeros}
 use Rattle.octets.proofs.Bools.{and-i}
-use Rattle.octets.proofs.Parts.{length-zeros}
+use Rattle.octets.proofs.Parts.{length-part, length-zeros}
 use Rattle.octets.proofs.Puts.{length-put, part-put-out}
 use Rattle.octets.proofs.Equal.{same-refl}
 use Rattle.gpt_model.specs.Table.{goodTable}
@@ -56,6 +56,13 @@ module _ (g : Shape) (wide : 92 ≤ g .block) where
   pub places-apart : (side : Side) → (headerAt g side + 92 ≤ entriesAt g side) ⊎ (entriesAt g side + 16384 ≤ headerAt g side)
   places-apart primary = inl (omega arith)
   places-apart backup = inr (omega arith)
+
+  pub length-guid : (side : Side) (b : List ℕ) → length b ≡ lentBytes g side → length (guidIn g side b) ≡ 16
+  length-guid side b l =
+      let i = header-inside side in length-part _ 56 16 (omega (arith, length-part b (headerAt g side) 92 (omega arith)))
+
+  pub length-entries : (side : Side) (b : List ℕ) → length b ≡ lentBytes g side → length (entriesIn g side b) ≡ 16384
+  length-entries side b l = let i = entries-inside side in length-part b _ 16384 (omega arith)
 
 -- ---- a copy that is written
 

@@ -161,7 +161,8 @@ module _ (g : Shape) (n : ℕ) (r : Run) (v : Kept g n r) where
     room = room-iff;
   }
     where
-      same-slot : (b i j : ℕ) → i < 128 → j < 128 → inside b (getD (slots tab) i vacant) ≡ true → inside b (getD (slots tab) j vacant) ≡ true → Dec (i < j) → Dec (j < i) → i ≡ j
+      same-slot : (b i j : ℕ) → i < 128 → j < 128 → inside b (getD (slots tab) i vacant) ≡ true → inside b (getD (slots tab) j vacant) ≡ true
+          → Dec (i < j) → Dec (j < i) → i ≡ j
       same-slot b i j hi hj x y (yes a) d = absurd (apart-tab b i j a hj x y)
       same-slot b i j hi hj x y (no a) (yes d) = absurd (apart-tab b j i d hi y x)
       same-slot b i j hi hj x y (no a) (no d) = omega arith

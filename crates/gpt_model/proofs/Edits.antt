@@ -259,7 +259,8 @@ module _ (first last : ℕ) (small : last < 256 ^ 8) (es : List ℕ) (len : leng
       let rows = tableRows first last es (add ty uq size attr name) in
       let p = place-some (slots es) first last size (startOf first last es size) (place-value _ (passes 25 rows e)) in
       let f = findIx-get unused (entries es) [] (not-f _ (passes 24 rows e)) in
-      places (lowestUnused first last es) (startOf first last es size) ty uq size attr name (omega (arith, f .0, length-chunks 128 128 es)) (f .1) (nonzero size (passes 20 rows e)) (p .0) (p .1)
+      places (lowestUnused first last es) (startOf first last es size) ty uq size attr name (omega (arith, f .0, length-chunks 128 128 es)) (f .1)
+      (nonzero size (passes 20 rows e)) (p .0) (p .1)
       (eqb-true _ _ (and-l _ _ (and-l _ _ lens))) (eqb-true _ _ (and-r _ _ (and-l _ _ lens))) (eqb-true _ _ (and-r _ _ lens))
       (passes 21 rows e) (or-false-l _ _ (passes 22 rows e)) (or-false-r _ _ (passes 22 rows e))
 

@@ -79,7 +79,8 @@ firstFrom-some p lo (suc k) s e = go (bool-cases (p lo)) (firstFrom-some p (suc 
         let r = ih (sym (firstFrom-no p lo k q) ∙ e) in
         (omega arith, omega arith, r .2, λ b h g. low b h g r (ℕ-discrete b lo))
       where
-        low : (b : ℕ) → lo ≤ b → b < s → (suc lo ≤ s) × (s < suc lo + k) × (p s ≡ true) × ((b : ℕ) → suc lo ≤ b → b < s → p b ≡ false) → Dec (b ≡ lo) → p b ≡ false
+        low : (b : ℕ) → lo ≤ b → b < s → (suc lo ≤ s) × (s < suc lo + k) × (p s ≡ true) × ((b : ℕ) → suc lo ≤ b → b < s → p b ≡ false)
+            → Dec (b ≡ lo) → p b ≡ false
         low b h g r (yes u) = ap p u ∙ q
         low b h g r (no u) = r .3 b (omega arith) g
 

@@ -63,9 +63,9 @@ abbrev pub Sample3 : Type 0
 Sample3 =
     (lastUsable disk512 100 ≡ 66) × (headerBlock backup 100 ≡ 99) × (entriesBlock disk512 backup 100 ≡ 67)
     × After 100 [] (λ a r.
-        (field 48 8 (headerIn disk512 primary (r .head)) ≡ 66) × (field 32 8 (headerIn disk512 primary (r .head)) ≡ 99)
-        × (field 48 8 (headerIn disk512 backup (r .tail)) ≡ 66) × (field 24 8 (headerIn disk512 backup (r .tail)) ≡ 99)
-        × (field 72 8 (headerIn disk512 backup (r .tail)) ≡ 67))
+    (field 48 8 (headerIn disk512 primary (r .head)) ≡ 66) × (field 32 8 (headerIn disk512 primary (r .head)) ≡ 99)
+    × (field 48 8 (headerIn disk512 backup (r .tail)) ≡ 66) × (field 24 8 (headerIn disk512 backup (r .tail)) ≡ 99)
+    × (field 72 8 (headerIn disk512 backup (r .tail)) ≡ 67))
 
 -- S4: (4*) There: add 10 (34–43), add 5 (44–48), delete 1, add 11 (49–59, slot 1), add 10 (34–43, slot 3): 26 in partitions, 36 granted, 10 back, 7 free.
 abbrev pub edits4 : List Edit
@@ -75,9 +75,9 @@ abbrev pub Sample4 : Type 0
 Sample4 =
     After 100 (take 2 edits4) (λ a r. take 2 (slotsOf disk512 100 r) ≡ spans 34 43 ∷ spans 44 48 ∷ [])
     × After 100 edits4 (λ a r.
-        (a ≡ accepted (1 ∷ 34 ∷ []) ∷ accepted (2 ∷ 44 ∷ []) ∷ accepted [] ∷ accepted (1 ∷ 49 ∷ []) ∷ accepted (3 ∷ 34 ∷ []) ∷ [])
-        × (take 3 (slotsOf disk512 100 r) ≡ spans 49 59 ∷ spans 44 48 ∷ spans 34 43 ∷ [])
-        × (taken (slotsOf disk512 100 r) 34 66 ≡ 26) × (r .ledger .granted ≡ 36) × (r .ledger .back ≡ 10) × (freeCount (slotsOf disk512 100 r) 34 66 ≡ 7))
+    (a ≡ accepted (1 ∷ 34 ∷ []) ∷ accepted (2 ∷ 44 ∷ []) ∷ accepted [] ∷ accepted (1 ∷ 49 ∷ []) ∷ accepted (3 ∷ 34 ∷ []) ∷ [])
+    × (take 3 (slotsOf disk512 100 r) ≡ spans 49 59 ∷ spans 44 48 ∷ spans 34 43 ∷ [])
+    × (taken (slotsOf disk512 100 r) 34 66 ≡ 26) × (r .ledger .granted ≡ 36) × (r .ledger .back ≡ 10) × (freeCount (slotsOf disk512 100 r) 34 66 ≡ 7))
 
 -- S5: (5*) Then resizing slot 1 to 19 is 25, to 18 accepted, free 0.
 abbrev pub Sample5 : Type 0
@@ -106,6 +106,7 @@ module _ (g : Shape) (wide : 92 ≤ g .block) (n : ℕ) (range : inRange g n ≡
     where
       rows : refusal (rowsOf g n (r .head) (r .tail) (edit d)) ≡ refusal (tableRows (g .first) (lastUsable g n) (tableOf g n (r .head) (r .tail)) d)
       rows = edit-decides g n (r .head) (r .tail) d (open-none g n (r .head) (r .tail) d (v .len-head) (v .len-tail) l range (v .reads))
+
       go : (q : Option ℕ) → refusal (tableRows (g .first) (lastUsable g n) (tableOf g n (r .head) (r .tail)) d) ≡ q
           → step g n (r .head) (r .tail) (edit d) .answer ≡ answerT (g .first) (lastUsable g n) (tableOf g n (r .head) (r .tail)) d
       go none e = rw e (ap (λ (o : Out). o .answer) (step-made g n (r .head) (r .tail) (edit d) (rows ∙ e)))
@@ -147,7 +148,7 @@ computed n ds replies l q guid h t f =
     record {
       replied = a;
       table = ap slots (notEmpty disk512 n guid h t f (map edit ds) .table ∙ ap (applied 34 (n - 34) (zeros 16384) (map edit ds)) a);
-      ledger = ledger-run disk512 n (map edit ds) r ∙ ap (bookAll (r .ledger) (map edit ds)) a
+      ledger = ledger-run disk512 n (map edit ds) r ∙ ap (bookAll (r .ledger) (map edit ds)) a;
     }
 
 -- ---- the samples
@@ -158,12 +159,13 @@ small = refl
 
 pub sample1 : Sample1
 sample1 guid h t lg lh lt = (
-    ap (λ (o : Out). o .answer) (format-refused disk512 67 guid h t 2 (rows (eqb (length guid) 16) _ (eq-eqb _ _ lg))),
-    λ c l. ap (λ (o : Out). o .answer) (step-refused disk512 67 h t c 2 (calls c l)),
-  )
+  ap (λ (o : Out). o .answer) (format-refused disk512 67 guid h t 2 (rows (eqb (length guid) 16) _ (eq-eqb _ _ lg))),
+  λ c l. ap (λ (o : Out). o .answer) (step-refused disk512 67 h t c 2 (calls c l)),
+)
   where
     rows : (b : Bool) (o : Option ℕ) → b ≡ true → pickRow (not (lengthsOk disk512 h t and b)) 1 (pickRow (not (inRange disk512 67)) 2 o) ≡ some 2
     rows b o l = pick-false _ _ _ (ap not (and-i _ _ (and-i _ _ (eq-eqb _ _ lh) (eq-eqb _ _ lt)) l)) ∙ pick-true _ _ _ small
+
     calls : (c : Call) → lengthsIn c ≡ true → refusal (rowsOf disk512 67 h t c) ≡ some 2
     calls read l = rows true _ refl
     calls freeCounts l = rows true _ refl
@@ -207,13 +209,18 @@ number side guid i at x h e b l s = ap unle (header-reads disk512 100 side guid 
 
 pub sample3 : Sample3
 unfolding _and_
-sample3 = (refl, refl, refl, λ guid h t f. (
+sample3 = (
+  refl,
+  refl,
+  refl,
+  λ guid h t f. (
     ap (field 48 8) (head-header 100 guid h t f) ∙ number primary guid 8 48 66 (omega arith) refl refl (omega arith) (omega arith),
     ap (field 32 8) (head-header 100 guid h t f) ∙ number primary guid 6 32 99 (omega arith) refl refl (omega arith) (omega arith),
     ap (field 48 8) (tail-header 100 guid h t f) ∙ number backup guid 8 48 66 (omega arith) refl refl (omega arith) (omega arith),
     ap (field 24 8) (tail-header 100 guid h t f) ∙ number backup guid 5 24 99 (omega arith) refl refl (omega arith) (omega arith),
     ap (field 72 8) (tail-header 100 guid h t f) ∙ number backup guid 10 72 67 (omega arith) refl refl (omega arith) (omega arith),
-  ))
+  ),
+)
 
 -- the replies to the first edits of sample 4, to all of them, and to those of sample 5 after them
 abbrev replies2 : List Answer
@@ -250,13 +257,18 @@ countsAre = (refl, refl, refl)
 
 pub sample4 : Sample4
 sample4 = (
-    λ guid h t f. let w = computed 100 (take 2 edits4) replies2 (lengthsAre .0) (answersAre .0) guid h t f in ap (take 2) (w .table ∙ slotsAre .0),
-    λ guid h t f.
+  λ guid h t f. let w = computed 100 (take 2 edits4) replies2 (lengthsAre .0) (answersAre .0) guid h t f in ap (take 2) (w .table ∙ slotsAre .0),
+  λ guid h t f.
       let w = computed 100 edits4 replies4 (lengthsAre .1) (answersAre .1) guid h t f in
-      let s = w .table ∙ slotsAre .1 in
-      (w .replied, ap (take 3) s, ap (λ (x : List Slot). taken x 34 66) s ∙ countsAre .0, ap (λ (l : Ledger). l .granted) (w .ledger), ap (λ (l : Ledger). l .back) (w .ledger),
-        ap (λ (x : List Slot). freeCount x 34 66) s ∙ countsAre .1),
-  )
+      let s = w .table ∙ slotsAre .1 in (
+        w .replied,
+        ap (take 3) s,
+        ap (λ (x : List Slot). taken x 34 66) s ∙ countsAre .0,
+        ap (λ (l : Ledger). l .granted) (w .ledger),
+        ap (λ (l : Ledger). l .back) (w .ledger),
+        ap (λ (x : List Slot). freeCount x 34 66) s ∙ countsAre .1,
+      ),
+)
 
 pub sample5 : Sample5
 sample5 guid h t f =

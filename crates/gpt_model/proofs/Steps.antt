@@ -17,7 +17,8 @@ use Rattle.gpt_model.specs.Lists.{Ledger, bookEdit, book, Run, next, run
 use Rattle.gpt_model.proofs.Counts.{total-set}
 use Rattle.gpt_model.proofs.Entries.{map-set, getD-slot, length-slots, entryAt, slots-put, good-put}
 use Rattle.gpt_model.proofs.Edits.{FitsEdit, replied, fits}
-use Rattle.gpt_model.proofs.States.{Holds, one-primary, readable-good, length-entries, edit-holds}
+use Rattle.gpt_model.proofs.Copies.{length-entries}
+use Rattle.gpt_model.proofs.States.{Holds, one-primary, readable-good, edit-holds}
 use Rattle.gpt_model.proofs.Ways.{step-refused, step-made, row1, row2, row11, open-read, edit-open, edit-table}
 
 -- ---- an edit that is made
@@ -83,7 +84,7 @@ module _ (g : Shape) (wide : 92 ≤ g .block) (n : ℕ) (h t : List ℕ) (d : Ed
   one = row11 g n h t d (edit-open g n h t d e)
 
   len-table : length (tableOf g n h t) ≡ 16384
-  len-table = ap length (one-primary g n h t one) ∙ length-entries g wide n primary h (lens .0)
+  len-table = ap length (one-primary g n h t one) ∙ length-entries g wide primary h (lens .0)
 
   good : goodTable (g .first) (lastUsable g n) (tableOf g n h t) ≡ true
   good = readable-good g n h t (λ z. let w = one in omega arith)

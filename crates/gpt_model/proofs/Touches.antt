@@ -19,8 +19,8 @@ use Rattle.gpt_model.specs.Calls.{edit, Out, change, lengthsOf, made}
 use Rattle.gpt_model.specs.Claims.{Outside, EditTouches}
 use Rattle.gpt_model.proofs.Fields.{put-before}
 use Rattle.gpt_model.proofs.Edits.{FitsEdit}
-use Rattle.gpt_model.proofs.Copies.{header-inside, places-apart, length-withTable}
-use Rattle.gpt_model.proofs.States.{good-header, one-good, one-primary, one-backup, length-entries}
+use Rattle.gpt_model.proofs.Copies.{header-inside, places-apart, length-entries, length-withTable}
+use Rattle.gpt_model.proofs.States.{good-header, one-good, one-primary, one-backup}
 use Rattle.gpt_model.proofs.Writes.{entry-written}
 use Rattle.gpt_model.proofs.Ways.{step-made, row1, row11, open-read, edit-open}
 use Rattle.gpt_model.proofs.Steps.{edit-fits}
@@ -55,7 +55,8 @@ two-fields u v b a k i j h p q =
     ∙ ap (put a (put i u (part a k c))) (put-inside v b a k j h q)
     ∙ put-inside u c a k i lc p
 
-module _ (g : Shape) (wide : 92 ≤ g .block) (n : ℕ) (side : Side) (b : List ℕ) (lb : length b ≡ lentBytes g side) (good : goodCopy g n side b ≡ true) (i : ℕ) (hi : i < 128) (e : List ℕ) (le′ : length e ≡ 128) where
+module _ (g : Shape) (wide : 92 ≤ g .block) (n : ℕ) (side : Side) (b : List ℕ) (lb : length b ≡ lentBytes g side) (good : goodCopy g n side b ≡ true)
+    (i : ℕ) (hi : i < 128) (e : List ℕ) (le′ : length e ≡ 128) where
   abbrev es′ : List ℕ
   es′ = putChunk 128 i e (entriesIn g side b)
 
@@ -74,7 +75,10 @@ module _ (g : Shape) (wide : 92 ≤ g .block) (n : ℕ) (side : Side) (b : List 
   unfolding withTable
   three-writes =
       let c = put (entriesAt g side + i * 128) e b in
-      ap₂ (put (headerAt g side)) (header-changes g n side (guidIn g side b) (entriesIn g side b) es′ ∙ ap (λ (x : List ℕ). put 16 (le 4 (headerCrc g n side (guidIn g side b) es′)) (put 88 (le 4 (crc32 es′)) x)) (sym header-stays)) (entry-written g wide n side b lb i hi e le′)
+      let crc = le 4 (headerCrc g n side (guidIn g side b) es′) in
+      let new : header g n side (guidIn g side b) es′ ≡ put 16 crc (put 88 (le 4 (crc32 es′)) (part (headerAt g side) 92 c)) =
+      header-changes g n side (guidIn g side b) (entriesIn g side b) es′ ∙ ap (λ (x : List ℕ). put 16 crc (put 88 (le 4 (crc32 es′)) x)) (sym header-stays) in
+      ap₂ (put (headerAt g side)) new (entry-written g wide side b lb i hi e le′)
       ∙ two-fields (le 4 (headerCrc g n side (guidIn g side b) es′)) (le 4 (crc32 es′)) c (headerAt g side) 92 16 88
       (let h = header-inside g wide side in omega (arith, length-put (entriesAt g side + i * 128) e b))
       (omega (arith, length-le 4 (headerCrc g n side (guidIn g side b) es′))) (omega (arith, length-le 4 (crc32 es′)))
@@ -99,7 +103,7 @@ stays : (g : Shape) → 92 ≤ g .block → (n : ℕ) (side : Side) (b es : List
     → es ≡ entriesIn g side b → i < 128 → length e ≡ 128 → Stays g side i b (withTable g n side (guidIn g side b) (putChunk 128 i e es) b)
 stays g wide n side b es i e lb good q hi le′ =
     subst (λ (x : List ℕ). Stays g side i b (withTable g n side (guidIn g side b) (putChunk 128 i e x) b)) (sym q) (
-      length-withTable g wide n side _ _ b (length-putChunk 128 128 i e _ le′ hi (length-entries g wide n side b lb)) lb ∙ sym lb,
+      length-withTable g wide n side _ _ b (length-putChunk 128 128 i e _ le′ hi (length-entries g wide side b lb)) lb ∙ sym lb,
       others-stay g wide n side b lb good i hi e le′,
     )
 

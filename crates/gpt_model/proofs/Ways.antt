@@ -34,7 +34,11 @@ repair-answer g n h t = go (eqb (state g n h t) 1) (eqb (state g n h t) 4)
     a : Answer
     a = accepted (state g n h t ∷ [])
 
-    go : (p q : Bool) → cond p (out a h t) (cond q (out a (withCopy g n primary (guidIn g backup t) (entriesIn g backup t) h) t) (out a h (withCopy g n backup (guidIn g primary h) (entriesIn g primary h) t))) .answer ≡ a
+    go : (p q : Bool)
+        → cond p (out a h t)
+        (cond q (out a (withCopy g n primary (guidIn g backup t) (entriesIn g backup t) h) t)
+        (out a h (withCopy g n backup (guidIn g primary h) (entriesIn g primary h) t)))
+        .answer ≡ a
     go true q = refl
     go false true = refl
     go false false = refl

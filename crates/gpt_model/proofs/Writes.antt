@@ -13,8 +13,7 @@ use Rattle.octets.proofs.Chunks.{putChunk-put}
 use Rattle.gpt_model.specs.Table.{writeAll}
 use Rattle.gpt_model.specs.Disk.{Shape, Side, primary, backup, lentBytes, headerAt, entriesAt, entriesIn, headerFields, headerWith, headerCrc, header, withTable, block0, freshHead, freshTail}
 use Rattle.gpt_model.proofs.Fields.{length-writeAll, put-before}
-use Rattle.gpt_model.proofs.Copies.{entries-inside}
-use Rattle.gpt_model.proofs.States.{length-entries}
+use Rattle.gpt_model.proofs.Copies.{entries-inside, length-entries}
 
 -- ---- a header
 
@@ -43,7 +42,7 @@ module _ (g : Shape) (n : ℕ) (side : Side) (guid es : List ℕ) (lg : length g
       whole : (xs : List ℕ) → length xs ≡ 92 → writeAll (headerFields g n side guid es crc) xs ≡ flat (map (λ f. f .1) (headerFields g n side guid es crc))
       whole xs l =
           joined-flat (headerFields g n side guid es crc) xs 0
-            (refl, (refl, (refl, (refl, (refl, (refl, (refl, (refl, (refl, (refl, (omega arith, (omega arith, (omega arith, (omega arith, tt))))))))))))))
+          (refl, (refl, (refl, (refl, (refl, (refl, (refl, (refl, (refl, (refl, (omega arith, (omega arith, (omega arith, (omega arith, tt))))))))))))))
           ∙ put-all _ xs (simp (length-append, lg) (omega arith))
 
 -- its CRC is stored last
@@ -59,9 +58,10 @@ header-stored g n side guid es =
 
 -- ---- one entry
 
-module _ (g : Shape) (wide : 92 ≤ g .block) (n : ℕ) (side : Side) (b : List ℕ) (lb : length b ≡ lentBytes g side) (i : ℕ) (hi : i < 128) (e : List ℕ) (le′ : length e ≡ 128) where
+module _ (g : Shape) (wide : 92 ≤ g .block) (side : Side) (b : List ℕ) (lb : length b ≡ lentBytes g side)
+    (i : ℕ) (hi : i < 128) (e : List ℕ) (le′ : length e ≡ 128) where
   entry-put : putChunk 128 i e (entriesIn g side b) ≡ put (i * 128) e (entriesIn g side b)
-  entry-put = putChunk-put 128 128 i e (entriesIn g side b) le′ hi (length-entries g wide n side b lb)
+  entry-put = putChunk-put 128 128 i e (entriesIn g side b) le′ hi (length-entries g wide side b lb)
 
   -- the table with entry i replaced, written whole, is a copy of 128 bytes
   pub entry-written : put (entriesAt g side) (putChunk 128 i e (entriesIn g side b)) b ≡ put (entriesAt g side + i * 128) e b
@@ -74,10 +74,10 @@ module _ (g : Shape) (wide : 92 ≤ g .block) (n : ℕ) (side : Side) (b : List 
   entry-reads = part-put-in e b (entriesAt g side) 16384 (i * 128) (omega arith) ∙ sym entry-put
 
   -- so the copy is written by copying the entry and writing the header anew
-  pub entry-with : (guid : List ℕ) → withTable g n side guid (putChunk 128 i e (entriesIn g side b)) b
+  pub entry-with : (n : ℕ) (guid : List ℕ) → withTable g n side guid (putChunk 128 i e (entriesIn g side b)) b
       ≡ put (headerAt g side) (header g n side guid (entriesIn g side (put (entriesAt g side + i * 128) e b))) (put (entriesAt g side + i * 128) e b)
   unfolding withTable
-  entry-with guid = ap₂ (put (headerAt g side)) (ap (header g n side guid) (sym entry-reads)) entry-written
+  entry-with n guid = ap₂ (put (headerAt g side)) (ap (header g n side guid) (sym entry-reads)) entry-written
 
 -- ---- a formatting: no entry byte need be written on zeros
 
@@ -87,7 +87,7 @@ module _ (g : Shape) (wide : 92 ≤ g .block) (n : ℕ) (guid : List ℕ) where
   fresh-tail =
       ap (put (headerAt g backup) (header g n backup guid (zeros 16384)))
       (ap (λ (x : List ℕ). put 0 x (zeros (lentBytes g backup))) (sym (part-zeros 0 16384 (lentBytes g backup) (omega arith)))
-        ∙ put-self (zeros (lentBytes g backup)) 0 16384 (omega (arith, length-zeros (lentBytes g backup))))
+      ∙ put-self (zeros (lentBytes g backup)) 0 16384 (omega (arith, length-zeros (lentBytes g backup))))
 
   -- where block 0 and the header's block have 512 bytes together, or more
   pub fresh-head : 256 ≤ g .block
@@ -98,9 +98,9 @@ module _ (g : Shape) (wide : 92 ≤ g .block) (n : ℕ) (guid : List ℕ) where
       let b = writeAll (block0 n) (zeros (lentBytes g primary)) in
       let r = (0 ∷ 0 ∷ 2 ∷ 0 ∷ 0xEE ∷ 0xFF ∷ 0xFF ∷ 0xFF ∷ []) ++ (le 4 1 ++ le 4 (n - 1)) in
       let clear : part (entriesAt g primary) 16384 b ≡ zeros 16384 =
-          part-put-below (0x55 ∷ 0xAA ∷ []) (put 446 r z) (2 * g .block) 16384 510 (omega arith)
-          ∙ part-put-below r z (2 * g .block) 16384 446 (omega (arith, length-append (le 4 1) (le 4 (n - 1)), length-le 4 1, length-le 4 (n - 1)))
-          ∙ part-zeros (2 * g .block) 16384 (lentBytes g primary) (omega arith) in
+      part-put-below (0x55 ∷ 0xAA ∷ []) (put 446 r z) (2 * g .block) 16384 510 (omega arith)
+      ∙ part-put-below r z (2 * g .block) 16384 446 (omega (arith, length-append (le 4 1) (le 4 (n - 1)), length-le 4 1, length-le 4 (n - 1)))
+      ∙ part-zeros (2 * g .block) 16384 (lentBytes g primary) (omega arith) in
       ap (put (headerAt g primary) (header g n primary guid (zeros 16384)))
       (ap (λ (x : List ℕ). put (entriesAt g primary) x b) (sym clear)
-        ∙ put-self b (entriesAt g primary) 16384 (omega (arith, length-writeAll (block0 n) z, length-zeros (lentBytes g primary))))
+      ∙ put-self b (entriesAt g primary) 16384 (omega (arith, length-writeAll (block0 n) z, length-zeros (lentBytes g primary))))

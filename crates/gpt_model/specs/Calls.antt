@@ -106,10 +106,10 @@ module _ (first last : ℕ) (es : List ℕ) where
   -- D16: Delete zeroes the slot. D18: Resize sets the last block alone, to the size asked. D17: Rename sets the entry's 72 name bytes alone, to 36 given units.
   abbrev pub change : Edit → Change
   change (add type unique size attributes name) = record {
-      values = suc lowestUnused ∷ startOf size ∷ [];
-      index = lowestUnused;
-      entry = entryWith type unique (startOf size) (startOf size + size - 1) attributes name
-    }
+    values = suc lowestUnused ∷ startOf size ∷ [];
+    index = lowestUnused;
+    entry = entryWith type unique (startOf size) (startOf size + size - 1) attributes name;
+  }
   change (delete k) = record { values = []; index = k - 1; entry = zeros entryBytes }
   change (resize k size) = record { values = []; index = k - 1; entry = put 40 (le 8 (firstOf (entryOf es k) + size - 1)) (entryOf es k) }
   change (rename k name) = record { values = []; index = k - 1; entry = put 56 (nameBytes name) (entryOf es k) }
