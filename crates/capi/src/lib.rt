@@ -3,14 +3,13 @@ ghost use mathlib.Core.Path.{_≡_};
 ghost use Rattle.crc_lanes.specs.Crc.{crc32 as crcOf};
 ghost use Rattle.guid.specs.Calls.{numberOf, readOf, readTypeOf, writeOf};
 ghost use Rattle.capi.specs.Told.{codeOf, told};
-
 use guid::Answer;
 
 #[no_mangle]
-pub extern "C" fn usi_crc32(data: &[u8]) -> u32
-    ensures { λ r. ⌜ r ≡ crcOf (now (data .entry)) ⌝ }
+pub extern "C" fn usi_crc32(bytes: &[u8]) -> u32
+    ensures { λ r. ⌜ r ≡ crcOf (now (bytes .entry)) ⌝ }
 {
-    crc32::crc32(data)
+    crc32::crc32(bytes)
 }
 
 fn code(a: Answer) -> u32

@@ -28,8 +28,14 @@ fn crc_samples() {
 }
 
 fn more_crc_samples() {
-    crc(b"alnum", b"ABCDEFGHIJKLMNOPQRSTUVWXYZabcdefghijklmnopqrstuvwxyz0123456789");
-    crc(b"digits", b"12345678901234567890123456789012345678901234567890123456789012345678901234567890");
+    crc(
+        b"alnum",
+        b"ABCDEFGHIJKLMNOPQRSTUVWXYZabcdefghijklmnopqrstuvwxyz0123456789",
+    );
+    crc(
+        b"digits",
+        b"12345678901234567890123456789012345678901234567890123456789012345678901234567890",
+    );
     crc(b"fox", b"The quick brown fox jumps over the lazy dog");
     crc(b"zeros32", &[0u8; 32]);
     crc(b"ones32", &[255u8; 32]);
