@@ -55,7 +55,7 @@ pub good-header : (g : Shape) (n : ℕ) (side : Side) (b : List ℕ) → goodCop
 unfolding goodCopy
 good-header g n side b k = same-true _ _ (and-l _ _ k)
 
--- D9: a copy is judged by its header's 92 bytes and its entries alone
+-- D9: Not judged on reading: .. block 0, bytes 92 to 511 of a header block. A copy is judged by its header's 92 bytes and its entries alone.
 pub good-by-parts : (g : Shape) (n : ℕ) (side : Side) (b b′ : List ℕ) → headerIn g side b ≡ headerIn g side b′ → entriesIn g side b ≡ entriesIn g side b′
     → goodCopy g n side b ≡ goodCopy g n side b′
 unfolding goodCopy

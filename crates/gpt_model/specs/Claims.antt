@@ -53,7 +53,7 @@ Demand3 =
     (g : Shape) (n : ℕ) (guid h t : List ℕ) → Formats g n guid h t
     → (cs : List Call) → (format g n guid h t .answer ≡ accepted []) × Sound g n (run g n cs (begun (format g n guid h t)))
 
--- ---- P2: it is not empty
+-- ---- demand 3 is not empty. P2: These imposters are shut out: refusing all calls, a constant reply or no writes, doing only the first add, made-up free counts.
 
 pub record Serves (g : Shape) (n : ℕ) (es : List ℕ) (r : Run) : Type 0 where
   -- the disk reads as state 1, with the table es, and rows 10 and 11 do not hold

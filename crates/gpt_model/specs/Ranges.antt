@@ -15,11 +15,11 @@ inside b (spans f l) = leb f b and leb b l
 abbrev pub lies : List Slot → ℕ → Bool
 lies t b = any (inside b) t
 
--- D21: usable blocks in none are free
+-- D21: usable blocks (34 to N−34) in none are free, consecutive ones a run.
 abbrev pub free : List Slot → ℕ → Bool
 free t b = not (lies t b)
 
--- ---- D21: consecutive ones [are] a run. Room for `size` blocks at s is a run of that many, from s on; no other definition of room is used
+-- ---- room: a run of enough free blocks; placing, row 25 and demand 3 go by this one definition
 
 -- p holds of the k numbers from lo on
 unfoldable pub allFrom : (ℕ → Bool) → ℕ → ℕ → Bool
@@ -50,7 +50,7 @@ unfoldable pub countFrom : (ℕ → Bool) → ℕ → ℕ → ℕ
 countFrom p lo zero = 0
 countFrom p lo (suc k) = bit (p lo) + countFrom p (suc lo) k
 
--- demand 3: the blocks lying in partitions, counted one by one
+-- the blocks lying in partitions, counted one by one
 unfoldable pub taken : List Slot → ℕ → ℕ → ℕ
 taken t first last = countFrom (lies t) first (suc last - first)
 

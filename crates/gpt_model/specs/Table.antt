@@ -70,7 +70,7 @@ entryOk first last e = unused e or (not (isZero (typeOf e)) and not (isZero (uni
 unfoldable pub beside : List ℕ → List ℕ → Bool
 beside e d = unused e or unused d or (not (same (uniqueOf e) (uniqueOf d)) and apart (slotOf e) (slotOf d))
 
--- D1: count 128, entry size 128, [..] all 16,384 entry bytes
+-- D1: 80 count 128, 84 entry size 128, 88 CRC of all 16,384 entry bytes.
 abbrev pub slotCount : ℕ
 slotCount = 128
 
@@ -83,6 +83,6 @@ entries es = chunks entryBytes slotCount es
 abbrev pub slots : List ℕ → List Slot
 slots es = map slotOf (entries es)
 
--- D8: all entry rules hold
+-- D8: all entry rules hold.
 unfoldable pub goodTable : ℕ → ℕ → List ℕ → Bool
 goodTable first last es = all (entryOk first last) (entries es) and pairs beside (entries es)
