@@ -53,6 +53,14 @@ pub length-zeros : (k : ℕ) → length (zeros k) ≡ k
 unfolding zeros
 length-zeros k = length-replicate k 0
 
+pub part-zeros : (at k m : ℕ) → at + k ≤ m → part at k (zeros m) ≡ zeros k
+unfolding part zeros
+part-zeros zero zero m h = refl
+part-zeros zero (suc k) zero h = absurd (omega arith)
+part-zeros zero (suc k) (suc m) h = ap (λ (l : List ℕ). 0 ∷ l) (part-zeros zero k m (omega arith))
+part-zeros (suc at) k zero h = absurd (omega arith)
+part-zeros (suc at) k (suc m) h = part-zeros at k m (omega arith)
+
 pub getD-part : (xs : List ℕ) (at k i : ℕ) → i < k → getD (part at k xs) i 0 ≡ getD xs (at + i) 0
 unfolding part
 getD-part xs at k i h = getD-take k (drop at xs) i 0 h ∙ getD-drop at xs i 0

@@ -1,0 +1,271 @@
+-- An edit that no row refuses: the one entry that it writes keeps the table's rules, and the ledger's change is the slot's.
+use mathlib.Core.Path.{_≡_, refl, sym, ap, ap₂, subst, _∙_}
+use mathlib.Core.Logic.{_≢_}
+use mathlib.Core.Bool.{true, false, not, true≢false}
+use mathlib.Core.List.{List, [], map}
+use mathlib.Core.Option.{Option, none, some}
+use Prim.Native.Nat.{ℕ, suc, _+_, _-_, _^_, _≤_, _<_}
+use native.Mathlib.Omega.{arith}
+use lib.Dec.{leb, eqb}
+use lib.ListN.{length, getD, set, length-set, List·getD-map}
+use lib.Seq.{getD-set-other, set-getD}
+use borrow.Author.Tests.{leb-true, eqb-true, eqb-false}
+use Rattle.octets.specs.Tests.{_and_, any}
+use Rattle.octets.specs.Rows.{Row, refusal}
+use Rattle.octets.specs.Bytes.{zeros, isZero, same}
+use Rattle.octets.proofs.Bools.{and-l, and-r, and-skip, or-false-l, or-false-r, clash, not-f}
+use Rattle.octets.proofs.Tests.{findIx-get, any-none}
+use Rattle.octets.proofs.Parts.{length-zeros}
+use Rattle.octets.proofs.Rows.{passes}
+use Rattle.octets.proofs.Chunks.{length-chunks, length-chunk}
+use Rattle.gpt_model.specs.Table.{Slot, vacant, spans, sizeOf, bounded, apart, uniqueOf, firstOf, unused, slotOf, entryOk, entries, slots, goodTable, entryWith}
+use Rattle.gpt_model.specs.Calls.{Edit, add, delete, resize, rename, carries, isNone, valueOf, tableRows, lowestUnused, startOf, change, lengthsOf}
+use Rattle.gpt_model.specs.Lists.{Ledger, bookEdit}
+use Rattle.gpt_model.proofs.Room.{Room, room-get, place-some}
+use Rattle.gpt_model.proofs.Fields.{length-new, new-type, new-unique, new-first, new-last, length-sized, sized-type, sized-unique, sized-first, sized-last, length-named, named-type, named-unique, named-first, named-last}
+use Rattle.gpt_model.proofs.Entries.{same-sym, slot-unused, slot-used, used-type, unused-zeros, Used, ok-used, used-ok, unused-ok, ok-bounded, Beside, getD-slot, length-slots, entryAt, good-at, good-beside, room-apart}
+
+nonzero : (x : ℕ) → eqb x 0 ≡ false → 0 < x
+nonzero x e = let w : x ≢ 0 = eqb-false x 0 e in omega arith
+
+place-value : (o : Option ℕ) → isNone o ≡ false → o ≡ some (valueOf o)
+place-value none e = absurd (true≢false e)
+place-value (some s) e = refl
+
+-- the edit d, whose reply begins with k, writes the entry e into slot i of the table es
+pub record Fits (first last : ℕ) (es : List ℕ) (d : Edit) (k i : ℕ) (e : List ℕ) : Type 0 where
+  pub index : i < 128
+  pub len : length e ≡ 128
+  pub ok : entryOk first last e ≡ true
+  pub beside : (j : ℕ) → j < 128 → j ≢ i → Beside e (entryAt es j)
+  pub sizes : (l : Ledger) → l .sizes ≡ map sizeOf (slots es) → bookEdit l d k .sizes ≡ set (l .sizes) i (sizeOf (slotOf e))
+  pub balance : (l : Ledger) → l .sizes ≡ map sizeOf (slots es)
+      → bookEdit l d k .granted + (l .back + sizeOf (slotOf (entryAt es i))) ≡ l .granted + (bookEdit l d k .back + sizeOf (slotOf e))
+
+-- what the reply of d begins with
+abbrev pub replied : ℕ → ℕ → List ℕ → Edit → ℕ
+replied first last es d = getD (change first last es d .values) 0 0
+
+abbrev pub FitsEdit : ℕ → ℕ → List ℕ → Edit → Type 0
+FitsEdit first last es d = Fits first last es d (replied first last es d) (change first last es d .index) (change first last es d .entry)
+
+module _ (first last : ℕ) (small : last < 256 ^ 8) (es : List ℕ) (len : length es ≡ 16384) (good : goodTable first last es ≡ true) where
+  used-at : (i : ℕ) → i < 128 → unused (entryAt es i) ≡ false → Used first last (entryAt es i)
+  used-at i h u = ok-used first last (entryAt es i) (good-at first last es good i h) u
+
+  len-at : (i : ℕ) → i < 128 → length (entryAt es i) ≡ 128
+  len-at i h = length-chunk 128 128 i es h len
+
+  bounded-at : (j : ℕ) → j < 128 → bounded first last (slotOf (entryAt es j)) ≡ true
+  bounded-at j h = ok-bounded first last (entryAt es j) (good-at first last es good j h)
+
+  size-was : (l : Ledger) → l .sizes ≡ map sizeOf (slots es) → (i : ℕ) → getD (l .sizes) i 0 ≡ sizeOf (slotOf (entryAt es i))
+  size-was l e i = ap (λ (x : List ℕ). getD x i 0) e ∙ List·getD-map sizeOf (slots es) i vacant ∙ ap sizeOf (getD-slot es i)
+
+  slot-number : (k : ℕ) → not (leb 1 k and leb k 128) ≡ false → (1 ≤ k) × (k ≤ 128)
+  slot-number k e = let c = not-f _ e in (leb-true _ _ (and-l _ _ c), leb-true _ _ (and-r _ _ c))
+
+  -- an edit that keeps the unique GUID, and whose slot is apart from the others
+  kept : (i : ℕ) (e : List ℕ) → i < 128 → unused (entryAt es i) ≡ false → uniqueOf e ≡ uniqueOf (entryAt es i)
+      → ((j : ℕ) → j < 128 → j ≢ i → unused (entryAt es j) ≡ false → apart (slotOf e) (slotOf (entryAt es j)) ≡ true)
+      → (j : ℕ) → j < 128 → j ≢ i → Beside e (entryAt es j)
+  kept i e hi u q far j hj ne a b = (
+    subst (λ (x : List ℕ). same x (uniqueOf (entryAt es j)) ≡ false) (sym q)
+        (good-beside first last es good i j hi hj (λ x. ne (sym x)) u b .0),
+    far j hj ne b,
+  )
+
+  deletes : (k : ℕ) → refusal (tableRows first last es (delete k)) ≡ none → FitsEdit first last es (delete k)
+  deletes k e =
+      let w = slot-number k (passes 12 (tableRows first last es (delete k)) e) in
+      let z : sizeOf (slotOf (zeros 128)) ≡ 0 = ap sizeOf (slot-unused (zeros 128) (unused-zeros 128)) in
+      record {
+        index = omega arith;
+        len = length-zeros 128;
+        ok = unused-ok first last (zeros 128) (unused-zeros 128);
+        beside = λ j h ne a b. absurd (clash (unused-zeros 128) a);
+        sizes = λ l q. ap (set (l .sizes) (k - 1)) (sym z);
+        balance = λ l q. omega (arith, size-was l q (k - 1));
+      }
+
+  renames : (k : ℕ) (name : List ℕ) → length name ≡ 36 → refusal (tableRows first last es (rename k name)) ≡ none → FitsEdit first last es (rename k name)
+  renames k name ln z = record {
+    index = hi;
+    len = length-named e le′ name;
+    ok = used-ok first last e′ used′;
+    beside = kept (k - 1) e′ hi u (named-unique e le′ name) (λ j hj ne b. rw slot-same (good-beside first last es good (k - 1) j hi hj (λ x. ne (sym x)) u b .1));
+    sizes = λ l q. sym (ap (set (l .sizes) (k - 1)) (ap sizeOf slot-same ∙ sym (size-was l q (k - 1))) ∙ set-getD (l .sizes) (k - 1) 0);
+    balance = λ l q. omega (arith, ap sizeOf slot-same);
+  }
+    where
+      u : unused (entryAt es (k - 1)) ≡ false
+      u = passes 13 (tableRows first last es (rename k name)) z
+
+      hi : k - 1 < 128
+      hi = let w = slot-number k (passes 12 (tableRows first last es (rename k name)) z) in omega arith
+
+      e : List ℕ
+      e = entryAt es (k - 1)
+
+      le′ : length (entryAt es (k - 1)) ≡ 128
+      le′ = len-at (k - 1) hi
+
+      e′ : List ℕ
+      e′ = change first last es (rename k name) .entry
+
+      w : Used first last (entryAt es (k - 1))
+      w = used-at (k - 1) hi u
+
+      used′ : Used first last e′
+      used′ = record {
+        type = ap isZero (named-type e le′ name) ∙ w .type;
+        unique = ap isZero (named-unique e le′ name) ∙ w .unique;
+        low = rw (named-first e le′ name) (w .low);
+        mid = rw (named-first e le′ name, named-last e le′ name) (w .mid);
+        high = rw (named-last e le′ name) (w .high);
+      }
+
+      slot-same : slotOf e′ ≡ slotOf e
+      slot-same = slot-used e′ (used-type e′ (used′ .type)) ∙ ap₂ spans (named-first e le′ name) (named-last e le′ name) ∙ sym (slot-used e u)
+
+  resizes : (k size : ℕ) → refusal (tableRows first last es (resize k size)) ≡ none → FitsEdit first last es (resize k size)
+  resizes k size z = record {
+    index = hi;
+    len = length-sized e le′ l;
+    ok = used-ok first last e′ used′;
+    beside = kept (k - 1) e′ hi u (sized-unique e le′ l) far;
+    sizes = λ b q. ap (set (b .sizes) (k - 1)) (sym size-now);
+    balance = λ b q. omega (arith, size-was b q (k - 1), size-now);
+  }
+    where
+      rows : List Row
+      rows = tableRows first last es (resize k size)
+
+      u : unused (entryAt es (k - 1)) ≡ false
+      u = passes 13 rows z
+
+      hi : k - 1 < 128
+      hi = let w = slot-number k (passes 12 rows z) in omega arith
+
+      pos : 0 < size
+      pos = nonzero size (passes 20 rows z)
+
+      e : List ℕ
+      e = entryAt es (k - 1)
+
+      f : ℕ
+      f = firstOf (entryAt es (k - 1))
+
+      l : ℕ
+      l = firstOf (entryAt es (k - 1)) + size - 1
+
+      room : Room (set (slots es) (k - 1) vacant) last size (firstOf (entryAt es (k - 1)))
+      room = room-get _ _ _ _ (not-f _ (passes 25 rows z))
+
+      le′ : length (entryAt es (k - 1)) ≡ 128
+      le′ = len-at (k - 1) hi
+
+      e′ : List ℕ
+      e′ = change first last es (resize k size) .entry
+
+      w : Used first last (entryAt es (k - 1))
+      w = used-at (k - 1) hi u
+
+      fits : firstOf (entryAt es (k - 1)) + size - 1 < 256 ^ 8
+      fits = let a = room .0 in let p = pos in omega arith
+
+      used′ : Used first last e′
+      used′ = record {
+        type = ap isZero (sized-type e le′ l) ∙ w .type;
+        unique = ap isZero (sized-unique e le′ l) ∙ w .unique;
+        low = rw (sized-first e le′ l) (w .low);
+        mid = rw (sized-first e le′ l, sized-last e le′ l fits) (let p = pos in omega arith);
+        high = rw (sized-last e le′ l fits) (let a = room .0 in let p = pos in omega arith);
+      }
+
+      slot-now : slotOf e′ ≡ spans f l
+      slot-now = slot-used e′ (used-type e′ (used′ .type)) ∙ ap₂ spans (sized-first e le′ l) (sized-last e le′ l fits)
+
+      size-now : sizeOf (slotOf e′) ≡ size
+      size-now = ap sizeOf slot-now ∙ (let p = pos in omega arith)
+
+      other : (j : ℕ) → j ≢ k - 1 → getD (set (slots es) (k - 1) vacant) j vacant ≡ slotOf (entryAt es j)
+      other j ne = getD-set-other (slots es) (k - 1) j vacant vacant ne ∙ getD-slot es j
+
+      far : (j : ℕ) → j < 128 → j ≢ k - 1 → unused (entryAt es j) ≡ false → apart (slotOf e′) (slotOf (entryAt es j)) ≡ true
+      far j hj ne b =
+          rw slot-now
+          (subst (λ (s : Slot). apart (spans f l) s ≡ true) (other j ne)
+          (room-apart first last (set (slots es) (k - 1) vacant) size f j pos room (omega (arith, length-set (slots es) (k - 1) vacant, length-slots es))
+          (subst (λ (s : Slot). bounded first last s ≡ true) (sym (other j ne)) (bounded-at j hj))))
+
+  -- a new entry in an unused slot i, at a start s with room: for add, and for a start that is given
+  pub places : (i s : ℕ) (type unique : List ℕ) (size attributes : ℕ) (name : List ℕ)
+      → i < 128 → unused (entryAt es i) ≡ true → 0 < size → first ≤ s → Room (slots es) last size s
+      → length type ≡ 16 → length unique ≡ 16 → length name ≡ 36 → isZero type ≡ false → isZero unique ≡ false → any (carries unique) (entries es) ≡ false
+      → Fits first last es (add type unique size attributes name) (suc i) i (entryWith type unique s (s + size - 1) attributes name)
+  places i s type unique size attributes name hi u pos low room lt lu ln zt zu fresh = record {
+    index = hi;
+    len = length-new type unique s l attributes name;
+    ok = used-ok first last e′ used′;
+    beside = far;
+    sizes = λ b q. ap₂ (set (b .sizes)) same-i (sym size-now);
+    balance = λ b q. omega (arith, size-now, ap sizeOf (slot-unused (entryAt es i) u));
+  }
+    where
+      same-i : suc i - 1 ≡ i
+      same-i = omega arith
+
+      l : ℕ
+      l = s + size - 1
+
+      e′ : List ℕ
+      e′ = entryWith type unique s (s + size - 1) attributes name
+
+      fs : s < 256 ^ 8
+      fs = let a = room .0 in omega arith
+
+      fl : s + size - 1 < 256 ^ 8
+      fl = let a = room .0 in omega arith
+
+      used′ : Used first last e′
+      used′ = record {
+        type = ap isZero (new-type type unique s l attributes name lt) ∙ zt;
+        unique = ap isZero (new-unique type unique s l attributes name lu) ∙ zu;
+        low = rw (new-first type unique s l attributes name fs) low;
+        mid = rw (new-first type unique s l attributes name fs, new-last type unique s l attributes name fl) (omega arith);
+        high = rw (new-last type unique s l attributes name fl) (let a = room .0 in omega arith);
+      }
+
+      slot-now : slotOf e′ ≡ spans s l
+      slot-now = slot-used e′ (used-type e′ (used′ .type)) ∙ ap₂ spans (new-first type unique s l attributes name fs) (new-last type unique s l attributes name fl)
+
+      size-now : sizeOf (slotOf e′) ≡ size
+      size-now = ap sizeOf slot-now ∙ omega arith
+
+      far : (j : ℕ) → j < 128 → j ≢ i → Beside e′ (entryAt es j)
+      far j hj ne a b = (
+        subst (λ (x : List ℕ). same x (uniqueOf (entryAt es j)) ≡ false) (sym (new-unique type unique s l attributes name lu))
+            (same-sym _ _ (and-skip _ _ (ap not b) (any-none (carries unique) (entries es) [] fresh j (omega (arith, length-chunks 128 128 es))))),
+        rw slot-now
+            (subst (λ (x : Slot). apart (spans s l) x ≡ true) (getD-slot es j)
+            (room-apart first last (slots es) size s j pos room (omega (arith, length-slots es))
+            (subst (λ (x : Slot). bounded first last x ≡ true) (sym (getD-slot es j)) (bounded-at j hj)))),
+      )
+
+  adds : (type unique : List ℕ) (size attributes : ℕ) (name : List ℕ) → lengthsOf (add type unique size attributes name) ≡ true → refusal (tableRows first last es (add type unique size attributes name)) ≡ none
+      → FitsEdit first last es (add type unique size attributes name)
+  adds type unique size attributes name lens e =
+      let rows = tableRows first last es (add type unique size attributes name) in
+      let p = place-some (slots es) first last size (startOf first last es size) (place-value _ (passes 25 rows e)) in
+      let f = findIx-get unused (entries es) [] (not-f _ (passes 24 rows e)) in
+      places (lowestUnused first last es) (startOf first last es size) type unique size attributes name (omega (arith, f .0, length-chunks 128 128 es)) (f .1)
+      (nonzero size (passes 20 rows e)) (p .0) (p .1)
+      (eqb-true _ _ (and-l _ _ (and-l _ _ lens))) (eqb-true _ _ (and-r _ _ (and-l _ _ lens))) (eqb-true _ _ (and-r _ _ lens))
+      (passes 21 rows e) (or-false-l _ _ (passes 22 rows e)) (or-false-r _ _ (passes 22 rows e))
+
+  pub fits : (d : Edit) → lengthsOf d ≡ true → refusal (tableRows first last es d) ≡ none → FitsEdit first last es d
+  fits (add type unique size attributes name) lens e = adds type unique size attributes name lens e
+  fits (delete k) lens e = deletes k e
+  fits (resize k size) lens e = resizes k size e
+  fits (rename k name) lens e = renames k name (eqb-true _ _ lens) e

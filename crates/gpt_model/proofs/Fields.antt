@@ -1,0 +1,128 @@
+-- Fields written at their byte positions read back; the fields of an entry that a call makes or changes.
+use mathlib.Core.Path.{_≡_, refl, sym, ap, _∙_}
+use mathlib.Core.Bool.{Bool, true}
+use mathlib.Core.List.{List, [], _∷_}
+use Prim.Native.Nat.{ℕ, zero, suc, _+_, _*_, _^_, _≤_, _<_}
+use native.Mathlib.Nat.{not-suc-le-zero, le-of-suc-le-suc}
+use native.Mathlib.Omega.{arith}
+use lib.Dec.{leb}
+use lib.ListN.{length, getD, drop, length-append}
+use borrow.Author.Tests.{leb-true}
+use Rattle.octets.specs.Tests.{_and_, all}
+use Rattle.octets.specs.Bytes.{le, unle, part, put, zeros}
+use Rattle.octets.proofs.Bools.{and-l, and-r}
+use Rattle.octets.proofs.Numbers.{length-le, unle-le}
+use Rattle.octets.proofs.Parts.{length-zeros}
+use Rattle.octets.proofs.Puts.{length-put, put-comm, part-put-above, part-put-same}
+use Rattle.gpt_model.specs.Table.{writeAll, typeOf, uniqueOf, firstOf, lastOf, nameBytes, entryWith}
+
+pub part-put-at : (vs xs : List ℕ) (at k : ℕ) → length vs ≡ k → at + k ≤ length xs → part at k (put at vs xs) ≡ vs
+part-put-at vs xs at k e h =
+    ap (λ (m : ℕ). part at m (put at vs xs)) (sym e) ∙ part-put-same vs xs at (omega arith)
+
+-- ---- fields
+
+pub length-writeAll : (fs : List (ℕ × List ℕ)) (xs : List ℕ) → length (writeAll fs xs) ≡ length xs
+length-writeAll [] xs = refl
+length-writeAll (f ∷ fs) xs = length-writeAll fs (put (f .0) (f .1) xs) ∙ length-put (f .0) (f .1) xs
+
+-- every field stands at k or behind
+abbrev pub behind : ℕ → List (ℕ × List ℕ) → Bool
+behind k fs = all (λ f. leb k (f .0)) fs
+
+pub part-behind : (fs : List (ℕ × List ℕ)) (xs : List ℕ) (at k : ℕ) → behind (at + k) fs ≡ true → part at k (writeAll fs xs) ≡ part at k xs
+part-behind [] xs at k h = refl
+part-behind (f ∷ fs) xs at k h =
+    part-behind fs (put (f .0) (f .1) xs) at k (and-r _ _ h) ∙ part-put-above (f .1) xs at k (f .0) (leb-true _ _ (and-l _ _ h))
+
+-- field i reads back where all later ones stand behind it
+pub field-reads : (fs : List (ℕ × List ℕ)) (xs : List ℕ) (i at k : ℕ) (vs : List ℕ) → i < length fs → getD fs i (0, []) ≡ (at, vs)
+    → behind (at + k) (drop (suc i) fs) ≡ true → length vs ≡ k → at + k ≤ length xs → part at k (writeAll fs xs) ≡ vs
+field-reads [] xs i at k vs h e b l r = absurd (not-suc-le-zero h)
+field-reads (f ∷ fs) xs zero at k vs h e b l r =
+    part-behind fs (put (f .0) (f .1) xs) at k b
+    ∙ ap (λ (g : ℕ × List ℕ). part at k (put (g .0) (g .1) xs)) e
+    ∙ part-put-at vs xs at k l r
+field-reads (f ∷ fs) xs (suc i) at k vs h e b l r =
+    field-reads fs (put (f .0) (f .1) xs) i at k vs (le-of-suc-le-suc h) e b l (omega (arith, length-put (f .0) (f .1) xs))
+
+-- a write before all fields may be made first
+pub put-before : (fs : List (ℕ × List ℕ)) (vs xs : List ℕ) (at k : ℕ) → length vs ≡ k → behind (at + k) fs ≡ true
+    → put at vs (writeAll fs xs) ≡ writeAll fs (put at vs xs)
+put-before [] vs xs at k e h = refl
+put-before (f ∷ fs) vs xs at k e h =
+    let w : at + k ≤ f .0 = leb-true _ _ (and-l _ _ h) in
+    put-before fs vs (put (f .0) (f .1) xs) at k e (and-r _ _ h)
+    ∙ ap (writeAll fs) (sym (put-comm vs (f .1) xs at (f .0) (omega arith)))
+
+-- ---- a new entry
+
+pub length-name : (units : List ℕ) → length (nameBytes units) ≡ 2 * length units
+length-name [] = refl
+length-name (u ∷ us) = length-append (le 2 u) (nameBytes us) ∙ omega (arith, length-le 2 u, length-name us)
+
+module _ (type unique : List ℕ) (f l attributes : ℕ) (name : List ℕ) where
+  abbrev fs : List (ℕ × List ℕ)
+  fs = (0, type) ∷ (16, unique) ∷ (32, le 8 f) ∷ (40, le 8 l) ∷ (48, le 8 attributes) ∷ (56, nameBytes name) ∷ []
+
+  abbrev new : List ℕ
+  new = entryWith type unique f l attributes name
+
+  pub length-new : length new ≡ 128
+  length-new = length-writeAll fs (zeros 128) ∙ length-zeros 128
+
+  pub new-type : length type ≡ 16 → typeOf new ≡ type
+  unfolding _and_
+  new-type e = field-reads fs (zeros 128) 0 0 16 type (omega arith) refl refl e (omega (arith, length-zeros 128))
+
+  pub new-unique : length unique ≡ 16 → uniqueOf new ≡ unique
+  unfolding _and_
+  new-unique e = field-reads fs (zeros 128) 1 16 16 unique (omega arith) refl refl e (omega (arith, length-zeros 128))
+
+  pub new-first : f < 256 ^ 8 → firstOf new ≡ f
+  unfolding _and_
+  new-first h = ap unle (field-reads fs (zeros 128) 2 32 8 (le 8 f) (omega arith) refl refl (length-le 8 f) (omega (arith, length-zeros 128))) ∙ unle-le 8 f h
+
+  pub new-last : l < 256 ^ 8 → lastOf new ≡ l
+  unfolding _and_
+  new-last h = ap unle (field-reads fs (zeros 128) 3 40 8 (le 8 l) (omega arith) refl refl (length-le 8 l) (omega (arith, length-zeros 128))) ∙ unle-le 8 l h
+
+-- ---- an entry whose last block is set, and one whose name is set
+
+module _ (e : List ℕ) (len : length e ≡ 128) (l : ℕ) where
+  abbrev sized : List ℕ
+  sized = put 40 (le 8 l) e
+
+  pub length-sized : length sized ≡ 128
+  length-sized = length-put 40 (le 8 l) e ∙ len
+
+  pub sized-type : typeOf sized ≡ typeOf e
+  sized-type = part-put-above (le 8 l) e 0 16 40 (omega arith)
+
+  pub sized-unique : uniqueOf sized ≡ uniqueOf e
+  sized-unique = part-put-above (le 8 l) e 16 16 40 (omega arith)
+
+  pub sized-first : firstOf sized ≡ firstOf e
+  sized-first = ap unle (part-put-above (le 8 l) e 32 8 40 (omega arith))
+
+  pub sized-last : l < 256 ^ 8 → lastOf sized ≡ l
+  sized-last h = ap unle (part-put-at (le 8 l) e 40 8 (length-le 8 l) (omega arith)) ∙ unle-le 8 l h
+
+module _ (e : List ℕ) (len : length e ≡ 128) (name : List ℕ) where
+  abbrev named : List ℕ
+  named = put 56 (nameBytes name) e
+
+  pub length-named : length named ≡ 128
+  length-named = length-put 56 (nameBytes name) e ∙ len
+
+  pub named-type : typeOf named ≡ typeOf e
+  named-type = part-put-above (nameBytes name) e 0 16 56 (omega arith)
+
+  pub named-unique : uniqueOf named ≡ uniqueOf e
+  named-unique = part-put-above (nameBytes name) e 16 16 56 (omega arith)
+
+  pub named-first : firstOf named ≡ firstOf e
+  named-first = ap unle (part-put-above (nameBytes name) e 32 8 56 (omega arith))
+
+  pub named-last : lastOf named ≡ lastOf e
+  named-last = ap unle (part-put-above (nameBytes name) e 40 8 56 (omega arith))

@@ -1,0 +1,106 @@
+-- What is claimed of the definitions: the statements of the theorems, proved under the same names in lower case. A reader relies on these.
+use mathlib.Core.Path.{_≡_}
+use mathlib.Core.Logic.{_↔_, _⊎_, _≢_}
+use mathlib.Core.Bool.{true, false}
+use mathlib.Core.List.{List, [], _∷_, _++_}
+use mathlib.Core.Option.{none}
+use Prim.Native.Nat.{ℕ, _+_, _*_, _≤_, _<_}
+use lib.ListN.{length, getD}
+use Rattle.octets.specs.Rows.{refusal}
+use Rattle.octets.specs.Bytes.{isZero, zeros}
+use Rattle.gpt_model.specs.Table.{vacant, slotCount, tableBytes, entryBytes}
+use Rattle.gpt_model.specs.Disk.{Shape, lastUsable, usable, inRange, Side, primary, backup, headerBytes, lentBytes, headerAt, entriesAt, lent, state, tableOf}
+use Rattle.gpt_model.specs.Ranges.{inside, roomAt, taken, freeCount, longestFree}
+use Rattle.gpt_model.specs.Calls.{Edit, add, Call, repair, edit, refused, accepted, addRows, change, edited, openRows, rowsOf, step, format}
+use Rattle.gpt_model.specs.Lists.{Run, run, answers, applied, begun, slotsOf, StartsAfresh}
+
+-- ---- demand 3
+
+-- an add that comes next passes its checks before the one for room
+abbrev pub Passes : Shape → ℕ → Run → List ℕ → List ℕ → ℕ → ℕ → List ℕ → Type 0
+Passes g n r type unique size attributes name =
+    refusal (openRows g n (r .head) (r .tail) (add type unique size attributes name)
+    ++ addRows (g .first) (lastUsable g n) (tableOf g n (r .head) (r .tail)) type unique size name) ≡ none
+
+pub record Sound (g : Shape) (n : ℕ) (r : Run) : Type 0 where
+  -- No usable block lies in two partitions.
+  pub one : (b i j : ℕ) → g .first ≤ b → b ≤ lastUsable g n → i < slotCount → j < slotCount
+      → inside b (getD (slotsOf g n r) i vacant) ≡ true → inside b (getD (slotsOf g n r) j vacant) ≡ true → i ≡ j
+  -- The blocks lying in partitions, counted one by one, equal all blocks granted by accepted calls less all given back.
+  pub counted : taken (slotsOf g n r) (g .first) (lastUsable g n) + r .ledger .back ≡ r .ledger .granted
+  -- An add that comes next, once its earlier checks pass, is refused for room exactly when no run of as many free blocks as it asks exists, freed ones included.
+  pub room : (type unique : List ℕ) (size attributes : ℕ) (name : List ℕ) → Passes g n r type unique size attributes name
+      → (step g n (r .head) (r .tail) (edit (add type unique size attributes name)) .answer ≡ refused 25)
+      ↔ ((s : ℕ) → g .first ≤ s → roomAt (slotsOf g n r) (lastUsable g n) size s ≡ false)
+
+-- a formatting with any N in its range and any nonzero disk GUID, whatever head and tail held, on any shape whose blocks have room for a header
+pub record Formats (g : Shape) (n : ℕ) (guid h t : List ℕ) : Type 0 where
+  pub wide : headerBytes ≤ g .block
+  pub range : inRange g n ≡ true
+  pub len-guid : length guid ≡ 16
+  pub nonzero : isZero guid ≡ false
+  pub len-head : length h ≡ lentBytes g primary
+  pub len-tail : length t ≡ lentBytes g backup
+
+-- from every start afresh
+abbrev pub Demand3From : Type 0
+Demand3From =
+    (g : Shape) → headerBytes ≤ g .block → (n : ℕ) (es : List ℕ) (r : Run) → StartsAfresh g n es r → (cs : List Call) → Sound g n (run g n cs r)
+
+-- D19: Demand 3 is one claim about the whole list, not one for each call.
+abbrev pub Demand3 : Type 0
+Demand3 =
+    (g : Shape) (n : ℕ) (guid h t : List ℕ) → Formats g n guid h t
+    → (cs : List Call) → (format g n guid h t .answer ≡ accepted []) × Sound g n (run g n cs (begun (format g n guid h t)))
+
+-- ---- demand 3 is not empty. P2: These imposters are shut out: refusing all calls, a constant reply or no writes, doing only the first add, made-up free counts.
+
+pub record Serves (g : Shape) (n : ℕ) (es : List ℕ) (r : Run) : Type 0 where
+  -- the disk reads as state 1, with the table es, and rows 10 and 11 do not hold
+  pub reads : state g n (r .head) (r .tail) ≡ 1
+  pub table : tableOf g n (r .head) (r .tail) ≡ es
+  pub not10 : (c : Call) → step g n (r .head) (r .tail) c .answer ≢ refused 10
+  pub not11 : (c : Call) → step g n (r .head) (r .tail) c .answer ≢ refused 11
+  -- free counts count the blocks of the entries
+  pub free : freeCount (slotsOf g n r) (g .first) (lastUsable g n) + taken (slotsOf g n r) (g .first) (lastUsable g n) ≡ usable g n
+  -- an add whose earlier checks pass is accepted exactly when its size is at most the longest run
+  pub fits : (type unique : List ℕ) (size attributes : ℕ) (name : List ℕ) → Passes g n r type unique size attributes name
+      → (step g n (r .head) (r .tail) (edit (add type unique size attributes name)) .answer
+      ≡ accepted (change (g .first) (lastUsable g n) es (add type unique size attributes name) .values))
+      ↔ (size ≤ longestFree (slotsOf g n r) (g .first) (lastUsable g n))
+
+-- after every list the table is that which the accepted calls, applied in order to the empty table, make
+abbrev pub NotEmpty : Type 0
+NotEmpty =
+    (g : Shape) (n : ℕ) (guid h t : List ℕ) → Formats g n guid h t → (cs : List Call)
+    → let r = begun (format g n guid h t) in
+    Serves g n (applied (g .first) (lastUsable g n) (zeros tableBytes) cs (answers g n cs r)) (run g n cs r)
+
+-- ---- demand 2: What is written reads back as the same table
+
+abbrev pub EditReadsBack : Type 0
+EditReadsBack =
+    (g : Shape) (n : ℕ) (h t : List ℕ) (d : Edit) → headerBytes ≤ g .block → refusal (rowsOf g n h t (edit d)) ≡ none
+    → let o = step g n h t (edit d) in
+    (state g n (o .head) (o .tail) ≡ 1) × (tableOf g n (o .head) (o .tail) ≡ edited (g .first) (lastUsable g n) (tableOf g n h t) d)
+
+-- from every state that can be read: 1, 2, 3, 4
+abbrev pub RepairReadsBack : Type 0
+RepairReadsBack =
+    (g : Shape) (n : ℕ) (h t : List ℕ) → headerBytes ≤ g .block → refusal (rowsOf g n h t repair) ≡ none
+    → let o = step g n h t repair in
+    (o .answer ≡ accepted (state g n h t ∷ [])) × (state g n (o .head) (o .tail) ≡ 1) × (tableOf g n (o .head) (o .tail) ≡ tableOf g n h t)
+
+-- byte k is none of the w bytes from at on
+abbrev pub Outside : ℕ → ℕ → ℕ → Type 0
+Outside at w k = (k < at) ⊎ (at + w ≤ k)
+
+-- D23: Each edit changes that entry and the two CRCs, in both copies, and no other byte.
+abbrev pub EditTouches : Type 0
+EditTouches =
+    (g : Shape) (n : ℕ) (h t : List ℕ) (d : Edit) → headerBytes ≤ g .block → refusal (rowsOf g n h t (edit d)) ≡ none
+    → let o = step g n h t (edit d) in
+    (side : Side) → (length (lent side (o .head) (o .tail)) ≡ length (lent side h t))
+    × ((k : ℕ) → Outside (entriesAt g side + change (g .first) (lastUsable g n) (tableOf g n h t) d .index * entryBytes) entryBytes k
+    → Outside (headerAt g side + 16) 4 k → Outside (headerAt g side + 88) 4 k
+    → getD (lent side (o .head) (o .tail)) k 0 ≡ getD (lent side h t) k 0)

@@ -1,0 +1,7 @@
+-- Read in this order.
+pub mod Table
+pub mod Disk
+pub mod Ranges
+pub mod Calls
+pub mod Lists
+pub mod Claims

@@ -1,0 +1,73 @@
+-- Blocks: which lie in partitions, where there is room, how many are free. Definitions only; `first` and `last` are the first and the last usable block.
+use mathlib.Core.Bool.{Bool, true, false, not}
+use mathlib.Core.List.{List}
+use mathlib.Core.Option.{Option, none, some}
+use Prim.Native.Nat.{ℕ, zero, suc, _+_, _-_, max}
+use lib.Dec.{leb}
+use Rattle.octets.specs.Tests.{_and_, any}
+use Rattle.gpt_model.specs.Table.{Slot, vacant, spans}
+
+-- D21: A block lies in a partition when it is one of first to last of a used entry
+unfoldable pub inside : ℕ → Slot → Bool
+inside b vacant = false
+inside b (spans f l) = leb f b and leb b l
+
+abbrev pub lies : List Slot → ℕ → Bool
+lies t b = any (inside b) t
+
+-- D21: usable blocks (34 to N−34) in none are free, consecutive ones a run.
+abbrev pub free : List Slot → ℕ → Bool
+free t b = not (lies t b)
+
+-- ---- room: a run of enough free blocks; placing, row 25 and demand 3 go by this one definition
+
+-- p holds of the k numbers from lo on
+unfoldable pub allFrom : (ℕ → Bool) → ℕ → ℕ → Bool
+allFrom p lo zero = true
+allFrom p lo (suc k) = p lo and allFrom p (suc lo) k
+
+-- the blocks s to s + size − 1 end at last or before, and all are free
+unfoldable pub roomAt : List Slot → ℕ → ℕ → ℕ → Bool
+roomAt t last size s = leb (s + size) (suc last) and allFrom (free t) s size
+
+-- the lowest of the k numbers from lo on of which p holds
+unfoldable pub firstFrom : (ℕ → Bool) → ℕ → ℕ → Option ℕ
+firstFrom p lo zero = none
+firstFrom p lo (suc k) = elim (p lo) [ true ↦ some lo | false ↦ firstFrom p (suc lo) k ]
+
+-- D15: the lowest start with enough free blocks
+unfoldable pub place : List Slot → ℕ → ℕ → ℕ → Option ℕ
+place t first last size = firstFrom (roomAt t last size) first (suc last - first)
+
+-- ---- blocks counted one by one
+
+abbrev pub bit : Bool → ℕ
+bit true = 1
+bit false = 0
+
+-- of how many of the k numbers from lo on p holds
+unfoldable pub countFrom : (ℕ → Bool) → ℕ → ℕ → ℕ
+countFrom p lo zero = 0
+countFrom p lo (suc k) = bit (p lo) + countFrom p (suc lo) k
+
+-- the blocks lying in partitions, counted one by one
+unfoldable pub taken : List Slot → ℕ → ℕ → ℕ
+taken t first last = countFrom (lies t) first (suc last - first)
+
+-- D12: usable blocks in no partition
+unfoldable pub freeCount : List Slot → ℕ → ℕ → ℕ
+freeCount t first last = countFrom (free t) first (suc last - first)
+
+-- of how many of the k numbers from lo on p holds before it fails
+unfoldable pub runFrom : (ℕ → Bool) → ℕ → ℕ → ℕ
+runFrom p lo zero = 0
+runFrom p lo (suc k) = elim (p lo) [ true ↦ suc (runFrom p (suc lo) k) | false ↦ 0 ]
+
+-- the longest of the runs that begin at one of the k numbers from lo on
+unfoldable pub longest : (ℕ → Bool) → ℕ → ℕ → ℕ
+longest p lo zero = 0
+longest p lo (suc k) = max (runFrom p lo (suc k)) (longest p (suc lo) k)
+
+-- D12: and the longest such run (0 if none)
+unfoldable pub longestFree : List Slot → ℕ → ℕ → ℕ
+longestFree t first last = longest (free t) first (suc last - first)

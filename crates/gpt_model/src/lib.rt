@@ -1,0 +1,2 @@
+// What a GPT disk is and what each call does to it: definitions and theorems alone, no code.
+// The definitions stand in specs/, in the order of the rules; the contracts of the crates above cite them.
