@@ -1,0 +1,5 @@
+pub mod Places
+pub mod Headers
+pub mod Writes
+pub mod Judged
+pub mod Used
