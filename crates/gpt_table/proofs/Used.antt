@@ -43,9 +43,11 @@ used-each P (e ∷ es) f i h = go (bool-cases (unused e)) (used-each P es (λ j 
   where
     Q : List (List ℕ) → ℕ → Type 0
     Q l j = j < length l → (unused (getD l j []) ≡ false) × P (getD l j [])
+
     more : unused e ≡ false → ((j : ℕ) → Q (used es) j) → (j : ℕ) → Q (e ∷ used es) j
     more q ih zero k = (q, f zero (suc-le-suc (omega arith)))
     more q ih (suc j) k = ih j (le-of-suc-le-suc k)
+
     go : (unused e ≡ true) ⊎ (unused e ≡ false) → ((j : ℕ) → Q (used es) j) → (unused (getD (used (e ∷ es)) i []) ≡ false) × P (getD (used (e ∷ es)) i [])
     go (inl q) ih = subst (λ (l : List (List ℕ)). Q l i) (sym (used-no e es q)) (ih i) h
     go (inr q) ih = subst (λ (l : List (List ℕ)). Q l i) (sym (used-yes e es q)) (more q ih i) h

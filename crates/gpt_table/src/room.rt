@@ -1,6 +1,5 @@
 // Room for partitions: one walk from gap to gap over the ranges decoded once. No sum of a block and a size is formed, so no size is too large.
 use crate::Block;
-
 ghost use mathlib.Core.Path.{_≡_};
 ghost use mathlib.Core.Bool.{true, false};
 ghost use Prim.Native.Nat.{ℕ, _+_, _-_, _≤_, _<_, max};

@@ -42,7 +42,7 @@ returns c = λ first.
     let a = c .before .before .before .before .before .before .before .before .before .args in
     c .room-at .ensures
     ∙ room-same _ (set (slots (now (a .t))) (a .k - 1) vacant) (free-but (now (a .t)) (a .k - 1) (c .before .before .before .decode .ensures)) (a .last .0) (a .size)
-        (c .before .before .before .before .before .before .load64 .ensures ∙ ap (field 32 8) (c .before .before .before .before .before .before .before .entry .ensures .0))
+    (c .before .before .before .before .before .before .load64 .ensures ∙ ap (field 32 8) (c .before .before .before .before .before .before .before .entry .ensures .0))
 
 pub fits-at-spec : {M : Type 1} → statement M
 fits-at-spec =
