@@ -1,9 +1,9 @@
 -- Laws of a look ahead from block a, over ranges seen one a turn.
 use mathlib.Core.Path.{_≡_, refl, sym, ap, subst, _∙_}
 use mathlib.Core.Logic.{_⊎_, inl, inr, ⊎-elim}
-use mathlib.Core.Bool.{true, false, not}
+use mathlib.Core.Bool.{true, false}
 use mathlib.Core.List.{List}
-use Prim.Native.Nat.{ℕ, suc, _+_, _-_, _≤_, _<_}
+use Prim.Native.Nat.{ℕ, _+_, _-_, _≤_, _<_}
 use native.Mathlib.Nat.{le-refl}
 use native.Mathlib.Decide.{decLe}
 use native.Mathlib.Omega.{arith}
@@ -14,10 +14,10 @@ use borrow.Author.Tests.{lt-leb, le-leb}
 use Rattle.octets.specs.Tests.{_and_}
 use Rattle.octets.proofs.Bools.{bool-cases, clash}
 use Rattle.octets.proofs.Tests.{any-make, any-false}
-use Rattle.gpt_model.specs.Ranges.{inside, lies, free, allFrom, roomAt}
+use Rattle.gpt_model.specs.Ranges.{inside, lies, free, roomAt}
 use Rattle.gpt_model.specs.Table.{Slot, vacant, spans}
 use Rattle.gpt_model.proofs.Room.{Room, inside-make, inside-get, room-get, room-make}
-use Rattle.gpt_table.specs.Gaps.{Lower, Full, Clear, Stands}
+use Rattle.gpt_table.specs.Gaps.{Lower, Full, Clear, Stands, taken, gap}
 use Rattle.gpt_table.specs.declared.room.Ahead.{Ahead}
 use Rattle.gpt_table.specs.declared.room.Ahead.the-variants.{Taken, Gap}
 
@@ -116,12 +116,17 @@ seen-end {s} {a} {last} {g} {i} h p =
 
 -- ---- the two answers
 
-module _ (s : List Slot) (a last : ℕ) {r : Ahead} (w : Stands s a last r) where
-  pub taken-of : {x : ℕ} → r ≡ Taken x → Full s a x
-  taken-of e = subst (λ (q : Ahead). Stands s a last q) e w
+taken-gap : {x g : ℕ} → Taken x ≡ Gap g → ⊥
+taken-gap e = let z : _≡_ {A = ℕ} 0 1 = cc in omega arith
 
-  pub gap-of : {g : ℕ} → r ≡ Gap g → Clear s a last g
-  gap-of e = subst (λ (q : Ahead). Stands s a last q) e w
+module _ {s : List Slot} {a last : ℕ} where
+  pub taken-of : {r : Ahead} {x : ℕ} → Stands s a last r → r ≡ Taken x → Full s a x
+  taken-of {x = y} (taken {x} w) e = let q : x ≡ y = cc in subst (λ (z : ℕ). Full s a z) q w
+  taken-of (gap w) e = absurd (taken-gap (sym e))
+
+  pub gap-of : {r : Ahead} {g : ℕ} → Stands s a last r → r ≡ Gap g → Clear s a last g
+  gap-of (taken w) e = absurd (taken-gap e)
+  gap-of {g = h} (gap {g} w) e = let q : g ≡ h = cc in subst (λ (z : ℕ). Clear s a last z) q w
 
 -- ---- room at a
 

@@ -1,9 +1,9 @@
 -- Laws of the entries of a table.
-use mathlib.Core.Path.{_≡_, refl, sym, ap, subst, _∙_}
+use mathlib.Core.Path.{_≡_, refl, sym, ap, _∙_}
 use mathlib.Core.Logic.{_⊎_, inl, inr}
 use mathlib.Core.Bool.{Bool, true, false, not}
 use mathlib.Core.List.{List, [], _∷_}
-use Prim.Native.Nat.{ℕ, suc, _+_, _-_, _*_, _≤_, _<_}
+use Prim.Native.Nat.{ℕ, suc, _+_, _-_, _*_, _<_}
 use native.Mathlib.Nat.{zero-lt-suc}
 use native.Mathlib.Decide.{decLt, ℕ-discrete}
 use native.Mathlib.Omega.{arith}
@@ -12,9 +12,8 @@ use lib.ListN.{length, getD, set, take, drop, length-set, length-drop}
 use lib.Seq.{length-take-le, getD-set-same, getD-set-other}
 use borrow.Author.Tests.{lt-ltb, le-ltb}
 use Rattle.octets.specs.Tests.{_and_, _or_, any, findIx}
-use Rattle.octets.specs.Bytes.{part, isZero, same, chunks}
+use Rattle.octets.specs.Bytes.{part, isZero, same}
 use Rattle.octets.proofs.Bools.{bool-cases, clash, and-false-l}
-use Rattle.octets.proofs.Tests.{any-make, findIx-get}
 use Rattle.octets.proofs.Chunks.{chunk-part, length-chunks}
 use Rattle.gpt_model.specs.Table.{unused, uniqueOf, entries}
 use Rattle.gpt_model.specs.Calls.{carries}

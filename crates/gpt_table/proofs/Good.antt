@@ -3,7 +3,7 @@ use mathlib.Core.Path.{_≡_, refl, sym, ap, ap₂, subst, _∙_}
 use mathlib.Core.Logic.{_⊎_, inl, inr}
 use mathlib.Core.Bool.{Bool, true, false, not}
 use mathlib.Core.List.{List, [], _∷_, _++_}
-use Prim.Native.Nat.{ℕ, suc, _+_, _*_, _≤_, _<_}
+use Prim.Native.Nat.{ℕ, _+_, _*_, _≤_, _<_}
 use native.Mathlib.Omega.{arith}
 use lib.Dec.{eqb, leb, ltb}
 use lib.ListN.{length, getD, set, take, drop}
@@ -15,9 +15,9 @@ use Rattle.octets.proofs.Bools.{and-l, and-r, and-i, bool-cases, clash}
 use Rattle.octets.proofs.Parts.{getD-part, part-part}
 use Rattle.octets.proofs.Equal.{same-true, same-refl, field-same}
 use Rattle.octets.proofs.Chunks.{chunk-part, length-chunk}
-use Rattle.gpt_model.specs.Table.{Slot, spans, bounded, apart, typeOf, uniqueOf, firstOf, lastOf, unused, slotOf, entryOk, beside, entries, goodTable}
+use Rattle.gpt_model.specs.Table.{Slot, spans, bounded, apart, typeOf, uniqueOf, firstOf, lastOf, unused, entryOk, beside, entries, goodTable}
 use Rattle.gpt_model.proofs.Entries.{slot-used, beside-make}
-use Rattle.gpt_table.specs.Decoded.{used, Decoded, Used}
+use Rattle.gpt_table.specs.Decoded.{used, Decoded, Numbers}
 use Rattle.gpt_table.proofs.Entries.{unused-is, length-entries}
 use Rattle.gpt_table.proofs.Used.{used-yes, used-no, used-each, low-at, high-at}
 
@@ -122,7 +122,7 @@ module _ (e d : List ℕ) (le : length e ≡ 128) (ld : length d ≡ 128)
 
 -- ---- used entry i and used entry j, from the numbers
 
-module _ {es : List (List ℕ)} {f l u v : List ℕ} {n : ℕ} (w : Used es f l u v n) (i j : ℕ) (p : i < n) (q : j < n) where
+module _ {es : List (List ℕ)} {f l u v : List ℕ} {n : ℕ} (w : Numbers es f l u v n) (i j : ℕ) (p : i < n) (q : j < n) where
   pub beside-at : beside (getD es i []) (getD es j [])
       ≡ (not (eqb (getD u i 0) (getD u j 0) and eqb (getD v i 0) (getD v j 0)) and apart (spans (getD f i 0) (getD l i 0)) (spans (getD f j 0) (getD l j 0)))
   beside-at =
@@ -195,7 +195,7 @@ module _ (t : List ℕ) (size : length t ≡ 16384) (bytes : (j : ℕ) → getD 
       (subst (λ (b : ℕ). b < 256) (sym (getD-part t (i * 128) 128 j k)) (bytes (i * 128 + j)))
 
   pub used-table : {f l u v : List ℕ} {n m : ℕ} → Decoded (used (set (entries t) 128 [])) 32 f l n → Decoded (used (set (entries t) 128 [])) 16 u v m
-      → Used (used (entries t)) f l u v n
+      → Numbers (used (entries t)) f l u v n
   used-table {f} {l} {u} {v} {n} {m} d' g' =
       let d = subst (λ (es : List (List ℕ)). Decoded (used es) 32 f l n) (all-in t) d' in
       let g = subst (λ (es : List (List ℕ)). Decoded (used es) 16 u v m) (all-in t) g' in

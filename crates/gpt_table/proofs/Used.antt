@@ -9,11 +9,11 @@ use native.Mathlib.Numerals.{add-one}
 use native.Mathlib.Omega.{arith}
 use lib.ListN.{length, getD, set, take, drop, length-append, length-map, length-set, List·getD-map}
 use lib.Seq.{take-suc, take-suc-set, take-all, getD-take, ext-getD, set-out}
-use Rattle.octets.specs.Tests.{_or_, any}
+use Rattle.octets.specs.Tests.{_or_}
 use Rattle.octets.specs.Bytes.{field}
 use Rattle.octets.proofs.Bools.{bool-cases}
 use Rattle.gpt_model.specs.Ranges.{inside, lies, free}
-use Rattle.gpt_model.specs.Table.{Slot, vacant, spans, unused, slotOf, entries, slots}
+use Rattle.gpt_model.specs.Table.{vacant, spans, unused, slotOf, entries, slots}
 use Rattle.gpt_model.proofs.Walk.{getD-map}
 use Rattle.gpt_model.proofs.Entries.{map-set, zero-unused, slot-unused, slot-used, length-slots}
 use Rattle.gpt_table.specs.Decoded.{used, Decoded, ranges}

@@ -1,6 +1,6 @@
 -- Laws of the walk from gap to gap, and that its outcome hangs on the free blocks alone.
-use mathlib.Core.Path.{_≡_, refl, sym, ap, ap₂, subst, _∙_}
-use mathlib.Core.Bool.{Bool, true, false}
+use mathlib.Core.Path.{_≡_, sym, ap, ap₂, subst}
+use mathlib.Core.Bool.{Bool}
 use mathlib.Core.List.{List}
 use mathlib.Core.Option.{none, some}
 use Prim.Native.Nat.{ℕ, suc, _+_, _-_, _≤_, _<_, max}
@@ -8,12 +8,11 @@ use native.Mathlib.Nat.{le-refl}
 use native.Mathlib.Omega.{arith}
 use lib.Dec.{leb}
 use Rattle.octets.specs.Tests.{_and_}
-use Rattle.gpt_model.specs.Ranges.{lies, free, allFrom, firstFrom, roomAt, place, countFrom, freeCount, longest as longestOf, longestFree}
+use Rattle.gpt_model.specs.Ranges.{free, allFrom, firstFrom, roomAt, place, countFrom, freeCount, longest as longestOf, longestFree}
 use Rattle.gpt_model.specs.Table.{Slot}
 use Rattle.gpt_model.proofs.Walk.{Low, low-start, low-over, low-gap, low-found, low-none, Counted, Longest, counted-start, longest-start, counted-over, longest-over, counted-gap, longest-step, counted-end, longest-end}
 use Rattle.gpt_table.specs.Answers.{freeOf}
 use Rattle.gpt_table.specs.Gaps.{Full, Clear}
-use Rattle.gpt_table.specs.declared.room.Free.{Free}
 
 -- ---- the same blocks are free
 
@@ -37,20 +36,20 @@ pub record Looked (s : List Slot) (first last size a : ℕ) : Type 0 where
   pub from : first ≤ a
   pub low : (pos : 0 < size) → Low s first last size pos a
 
-module _ {s : List Slot} {first last size : ℕ} (pos : 0 < size) where
-  pub looked-start : Looked s first last size first
-  looked-start = record { from = le-refl first; low = λ p. low-start s first last size p }
+pub looked-start : {s : List Slot} {first last size : ℕ} → Looked s first last size first
+looked-start {s} {first} {last} {size} = record { from = le-refl first; low = λ p. low-start s first last size p }
 
-  module _ {a : ℕ} (k : Looked s first last size a) where
-    pub looked-over : {x : ℕ} → Full s a x → Looked s first last size (x + 1)
-    looked-over {x} w =
-        record { from = omega (arith, k .from, w .from); low = λ p. low-over s first last size p a x (k .low p) (w .taken) }
+module _ {s : List Slot} {first last size a : ℕ} (k : Looked s first last size a) where
+  pub looked-over : {x : ℕ} → Full s a x → Looked s first last size (x + 1)
+  looked-over {x} w =
+      record { from = omega (arith, k .from, w .from); low = λ p. low-over s first last size p a x (k .low p) (w .taken) }
 
-    pub looked-on : {g : ℕ} → Clear s a last g → g - a < size → Looked s first last size g
-    looked-on {g} w h =
-        let u = w .past in
-        record { from = omega (arith, k .from); low = λ p. low-gap s first last size p a g (k .low p) (omega arith) h (w .stop) }
+  pub looked-on : {g : ℕ} → Clear s a last g → g - a < size → Looked s first last size g
+  looked-on {g} w h =
+      let u = w .past in
+      record { from = omega (arith, k .from); low = λ p. low-gap s first last size p a g (k .low p) (omega arith) h (w .stop) }
 
+  module _ (pos : 0 < size) where
     pub looked-none : last < a → none ≡ place s first last size
     looked-none h = sym (low-none s first last size pos a (k .low pos) h)
 

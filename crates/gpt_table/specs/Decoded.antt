@@ -25,7 +25,7 @@ ranges f l zero = []
 ranges f l (suc n) = spans (getD f 0 0) (getD l 0 0) ∷ ranges (drop 1 f) (drop 1 l) n
 
 -- the n entries es are used ones of 128 bytes, f and l have their first and last blocks, u and v their unique GUIDs
-pub record Used (es : List (List ℕ)) (f l u v : List ℕ) (n : ℕ) : Type 0 where
+pub record Numbers (es : List (List ℕ)) (f l u v : List ℕ) (n : ℕ) : Type 0 where
   pub blocks : Decoded es 32 f l n
   pub guids : Decoded es 16 u v n
   pub each : (i : ℕ) → i < n → unused (getD es i []) ≡ false

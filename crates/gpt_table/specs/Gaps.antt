@@ -28,6 +28,6 @@ pub record Clear (s : List Slot) (a last g : ℕ) : Type 0 where
   pub free : (c : ℕ) → a ≤ c → c < g → lies s c ≡ false
   pub stop : (g ≤ last → lies s g ≡ true)
 
-abbrev pub Stands : List Slot → ℕ → ℕ → Ahead → Type 0
-Stands s a last (Taken x) = Full s a x
-Stands s a last (Gap g) = Clear s a last g
+pub data Stands (s : List Slot) (a last : ℕ) : Ahead → Type 0 where
+  taken : {x : ℕ} → Full s a x → Stands s a last (Taken x)
+  gap : {g : ℕ} → Clear s a last g → Stands s a last (Gap g)

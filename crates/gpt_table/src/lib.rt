@@ -9,25 +9,36 @@ ghost use mathlib.Core.List.{[]};
 ghost use Prim.Native.Nat.{_+_, _*_, _≤_, _<_};
 ghost use lib.ListN.{length, getD, set};
 ghost use Rattle.octets.specs.Tests.{any, findIx};
-ghost use Rattle.gpt_model.specs.Table.{unused, entries};
+ghost use Rattle.gpt_model.specs.Table.{entryBytes, slotCount, tableBytes, unused, entries};
 ghost use Rattle.gpt_model.specs.Calls.{carries as carriesIn, badName};
 ghost use Rattle.gpt_table.specs.Decoded.{used, Decoded};
 
 // A block's number; never a byte position.
 pub struct Block(pub u64);
 
+const SLOTS: usize = 128;
+
+const ENTRY_BYTES: usize = 128;
+
+// Where an entry has its unique GUID, behind the type GUID, and its first and last block.
+const UNIQUE_AT: usize = 16;
+
+const FIRST_AT: usize = 32;
+
+const LAST_AT: usize = 40;
+
 // The 128 bytes of entry i, counted from 0.
 pub fn entry<'a>(t: &'a [u8], i: usize) -> &'a [u8]
-    requires { ⌜ (i < 128) × (length (now t) ≡ 16384) ⌝ }
-    ensures { λ r. ⌜ (now r ≡ getD (entries (now (t .entry))) i []) × (length (now r) ≡ 128) ⌝ }
+    requires { ⌜ (i < slotCount) × (length (now t) ≡ tableBytes) ⌝ }
+    ensures { λ r. ⌜ (now r ≡ getD (entries (now (t .entry))) i []) × (length (now r) ≡ entryBytes) ⌝ }
 {
-    let start = 128 * i;
-    let end = start + 128;
+    let start = ENTRY_BYTES * i;
+    let end = start + ENTRY_BYTES;
     &t[start..end]
 }
 
 pub fn is_unused(t: &[u8], i: usize) -> bool
-    requires { ⌜ (i < 128) × (length (now t) ≡ 16384) ⌝ }
+    requires { ⌜ (i < slotCount) × (length (now t) ≡ tableBytes) ⌝ }
     ensures { λ r. ⌜ r ≡ unused (getD (entries (now (t .entry))) i []) ⌝ }
 {
     octets::is_zero(entry(t, i))
@@ -35,11 +46,11 @@ pub fn is_unused(t: &[u8], i: usize) -> bool
 
 // The lowest unused entry, 128 where there is none.
 pub fn first_unused(t: &[u8]) -> usize
-    requires { ⌜ length (now t) ≡ 16384 ⌝ }
-    ensures { λ r. ⌜ (r ≡ findIx unused (entries (now (t .entry)))) × (r ≤ 128) ⌝ }
+    requires { ⌜ length (now t) ≡ tableBytes ⌝ }
+    ensures { λ r. ⌜ (r ≡ findIx unused (entries (now (t .entry)))) × (r ≤ slotCount) ⌝ }
 {
     let mut i = 0;
-    while i < 128 {
+    while i < SLOTS {
         if is_unused(t, i) {
             return i;
         }
@@ -49,22 +60,22 @@ pub fn first_unused(t: &[u8]) -> usize
 }
 
 fn carries(e: &[u8], unique: &[u8]) -> bool
-    requires { ⌜ length (now e) ≡ 128 ⌝ }
+    requires { ⌜ length (now e) ≡ entryBytes ⌝ }
     ensures { λ r. ⌜ r ≡ carriesIn (now (unique .entry)) (now (e .entry)) ⌝ }
 {
     if octets::is_zero(e) {
         return false;
     }
-    octets::same(&e[16..32], unique)
+    octets::same(&e[UNIQUE_AT..FIRST_AT], unique)
 }
 
 // Some used entry has this unique GUID.
 pub fn carried(t: &[u8], unique: &[u8]) -> bool
-    requires { ⌜ length (now t) ≡ 16384 ⌝ }
+    requires { ⌜ length (now t) ≡ tableBytes ⌝ }
     ensures { λ r. ⌜ r ≡ any (carriesIn (now (unique .entry))) (entries (now (t .entry))) ⌝ }
 {
     let mut i = 0;
-    while i < 128 {
+    while i < SLOTS {
         if carries(entry(t, i), unique) {
             return true;
         }
@@ -92,7 +103,7 @@ pub fn bad_name(name: &[u16]) -> bool
 
 // Entry i is used and not entry `but`.
 fn wanted(t: &[u8], but: usize, i: usize) -> bool
-    requires { ⌜ (i < 128) × (length (now t) ≡ 16384) ⌝ }
+    requires { ⌜ (i < slotCount) × (length (now t) ≡ tableBytes) ⌝ }
     ensures { λ r. ⌜ r ≡ not (unused (getD (set (entries (now (t .entry))) but []) i [])) ⌝ }
 {
     if i == but {
@@ -101,14 +112,14 @@ fn wanted(t: &[u8], but: usize, i: usize) -> bool
     !is_unused(t, i)
 }
 
-// Two numbers of each used entry but entry `but` (128: of all): of the 8 bytes from `at` on, and of the 8 bytes behind them. Returns how many entries.
-fn decode(t: &[u8], but: usize, at: usize, x: &mut [u64; 128], y: &mut [u64; 128]) -> usize
-    requires { ⌜ (length (now t) ≡ 16384) × (at + 16 ≤ 128) × (length (now x) ≡ 128) × (length (now y) ≡ 128) ⌝ }
+// Two numbers of each used entry but entry `but` (SLOTS: of all): of the 8 bytes from `at` on, and of the 8 bytes behind them. Returns how many entries.
+fn decode(t: &[u8], but: usize, at: usize, x: &mut [u64; SLOTS], y: &mut [u64; SLOTS]) -> usize
+    requires { ⌜ (length (now t) ≡ tableBytes) × (at + 16 ≤ entryBytes) × (length (now x) ≡ slotCount) × (length (now y) ≡ slotCount) ⌝ }
     ensures { λ r. ⌜ Decoded (used (set (entries (now (t .entry))) but [])) at (now (x .exit)) (now (y .exit)) r ⌝ }
 {
     let mut n: usize = 0;
     let mut i = 0;
-    while i < 128 {
+    while i < SLOTS {
         if wanted(t, but, i) {
             x[n] = octets::load64(entry(t, i), at);
             y[n] = octets::load64(entry(t, i), at + 8);

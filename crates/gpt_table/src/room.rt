@@ -1,11 +1,13 @@
 // Room for partitions: one walk from gap to gap over the ranges decoded once. No sum of a block and a size is formed, so no size is too large.
 use crate::Block;
+use crate::FIRST_AT;
+use crate::SLOTS;
 ghost use mathlib.Core.Path.{_≡_};
-ghost use mathlib.Core.Bool.{true, false};
+ghost use mathlib.Core.Bool.{false};
 ghost use Prim.Native.Nat.{ℕ, _+_, _-_, _≤_, _<_, max};
 ghost use lib.ListN.{length};
 ghost use Rattle.gpt_model.specs.Ranges.{inside as insideOf, roomAt, place};
-ghost use Rattle.gpt_model.specs.Table.{spans, slots};
+ghost use Rattle.gpt_model.specs.Table.{spans, slotCount, tableBytes, slots};
 ghost use Rattle.gpt_model.specs.Calls.{fitsAt};
 ghost use Rattle.gpt_table.specs.Decoded.{ranges};
 ghost use Rattle.gpt_table.specs.Answers.{placed, freeOf};
@@ -56,8 +58,8 @@ fn lower(a: u64, f: u64, l: u64, g: u64) -> u64
     f
 }
 
-fn look(f: &[u64; 128], l: &[u64; 128], n: usize, a: u64, last: u64) -> Ahead
-    requires { ⌜ (n ≤ 128) × (a ≤ last) × (last < 18446744073709551615) ⌝ }
+fn look(f: &[u64; SLOTS], l: &[u64; SLOTS], n: usize, a: u64, last: u64) -> Ahead
+    requires { ⌜ (n ≤ slotCount) × (a ≤ last) × (last < 18446744073709551615) ⌝ }
     ensures { λ r. ⌜ Stands (ranges (now (f .entry)) (now (l .entry)) n) a last r ⌝ }
 {
     let mut g = last + 1;
@@ -72,8 +74,8 @@ fn look(f: &[u64; 128], l: &[u64; 128], n: usize, a: u64, last: u64) -> Ahead
     Ahead::Gap(g)
 }
 
-fn search(f: &[u64; 128], l: &[u64; 128], n: usize, first: u64, last: u64, size: u64) -> Place
-    requires { ⌜ (n ≤ 128) × (0 < size) × (last < 18446744073709551615) ⌝ }
+fn search(f: &[u64; SLOTS], l: &[u64; SLOTS], n: usize, first: u64, last: u64, size: u64) -> Place
+    requires { ⌜ (n ≤ slotCount) × (0 < size) × (last < 18446744073709551615) ⌝ }
     ensures { λ r. ⌜ placed r ≡ place (ranges (now (f .entry)) (now (l .entry)) n) first last size ⌝ }
 {
     let mut a = first;
@@ -98,12 +100,12 @@ fn search(f: &[u64; 128], l: &[u64; 128], n: usize, first: u64, last: u64, size:
 
 // The lowest start with enough free blocks.
 pub fn lowest(t: &[u8], first: Block, last: Block, size: u64) -> Place
-    requires { ⌜ (length (now t) ≡ 16384) × (0 < size) × (last .0 < 18446744073709551615) ⌝ }
+    requires { ⌜ (length (now t) ≡ tableBytes) × (0 < size) × (last .0 < 18446744073709551615) ⌝ }
     ensures { λ r. ⌜ placed r ≡ place (slots (now (t .entry))) (first .0) (last .0) size ⌝ }
 {
-    let mut f = [0u64; 128];
-    let mut l = [0u64; 128];
-    let n = crate::decode(t, 128, 32, &mut f, &mut l);
+    let mut f = [0u64; SLOTS];
+    let mut l = [0u64; SLOTS];
+    let n = crate::decode(t, SLOTS, FIRST_AT, &mut f, &mut l);
     search(&f, &l, n, first.0, last.0, size)
 }
 
@@ -116,8 +118,8 @@ fn larger(x: u64, y: u64) -> u64
     x
 }
 
-fn tally(f: &[u64; 128], l: &[u64; 128], n: usize, first: u64, last: u64) -> Free
-    requires { ⌜ (n ≤ 128) × (last < 18446744073709551615) ⌝ }
+fn tally(f: &[u64; SLOTS], l: &[u64; SLOTS], n: usize, first: u64, last: u64) -> Free
+    requires { ⌜ (n ≤ slotCount) × (last < 18446744073709551615) ⌝ }
     ensures { λ r. ⌜ r ≡ freeOf (ranges (now (f .entry)) (now (l .entry)) n) first last ⌝ }
 {
     let mut a = first;
@@ -142,17 +144,17 @@ fn tally(f: &[u64; 128], l: &[u64; 128], n: usize, first: u64, last: u64) -> Fre
 }
 
 pub fn free_counts(t: &[u8], first: Block, last: Block) -> Free
-    requires { ⌜ (length (now t) ≡ 16384) × (last .0 < 18446744073709551615) ⌝ }
+    requires { ⌜ (length (now t) ≡ tableBytes) × (last .0 < 18446744073709551615) ⌝ }
     ensures { λ r. ⌜ r ≡ freeOf (slots (now (t .entry))) (first .0) (last .0) ⌝ }
 {
-    let mut f = [0u64; 128];
-    let mut l = [0u64; 128];
-    let n = crate::decode(t, 128, 32, &mut f, &mut l);
+    let mut f = [0u64; SLOTS];
+    let mut l = [0u64; SLOTS];
+    let n = crate::decode(t, SLOTS, FIRST_AT, &mut f, &mut l);
     tally(&f, &l, n, first.0, last.0)
 }
 
-fn room_at(f: &[u64; 128], l: &[u64; 128], n: usize, a: u64, last: u64, size: u64) -> bool
-    requires { ⌜ (n ≤ 128) × (0 < size) × (last < 18446744073709551615) ⌝ }
+fn room_at(f: &[u64; SLOTS], l: &[u64; SLOTS], n: usize, a: u64, last: u64, size: u64) -> bool
+    requires { ⌜ (n ≤ slotCount) × (0 < size) × (last < 18446744073709551615) ⌝ }
     ensures { λ r. ⌜ r ≡ roomAt (ranges (now (f .entry)) (now (l .entry)) n) last size a ⌝ }
 {
     if last < a {
@@ -166,13 +168,13 @@ fn room_at(f: &[u64; 128], l: &[u64; 128], n: usize, a: u64, last: u64, size: u6
 
 // From its first block on, the partition of slot k, counted from 1, has room for that size, its own range left out.
 pub fn fits_at(t: &[u8], k: usize, last: Block, size: u64) -> bool
-    requires { ⌜ (1 ≤ k) × (k ≤ 128) × (length (now t) ≡ 16384) × (0 < size) × (last .0 < 18446744073709551615) ⌝ }
+    requires { ⌜ (1 ≤ k) × (k ≤ slotCount) × (length (now t) ≡ tableBytes) × (0 < size) × (last .0 < 18446744073709551615) ⌝ }
     ensures { λ r. ⌜ ((first : ℕ) → r ≡ fitsAt first (last .0) (now (t .entry)) k size) ⌝ }
 {
     let i = k - 1;
-    let a = octets::load64(crate::entry(t, i), 32);
-    let mut f = [0u64; 128];
-    let mut l = [0u64; 128];
-    let n = crate::decode(t, i, 32, &mut f, &mut l);
+    let a = octets::load64(crate::entry(t, i), FIRST_AT);
+    let mut f = [0u64; SLOTS];
+    let mut l = [0u64; SLOTS];
+    let n = crate::decode(t, i, FIRST_AT, &mut f, &mut l);
     room_at(&f, &l, n, a, last.0, size)
 }

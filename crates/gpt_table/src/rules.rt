@@ -1,5 +1,9 @@
 // The rules of a table: of each entry by itself, then of each two used entries, on numbers decoded once.
 use crate::Block;
+use crate::FIRST_AT;
+use crate::LAST_AT;
+use crate::SLOTS;
+use crate::UNIQUE_AT;
 ghost use mathlib.Core.Path.{_≡_};
 ghost use mathlib.Core.Bool.{not};
 ghost use mathlib.Core.List.{List, []};
@@ -7,8 +11,8 @@ ghost use Prim.Native.Nat.{ℕ, _+_, _≤_, _<_};
 ghost use lib.Dec.{eqb};
 ghost use lib.ListN.{length, getD, drop};
 ghost use Rattle.octets.specs.Tests.{_and_, all, pairs};
-ghost use Rattle.gpt_model.specs.Table.{spans, bounded as boundedIn, apart as apartOf, entries, entryOk, beside as besideOf, goodTable};
-ghost use Rattle.gpt_table.specs.Decoded.{Used};
+ghost use Rattle.gpt_model.specs.Table.{spans, bounded as boundedIn, apart as apartOf, entryBytes, slotCount, tableBytes, entries, entryOk, beside as besideOf, goodTable};
+ghost use Rattle.gpt_table.specs.Decoded.{Numbers};
 
 fn bounded(f: u64, l: u64, first: u64, last: u64) -> bool
     ensures { λ r. ⌜ r ≡ boundedIn first last (spans f l) ⌝ }
@@ -23,27 +27,32 @@ fn bounded(f: u64, l: u64, first: u64, last: u64) -> bool
 }
 
 fn entry_ok(e: &[u8], first: u64, last: u64) -> bool
-    requires { ⌜ length (now e) ≡ 128 ⌝ }
+    requires { ⌜ length (now e) ≡ entryBytes ⌝ }
     ensures { λ r. ⌜ r ≡ entryOk first last (now (e .entry)) ⌝ }
 {
     if octets::is_zero(e) {
         return true;
     }
-    if octets::is_zero(&e[0..16]) {
+    if octets::is_zero(&e[0..UNIQUE_AT]) {
         return false;
     }
-    if octets::is_zero(&e[16..32]) {
+    if octets::is_zero(&e[UNIQUE_AT..FIRST_AT]) {
         return false;
     }
-    bounded(octets::load64(e, 32), octets::load64(e, 40), first, last)
+    bounded(
+        octets::load64(e, FIRST_AT),
+        octets::load64(e, LAST_AT),
+        first,
+        last,
+    )
 }
 
 fn entries_ok(t: &[u8], first: u64, last: u64) -> bool
-    requires { ⌜ length (now t) ≡ 16384 ⌝ }
+    requires { ⌜ length (now t) ≡ tableBytes ⌝ }
     ensures { λ r. ⌜ r ≡ all (entryOk first last) (entries (now (t .entry))) ⌝ }
 {
     let mut i = 0;
-    while i < 128 {
+    while i < SLOTS {
         if !entry_ok(crate::entry(t, i), first, last) {
             return false;
         }
@@ -84,15 +93,15 @@ fn beside(a: u64, b: u64, x: u64, y: u64, f: u64, l: u64, u: u64, v: u64) -> boo
 
 // The used entry i keeps the rules with each used entry behind it.
 fn beside_rest(
-    f: &[u64; 128],
-    l: &[u64; 128],
-    u: &[u64; 128],
-    v: &[u64; 128],
+    f: &[u64; SLOTS],
+    l: &[u64; SLOTS],
+    u: &[u64; SLOTS],
+    v: &[u64; SLOTS],
     n: usize,
     i: usize,
 ) -> bool
-    requires { ⌜ (i < n) × (n ≤ 128) ⌝ }
-    ensures { λ r. ⌜ ((es : List (List ℕ)) → Used es (now (f .entry)) (now (l .entry)) (now (u .entry)) (now (v .entry)) n
+    requires { ⌜ (i < n) × (n ≤ slotCount) ⌝ }
+    ensures { λ r. ⌜ ((es : List (List ℕ)) → Numbers es (now (f .entry)) (now (l .entry)) (now (u .entry)) (now (v .entry)) n
         → r ≡ all (besideOf (getD es i [])) (drop (i + 1) es)) ⌝ }
 {
     let a = f[i];
@@ -109,9 +118,15 @@ fn beside_rest(
     true
 }
 
-fn pairs_ok(f: &[u64; 128], l: &[u64; 128], u: &[u64; 128], v: &[u64; 128], n: usize) -> bool
-    requires { ⌜ n ≤ 128 ⌝ }
-    ensures { λ r. ⌜ ((es : List (List ℕ)) → Used es (now (f .entry)) (now (l .entry)) (now (u .entry)) (now (v .entry)) n → r ≡ pairs besideOf es) ⌝ }
+fn pairs_ok(
+    f: &[u64; SLOTS],
+    l: &[u64; SLOTS],
+    u: &[u64; SLOTS],
+    v: &[u64; SLOTS],
+    n: usize,
+) -> bool
+    requires { ⌜ n ≤ slotCount ⌝ }
+    ensures { λ r. ⌜ ((es : List (List ℕ)) → Numbers es (now (f .entry)) (now (l .entry)) (now (u .entry)) (now (v .entry)) n → r ≡ pairs besideOf es) ⌝ }
 {
     let mut i = 0;
     while i < n {
@@ -125,17 +140,17 @@ fn pairs_ok(f: &[u64; 128], l: &[u64; 128], u: &[u64; 128], v: &[u64; 128], n: u
 
 // All entries keep the rules.
 pub fn table_ok(t: &[u8], first: Block, last: Block) -> bool
-    requires { ⌜ length (now t) ≡ 16384 ⌝ }
+    requires { ⌜ length (now t) ≡ tableBytes ⌝ }
     ensures { λ r. ⌜ r ≡ goodTable (first .0) (last .0) (now (t .entry)) ⌝ }
 {
     if !entries_ok(t, first.0, last.0) {
         return false;
     }
-    let mut f = [0u64; 128];
-    let mut l = [0u64; 128];
-    let mut u = [0u64; 128];
-    let mut v = [0u64; 128];
-    let n = crate::decode(t, 128, 32, &mut f, &mut l);
-    crate::decode(t, 128, 16, &mut u, &mut v);
+    let mut f = [0u64; SLOTS];
+    let mut l = [0u64; SLOTS];
+    let mut u = [0u64; SLOTS];
+    let mut v = [0u64; SLOTS];
+    let n = crate::decode(t, SLOTS, FIRST_AT, &mut f, &mut l);
+    crate::decode(t, SLOTS, UNIQUE_AT, &mut u, &mut v);
     pairs_ok(&f, &l, &u, &v, n)
 }
