@@ -84,6 +84,7 @@ pub fn carried(t: &[u8], unique: &[u8]) -> bool
     false
 }
 
+// A nonzero unit stands after a zero one. `before` is the unit before unit i; the name's first unit has a nonzero one before it.
 pub fn bad_name(name: &[u16]) -> bool
     ensures { λ r. ⌜ r ≡ badName (now (name .entry)) ⌝ }
 {

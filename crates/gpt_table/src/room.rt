@@ -58,29 +58,38 @@ fn lower(a: u64, f: u64, l: u64, g: u64) -> u64
     f
 }
 
-fn look(f: &[u64; SLOTS], l: &[u64; SLOTS], n: usize, a: u64, last: u64) -> Ahead
-    requires { ⌜ (n ≤ slotCount) × (a ≤ last) × (last < 18446744073709551615) ⌝ }
-    ensures { λ r. ⌜ Stands (ranges (now (f .entry)) (now (l .entry)) n) a last r ⌝ }
+// What begins at block a.
+fn look(firsts: &[u64; SLOTS], lasts: &[u64; SLOTS], count: usize, a: u64, last: u64) -> Ahead
+    requires { ⌜ (count ≤ slotCount) × (a ≤ last) × (last < 18446744073709551615) ⌝ }
+    ensures { λ r. ⌜ Stands (ranges (now (firsts .entry)) (now (lasts .entry)) count) a last r ⌝ }
 {
     let mut g = last + 1;
     let mut i = 0;
-    while i < n {
-        if inside(a, f[i], l[i]) {
-            return Ahead::Taken(l[i]);
+    while i < count {
+        if inside(a, firsts[i], lasts[i]) {
+            return Ahead::Taken(lasts[i]);
         }
-        g = lower(a, f[i], l[i], g);
+        g = lower(a, firsts[i], lasts[i], g);
         i += 1;
     }
     Ahead::Gap(g)
 }
 
-fn search(f: &[u64; SLOTS], l: &[u64; SLOTS], n: usize, first: u64, last: u64, size: u64) -> Place
-    requires { ⌜ (n ≤ slotCount) × (0 < size) × (last < 18446744073709551615) ⌝ }
-    ensures { λ r. ⌜ placed r ≡ place (ranges (now (f .entry)) (now (l .entry)) n) first last size ⌝ }
+// From gap to gap, up to one that is long enough.
+fn search(
+    firsts: &[u64; SLOTS],
+    lasts: &[u64; SLOTS],
+    count: usize,
+    first: u64,
+    last: u64,
+    size: u64,
+) -> Place
+    requires { ⌜ (count ≤ slotCount) × (0 < size) × (last < 18446744073709551615) ⌝ }
+    ensures { λ r. ⌜ placed r ≡ place (ranges (now (firsts .entry)) (now (lasts .entry)) count) first last size ⌝ }
 {
     let mut a = first;
     while a <= last {
-        match look(f, l, n, a, last) {
+        match look(firsts, lasts, count, a, last) {
             Ahead::Taken(x) => {
                 if last <= x {
                     return Place::None;
@@ -103,10 +112,10 @@ pub fn lowest(t: &[u8], first: Block, last: Block, size: u64) -> Place
     requires { ⌜ (length (now t) ≡ tableBytes) × (0 < size) × (last .0 < 18446744073709551615) ⌝ }
     ensures { λ r. ⌜ placed r ≡ place (slots (now (t .entry))) (first .0) (last .0) size ⌝ }
 {
-    let mut f = [0u64; SLOTS];
-    let mut l = [0u64; SLOTS];
-    let n = crate::decode(t, SLOTS, FIRST_AT, &mut f, &mut l);
-    search(&f, &l, n, first.0, last.0, size)
+    let mut firsts = [0u64; SLOTS];
+    let mut lasts = [0u64; SLOTS];
+    let count = crate::decode(t, SLOTS, FIRST_AT, &mut firsts, &mut lasts);
+    search(&firsts, &lasts, count, first.0, last.0, size)
 }
 
 fn larger(x: u64, y: u64) -> u64
@@ -118,15 +127,16 @@ fn larger(x: u64, y: u64) -> u64
     x
 }
 
-fn tally(f: &[u64; SLOTS], l: &[u64; SLOTS], n: usize, first: u64, last: u64) -> Free
-    requires { ⌜ (n ≤ slotCount) × (last < 18446744073709551615) ⌝ }
-    ensures { λ r. ⌜ r ≡ freeOf (ranges (now (f .entry)) (now (l .entry)) n) first last ⌝ }
+// From gap to gap, each counted.
+fn tally(firsts: &[u64; SLOTS], lasts: &[u64; SLOTS], count: usize, first: u64, last: u64) -> Free
+    requires { ⌜ (count ≤ slotCount) × (last < 18446744073709551615) ⌝ }
+    ensures { λ r. ⌜ r ≡ freeOf (ranges (now (firsts .entry)) (now (lasts .entry)) count) first last ⌝ }
 {
     let mut a = first;
     let mut blocks: u64 = 0;
     let mut longest: u64 = 0;
     while a <= last {
-        match look(f, l, n, a, last) {
+        match look(firsts, lasts, count, a, last) {
             Ahead::Taken(x) => {
                 if last <= x {
                     return Free { blocks, longest };
@@ -147,20 +157,27 @@ pub fn free_counts(t: &[u8], first: Block, last: Block) -> Free
     requires { ⌜ (length (now t) ≡ tableBytes) × (last .0 < 18446744073709551615) ⌝ }
     ensures { λ r. ⌜ r ≡ freeOf (slots (now (t .entry))) (first .0) (last .0) ⌝ }
 {
-    let mut f = [0u64; SLOTS];
-    let mut l = [0u64; SLOTS];
-    let n = crate::decode(t, SLOTS, FIRST_AT, &mut f, &mut l);
-    tally(&f, &l, n, first.0, last.0)
+    let mut firsts = [0u64; SLOTS];
+    let mut lasts = [0u64; SLOTS];
+    let count = crate::decode(t, SLOTS, FIRST_AT, &mut firsts, &mut lasts);
+    tally(&firsts, &lasts, count, first.0, last.0)
 }
 
-fn room_at(f: &[u64; SLOTS], l: &[u64; SLOTS], n: usize, a: u64, last: u64, size: u64) -> bool
-    requires { ⌜ (n ≤ slotCount) × (0 < size) × (last < 18446744073709551615) ⌝ }
-    ensures { λ r. ⌜ r ≡ roomAt (ranges (now (f .entry)) (now (l .entry)) n) last size a ⌝ }
+fn room_at(
+    firsts: &[u64; SLOTS],
+    lasts: &[u64; SLOTS],
+    count: usize,
+    a: u64,
+    last: u64,
+    size: u64,
+) -> bool
+    requires { ⌜ (count ≤ slotCount) × (0 < size) × (last < 18446744073709551615) ⌝ }
+    ensures { λ r. ⌜ r ≡ roomAt (ranges (now (firsts .entry)) (now (lasts .entry)) count) last size a ⌝ }
 {
     if last < a {
         return false;
     }
-    match look(f, l, n, a, last) {
+    match look(firsts, lasts, count, a, last) {
         Ahead::Taken(_) => false,
         Ahead::Gap(g) => size <= g - a,
     }
@@ -173,8 +190,8 @@ pub fn fits_at(t: &[u8], k: usize, last: Block, size: u64) -> bool
 {
     let i = k - 1;
     let a = octets::load64(crate::entry(t, i), FIRST_AT);
-    let mut f = [0u64; SLOTS];
-    let mut l = [0u64; SLOTS];
-    let n = crate::decode(t, i, FIRST_AT, &mut f, &mut l);
-    room_at(&f, &l, n, a, last.0, size)
+    let mut firsts = [0u64; SLOTS];
+    let mut lasts = [0u64; SLOTS];
+    let count = crate::decode(t, i, FIRST_AT, &mut firsts, &mut lasts);
+    room_at(&firsts, &lasts, count, a, last.0, size)
 }

@@ -91,26 +91,26 @@ fn beside(a: u64, b: u64, x: u64, y: u64, f: u64, l: u64, u: u64, v: u64) -> boo
     apart(a, b, f, l)
 }
 
-// The used entry i keeps the rules with each used entry behind it.
+// The used entry i keeps the rules with each used entry behind it; lows and highs are the halves of the unique GUIDs.
 fn beside_rest(
-    f: &[u64; SLOTS],
-    l: &[u64; SLOTS],
-    u: &[u64; SLOTS],
-    v: &[u64; SLOTS],
-    n: usize,
+    firsts: &[u64; SLOTS],
+    lasts: &[u64; SLOTS],
+    lows: &[u64; SLOTS],
+    highs: &[u64; SLOTS],
+    count: usize,
     i: usize,
 ) -> bool
-    requires { ⌜ (i < n) × (n ≤ slotCount) ⌝ }
-    ensures { λ r. ⌜ ((es : List (List ℕ)) → Numbers es (now (f .entry)) (now (l .entry)) (now (u .entry)) (now (v .entry)) n
+    requires { ⌜ (i < count) × (count ≤ slotCount) ⌝ }
+    ensures { λ r. ⌜ ((es : List (List ℕ)) → Numbers es (now (firsts .entry)) (now (lasts .entry)) (now (lows .entry)) (now (highs .entry)) count
         → r ≡ all (besideOf (getD es i [])) (drop (i + 1) es)) ⌝ }
 {
-    let a = f[i];
-    let b = l[i];
-    let x = u[i];
-    let y = v[i];
+    let a = firsts[i];
+    let b = lasts[i];
+    let x = lows[i];
+    let y = highs[i];
     let mut j = i + 1;
-    while j < n {
-        if !beside(a, b, x, y, f[j], l[j], u[j], v[j]) {
+    while j < count {
+        if !beside(a, b, x, y, firsts[j], lasts[j], lows[j], highs[j]) {
             return false;
         }
         j += 1;
@@ -119,18 +119,18 @@ fn beside_rest(
 }
 
 fn pairs_ok(
-    f: &[u64; SLOTS],
-    l: &[u64; SLOTS],
-    u: &[u64; SLOTS],
-    v: &[u64; SLOTS],
-    n: usize,
+    firsts: &[u64; SLOTS],
+    lasts: &[u64; SLOTS],
+    lows: &[u64; SLOTS],
+    highs: &[u64; SLOTS],
+    count: usize,
 ) -> bool
-    requires { ⌜ n ≤ slotCount ⌝ }
-    ensures { λ r. ⌜ ((es : List (List ℕ)) → Numbers es (now (f .entry)) (now (l .entry)) (now (u .entry)) (now (v .entry)) n → r ≡ pairs besideOf es) ⌝ }
+    requires { ⌜ count ≤ slotCount ⌝ }
+    ensures { λ r. ⌜ ((es : List (List ℕ)) → Numbers es (now (firsts .entry)) (now (lasts .entry)) (now (lows .entry)) (now (highs .entry)) count → r ≡ pairs besideOf es) ⌝ }
 {
     let mut i = 0;
-    while i < n {
-        if !beside_rest(f, l, u, v, n, i) {
+    while i < count {
+        if !beside_rest(firsts, lasts, lows, highs, count, i) {
             return false;
         }
         i += 1;
@@ -146,11 +146,11 @@ pub fn table_ok(t: &[u8], first: Block, last: Block) -> bool
     if !entries_ok(t, first.0, last.0) {
         return false;
     }
-    let mut f = [0u64; SLOTS];
-    let mut l = [0u64; SLOTS];
-    let mut u = [0u64; SLOTS];
-    let mut v = [0u64; SLOTS];
-    let n = crate::decode(t, SLOTS, FIRST_AT, &mut f, &mut l);
-    crate::decode(t, SLOTS, UNIQUE_AT, &mut u, &mut v);
-    pairs_ok(&f, &l, &u, &v, n)
+    let mut firsts = [0u64; SLOTS];
+    let mut lasts = [0u64; SLOTS];
+    let mut lows = [0u64; SLOTS];
+    let mut highs = [0u64; SLOTS];
+    let count = crate::decode(t, SLOTS, FIRST_AT, &mut firsts, &mut lasts);
+    crate::decode(t, SLOTS, UNIQUE_AT, &mut lows, &mut highs);
+    pairs_ok(&firsts, &lasts, &lows, &highs, count)
 }

@@ -45,9 +45,9 @@ element-copy-out-t21 c = search needs
 
 returns : tie.Need-returns Inv-loop μ-loop
 returns c =
-    let f = now (c .before .before .before .before .before .before .before .args .f) in
-    let l = now (c .before .before .before .before .before .before .before .args .l) in
-    let n = c .before .before .before .before .before .before .before .args .n in
+    let f = now (c .before .before .before .before .before .before .before .args .firsts) in
+    let l = now (c .before .before .before .before .before .before .before .args .lasts) in
+    let n = c .before .before .before .before .before .before .before .args .count in
     let i = c .before .before .before .before .before .before .loop .i in
     let k = length-ranges f l n in
     taken (seen-full (ranges f l n) i _ _ (omega arith) (getD-ranges f l n i (omega arith)) (c .before .before .before .before .before .before .before .args .a) (sym (c .before .before .inside .ensures) ∙ c .before .if1 .taken))
@@ -75,16 +75,16 @@ loop-less c = search needs
 
 loop-again : tie.Need-loop-again Inv-loop μ-loop
 loop-again c =
-    let f = now (c .before .before .before .before .before .before .before .before .before .args .f) in
-    let l = now (c .before .before .before .before .before .before .before .before .before .args .l) in
-    let n = c .before .before .before .before .before .before .before .before .before .args .n in
+    let f = now (c .before .before .before .before .before .before .before .before .before .args .firsts) in
+    let l = now (c .before .before .before .before .before .before .before .before .before .args .lasts) in
+    let n = c .before .before .before .before .before .before .before .before .before .args .count in
     let i = c .before .before .before .before .before .before .before .before .loop .i in
     let k = length-ranges f l n in
     seen-more (ranges f l n) i _ _ (omega arith) (getD-ranges f l n i (omega arith)) (c .before .before .before .before .before .before .before .before .loop .inv) (c .lower .ensures)
 
 returns-2 : tie.Need-returns-2 Inv-loop μ-loop
 returns-2 c =
-    let k = length-ranges (now (c .before .before .args .f)) (now (c .before .before .args .l)) (c .before .before .args .n) in
+    let k = length-ranges (now (c .before .before .args .firsts)) (now (c .before .before .args .lasts)) (c .before .before .args .count) in
     gap (seen-end (omega arith) (c .before .loop .inv))
 
 pub look-spec : {M : Type 1} → statement M
