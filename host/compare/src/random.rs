@@ -20,6 +20,11 @@ impl Random {
         ((self.number() >> 32) as usize) % bound
     }
 
+    #[cfg_attr(not(feature = "gpt"), allow(dead_code))]
+    pub fn number_below(&mut self, bound: u64) -> u64 {
+        self.number() % bound
+    }
+
     pub fn bytes(&mut self, length: usize) -> Vec<u8> {
         let mut bytes = vec![0; length];
         for part in bytes.chunks_mut(8) {

@@ -1,6 +1,6 @@
 use crate::random::Random;
 use second::Rules;
-use std::collections::BTreeSet;
+use std::collections::BTreeMap;
 use std::fmt::{self, Display};
 
 /// One run of comparisons between the library and the second implementation under `rules`.
@@ -8,13 +8,43 @@ pub struct Run<'a> {
     pub rules: &'a Rules,
     pub random: Random,
     pub made: u64,
-    /// Every answer that the library gave, by call.
-    pub answers: BTreeSet<(&'static str, u32)>,
+    /// How often the library did what, by call.
+    reached: BTreeMap<(&'static str, Cell), u64>,
+}
+
+/// What a call can be seen to do.
+#[derive(Clone, Copy, Debug, PartialEq, Eq, PartialOrd, Ord)]
+pub enum Cell {
+    /// Answers 0 or the refusal's number.
+    Answer(u32),
+    /// Answers 1 where this buffer alone has a wrong length.
+    #[cfg_attr(not(feature = "gpt"), allow(dead_code))]
+    WrongLength(&'static str),
+    /// Answers on a disk in this state.
+    #[cfg_attr(not(feature = "gpt"), allow(dead_code))]
+    State(u64),
+}
+
+impl Display for Cell {
+    fn fmt(&self, f: &mut fmt::Formatter<'_>) -> fmt::Result {
+        match self {
+            Cell::Answer(number) => write!(f, "answer {number}"),
+            Cell::WrongLength(buffer) => write!(f, "1 by {buffer}"),
+            Cell::State(state) => write!(f, "state {state}"),
+        }
+    }
 }
 
 pub struct Difference(String);
 
-impl fmt::Display for Difference {
+impl Difference {
+    #[cfg_attr(not(feature = "gpt"), allow(dead_code))]
+    pub fn new(what: String) -> Difference {
+        Difference(what)
+    }
+}
+
+impl Display for Difference {
     fn fmt(&self, f: &mut fmt::Formatter<'_>) -> fmt::Result {
         f.write_str(&self.0)
     }
@@ -33,7 +63,15 @@ pub struct Buffer<'a> {
 
 impl<'a> Run<'a> {
     pub fn new(rules: &'a Rules, seed: u64) -> Run<'a> {
-        Run { rules, random: Random::new(seed), made: 0, answers: BTreeSet::new() }
+        Run { rules, random: Random::new(seed), made: 0, reached: BTreeMap::new() }
+    }
+
+    pub fn reach(&mut self, call: &'static str, cell: Cell) {
+        *self.reached.entry((call, cell)).or_default() += 1;
+    }
+
+    pub fn times(&self, call: &'static str, cell: Cell) -> u64 {
+        self.reached.get(&(call, cell)).copied().unwrap_or(0)
     }
 
     /// Compares the answers of one call, then every byte of the buffers.
@@ -62,6 +100,9 @@ impl<'a> Run<'a> {
 }
 
 fn first_difference(a: &[u8], b: &[u8]) -> Option<usize> {
+    if a == b {
+        return None;
+    }
     a.iter().zip(b).position(|(x, y)| x != y)
 }
 
