@@ -9,6 +9,7 @@ pub struct Refusal {
 }
 
 /// The argument that a refusal is about.
+#[cfg_attr(not(feature = "gpt"), allow(dead_code))]
 #[derive(Clone, Copy, Debug, PartialEq, Eq)]
 pub(crate) enum Detail {
     /// A disk of so many blocks.

@@ -1,0 +1,38 @@
+//! Other tools that the tests compare with, and bytes that such tools made (`fixtures/`).
+
+pub mod disk;
+pub mod fixture;
+pub mod listing;
+
+use std::ffi::OsStr;
+use std::path::{Path, PathBuf};
+use std::process::{Command, Output};
+
+/// Folder `host` of the repository.
+pub fn host() -> PathBuf {
+    Path::new(env!("CARGO_MANIFEST_DIR")).join("..")
+}
+
+/// Whether the tool is there, by `tests/peer`; fails where that fails.
+pub fn present(tool: &str, package: &str) -> bool {
+    let finder = host().join("../tests/peer");
+    let status = Command::new(&finder).args([tool, package, tool]).status();
+    match status.unwrap_or_else(|error| panic!("{}: {error}", finder.display())).code() {
+        Some(0) => true,
+        Some(3) => false,
+        code => panic!("{tool} of Debian's {package} is missing ({code:?})"),
+    }
+}
+
+/// Runs a tool to its end.
+pub fn run(tool: &str, arguments: impl IntoIterator<Item = impl AsRef<OsStr>>) -> Output {
+    Command::new(tool).args(arguments).output().unwrap_or_else(|error| panic!("{tool}: {error}"))
+}
+
+/// What a tool that succeeds prints to standard output.
+pub fn printed(tool: &str, arguments: impl IntoIterator<Item = impl AsRef<OsStr>>) -> String {
+    let output = run(tool, arguments);
+    let (out, err) = (String::from_utf8_lossy(&output.stdout), String::from_utf8_lossy(&output.stderr));
+    assert!(output.status.success(), "{tool}: {}\n{out}{err}", output.status);
+    out.into_owned()
+}
