@@ -1,7 +1,7 @@
-use crate::random::Random;
 use crate::run::{Buffer, Outcome, Run};
 use crate::topic::{variant, Topic, Variant};
 use std::fmt::{self, Display};
+use testkit::random::Random;
 
 pub const TOPIC: Topic = Topic {
     parts: &[
@@ -11,7 +11,7 @@ pub const TOPIC: Topic = Topic {
     ],
     // The CRC is no answer of a fixed set.
     cells: &[],
-    at_least: 40_000,
+    at_least: ("crc32", 40_000),
     variants,
     rules_to_break: &["D3"],
 };

@@ -19,7 +19,7 @@ pub const TOPIC: Topic = Topic {
         ("type_read", &[Cell::Answer(0), Cell::Answer(1), Cell::Answer(30)]),
         ("guid_write", &[Cell::Answer(0), Cell::Answer(1)]),
     ],
-    at_least: 300_000,
+    at_least: ("guid_", 100_000),
     variants,
     rules_to_break: &["G1", "G2", "G3", "G4", "R1", "R2", "R4", "R14"],
 };

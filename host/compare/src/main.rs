@@ -5,10 +5,13 @@
 //! the second implementation and demands that it reports each; `--seed N` sets the random inputs.
 
 mod crc;
+#[cfg(feature = "fmap")]
+mod fmap;
 #[cfg(feature = "gpt")]
 mod gpt;
 mod guid;
-mod random;
+#[cfg(any(feature = "gpt", feature = "fmap"))]
+mod number;
 mod run;
 mod topic;
 
@@ -24,6 +27,8 @@ const TOPICS: &[Topic] = &[
     crc::TOPIC,
     #[cfg(feature = "gpt")]
     gpt::TOPIC,
+    #[cfg(feature = "fmap")]
+    fmap::TOPIC,
 ];
 
 fn main() -> ExitCode {
@@ -62,7 +67,6 @@ fn compare_all(seed: u64) -> bool {
 }
 
 fn compare_topic(run: &mut Run, topic: &Topic) -> bool {
-    let start = run.made;
     let mut differences = 0;
     for (part, compare) in topic.parts {
         let before = run.made;
@@ -73,9 +77,10 @@ fn compare_topic(run: &mut Run, topic: &Topic) -> bool {
             differences += 1;
         }
     }
-    let enough = run.made - start >= topic.at_least;
+    let (calls, times) = topic.at_least;
+    let enough = run.compared(calls) >= times;
     if !enough {
-        println!("UNTESTED: less than {} comparisons", topic.at_least);
+        println!("UNTESTED: {calls} compared {} times, not {times}", run.compared(calls));
     }
     differences == 0 && enough
 }

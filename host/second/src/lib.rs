@@ -6,12 +6,14 @@
 
 mod bytes;
 mod crc;
+mod fmap;
 mod gpt;
 mod guid;
 mod refuse;
 pub mod rules;
 
 pub use crc::crc32;
+pub use fmap::{fmap_area, fmap_area_count, fmap_carry, fmap_find, fmap_named};
 pub use gpt::{
     gpt_add, gpt_delete, gpt_format, gpt_free, gpt_read, gpt_rename, gpt_repair, gpt_resize, gpt_table,
     Ledger, NewPartition,

@@ -2,7 +2,7 @@
 
 mod disk;
 
-use peers::fixture;
+use testkit::fixture;
 
 #[test]
 fn fixtures_read_as_their_tool_said() {

@@ -3,10 +3,11 @@
 mod disk;
 
 use disk::answered;
-use peers::disk::{Disk, HEAD_LEN, TAIL_LEN};
-use peers::listing::{self, Partition};
 use second::{NewPartition, RULES};
 use std::path::Path;
+use testkit::disk::{Disk, HEAD_LEN, TAIL_LEN};
+use testkit::listing::{self, Partition};
+use testkit::peer;
 
 /// Sizes that are added, slots that are deleted after them, and the size that slot 1 then has.
 struct Plan {
@@ -79,7 +80,7 @@ fn seal_primary(disk: &mut Disk) {
 
 #[test]
 fn sgdisk_finds_no_problem_and_lists_the_same() {
-    if !peers::present("sgdisk", "gdisk") {
+    if !peer::present("sgdisk", "gdisk") {
         return;
     }
     for plan in &PLANS {
@@ -93,7 +94,7 @@ fn sgdisk_finds_no_problem_and_lists_the_same() {
 
 /// What `sgdisk -v` says, if it is not content: it puts a bad copy right in memory before it looks.
 fn sgdisk_problem(disk: &Disk) -> Option<String> {
-    let output = peers::run("sgdisk", [Path::new("-v"), &disk.image().path]);
+    let output = peer::run("sgdisk", [Path::new("-v"), &disk.image().path]);
     let said = [output.stdout, output.stderr].concat();
     let said = String::from_utf8_lossy(&said).into_owned();
     let content = said.contains("No problems found") && !said.contains("invalid") && !said.contains("ERROR");
@@ -102,12 +103,12 @@ fn sgdisk_problem(disk: &Disk) -> Option<String> {
 
 #[test]
 fn sfdisk_finds_no_error_and_lists_the_same() {
-    if !peers::present("sfdisk", "fdisk") {
+    if !peer::present("sfdisk", "fdisk") {
         return;
     }
     for plan in &PLANS {
         let image = filled(plan).image();
-        let said = peers::printed("sfdisk", [Path::new("-V"), &image.path]);
+        let said = peer::printed("sfdisk", [Path::new("-V"), &image.path]);
         assert!(said.contains("No errors detected"), "N {}: {said}", plan.n);
     }
     lists_the_same(|image, _| listing::sfdisk(image));
@@ -115,7 +116,7 @@ fn sfdisk_finds_no_error_and_lists_the_same() {
 
 #[test]
 fn cgpt_lists_the_same() {
-    if !peers::present("cgpt", "cgpt") {
+    if !peer::present("cgpt", "cgpt") {
         return;
     }
     lists_the_same(|image, ours| listing::cgpt(image, ours.iter().map(|partition| partition.slot)));

@@ -3,6 +3,8 @@
 
 #[cfg(feature = "gpt")]
 mod disk;
+#[cfg(feature = "fmap")]
+pub mod flash;
 mod guid;
 pub mod raw;
 mod refusal;

@@ -9,12 +9,16 @@ pub struct Refusal {
 }
 
 /// The argument that a refusal is about.
-#[cfg_attr(not(feature = "gpt"), allow(dead_code))]
+#[cfg_attr(not(all(feature = "gpt", feature = "fmap")), allow(dead_code))]
 #[derive(Clone, Copy, Debug, PartialEq, Eq)]
 pub(crate) enum Detail {
     /// A disk of so many blocks.
     Blocks(u64),
     Slot(u64),
+    /// An image of so many bytes.
+    Bytes(usize),
+    /// One of two images.
+    Image(&'static str),
     /// A partition of so many blocks to be placed.
     NewSize(u64),
     /// A partition to be given so many blocks.
@@ -22,7 +26,7 @@ pub(crate) enum Detail {
 }
 
 /// What each number says.
-const WORDS: [(u32, &str); 14] = [
+const WORDS: [(u32, &str); 21] = [
     (1, "a lent buffer has a wrong length"),
     (2, "the number of blocks is outside its range"),
     (3, "the disk GUID is all zero"),
@@ -37,6 +41,13 @@ const WORDS: [(u32, &str); 14] = [
     (24, "no unused slot"),
     (25, "no room"),
     (30, "not a GUID text"),
+    (40, "the image length is outside its range"),
+    (41, "the signature of a map stands nowhere"),
+    (42, "no good map"),
+    (60, "a preserved area is missing in the new map"),
+    (61, "a preserved area has another size in the new map"),
+    (62, "areas to be carried share a byte"),
+    (63, "an area to be carried shares a byte with area FMAP of the new map"),
 ];
 
 impl Refusal {
@@ -52,7 +63,7 @@ impl Refusal {
     }
 
     /// The refusal with its argument, where the number is about that argument.
-    #[cfg_attr(not(feature = "gpt"), allow(dead_code))]
+    #[cfg_attr(not(any(feature = "gpt", feature = "fmap")), allow(dead_code))]
     pub(crate) fn about(self, details: &[Detail]) -> Refusal {
         let detail = details.iter().copied().find(|detail| detail.fits(self.number));
         Refusal { detail, ..self }
@@ -63,6 +74,8 @@ impl Detail {
     fn fits(self, number: u32) -> bool {
         match self {
             Detail::Blocks(_) => number == 2,
+            Detail::Bytes(_) => number == 40,
+            Detail::Image(_) => (40..=42).contains(&number),
             Detail::Slot(_) => number == 12 || number == 13,
             Detail::NewSize(_) | Detail::SlotSize(..) => number == 25,
         }
@@ -73,6 +86,8 @@ impl fmt::Display for Detail {
     fn fmt(&self, f: &mut fmt::Formatter<'_>) -> fmt::Result {
         match self {
             Detail::Blocks(n) => write!(f, "{n} blocks"),
+            Detail::Bytes(len) => write!(f, "{len} bytes"),
+            Detail::Image(which) => write!(f, "the {which} image"),
             Detail::Slot(slot) => write!(f, "slot {slot}"),
             Detail::NewSize(size) => write!(f, "no run of {size} free blocks"),
             Detail::SlotSize(slot, size) => write!(f, "slot {slot} cannot have {size} blocks"),

@@ -1,7 +1,8 @@
-use crate::random::Random;
+use crate::number::Number;
 use crate::run::Lent;
 use second::Rules;
 use std::fmt;
+use testkit::random::Random;
 use usigrambal::raw;
 
 pub const HEAD_LEN: usize = 17_408;
@@ -53,28 +54,6 @@ impl Units {
 
     pub fn to_bytes(&self) -> Vec<u8> {
         self.store.iter().flat_map(|unit| unit.to_ne_bytes()).collect()
-    }
-}
-
-/// A number answer between guards; what it holds before the call is random.
-#[derive(Clone, PartialEq)]
-pub struct Number {
-    store: [u64; 3],
-}
-
-impl Number {
-    fn new(random: &mut Random) -> Number {
-        Number { store: [random.number(), random.number(), random.number()] }
-    }
-
-    pub fn value(&self) -> u64 {
-        self.store[1]
-    }
-}
-
-impl fmt::Display for Number {
-    fn fmt(&self, f: &mut fmt::Formatter<'_>) -> fmt::Result {
-        write!(f, "{:X?}", self.store)
     }
 }
 
@@ -130,7 +109,7 @@ impl Call {
     pub fn by_library(&self, loan: &mut Loan) -> u32 {
         let Loan { n, head, tail, guids: [one, two], name: units, answers: [a, b] } = loan;
         let (head, tail, n) = (head.bytes_mut(), tail.bytes_mut(), *n);
-        let (a, b) = (&mut a.store[1], &mut b.store[1]);
+        let (a, b) = (a.answer(), b.answer());
         match self {
             Call::Format { .. } => raw::gpt_format(head, tail, n, one.bytes()),
             Call::Read => raw::gpt_read(head, tail, n, a),
@@ -151,7 +130,7 @@ impl Call {
     pub fn by_second(&self, rules: &Rules, loan: &mut Loan) -> u32 {
         let Loan { n, head, tail, guids: [one, two], name: units, answers: [a, b] } = loan;
         let (head, tail, n) = (head.bytes_mut(), tail.bytes_mut(), *n);
-        let (a, b) = (&mut a.store[1], &mut b.store[1]);
+        let (a, b) = (a.answer(), b.answer());
         match self {
             Call::Format { .. } => second::gpt_format(rules, head, tail, n, one.bytes()),
             Call::Read => second::gpt_read(rules, head, tail, n, a),

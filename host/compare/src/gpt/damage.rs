@@ -2,7 +2,7 @@
 
 use super::call::GUID_LEN;
 use super::disk::{Disk, Side, ENTRY_LEN, HEADER_LEN, SIDES, SLOTS};
-use crate::random::Random;
+use testkit::random::Random;
 
 /// Begin and length of the fields of a header, the CRCs left out.
 pub const HEADER_FIELDS: [(usize, usize); 12] = [

@@ -1,8 +1,8 @@
-use super::call::{Call, Number, GUID_LEN, HEAD_LEN, TAIL_LEN};
-use crate::random::Random;
+use super::call::{Call, GUID_LEN, HEAD_LEN, TAIL_LEN};
+use crate::number::Answers;
 use crate::run::{Buffer, Cell, Difference, Lent, Run};
 use second::RULES;
-use std::fmt;
+use testkit::random::Random;
 
 pub const SLOTS: usize = 128;
 pub const ENTRY_LEN: usize = 128;
@@ -48,16 +48,6 @@ pub struct Disk {
 pub struct Reply {
     pub number: u32,
     pub values: [u64; 2],
-}
-
-#[derive(PartialEq)]
-struct Answers(u32, [Number; 2]);
-
-impl fmt::Display for Answers {
-    fn fmt(&self, f: &mut fmt::Formatter<'_>) -> fmt::Result {
-        let Answers(number, [a, b]) = self;
-        write!(f, "{number}, {a}, {b}")
-    }
 }
 
 impl Disk {
@@ -115,7 +105,7 @@ impl Disk {
     fn note(&self, run: &mut Run, call: &Call, answer: u32) {
         run.reach(call.name(), Cell::Answer(answer));
         if let ([buffer], 1) = (&call.wrong_lengths(&self.head, &self.tail)[..], answer) {
-            run.reach(call.name(), Cell::WrongLength(buffer));
+            run.reach(call.name(), Cell::By(1, buffer));
         }
     }
 

@@ -3,9 +3,9 @@
 use super::call::Call;
 use super::disk::{Disk, Reply, Side, SLOTS};
 use super::{damage, sample};
-use crate::random::Random;
 use crate::run::{Difference, Outcome, Run};
 use second::Ledger;
+use testkit::random::Random;
 
 const DAMAGED_HISTORIES: usize = 260;
 const DAMAGED_CALLS: usize = 36;

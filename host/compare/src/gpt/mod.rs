@@ -7,7 +7,7 @@ mod rows;
 mod sample;
 mod variants;
 
-use crate::run::Cell::{self, Answer, State, WrongLength};
+use crate::run::Cell::{self, Answer, By, State};
 use crate::topic::Topic;
 
 pub const TOPIC: Topic = Topic {
@@ -36,26 +36,19 @@ pub const TOPIC: Topic = Topic {
         ("gpt_resize", RESIZE),
         ("gpt_repair", READING),
     ],
-    at_least: 20_000,
+    at_least: ("gpt_", 20_000),
     variants: variants::all,
     rules_to_break: variants::RULES_TO_BREAK,
 };
 
-const FORMAT: &[Cell] = &[
-    Answer(0),
-    Answer(1),
-    WrongLength("head"),
-    WrongLength("tail"),
-    WrongLength("guid"),
-    Answer(2),
-    Answer(3),
-];
+const FORMAT: &[Cell] =
+    &[Answer(0), Answer(1), By(1, "head"), By(1, "tail"), By(1, "guid"), Answer(2), Answer(3)];
 
 const READING: &[Cell] = &[
     Answer(0),
     Answer(1),
-    WrongLength("head"),
-    WrongLength("tail"),
+    By(1, "head"),
+    By(1, "tail"),
     Answer(2),
     Answer(10),
     State(1),
@@ -67,11 +60,11 @@ const READING: &[Cell] = &[
 const ADD: &[Cell] = &[
     Answer(0),
     Answer(1),
-    WrongLength("head"),
-    WrongLength("tail"),
-    WrongLength("type"),
-    WrongLength("unique"),
-    WrongLength("name"),
+    By(1, "head"),
+    By(1, "tail"),
+    By(1, "type"),
+    By(1, "unique"),
+    By(1, "name"),
     Answer(2),
     Answer(10),
     Answer(11),
@@ -90,8 +83,8 @@ const ADD: &[Cell] = &[
 const DELETE: &[Cell] = &[
     Answer(0),
     Answer(1),
-    WrongLength("head"),
-    WrongLength("tail"),
+    By(1, "head"),
+    By(1, "tail"),
     Answer(2),
     Answer(10),
     Answer(11),
@@ -106,9 +99,9 @@ const DELETE: &[Cell] = &[
 const RENAME: &[Cell] = &[
     Answer(0),
     Answer(1),
-    WrongLength("head"),
-    WrongLength("tail"),
-    WrongLength("name"),
+    By(1, "head"),
+    By(1, "tail"),
+    By(1, "name"),
     Answer(2),
     Answer(10),
     Answer(11),
@@ -124,8 +117,8 @@ const RENAME: &[Cell] = &[
 const RESIZE: &[Cell] = &[
     Answer(0),
     Answer(1),
-    WrongLength("head"),
-    WrongLength("tail"),
+    By(1, "head"),
+    By(1, "tail"),
     Answer(2),
     Answer(10),
     Answer(11),

@@ -3,8 +3,8 @@
 use super::call::{Call, GUID_LEN, HEAD_LEN, NAME_UNITS, TAIL_LEN};
 use super::disk::{Disk, Side, SIDES, SLOTS};
 use super::sample;
-use crate::random::Random;
 use crate::run::{Lent, Outcome, Run};
+use testkit::random::Random;
 
 /// A way to make a row hold.
 #[derive(Clone, Copy, Debug, PartialEq, Eq)]

@@ -2,7 +2,7 @@
 
 use super::call::{Call, GUID_LEN, NAME_UNITS};
 use super::disk::{Disk, Side, SLOTS};
-use crate::random::Random;
+use testkit::random::Random;
 
 pub const N_MIN: u64 = 68;
 pub const N_MAX: u64 = 1 << 32;

@@ -1,5 +1,5 @@
-use crate::topic::{variant, Variant};
-use second::rules::{EditSlip, GptRules, Holds, Longest, Place, Row, Slot, Start, Tail, Unjudged, Which};
+use crate::topic::{order_variants, variant, Order, Variant};
+use second::rules::{EditSlip, Holds, Longest, Place, Row, Slot, Start, Tail, Unjudged, Which};
 
 pub const RULES_TO_BREAK: &[&str] = &[
     "Q1", "Q2", "Q3", "Q6", "R1", "R2", "R3", "R4", "R5", "R6", "R7", "R8", "R9", "R10", "R11", "R12", "R13",
@@ -89,52 +89,26 @@ fn numbers() -> Vec<Variant> {
     rows.into_iter().map(renumbered).collect()
 }
 
-type Order = fn(&mut GptRules) -> &mut &'static [Row];
-
 /// Each row of each order left out, and each two neighbours exchanged.
 fn orders() -> Vec<Variant> {
     let orders: [(&str, &str, Order); 9] = [
-        ("format", "R25", |gpt| &mut gpt.format_order),
-        ("read", "R26", |gpt| &mut gpt.read_order),
-        ("table", "R26", |gpt| &mut gpt.table_order),
-        ("free", "R26", |gpt| &mut gpt.free_order),
-        ("repair", "R26", |gpt| &mut gpt.repair_order),
-        ("add", "R27", |gpt| &mut gpt.add_order),
-        ("delete", "R28", |gpt| &mut gpt.delete_order),
-        ("rename", "R29", |gpt| &mut gpt.rename_order),
-        ("resize", "R30", |gpt| &mut gpt.resize_order),
+        ("format", "R25", |r| &mut r.gpt.format_order),
+        ("read", "R26", |r| &mut r.gpt.read_order),
+        ("table", "R26", |r| &mut r.gpt.table_order),
+        ("free", "R26", |r| &mut r.gpt.free_order),
+        ("repair", "R26", |r| &mut r.gpt.repair_order),
+        ("add", "R27", |r| &mut r.gpt.add_order),
+        ("delete", "R28", |r| &mut r.gpt.delete_order),
+        ("rename", "R29", |r| &mut r.gpt.rename_order),
+        ("resize", "R30", |r| &mut r.gpt.resize_order),
     ];
-    let mut variants = vec![variant("size-before-slot", "R2", |r| {
-        r.gpt.resize_order = &[Row::WrongLength, Row::ZeroSize, Row::NoGoodCopy];
-    })];
-    for (call, rule, order) in orders {
-        variants.extend(without_each_row(call, rule, order));
-        variants.extend(with_neighbours_exchanged(call, rule, order));
-    }
+    // A resize to no blocks always has room.
+    let alone = |call: &str| (call == "resize").then_some(Row::NoRoom);
+    let variants =
+        orders.into_iter().flat_map(|(call, rule, order)| order_variants(call, rule, order, alone(call)));
+    let mut variants: Vec<Variant> = variants.collect();
+    variants.push(variant("no-row-but-the-first", "R2", |r| r.gpt.add_order = &[Row::WrongLength]));
     variants
-}
-
-fn without_each_row(call: &str, rule: &'static str, order: Order) -> Vec<Variant> {
-    let rows = *order(&mut second::RULES.gpt.clone());
-    let without = |k: usize| {
-        let rest: Vec<Row> = rows.iter().copied().filter(|row| *row != rows[k]).collect();
-        variant(format!("{call}-without-{:?}", rows[k]), rule, |r| *order(&mut r.gpt) = rest.leak())
-    };
-    (0..rows.len()).map(without).collect()
-}
-
-/// A resize to no blocks always has room, so that ZeroSize and NoRoom never hold together there.
-const NEVER_TOGETHER: (&str, Row) = ("resize", Row::NoRoom);
-
-fn with_neighbours_exchanged(call: &str, rule: &'static str, order: Order) -> Vec<Variant> {
-    let rows = *order(&mut second::RULES.gpt.clone());
-    let exchanged = |k: usize| {
-        let mut swapped = rows.to_vec();
-        swapped.swap(k - 1, k);
-        let name = format!("{call}-{:?}-before-{:?}", rows[k], rows[k - 1]);
-        variant(name, rule, |r| *order(&mut r.gpt) = swapped.leak())
-    };
-    (1..rows.len()).filter(|k| (call, rows[*k]) != NEVER_TOGETHER).map(exchanged).collect()
 }
 
 fn headers() -> Vec<Variant> {

@@ -1,9 +1,11 @@
 mod crc;
+mod fmap;
 mod gpt;
 mod guid;
 mod refusal;
 
 pub use crc::{CrcRules, CRC};
+pub use fmap::*;
 pub use gpt::*;
 pub use guid::{DigitRange, GuidRules, GUID};
 pub use refusal::{RefusalRules, Row, REFUSALS};
@@ -15,6 +17,7 @@ pub struct Rules {
     pub crc: CrcRules,
     pub guid: GuidRules,
     pub gpt: GptRules,
+    pub fmap: FmapRules,
 }
 
-pub const RULES: Rules = Rules { refusals: REFUSALS, crc: CRC, guid: GUID, gpt: GPT };
+pub const RULES: Rules = Rules { refusals: REFUSALS, crc: CRC, guid: GUID, gpt: GPT, fmap: FMAP };

@@ -15,13 +15,26 @@ pub enum Row {
     NoSlot,
     NoRoom,
     NotGuidText,
+    ImageLength,
+    NoSignature,
+    NoGoodMap,
+    /// The same three of the new image, in a carry.
+    NewImageLength,
+    NewNoSignature,
+    NewNoGoodMap,
+    AreaMissing,
+    OtherSize,
+    SharedByte,
+    OnFmap,
+    /// No row of the table: no such area.
+    Nothing,
 }
 
 /// What a refusal returns and leaves.
 #[derive(Clone, Copy, Debug)]
 pub struct RefusalRules {
-    /// R4 to R14.
-    pub numbers: [(Row, u32); 14],
+    /// R4 to R16, R23, R24; 255 for the answer that no area is there.
+    pub numbers: [(Row, u32); 25],
     /// R1: how many bytes of an output buffer a refusal zeroes.
     pub zeroes: usize,
     /// R1, "its number alone": a refusal sets the other answers to zero.
@@ -51,6 +64,17 @@ pub const REFUSALS: RefusalRules = RefusalRules {
         (Row::NoSlot, 24),
         (Row::NoRoom, 25),
         (Row::NotGuidText, 30),
+        (Row::ImageLength, 40),
+        (Row::NoSignature, 41),
+        (Row::NoGoodMap, 42),
+        (Row::NewImageLength, 40),
+        (Row::NewNoSignature, 41),
+        (Row::NewNoGoodMap, 42),
+        (Row::AreaMissing, 60),
+        (Row::OtherSize, 61),
+        (Row::SharedByte, 62),
+        (Row::OnFmap, 63),
+        (Row::Nothing, 255),
     ],
     zeroes: 0,
     zeroes_answers: false,

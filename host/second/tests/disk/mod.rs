@@ -1,8 +1,8 @@
-//! The second implementation on the disks of `peers`, under the right rules.
+//! The second implementation on the disks of `testkit`, under the right rules.
 
-use peers::disk::Disk;
-use peers::listing::Partition;
 use second::RULES;
+use testkit::disk::Disk;
+use testkit::listing::Partition;
 
 const ENTRIES_LEN: usize = 16_384;
 const ENTRY_LEN: usize = 128;

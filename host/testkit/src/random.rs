@@ -1,3 +1,5 @@
+//! Drawn inputs.
+
 /// Pseudo-random numbers (xorshift64*), the same for the same seed.
 pub struct Random {
     state: u64,
@@ -20,7 +22,6 @@ impl Random {
         ((self.number() >> 32) as usize) % bound
     }
 
-    #[cfg_attr(not(feature = "gpt"), allow(dead_code))]
     pub fn number_below(&mut self, bound: u64) -> u64 {
         self.number() % bound
     }

@@ -2,9 +2,9 @@
 //!
 //! usage: disk_fixture TOOL IMAGE; TOOL `none` lists no partition
 
-use peers::disk::Disk;
-use peers::{fixture, listing};
 use std::path::Path;
+use testkit::disk::Disk;
+use testkit::{fixture, listing};
 
 fn main() {
     let arguments: Vec<String> = std::env::args().skip(1).collect();

@@ -1,21 +1,11 @@
-//! Other tools that the tests compare with, and bytes that such tools made (`fixtures/`).
-
-pub mod disk;
-pub mod fixture;
-pub mod listing;
+//! Other tools that the tests compare with.
 
 use std::ffi::OsStr;
-use std::path::{Path, PathBuf};
 use std::process::{Command, Output};
-
-/// Folder `host` of the repository.
-pub fn host() -> PathBuf {
-    Path::new(env!("CARGO_MANIFEST_DIR")).join("..")
-}
 
 /// Whether the tool is there, by `tests/peer`; fails where that fails.
 pub fn present(tool: &str, package: &str) -> bool {
-    let finder = host().join("../tests/peer");
+    let finder = crate::host().join("../tests/peer");
     let status = Command::new(&finder).args([tool, package, tool]).status();
     match status.unwrap_or_else(|error| panic!("{}: {error}", finder.display())).code() {
         Some(0) => true,

@@ -1,6 +1,6 @@
 //! The partitions of an image, as each tool lists them.
 
-use crate::printed;
+use crate::peer::printed;
 use std::collections::BTreeMap;
 use std::fmt;
 use std::path::Path;
