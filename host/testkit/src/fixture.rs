@@ -7,9 +7,20 @@
 //! head OFFSET BYTES    in hex; what no line names is zero
 //! tail OFFSET BYTES
 //! ```
+//!
+//! for a disk, and for a flash image
+//!
+//! ```text
+//! length BYTES
+//! fill BYTE            in hex, of what no line names
+//! found POSITION       or "refused" and the number
+//! area NAME OFFSET SIZE    as the tool listed it
+//! preserve NAME
+//! image OFFSET BYTES
+//! ```
 
 use crate::disk::{Disk, HEAD_LEN, TAIL_LEN};
-use crate::listing::{self, Partition};
+use crate::listing::{self, Area, Partition};
 use std::path::{Path, PathBuf};
 use std::{fs, io};
 
@@ -49,6 +60,36 @@ pub fn disk(path: &Path) -> io::Result<DiskFixture> {
         }
     }
     Ok(DiskFixture { disk, reads_as, partitions })
+}
+
+/// A flash image, and what the tool said of it.
+pub struct FlashFixture {
+    pub image: Vec<u8>,
+    /// The position of the map, or the number of the refusal.
+    pub reads_as: Result<u64, u32>,
+    pub areas: Vec<Area>,
+    pub preserved: Vec<String>,
+}
+
+pub fn flash(path: &Path) -> io::Result<FlashFixture> {
+    let text = fs::read_to_string(path)?;
+    let (mut areas, mut preserved) = (Vec::new(), Vec::new());
+    let (mut image, mut reads_as) = (Vec::new(), Err(0));
+    for line in text.lines().filter(|line| !line.is_empty() && !line.starts_with('#')) {
+        let wrong = || io::Error::other(format!("{}: {line}", path.display()));
+        let (word, rest) = line.split_once(' ').ok_or_else(wrong)?;
+        match word {
+            "length" => image.resize(rest.parse().map_err(|_| wrong())?, 0),
+            "fill" => image.fill(u8::from_str_radix(rest, 16).map_err(|_| wrong())?),
+            "found" => reads_as = Ok(rest.parse().map_err(|_| wrong())?),
+            "refused" => reads_as = Err(rest.parse().map_err(|_| wrong())?),
+            "area" => areas.push(listing::area(rest).ok_or_else(wrong)?),
+            "preserve" => preserved.push(rest.to_string()),
+            "image" => put(&mut image, rest).ok_or_else(wrong)?,
+            _ => return Err(wrong()),
+        }
+    }
+    Ok(FlashFixture { image, reads_as, areas, preserved })
 }
 
 /// Puts `OFFSET BYTES` into the buffer.

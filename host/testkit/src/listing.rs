@@ -1,4 +1,4 @@
-//! The partitions of an image, as each tool lists them.
+//! The partitions of a disk and the areas of a flash image, as each tool lists them.
 
 use crate::peer::printed;
 use std::collections::BTreeMap;
@@ -144,6 +144,37 @@ pub fn cgpt(image: &Path, slots: impl IntoIterator<Item = u64>) -> Vec<Partition
     slots.into_iter().map(one).collect()
 }
 
+/// An area of a flash image.
+#[derive(Clone, Debug, PartialEq, Eq)]
+pub struct Area {
+    pub name: String,
+    pub offset: u64,
+    pub size: u64,
+}
+
+/// By `dump_fmap -p`, in the order of the map.
+pub fn dump_fmap(image: &Path) -> Vec<Area> {
+    let image = image.to_str().expect("a path in UTF-8");
+    let table = printed("dump_fmap", ["-p", image]);
+    table.lines().map(|line| area(line).unwrap_or_else(|| panic!("dump_fmap -p: {line}"))).collect()
+}
+
+/// Reads `NAME OFFSET SIZE`.
+pub fn area(line: &str) -> Option<Area> {
+    let mut words = line.rsplitn(3, ' ');
+    let size = words.next()?.parse().ok()?;
+    let offset = words.next()?.parse().ok()?;
+    Some(Area { name: words.next()?.to_string(), offset, size })
+}
+
+/// The names that `cbfstool layout -w` marks as preserved.
+pub fn preserved(image: &Path) -> Vec<String> {
+    let image = image.to_str().expect("a path in UTF-8");
+    let table = printed("cbfstool", [image, "layout", "-w"]);
+    let rows = table.lines().filter(|line| line.contains("preserve,"));
+    rows.filter_map(|row| Some(row.strip_prefix('\'')?.split_once("' (")?.0.to_string())).collect()
+}
+
 #[cfg(test)]
 mod tests {
     use super::*;
@@ -154,6 +185,13 @@ mod tests {
                     8000000000000001 \"two words\"";
         assert_eq!(partition(line).unwrap().to_string(), line);
         assert_eq!(partition("5 34 66").map(|p| p.slot), None);
+    }
+
+    #[test]
+    fn an_area_of_dump_fmap() {
+        let found = area("RW_CAL 36864 1024");
+        assert_eq!(found, Some(Area { name: "RW_CAL".into(), offset: 36_864, size: 1024 }));
+        assert_eq!(area("RW_CAL 36864"), None);
     }
 
     #[test]
