@@ -12,15 +12,15 @@ use crate::topic::Topic;
 
 pub const TOPIC: Topic = Topic {
     parts: &[
+        ("gpt: block 0 and header tails", bytes::unjudged),
+        ("gpt: GUIDs of an entry", bytes::guids),
+        ("gpt: ranges of an entry", bytes::ranges),
         ("gpt: each row, and each two together", rows::each_two),
         ("gpt: each length", rows::each_length),
         ("gpt: N outside its range", rows::each_block_count),
-        ("gpt: block 0 and header tails", bytes::unjudged),
         ("gpt: each byte of a header", bytes::headers),
         ("gpt: each field of a header", bytes::header_fields),
         ("gpt: each byte of an entry", bytes::entries),
-        ("gpt: ranges of an entry", bytes::ranges),
-        ("gpt: GUIDs of an entry", bytes::guids),
         ("gpt: N from 68 to 2^32", histories::block_counts),
         ("gpt: lists of calls and their sums", histories::ledger),
         ("gpt: histories with damage", histories::damaged),
