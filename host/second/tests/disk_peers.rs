@@ -114,6 +114,31 @@ fn sfdisk_finds_no_error_and_lists_the_same() {
     lists_the_same(|image, _| listing::sfdisk(image));
 }
 
+/// Formatting writes what sfdisk writes when it is told to use block 34 on.
+#[test]
+fn sfdisk_formats_to_the_same_bytes() {
+    if !peer::present("sfdisk", "fdisk") {
+        return;
+    }
+    let guid = [0x10, 0x32, 0x54, 0x76, 0x98, 0xBA, 0xDC, 0xFE, 1, 2, 3, 4, 5, 6, 7, 8];
+    for n in [100, 2048, 5001, 1 << 31, 1 << 32] {
+        let empty = Disk { head: vec![0; HEAD_LEN], tail: vec![0; TAIL_LEN], n };
+        let image = empty.image();
+        let script = format!("label: gpt\nlabel-id: {}\nfirst-lba: 34\n", disk::guid_text(&guid));
+        peer::feed("sfdisk", [Path::new("-q"), &image.path], &script);
+        let mut ours = empty;
+        assert_eq!(second::gpt_format(&RULES, &mut ours.head, &mut ours.tail, n, &guid), 0);
+        let theirs = Disk::read(&image.path).unwrap();
+        assert_eq!(first_difference(&ours.head, &theirs.head), None, "head, N {n}");
+        assert_eq!(first_difference(&ours.tail, &theirs.tail), None, "tail, N {n}");
+    }
+}
+
+fn first_difference(a: &[u8], b: &[u8]) -> Option<usize> {
+    assert_eq!(a.len(), b.len());
+    a.iter().zip(b).position(|(x, y)| x != y)
+}
+
 #[test]
 fn cgpt_lists_the_same() {
     if !peer::present("cgpt", "cgpt") {
