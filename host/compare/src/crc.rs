@@ -1,6 +1,20 @@
-use crate::random::Random;
 use crate::run::{Buffer, Outcome, Run};
+use crate::topic::{variant, Topic, Variant};
 use std::fmt::{self, Display};
+use testkit::random::Random;
+
+pub const TOPIC: Topic = Topic {
+    parts: &[
+        ("crc32: each byte in each place", each_byte_in_each_place),
+        ("crc32: lengths 0 to 600, 9 offsets", short_buffers),
+        ("crc32: long buffers", long_buffers),
+    ],
+    // The CRC is no answer of a fixed set.
+    cells: &[],
+    at_least: ("crc32", 40_000),
+    variants,
+    rules_to_break: &["D3"],
+};
 
 const LENGTHS: usize = 601;
 const OFFSETS: usize = 9;
@@ -12,7 +26,7 @@ const LONG: [usize; 12] = [
 ];
 
 /// Every length 0 to 600 from every one of 9 addresses, over random and over constant bytes.
-pub fn short_buffers(run: &mut Run) -> Outcome {
+fn short_buffers(run: &mut Run) -> Outcome {
     for fill in [Fill::Random, Fill::Constant(0x00), Fill::Constant(0xFF), Fill::Constant(0x5A)] {
         let mut memory = Memory::new(LENGTHS + OFFSETS, fill, &mut run.random);
         for length in 0..LENGTHS {
@@ -24,7 +38,7 @@ pub fn short_buffers(run: &mut Run) -> Outcome {
     Ok(())
 }
 
-pub fn long_buffers(run: &mut Run) -> Outcome {
+fn long_buffers(run: &mut Run) -> Outcome {
     let longest = LONG[LONG.len() - 1];
     let mut memory = Memory::new(longest + OFFSETS, Fill::Random, &mut run.random);
     for (index, length) in LONG.into_iter().enumerate() {
@@ -34,7 +48,7 @@ pub fn long_buffers(run: &mut Run) -> Outcome {
 }
 
 /// Every byte value at every place among zeros, which alone decides a linear function.
-pub fn each_byte_in_each_place(run: &mut Run) -> Outcome {
+fn each_byte_in_each_place(run: &mut Run) -> Outcome {
     const LENGTH: usize = 80;
     let mut memory = Memory::new(LENGTH, Fill::Constant(0), &mut run.random);
     for place in 0..LENGTH {
@@ -91,4 +105,16 @@ impl Memory {
         let data = Buffer { name: "data", start, library: &self.store, second: &before };
         run.compare("crc32", arguments, (library, second), &[data])
     }
+}
+
+fn variants() -> Vec<Variant> {
+    vec![
+        variant("crc-castagnoli", "D3", |r| r.crc.polynomial = 0x1EDC_6F41),
+        variant("crc-polynomial-bit", "D3", |r| r.crc.polynomial = 0x04C1_1DB6),
+        variant("crc-starts-at-zero", "D3", |r| r.crc.start = 0),
+        variant("crc-not-inverted", "D3", |r| r.crc.final_xor = 0),
+        variant("crc-seven-bits", "D3", |r| r.crc.bits_per_byte = 7),
+        variant("crc-high-bit-first", "D3", |r| r.crc.low_bit_first = false),
+        variant("crc-answer-not-reversed", "D3", |r| r.crc.answer_reversed = false),
+    ]
 }

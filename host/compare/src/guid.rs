@@ -1,6 +1,28 @@
-use crate::run::{Lent, Outcome, Run};
+use crate::run::{Cell, Lent, Outcome, Run};
+use crate::topic::{variant, Topic, Variant};
+use second::rules::Row;
 use second::Rules;
 use usigrambal::raw;
+
+pub const TOPIC: Topic = Topic {
+    parts: &[
+        ("guid: each byte in each place", each_byte_in_each_place),
+        ("guid: each length", each_length),
+        ("guid: random texts", random_texts),
+        ("guid: damaged texts", damaged_texts),
+        ("guid: short names", short_names),
+        ("guid: written values", written_values),
+        ("guid: written lengths", written_lengths),
+    ],
+    cells: &[
+        ("guid_read", &[Cell::Answer(0), Cell::Answer(1), Cell::Answer(30)]),
+        ("type_read", &[Cell::Answer(0), Cell::Answer(1), Cell::Answer(30)]),
+        ("guid_write", &[Cell::Answer(0), Cell::Answer(1)]),
+    ],
+    at_least: ("guid_", 100_000),
+    variants,
+    rules_to_break: &["G1", "G2", "G3", "G4", "R1", "R2", "R4", "R14"],
+};
 
 const GUID_LEN: usize = 16;
 const TEXT_LEN: usize = 36;
@@ -55,12 +77,12 @@ const READERS: [Reader; 2] = [
 ];
 
 /// Every byte value in every position of several texts.
-pub fn each_byte_in_each_place(run: &mut Run) -> Outcome {
+fn each_byte_in_each_place(run: &mut Run) -> Outcome {
     TEXTS.into_iter().try_for_each(|text| with_each_byte(run, text))
 }
 
 /// Every length of the text, cut short or lengthened, with every length of the answer's buffer.
-pub fn each_length(run: &mut Run) -> Outcome {
+fn each_length(run: &mut Run) -> Outcome {
     for text in TEXTS {
         for filler in [b"0", b"-", b" ", b"\0"] {
             let long = [&text[..], &filler.repeat(LENGTHS)].concat();
@@ -73,7 +95,7 @@ pub fn each_length(run: &mut Run) -> Outcome {
 }
 
 /// Texts of random digits, in upper, lower and mixed case.
-pub fn random_texts(run: &mut Run) -> Outcome {
+fn random_texts(run: &mut Run) -> Outcome {
     for _ in 0..RANDOM_CASES {
         let text = random_text(run);
         read(run, &text.to_ascii_uppercase(), GUID_LEN)?;
@@ -84,7 +106,7 @@ pub fn random_texts(run: &mut Run) -> Outcome {
 }
 
 /// Random texts with a few bytes exchanged or replaced by near misses.
-pub fn damaged_texts(run: &mut Run) -> Outcome {
+fn damaged_texts(run: &mut Run) -> Outcome {
     for _ in 0..RANDOM_CASES {
         let mut text = random_text(run);
         for _ in 0..=run.random.below(3) {
@@ -100,7 +122,7 @@ pub fn damaged_texts(run: &mut Run) -> Outcome {
 }
 
 /// The short names; cut, lengthened, padded, in upper case, with each byte replaced by each value.
-pub fn short_names(run: &mut Run) -> Outcome {
+fn short_names(run: &mut Run) -> Outcome {
     for name in SHORT_NAMES {
         with_each_byte(run, name)?;
         read_into_each_length(run, name)?;
@@ -123,7 +145,7 @@ pub fn short_names(run: &mut Run) -> Outcome {
 }
 
 /// Random values, and every byte value in every place.
-pub fn written_values(run: &mut Run) -> Outcome {
+fn written_values(run: &mut Run) -> Outcome {
     for _ in 0..RANDOM_CASES {
         let guid = run.random.bytes(GUID_LEN);
         write(run, &guid, TEXT_LEN)?;
@@ -139,7 +161,7 @@ pub fn written_values(run: &mut Run) -> Outcome {
 }
 
 /// Every length of both buffers.
-pub fn written_lengths(run: &mut Run) -> Outcome {
+fn written_lengths(run: &mut Run) -> Outcome {
     for guid_length in 0..LENGTHS {
         for text_length in 0..LENGTHS {
             let guid = run.random.bytes(guid_length);
@@ -180,7 +202,7 @@ fn compare_reading(run: &mut Run, reader: Reader, text: &[u8], guid_length: usiz
     let (text_2, mut guid_2) = (text_1.clone(), guid_1.clone());
     let library = (reader.library)(text_1.bytes(), guid_1.bytes_mut());
     let second = (reader.second)(run.rules, text_2.bytes(), guid_2.bytes_mut());
-    run.answers.insert((reader.name, library));
+    run.reach(reader.name, Cell::Answer(library));
     let arguments = || format!("\"{}\", {guid_length} bytes", text.escape_ascii());
     let buffers = [Lent::pair("text", &text_1, &text_2), Lent::pair("guid", &guid_1, &guid_2)];
     run.compare(reader.name, arguments, (library, second), &buffers)
@@ -192,8 +214,57 @@ fn write(run: &mut Run, guid: &[u8], text_length: usize) -> Outcome {
     let (guid_2, mut text_2) = (guid_1.clone(), text_1.clone());
     let library = raw::guid_write(guid_1.bytes(), text_1.bytes_mut());
     let second = second::guid_write(run.rules, guid_2.bytes(), text_2.bytes_mut());
-    run.answers.insert(("guid_write", library));
+    run.reach("guid_write", Cell::Answer(library));
     let arguments = || format!("{guid:02X?}, {text_length} bytes");
     let buffers = [Lent::pair("guid", &guid_1, &guid_2), Lent::pair("text", &text_1, &text_2)];
     run.compare("guid_write", arguments, (library, second), &buffers)
+}
+
+fn variants() -> Vec<Variant> {
+    vec![
+        // Form of the text.
+        variant("text-of-35", "G1", |r| r.guid.read_text_len = 35),
+        variant("text-of-37", "G1", |r| r.guid.read_text_len = 37),
+        variant("groups-8-4-4-12-4", "G1", |r| r.guid.group_bytes = [4, 2, 2, 6, 2]),
+        variant("groups-4-4-4-4-16", "G1", |r| r.guid.group_bytes = [2, 2, 2, 2, 8]),
+        variant("dash-underscore", "G1", |r| r.guid.dash = b'_'),
+        variant("low-digit-first", "G1", |r| r.guid.high_digit_first = false),
+        // Digits.
+        variant("colon-read", "G1", |r| r.guid.decimal.last = b':'),
+        variant("9-not-read", "G1", |r| r.guid.decimal.last = b'8'),
+        variant("G-read", "G1", |r| r.guid.upper.last = b'G'),
+        variant("F-not-read", "G1", |r| r.guid.upper.last = b'E'),
+        variant("g-read", "G1", |r| r.guid.lower.last = b'g'),
+        variant("f-not-read", "G1", |r| r.guid.lower.last = b'e'),
+        variant("grave-read", "G1", |r| r.guid.lower.first = b'`'),
+        variant("a-is-11", "G1", |r| r.guid.lower.value = 11),
+        variant("lower-case-written", "G1", |r| r.guid.write_ten = b'a'),
+        variant("zero-written-as-1", "G1", |r| r.guid.write_zero = b'1'),
+        // Order of the bytes.
+        variant("two-groups-reversed", "G2", |r| r.guid.reversed_groups = 2),
+        variant("four-groups-reversed", "G2", |r| r.guid.reversed_groups = 4),
+        variant("no-group-reversed", "G2", |r| r.guid.reversed_groups = 0),
+        // Short names.
+        variant("no-short-names", "G1", |r| r.guid.short_names_as_type = false),
+        variant("short-name-by-prefix", "G1", |r| r.guid.short_names_by_prefix = true),
+        variant("short-name-as-guid", "G3", |r| r.guid.short_names_as_guid = true),
+        variant("short-name-any-case", "G3", |r| r.guid.short_names_any_case = true),
+        variant("name-esp", "G4", |r| r.guid.short_names[0].0 = "esp"),
+        variant("type-system", "G4", |r| r.guid.short_names[0].1 = "C12A7328-F81F-11D2-BA4B-00A0C93EC93C"),
+        variant("type-msft", "G4", |r| r.guid.short_names[1].1 = "E3C9E316-0B5C-4DB8-817D-F92DF00215AF"),
+        variant("type-data", "G4", |r| r.guid.short_names[2].1 = "EBD0A0A3-B9E5-4433-87C0-68B6B72699C7"),
+        variant("type-linux", "G4", |r| r.guid.short_names[3].1 = "0FC63DAF-8484-4772-8E79-3D69D8477DE4"),
+        variant("type-swap", "G4", |r| r.guid.short_names[4].1 = "0657FD6D-A4AB-43C4-84E4-0933C84B4F4F"),
+        // Refusals.
+        variant("refusal-writes", "R1", |r| r.refusals.zeroes = 1),
+        variant("text-before-length", "R2", |r| r.guid.read_order = [Row::NotGuidText, Row::WrongLength]),
+        variant("number-2-for-1", "R4", |r| r.refusals.renumber(Row::WrongLength, 2)),
+        variant("read-into-15", "R4", |r| r.guid.read_guid_len = 15),
+        variant("read-into-17", "R4", |r| r.guid.read_guid_len = 17),
+        variant("write-from-15", "R4", |r| r.guid.write_guid_len = 15),
+        variant("write-from-17", "R4", |r| r.guid.write_guid_len = 17),
+        variant("write-into-35", "R4", |r| r.guid.write_text_len = 35),
+        variant("write-into-37", "R4", |r| r.guid.write_text_len = 37),
+        variant("number-31-for-30", "R14", |r| r.refusals.renumber(Row::NotGuidText, 31)),
+    ]
 }

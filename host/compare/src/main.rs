@@ -1,41 +1,35 @@
-//! Compares the library with the second implementation: the answer of each call and every byte of
+//! Compares the library with the second implementation: the answers of each call and every byte of
 //! every lent buffer after it.
 //!
 //! `differential` runs the comparison; `differential --self-test` runs it against wrong variants of
 //! the second implementation and demands that it reports each; `--seed N` sets the random inputs.
 
 mod crc;
+#[cfg(feature = "fmap")]
+mod fmap;
+#[cfg(feature = "gpt")]
+mod gpt;
 mod guid;
-mod random;
+#[cfg(any(feature = "gpt", feature = "fmap"))]
+mod number;
 mod run;
-mod variants;
+mod topic;
 
-use run::{Difference, Outcome, Run};
+use run::{Difference, Run};
 use second::{Rules, RULES};
 use std::process::ExitCode;
-use variants::{Variant, RULES_TO_BREAK, VARIANTS};
+use topic::{Topic, Variant};
 
 const SEED: u64 = 0x5551_4752_414D_4241;
 
-type Part = (&'static str, fn(&mut Run) -> Outcome);
-
-/// The slow ones last: a wrong variant is compared only up to its first difference.
-const PARTS: &[Part] = &[
-    ("guid: each byte in each place", guid::each_byte_in_each_place),
-    ("guid: each length", guid::each_length),
-    ("guid: random texts", guid::random_texts),
-    ("guid: damaged texts", guid::damaged_texts),
-    ("guid: short names", guid::short_names),
-    ("guid: written values", guid::written_values),
-    ("guid: written lengths", guid::written_lengths),
-    ("crc32: each byte in each place", crc::each_byte_in_each_place),
-    ("crc32: lengths 0 to 600, 9 offsets", crc::short_buffers),
-    ("crc32: long buffers", crc::long_buffers),
+const TOPICS: &[Topic] = &[
+    guid::TOPIC,
+    crc::TOPIC,
+    #[cfg(feature = "gpt")]
+    gpt::TOPIC,
+    #[cfg(feature = "fmap")]
+    fmap::TOPIC,
 ];
-
-/// What each call must have answered somewhere in the comparison; the CRC is no such answer.
-const ANSWERS: [(&str, &[u32]); 3] =
-    [("guid_read", &[0, 1, 30]), ("type_read", &[0, 1, 30]), ("guid_write", &[0, 1])];
 
 fn main() -> ExitCode {
     let Some((self_test, seed)) = options() else {
@@ -63,48 +57,70 @@ fn options() -> Option<(bool, u64)> {
     Some((self_test, seed))
 }
 
-/// Compares by the right rules, in every part, and says whether all was the same.
+/// Compares by the right rules, in every part, and says whether all was the same and enough.
 fn compare_all(seed: u64) -> bool {
     let mut run = Run::new(&RULES, seed);
+    let good = TOPICS.iter().filter(|topic| compare_topic(&mut run, topic)).count() == TOPICS.len();
+    let empty = print_table(&run);
+    println!("differential: {} comparisons, {empty} empty cells", run.made);
+    good && empty == 0
+}
+
+fn compare_topic(run: &mut Run, topic: &Topic) -> bool {
     let mut differences = 0;
-    for (part, compare) in PARTS {
+    for (part, compare) in topic.parts {
         let before = run.made;
-        let outcome = compare(&mut run);
+        let outcome = compare(run);
         println!("{part}: {} comparisons", run.made - before);
         if let Err(difference) = outcome {
             println!("DIFFERENCE: {difference}");
             differences += 1;
         }
     }
-    let unseen = unseen_answers(&run);
-    for (call, answer) in &unseen {
-        println!("UNTESTED: {call} never answered {answer}");
+    let (calls, times) = topic.at_least;
+    let enough = run.compared(calls) >= times;
+    if !enough {
+        println!("UNTESTED: {calls} compared {} times, not {times}", run.compared(calls));
     }
-    println!("differential: {} comparisons, {differences} differences", run.made);
-    differences == 0 && unseen.is_empty()
+    differences == 0 && enough
 }
 
-fn unseen_answers(run: &Run) -> Vec<(&'static str, u32)> {
-    let wanted = ANSWERS.iter().flat_map(|(call, answers)| answers.iter().map(|answer| (*call, *answer)));
-    wanted.filter(|answer| !run.answers.contains(answer)).collect()
+/// Prints how often each call was seen to do what it must; answers how many cells are empty.
+fn print_table(run: &Run) -> usize {
+    let mut empty = 0;
+    for (call, cells) in TOPICS.iter().flat_map(|topic| topic.cells) {
+        let times: Vec<_> = cells.iter().map(|cell| (cell, run.times(call, *cell))).collect();
+        let words: Vec<_> = times.iter().map(|(cell, times)| format!("{cell}: {times}")).collect();
+        println!("{call}: {}", words.join(", "));
+        for (cell, _) in times.iter().filter(|(_, times)| *times == 0) {
+            println!("UNTESTED: {call}, {cell}");
+            empty += 1;
+        }
+    }
+    empty
 }
 
 /// Says whether the comparison reports every wrong variant. It is run after the right rules showed
 /// no difference, without which a report would mean nothing.
 fn notices_all(seed: u64) -> bool {
-    let unnoticed = VARIANTS.iter().filter(|variant| !notices(variant, seed)).count();
+    TOPICS.iter().map(|topic| notices_each(topic, seed)).filter(|good| !good).count() == 0
+}
+
+fn notices_each(topic: &Topic, seed: u64) -> bool {
+    let variants = (topic.variants)();
+    let unnoticed = variants.iter().filter(|variant| !notices(topic, variant, seed)).count();
     let unbroken: Vec<_> =
-        RULES_TO_BREAK.iter().filter(|rule| !VARIANTS.iter().any(|v| v.rule == **rule)).collect();
+        topic.rules_to_break.iter().filter(|rule| !variants.iter().any(|v| v.rule == **rule)).collect();
     for rule in &unbroken {
         println!("UNTESTED: no variant breaks {rule}");
     }
-    println!("self-test: {} wrong variants, {unnoticed} unnoticed", VARIANTS.len());
+    println!("self-test: {} wrong variants, {unnoticed} unnoticed", variants.len());
     unnoticed == 0 && unbroken.is_empty()
 }
 
-fn notices(variant: &Variant, seed: u64) -> bool {
+fn notices(topic: &Topic, variant: &Variant, seed: u64) -> bool {
     let Variant { name, rule, rules } = variant;
-    let found = first_difference(rules, seed);
+    let found = first_difference(topic, rules, seed);
     match &found {
         Some(difference) => println!("{name} ({rule}): {difference}"),
         None => println!("UNNOTICED: {name} ({rule})"),
@@ -112,7 +128,7 @@ fn notices(variant: &Variant, seed: u64) -> bool {
     found.is_some()
 }
 
-fn first_difference(rules: &Rules, seed: u64) -> Option<Difference> {
+fn first_difference(topic: &Topic, rules: &Rules, seed: u64) -> Option<Difference> {
     let mut run = Run::new(rules, seed);
-    PARTS.iter().find_map(|(_, compare)| compare(&mut run).err())
+    topic.parts.iter().find_map(|(_, compare)| compare(&mut run).err())
 }

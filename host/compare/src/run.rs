@@ -1,20 +1,51 @@
-use crate::random::Random;
 use second::Rules;
-use std::collections::BTreeSet;
+use std::collections::BTreeMap;
 use std::fmt::{self, Display};
+use testkit::random::Random;
 
 /// One run of comparisons between the library and the second implementation under `rules`.
 pub struct Run<'a> {
     pub rules: &'a Rules,
     pub random: Random,
     pub made: u64,
-    /// Every answer that the library gave, by call.
-    pub answers: BTreeSet<(&'static str, u32)>,
+    /// How often each call was compared.
+    calls: BTreeMap<&'static str, u64>,
+    /// How often the library did what, by call.
+    reached: BTreeMap<(&'static str, Cell), u64>,
+}
+
+/// What a call can be seen to do.
+#[derive(Clone, Copy, Debug, PartialEq, Eq, PartialOrd, Ord)]
+#[cfg_attr(not(feature = "gpt"), allow(dead_code))]
+pub enum Cell {
+    /// Answers 0 or the refusal's number.
+    Answer(u32),
+    /// Answers that number because of this argument alone.
+    By(u32, &'static str),
+    /// Answers on a disk in this state.
+    State(u64),
+}
+
+impl Display for Cell {
+    fn fmt(&self, f: &mut fmt::Formatter<'_>) -> fmt::Result {
+        match self {
+            Cell::Answer(number) => write!(f, "answer {number}"),
+            Cell::By(number, argument) => write!(f, "{number} by {argument}"),
+            Cell::State(state) => write!(f, "state {state}"),
+        }
+    }
 }
 
 pub struct Difference(String);
 
-impl fmt::Display for Difference {
+impl Difference {
+    #[cfg_attr(not(feature = "gpt"), allow(dead_code))]
+    pub fn new(what: String) -> Difference {
+        Difference(what)
+    }
+}
+
+impl Display for Difference {
     fn fmt(&self, f: &mut fmt::Formatter<'_>) -> fmt::Result {
         f.write_str(&self.0)
     }
@@ -33,7 +64,20 @@ pub struct Buffer<'a> {
 
 impl<'a> Run<'a> {
     pub fn new(rules: &'a Rules, seed: u64) -> Run<'a> {
-        Run { rules, random: Random::new(seed), made: 0, answers: BTreeSet::new() }
+        Run { rules, random: Random::new(seed), made: 0, calls: BTreeMap::new(), reached: BTreeMap::new() }
+    }
+
+    pub fn reach(&mut self, call: &'static str, cell: Cell) {
+        *self.reached.entry((call, cell)).or_default() += 1;
+    }
+
+    pub fn times(&self, call: &'static str, cell: Cell) -> u64 {
+        self.reached.get(&(call, cell)).copied().unwrap_or(0)
+    }
+
+    /// How often calls whose names begin so were compared.
+    pub fn compared(&self, prefix: &str) -> u64 {
+        self.calls.iter().filter(|(call, _)| call.starts_with(prefix)).map(|(_, times)| times).sum()
     }
 
     /// Compares the answers of one call, then every byte of the buffers.
@@ -45,6 +89,7 @@ impl<'a> Run<'a> {
         buffers: &[Buffer],
     ) -> Outcome {
         self.made += 1;
+        *self.calls.entry(call).or_default() += 1;
         let differs = |what: String| Err(Difference(format!("{call}({}): {what}", arguments())));
         if library != second {
             return differs(format!("library answers {library}, second {second}"));
@@ -62,6 +107,9 @@ impl<'a> Run<'a> {
 }
 
 fn first_difference(a: &[u8], b: &[u8]) -> Option<usize> {
+    if a == b {
+        return None;
+    }
     a.iter().zip(b).position(|(x, y)| x != y)
 }
 

@@ -1,37 +1,39 @@
+use crate::bytes::put;
 use crate::refuse::{first_refusal, leave};
 use crate::rules::{DigitRange, Row, Rules};
 
 /// Reads a GUID text into its stored bytes: 0, or the refusal's number.
 pub fn guid_read(rules: &Rules, text: &[u8], guid: &mut [u8]) -> u32 {
-    read(rules, rules.short_names_as_guid, text, guid)
+    read(rules, rules.guid.short_names_as_guid, text, guid)
 }
 
 /// Reads a type, a GUID text or a short name.
 pub fn type_read(rules: &Rules, text: &[u8], guid: &mut [u8]) -> u32 {
-    read(rules, rules.short_names_as_type, text, guid)
+    read(rules, rules.guid.short_names_as_type, text, guid)
 }
 
 /// Writes the text of 16 stored bytes: 0, or the refusal's number.
 pub fn guid_write(rules: &Rules, guid: &[u8], text: &mut [u8]) -> u32 {
-    let wrong = guid.len() != rules.write_guid_len || text.len() != rules.write_text_len;
+    let wrong = guid.len() != rules.guid.write_guid_len || text.len() != rules.guid.write_text_len;
     if let Some(number) = first_refusal(rules, &[Row::WrongLength], |_| wrong) {
         leave(rules, text);
         return number;
     }
-    put(text, &written(rules, guid));
+    put(text, 0, &written(rules, guid));
     0
 }
 
 fn read(rules: &Rules, short_names: bool, text: &[u8], guid: &mut [u8]) -> u32 {
     let named = if short_names { named_text(rules, text) } else { None };
     let stored = stored(rules, named.unwrap_or(text));
-    let refusal = first_refusal(rules, &rules.read_order, |row| match row {
-        Row::WrongLength => guid.len() != rules.read_guid_len,
+    let refusal = first_refusal(rules, &rules.guid.read_order, |row| match row {
+        Row::WrongLength => guid.len() != rules.guid.read_guid_len,
         Row::NotGuidText => stored.is_none(),
+        _ => false,
     });
     match (refusal, stored) {
         (None, Some(bytes)) => {
-            put(guid, &bytes);
+            put(guid, 0, &bytes);
             0
         }
         (number, _) => {
@@ -41,24 +43,19 @@ fn read(rules: &Rules, short_names: bool, text: &[u8], guid: &mut [u8]) -> u32 {
     }
 }
 
-fn put(buffer: &mut [u8], bytes: &[u8]) {
-    for (to, from) in buffer.iter_mut().zip(bytes) {
-        *to = *from;
-    }
-}
-
 /// G3, G4: the GUID text that a short name stands for.
 fn named_text(rules: &Rules, text: &[u8]) -> Option<&'static [u8]> {
-    let (_, guid_text) = rules.short_names.iter().find(|(name, _)| is_name(rules, name.as_bytes(), text))?;
+    let (_, guid_text) =
+        rules.guid.short_names.iter().find(|(name, _)| is_name(rules, name.as_bytes(), text))?;
     Some(guid_text.as_bytes())
 }
 
 fn is_name(rules: &Rules, name: &[u8], text: &[u8]) -> bool {
-    let text = match rules.short_names_by_prefix {
+    let text = match rules.guid.short_names_by_prefix {
         true => &text[..text.len().min(name.len())],
         false => text,
     };
-    match rules.short_names_any_case {
+    match rules.guid.short_names_any_case {
         true => text.eq_ignore_ascii_case(name),
         false => text == name,
     }
@@ -66,13 +63,13 @@ fn is_name(rules: &Rules, name: &[u8], text: &[u8]) -> bool {
 
 /// G1, G2: the stored bytes of a GUID text, if it is one.
 fn stored(rules: &Rules, text: &[u8]) -> Option<Vec<u8>> {
-    if text.len() != rules.read_text_len {
+    if text.len() != rules.guid.read_text_len {
         return None;
     }
     let mut rest = text.iter().copied();
     let mut bytes = Vec::new();
-    for (index, &length) in rules.group_bytes.iter().enumerate() {
-        if index > 0 && rest.next()? != rules.dash {
+    for (index, &length) in rules.guid.group_bytes.iter().enumerate() {
+        if index > 0 && rest.next()? != rules.guid.dash {
             return None;
         }
         let group = read_group(rules, &mut rest, length)?;
@@ -94,21 +91,21 @@ fn read_group(rules: &Rules, rest: &mut impl Iterator<Item = u8>, bytes: usize) 
 /// From text to stored bytes and, being its own inverse, back.
 fn in_order(rules: &Rules, index: usize, group: &[u8]) -> Vec<u8> {
     let mut bytes = group.to_vec();
-    if index < rules.reversed_groups {
+    if index < rules.guid.reversed_groups {
         bytes.reverse();
     }
     bytes
 }
 
 fn digit_pair<T>(rules: &Rules, first: T, second: T) -> (T, T) {
-    match rules.high_digit_first {
+    match rules.guid.high_digit_first {
         true => (first, second),
         false => (second, first),
     }
 }
 
 fn value(rules: &Rules, character: u8) -> Option<u32> {
-    let ranges = [rules.decimal, rules.upper, rules.lower];
+    let ranges = [rules.guid.decimal, rules.guid.upper, rules.guid.lower];
     let DigitRange { first, value, .. } =
         ranges.into_iter().find(|range| (range.first..=range.last).contains(&character))?;
     Some(value + u32::from(character - first))
@@ -118,9 +115,9 @@ fn value(rules: &Rules, character: u8) -> Option<u32> {
 fn written(rules: &Rules, guid: &[u8]) -> Vec<u8> {
     let mut text = Vec::new();
     let mut rest = guid;
-    for (index, &length) in rules.group_bytes.iter().enumerate() {
+    for (index, &length) in rules.guid.group_bytes.iter().enumerate() {
         if index > 0 {
-            text.push(rules.dash);
+            text.push(rules.guid.dash);
         }
         let (group, after) = rest.split_at(length.min(rest.len()));
         rest = after;
@@ -134,8 +131,8 @@ fn written(rules: &Rules, guid: &[u8]) -> Vec<u8> {
 
 fn digit(rules: &Rules, value: u8) -> u8 {
     match value {
-        0..=9 => rules.write_zero + value,
-        _ => rules.write_ten + (value - 10),
+        0..=9 => rules.guid.write_zero + value,
+        _ => rules.guid.write_ten + (value - 10),
     }
 }
 

@@ -4,11 +4,19 @@
 //! Every operand of a rule stands in a [`Rules`] value. [`RULES`] is the right one; a value with one
 //! operand changed is a wrong implementation, by which a comparison shows that it would notice.
 
+mod bytes;
 mod crc;
+mod fmap;
+mod gpt;
 mod guid;
 mod refuse;
-mod rules;
+pub mod rules;
 
 pub use crc::crc32;
+pub use fmap::{fmap_area, fmap_area_count, fmap_carry, fmap_find, fmap_named};
+pub use gpt::{
+    gpt_add, gpt_delete, gpt_format, gpt_free, gpt_read, gpt_rename, gpt_repair, gpt_resize, gpt_table,
+    Ledger, NewPartition,
+};
 pub use guid::{guid_read, guid_write, type_read};
-pub use rules::{DigitRange, Row, Rules, RULES};
+pub use rules::{Rules, RULES};

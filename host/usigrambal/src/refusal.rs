@@ -1,14 +1,54 @@
 use std::error::Error;
 use std::fmt;
 
-/// A refusal of the library: its number (rules R4 to R24) and what the number says.
+/// A refusal of the library: its number (rules R4 to R24), what the number says, and of what.
 #[derive(Clone, Copy, Debug, PartialEq, Eq)]
 pub struct Refusal {
     number: u32,
+    detail: Option<Detail>,
 }
 
-/// The numbers that the wrapped calls can give.
-const WORDS: [(u32, &str); 2] = [(1, "a lent buffer has a wrong length"), (30, "not a GUID text")];
+/// The argument that a refusal is about.
+#[cfg_attr(not(all(feature = "gpt", feature = "fmap")), allow(dead_code))]
+#[derive(Clone, Copy, Debug, PartialEq, Eq)]
+pub(crate) enum Detail {
+    /// A disk of so many blocks.
+    Blocks(u64),
+    Slot(u64),
+    /// An image of so many bytes.
+    Bytes(usize),
+    /// One of two images.
+    Image(&'static str),
+    /// A partition of so many blocks to be placed.
+    NewSize(u64),
+    /// A partition to be given so many blocks.
+    SlotSize(u64, u64),
+}
+
+/// What each number says.
+const WORDS: [(u32, &str); 21] = [
+    (1, "a lent buffer has a wrong length"),
+    (2, "the number of blocks is outside its range"),
+    (3, "the disk GUID is all zero"),
+    (10, "neither GPT copy is good"),
+    (11, "the GPT copies are not both good and the same"),
+    (12, "the partition number is not 1 to 128"),
+    (13, "the slot is unused"),
+    (20, "the size is zero"),
+    (21, "the type GUID is zero"),
+    (22, "the unique GUID is zero or already in a used slot"),
+    (23, "the name has a nonzero unit after a zero one"),
+    (24, "no unused slot"),
+    (25, "no room"),
+    (30, "not a GUID text"),
+    (40, "the image length is outside its range"),
+    (41, "the signature of a map stands nowhere"),
+    (42, "no good map"),
+    (60, "a preserved area is missing in the new map"),
+    (61, "a preserved area has another size in the new map"),
+    (62, "areas to be carried share a byte"),
+    (63, "an area to be carried shares a byte with area FMAP of the new map"),
+];
 
 impl Refusal {
     pub fn number(self) -> u32 {
@@ -21,11 +61,47 @@ impl Refusal {
             .find(|(number, _)| *number == self.number)
             .map_or("a refusal unknown to this wrapper", |(_, words)| words)
     }
+
+    /// The refusal with its argument, where the number is about that argument.
+    #[cfg_attr(not(any(feature = "gpt", feature = "fmap")), allow(dead_code))]
+    pub(crate) fn about(self, details: &[Detail]) -> Refusal {
+        let detail = details.iter().copied().find(|detail| detail.fits(self.number));
+        Refusal { detail, ..self }
+    }
+}
+
+impl Detail {
+    fn fits(self, number: u32) -> bool {
+        match self {
+            Detail::Blocks(_) => number == 2,
+            Detail::Bytes(_) => number == 40,
+            Detail::Image(_) => (40..=42).contains(&number),
+            Detail::Slot(_) => number == 12 || number == 13,
+            Detail::NewSize(_) | Detail::SlotSize(..) => number == 25,
+        }
+    }
+}
+
+impl fmt::Display for Detail {
+    fn fmt(&self, f: &mut fmt::Formatter<'_>) -> fmt::Result {
+        match self {
+            Detail::Blocks(n) => write!(f, "{n} blocks"),
+            Detail::Bytes(len) => write!(f, "{len} bytes"),
+            Detail::Image(which) => write!(f, "the {which} image"),
+            Detail::Slot(slot) => write!(f, "slot {slot}"),
+            Detail::NewSize(size) => write!(f, "no run of {size} free blocks"),
+            Detail::SlotSize(slot, size) => write!(f, "slot {slot} cannot have {size} blocks"),
+        }
+    }
 }
 
 impl fmt::Display for Refusal {
     fn fmt(&self, f: &mut fmt::Formatter<'_>) -> fmt::Result {
-        write!(f, "{}: {}", self.number, self.words())
+        write!(f, "{}: {}", self.number, self.words())?;
+        match self.detail {
+            Some(detail) => write!(f, ": {detail}"),
+            None => Ok(()),
+        }
     }
 }
 
@@ -35,7 +111,7 @@ impl Error for Refusal {}
 pub(crate) fn accepted(answer: u32) -> Result<(), Refusal> {
     match answer {
         0 => Ok(()),
-        number => Err(Refusal { number }),
+        number => Err(Refusal { number, detail: None }),
     }
 }
 
@@ -43,16 +119,29 @@ pub(crate) fn accepted(answer: u32) -> Result<(), Refusal> {
 mod tests {
     use super::*;
 
+    fn refused(number: u32) -> Refusal {
+        accepted(number).unwrap_err()
+    }
+
     #[test]
     fn zero_is_acceptance_and_any_other_answer_its_number() {
         assert_eq!(accepted(0), Ok(()));
-        assert_eq!(accepted(30).unwrap_err().number(), 30);
+        assert_eq!(refused(30).number(), 30);
     }
 
     #[test]
     fn a_refusal_reads_as_number_and_words() {
-        assert_eq!(accepted(30).unwrap_err().to_string(), "30: not a GUID text");
-        let wrong_length = accepted(1).unwrap_err().to_string();
-        assert_eq!(wrong_length, "1: a lent buffer has a wrong length");
+        assert_eq!(refused(30).to_string(), "30: not a GUID text");
+        assert_eq!(refused(1).to_string(), "1: a lent buffer has a wrong length");
+    }
+
+    #[test]
+    fn a_refusal_names_the_argument_that_it_is_about() {
+        let details = [Detail::Slot(3), Detail::SlotSize(3, 4096)];
+        assert_eq!(refused(13).about(&details).to_string(), "13: the slot is unused: slot 3");
+        assert_eq!(refused(25).about(&details).to_string(), "25: no room: slot 3 cannot have 4096 blocks");
+        assert_eq!(refused(20).about(&details).to_string(), "20: the size is zero");
+        let add = refused(25).about(&[Detail::NewSize(4096)]);
+        assert_eq!(add.to_string(), "25: no room: no run of 4096 free blocks");
     }
 }

@@ -7,6 +7,10 @@
 //! type TEXT BYTES     the same of a type
 //! text BYTES TEXT     stored bytes and the text written for them
 //! ```
+//!
+//! With `--gpt`, the lines of `disk` follow.
+
+mod disk;
 
 use second::{Rules, RULES};
 use std::io::{self, Write};
@@ -92,6 +96,12 @@ fn main() -> io::Result<()> {
     }
     for guid in STORED {
         writeln!(out, "text {} {}", hex(&guid), writing(&guid))?;
+    }
+    for option in std::env::args().skip(1) {
+        match option.as_str() {
+            "--gpt" => disk::print(&mut out)?,
+            _ => return Err(io::Error::other(format!("unknown option {option}"))),
+        }
     }
     Ok(())
 }

@@ -1,3 +1,5 @@
+//! Drawn inputs.
+
 /// Pseudo-random numbers (xorshift64*), the same for the same seed.
 pub struct Random {
     state: u64,
@@ -18,6 +20,10 @@ impl Random {
 
     pub fn below(&mut self, bound: usize) -> usize {
         ((self.number() >> 32) as usize) % bound
+    }
+
+    pub fn number_below(&mut self, bound: u64) -> u64 {
+        self.number() % bound
     }
 
     pub fn bytes(&mut self, length: usize) -> Vec<u8> {

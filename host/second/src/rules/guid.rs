@@ -1,9 +1,4 @@
-/// The rows of the refusal table that the calls here can reach, by what holds.
-#[derive(Clone, Copy, Debug, PartialEq, Eq)]
-pub enum Row {
-    WrongLength,
-    NotGuidText,
-}
+use super::Row;
 
 /// Consecutive characters `first` to `last` that are digits; `value` is that of `first`.
 #[derive(Clone, Copy, Debug)]
@@ -13,29 +8,9 @@ pub struct DigitRange {
     pub value: u32,
 }
 
-/// The operands of the rules; each names the sentence that sets it.
+/// GUID text, G1 to G4.
 #[derive(Clone, Copy, Debug)]
-pub struct Rules {
-    // Refusals.
-    /// R4.
-    pub number_wrong_length: u32,
-    /// R14.
-    pub number_not_guid_text: u32,
-    /// R1: how many bytes of an output buffer a refusal zeroes.
-    pub refusal_zeroes: usize,
-
-    // CRC-32, D3. The register holds a polynomial with x^31 in its top bit.
-    /// x^32 left out.
-    pub crc_polynomial: u32,
-    pub crc_start: u32,
-    pub crc_final_xor: u32,
-    pub crc_bits_per_byte: u32,
-    /// "Reflected", in: the lowest bit of a byte enters first.
-    pub crc_low_bit_first: bool,
-    /// "Reflected", out: x^31 of the register is the lowest bit of the answer.
-    pub crc_answer_reversed: bool,
-
-    // GUID text.
+pub struct GuidRules {
     /// R2, R4, R14: the rows of reading a GUID or a type, in order.
     pub read_order: [Row; 2],
     /// G1: length of the text read.
@@ -69,18 +44,7 @@ pub struct Rules {
     pub short_names: [(&'static str, &'static str); 5],
 }
 
-pub const RULES: Rules = Rules {
-    number_wrong_length: 1,
-    number_not_guid_text: 30,
-    refusal_zeroes: 0,
-
-    crc_polynomial: 0x04C1_1DB7,
-    crc_start: 0xFFFF_FFFF,
-    crc_final_xor: 0xFFFF_FFFF,
-    crc_bits_per_byte: 8,
-    crc_low_bit_first: true,
-    crc_answer_reversed: true,
-
+pub const GUID: GuidRules = GuidRules {
     read_order: [Row::WrongLength, Row::NotGuidText],
     read_text_len: 36,
     read_guid_len: 16,

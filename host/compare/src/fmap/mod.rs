@@ -1,0 +1,48 @@
+mod call;
+mod carries;
+mod images;
+mod variants;
+
+use crate::run::Cell::{self, Answer, By};
+use crate::topic::Topic;
+
+pub const TOPIC: Topic = Topic {
+    parts: &[
+        ("fmap: no signature, or almost one", images::no_signature),
+        ("fmap: buffers for an area", images::area_lengths),
+        ("fmap: each rule broken alone", images::near_misses),
+        ("fmap: decoys below and above", images::decoys),
+        ("fmap: cut off by the image's end", images::ends),
+        ("fmap: 127 to 129 areas", images::many_areas),
+        ("fmap: a map in a carried area", carries::map_in_area),
+        ("fmap: carries, each two rows together", carries::each_two),
+        ("fmap: carries", carries::any),
+        ("fmap: each byte of a map", images::each_byte),
+        ("fmap: good maps", images::good),
+        ("fmap: large carries", carries::large),
+        ("fmap: lengths of an image", images::lengths),
+    ],
+    cells: &[
+        ("fmap_find", &[Answer(0), Answer(40), Answer(41), Answer(42)]),
+        ("fmap_area", &[Answer(0), Answer(1), Answer(40), Answer(41), Answer(42), Answer(255)]),
+        ("fmap_named", &[Answer(0), Answer(40), Answer(41), Answer(42), Answer(255)]),
+        ("fmap_carry", CARRY),
+    ],
+    at_least: ("fmap_find", 5_000),
+    variants: variants::all,
+    rules_to_break: variants::RULES_TO_BREAK,
+};
+
+const CARRY: &[Cell] = &[
+    Answer(0),
+    By(40, "old"),
+    By(41, "old"),
+    By(42, "old"),
+    By(40, "new"),
+    By(41, "new"),
+    By(42, "new"),
+    Answer(60),
+    Answer(61),
+    Answer(62),
+    Answer(63),
+];

@@ -1,0 +1,171 @@
+use super::call::{Call, GUID_LEN, HEAD_LEN, TAIL_LEN};
+use crate::number::Answers;
+use crate::run::{Buffer, Cell, Difference, Lent, Run};
+use second::RULES;
+use testkit::random::Random;
+
+pub const SLOTS: usize = 128;
+pub const ENTRY_LEN: usize = 128;
+pub const HEADER_LEN: usize = 92;
+pub const BLOCK_LEN: usize = 512;
+const ENTRIES_LEN: usize = SLOTS * ENTRY_LEN;
+
+/// Where a copy's header block and entries begin in its buffer.
+#[derive(Clone, Copy, Debug, PartialEq, Eq)]
+pub enum Side {
+    Head,
+    Tail,
+}
+
+pub const SIDES: [Side; 2] = [Side::Head, Side::Tail];
+
+impl Side {
+    pub fn header_at(self) -> usize {
+        match self {
+            Side::Head => BLOCK_LEN,
+            Side::Tail => ENTRIES_LEN,
+        }
+    }
+
+    pub fn entries_at(self) -> usize {
+        match self {
+            Side::Head => 2 * BLOCK_LEN,
+            Side::Tail => 0,
+        }
+    }
+}
+
+/// A disk that both sides are lent, each its own copy.
+#[derive(Clone)]
+pub struct Disk {
+    pub head: Lent,
+    pub tail: Lent,
+    pub n: u64,
+}
+
+/// What the library answered.
+#[derive(Clone, Copy, Debug)]
+pub struct Reply {
+    pub number: u32,
+    pub values: [u64; 2],
+}
+
+impl Disk {
+    /// Random bytes.
+    pub fn random(n: u64, random: &mut Random) -> Disk {
+        Disk { head: Lent::of_length(HEAD_LEN, random), tail: Lent::of_length(TAIL_LEN, random), n }
+    }
+
+    /// An empty table, by the right rules.
+    pub fn formatted(n: u64, random: &mut Random) -> Disk {
+        let mut disk = Disk::random(n, random);
+        let guid = random.bytes(GUID_LEN);
+        let number = second::gpt_format(&RULES, disk.head.bytes_mut(), disk.tail.bytes_mut(), n, &guid);
+        assert_eq!(number, 0, "a disk of {n} blocks is formatted");
+        disk
+    }
+
+    /// Makes the call on both sides, compares all that it was lent, and keeps what it left.
+    pub fn call(&mut self, run: &mut Run, call: &Call) -> Result<Reply, Difference> {
+        let mut ours = call.loan(&self.head, &self.tail, self.n, &mut run.random);
+        let mut theirs = ours.clone();
+        let library = call.by_library(&mut ours);
+        let second = call.by_second(run.rules, &mut theirs);
+        self.note(run, call, library);
+        let names = [ours.name.to_bytes(), theirs.name.to_bytes()];
+        let buffers = [
+            Lent::pair("head", &ours.head, &theirs.head),
+            Lent::pair("tail", &ours.tail, &theirs.tail),
+            Lent::pair("type or guid", &ours.guids[0], &theirs.guids[0]),
+            Lent::pair("unique", &ours.guids[1], &theirs.guids[1]),
+            Buffer { name: "name", start: 4, library: &names[0], second: &names[1] },
+        ];
+        let values = [ours.answers[0].value(), ours.answers[1].value()];
+        let answers = (Answers(library, ours.answers.clone()), Answers(second, theirs.answers.clone()));
+        run.compare(call.name(), || format!("N {}, {call}", self.n), answers, &buffers)?;
+        (self.head, self.tail) = (ours.head, ours.tail);
+        Ok(Reply { number: library, values })
+    }
+
+    /// Reads, compared, and then makes the call in the state found.
+    pub fn call_in_state(&mut self, run: &mut Run, call: &Call) -> Result<Reply, Difference> {
+        let read = self.call(run, &Call::Read)?;
+        self.call_after(run, read, call)
+    }
+
+    /// Makes the call in the state that `read` told.
+    pub fn call_after(&mut self, run: &mut Run, read: Reply, call: &Call) -> Result<Reply, Difference> {
+        let reply = self.call(run, call)?;
+        if read.number == 0 {
+            run.reach(call.name(), Cell::State(read.values[0]));
+        }
+        Ok(reply)
+    }
+
+    fn note(&self, run: &mut Run, call: &Call, answer: u32) {
+        run.reach(call.name(), Cell::Answer(answer));
+        if let ([buffer], 1) = (&call.wrong_lengths(&self.head, &self.tail)[..], answer) {
+            run.reach(call.name(), Cell::By(1, buffer));
+        }
+    }
+
+    pub fn side(&mut self, side: Side) -> &mut [u8] {
+        match side {
+            Side::Head => self.head.bytes_mut(),
+            Side::Tail => self.tail.bytes_mut(),
+        }
+    }
+
+    pub fn header(&mut self, side: Side) -> &mut [u8] {
+        let at = side.header_at();
+        &mut self.side(side)[at..at + HEADER_LEN]
+    }
+
+    pub fn header_tail(&mut self, side: Side) -> &mut [u8] {
+        let at = side.header_at();
+        &mut self.side(side)[at + HEADER_LEN..at + BLOCK_LEN]
+    }
+
+    pub fn entries(&mut self, side: Side) -> &mut [u8] {
+        let at = side.entries_at();
+        &mut self.side(side)[at..at + ENTRIES_LEN]
+    }
+
+    /// The entry at `index`, which is one less than its slot.
+    pub fn entry(&mut self, side: Side, index: usize) -> &mut [u8] {
+        &mut self.entries(side)[index * ENTRY_LEN..(index + 1) * ENTRY_LEN]
+    }
+
+    /// Makes the copy's two CRCs right again.
+    pub fn seal(&mut self, side: Side) {
+        let entries_crc = usigrambal::crc32(self.entries(side));
+        let header = self.header(side);
+        header[88..92].copy_from_slice(&entries_crc.to_le_bytes());
+        header[16..20].fill(0);
+        let header_crc = usigrambal::crc32(header);
+        header[16..20].copy_from_slice(&header_crc.to_le_bytes());
+    }
+
+    pub fn seal_both(&mut self) {
+        SIDES.into_iter().for_each(|side| self.seal(side));
+    }
+
+    /// Puts a partition into both copies, whose CRCs are then still those of before.
+    pub fn place(&mut self, index: usize, first: u64, last: u64, random: &mut Random) {
+        let mut entry = random.bytes(ENTRY_LEN);
+        entry[32..40].copy_from_slice(&first.to_le_bytes());
+        entry[40..48].copy_from_slice(&last.to_le_bytes());
+        if random.below(2) == 0 {
+            entry[48..].fill(0);
+        }
+        SIDES.into_iter().for_each(|side| self.entry(side, index).copy_from_slice(&entry));
+    }
+
+    /// Index, first and last block of each entry of the copy that is not all zero.
+    pub fn partitions(&mut self, side: Side) -> Vec<(usize, u64, u64)> {
+        let number = |entry: &[u8], at: usize| u64::from_le_bytes(entry[at..at + 8].try_into().expect("8"));
+        let slots = self.entries(side).chunks(ENTRY_LEN).enumerate();
+        let used = slots.filter(|(_, entry)| entry.iter().any(|byte| *byte != 0));
+        used.map(|(index, entry)| (index, number(entry, 32), number(entry, 40))).collect()
+    }
+}

@@ -1,0 +1,149 @@
+//! Lists of calls on one disk.
+
+use super::call::Call;
+use super::disk::{Disk, Reply, Side, SLOTS};
+use super::{damage, sample};
+use crate::run::{Difference, Outcome, Run};
+use second::Ledger;
+use testkit::random::Random;
+
+const DAMAGED_HISTORIES: usize = 260;
+const DAMAGED_CALLS: usize = 36;
+const LEDGER_HISTORIES: usize = 60;
+const LEDGER_CALLS: usize = 40;
+
+/// Formatting over random bytes, the largest partition and one more, for each of many N.
+pub fn block_counts(run: &mut Run) -> Outcome {
+    for n in sample::block_counts(&mut run.random, 40) {
+        let mut disk = Disk::random(n, &mut run.random);
+        let guid = sample::guid(&mut run.random);
+        disk.call(run, &Call::Format { guid })?;
+        let usable = n - 67;
+        for size in [usable + 1, usable, 1] {
+            disk.call(run, &Call::Free)?;
+            let add = sample::good_add(size, &mut run.random);
+            disk.call(run, &add)?;
+        }
+        disk.call(run, &Call::Resize { slot: 1, size: usable + 1 })?;
+        disk.call(run, &Call::Resize { slot: 1, size: 1 })?;
+        disk.call(run, &Call::Table)?;
+        disk.call_in_state(run, &Call::Free)?;
+    }
+    Ok(())
+}
+
+/// Calls with damage between them, on disks with few or many partitions.
+pub fn damaged(run: &mut Run) -> Outcome {
+    for _ in 0..DAMAGED_HISTORIES {
+        let mut disk = crowded(run);
+        for _ in 0..DAMAGED_CALLS {
+            let read = disk.call(run, &Call::Read)?;
+            let call = next_call(&mut disk, read, &mut run.random);
+            disk.call_after(run, read, &call)?;
+            if run.random.below(4) == 0 {
+                damage::any(&mut disk, &mut run.random);
+            }
+        }
+    }
+    Ok(())
+}
+
+/// A disk that is not in state 1 is soon repaired, one that cannot be read formatted.
+fn next_call(disk: &mut Disk, read: Reply, random: &mut Random) -> Call {
+    match (read.number, read.values[0]) {
+        (0, 2..) if random.below(2) == 0 => Call::Repair,
+        (10, _) if random.below(2) == 0 => Call::Format { guid: sample::any_guid(random) },
+        _ => sample::any_call(disk, random),
+    }
+}
+
+/// A disk of any size with partitions in random slots.
+fn crowded(run: &mut Run) -> Disk {
+    let n = match run.random.below(4) {
+        0 => sample::block_count(&mut run.random),
+        1 => sample::N_MAX - run.random.number_below(40),
+        _ => sample::N_MIN + run.random.number_below(900),
+    };
+    let mut disk = Disk::formatted(n, &mut run.random);
+    let count = run.random.pick(&[0, 2, 5, 20, 127, 128]);
+    let mut slots: Vec<usize> = (0..SLOTS).collect();
+    let mut next = 34;
+    for _ in 0..count {
+        let index = slots.swap_remove(run.random.below(slots.len()));
+        let first = next + run.random.number_below(4).saturating_sub(1);
+        let last = first + run.random.number_below(4).saturating_sub(1);
+        if last > n - 34 {
+            break;
+        }
+        disk.place(index, first, last, &mut run.random);
+        next = last + 1;
+    }
+    disk.seal_both();
+    disk
+}
+
+/// D19 to D22: calls after an accepted formatting; what they granted and gave back is what the
+/// entries hold, no block lies in two partitions, and room is refused exactly where no run is long enough.
+pub fn ledger(run: &mut Run) -> Outcome {
+    for _ in 0..LEDGER_HISTORIES {
+        let n = sample::N_MIN + run.random.number_below(400);
+        let mut disk = Disk::random(n, &mut run.random);
+        let mut ledger = Ledger::new(run.rules);
+        format(run, &mut disk, &mut ledger)?;
+        for _ in 0..LEDGER_CALLS {
+            let before = disk.call(run, &Call::Free)?;
+            match run.random.below(30) {
+                0 => format(run, &mut disk, &mut ledger)?,
+                _ => one_call(run, &mut disk, &mut ledger, before)?,
+            }
+            claims(run, &mut disk, &ledger)?;
+        }
+    }
+    Ok(())
+}
+
+fn format(run: &mut Run, disk: &mut Disk, ledger: &mut Ledger) -> Outcome {
+    let guid = sample::guid(&mut run.random);
+    disk.call(run, &Call::Format { guid })?;
+    ledger.formatted();
+    Ok(())
+}
+
+fn one_call(run: &mut Run, disk: &mut Disk, ledger: &mut Ledger, before: Reply) -> Outcome {
+    let call = sample::any_call(disk, &mut run.random);
+    let reply = disk.call(run, &call)?;
+    match (&call, reply.number) {
+        (Call::Add { size, .. }, 0) => ledger.added(reply.values[0], *size),
+        (Call::Delete { slot }, 0) => ledger.deleted(*slot),
+        (Call::Resize { slot, size }, 0) => ledger.resized(*slot, *size),
+        (Call::Rename { .. }, 0) => ledger.renamed(),
+        (Call::Repair, 0) => ledger.repaired(),
+        (Call::Read | Call::Table | Call::Free, 0) => {}
+        _ => ledger.refused(),
+    }
+    let [_, longest] = before.values;
+    match (&call, reply.number) {
+        (Call::Add { size, .. }, 0) => claim(*size <= longest, || format!("added {size} in {longest}")),
+        (Call::Add { size, .. }, 25) => claim(*size > longest, || format!("no room for {size} in {longest}")),
+        _ => Ok(()),
+    }
+}
+
+fn claims(run: &mut Run, disk: &mut Disk, ledger: &Ledger) -> Outcome {
+    let [free, _] = disk.call(run, &Call::Free)?.values;
+    let held = i128::from(disk.n - 67) - i128::from(free);
+    let summed = ledger.in_partitions();
+    claim(held == summed, || format!("{held} blocks lie in partitions, {summed} by the sums"))?;
+    let mut ranges: Vec<_> = disk.partitions(Side::Head).into_iter().map(|(_, a, b)| (a, b)).collect();
+    ranges.sort();
+    let apart = ranges.windows(2).all(|two| two[0].1 < two[1].0);
+    let in_order = ranges.iter().all(|(first, last)| 34 <= *first && first <= last && *last <= disk.n - 34);
+    claim(apart && in_order, || format!("the partitions are {ranges:?}"))
+}
+
+fn claim(holds: bool, what: impl Fn() -> String) -> Outcome {
+    if holds {
+        return Ok(());
+    }
+    Err(Difference::new(format!("gpt, a list of calls: {}", what())))
+}

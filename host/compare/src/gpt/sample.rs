@@ -1,0 +1,187 @@
+//! Arguments, drawn so that each row and each border is met often.
+
+use super::call::{Call, GUID_LEN, NAME_UNITS};
+use super::disk::{Disk, Side, SLOTS};
+use testkit::random::Random;
+
+pub const N_MIN: u64 = 68;
+pub const N_MAX: u64 = 1 << 32;
+
+/// Every N next to a border or a power of two, then random ones.
+pub fn block_counts(random: &mut Random, drawn: usize) -> Vec<u64> {
+    let near_ends = (N_MIN..N_MIN + 6).chain(N_MAX - 5..=N_MAX);
+    let powers = (7..32).flat_map(|k| (1 << k) - 1..=(1 << k) + 1);
+    let mut counts: Vec<u64> = near_ends.chain([100, 161, 162, 195, 196]).chain(powers).collect();
+    counts.extend((0..drawn).map(|_| block_count(random)));
+    counts
+}
+
+/// Of any magnitude.
+pub fn block_count(random: &mut Random) -> u64 {
+    let below = N_MAX >> random.below(26);
+    N_MIN + random.number_below(below.saturating_sub(N_MIN).max(1))
+}
+
+pub const BAD_BLOCK_COUNTS: [u64; 8] = [0, 1, 33, 34, 67, N_MAX + 1, 1 << 33, u64::MAX];
+
+pub fn guid(random: &mut Random) -> Vec<u8> {
+    random.bytes(GUID_LEN)
+}
+
+/// All zero but for one byte.
+pub fn sparse_guid(random: &mut Random) -> Vec<u8> {
+    let mut guid = vec![0; GUID_LEN];
+    guid[random.below(GUID_LEN)] = 1 << random.below(8);
+    guid
+}
+
+/// Zero, sparse, or random.
+pub fn any_guid(random: &mut Random) -> Vec<u8> {
+    match random.below(12) {
+        0 => vec![0; GUID_LEN],
+        1..=3 => sparse_guid(random),
+        _ => guid(random),
+    }
+}
+
+/// A name that is not refused; some of its units have a zero byte.
+pub fn good_name(random: &mut Random) -> Vec<u16> {
+    let length = random.pick(&[0, 1, 5, 35, NAME_UNITS]);
+    let mut name = vec![0; NAME_UNITS];
+    for unit in &mut name[..length] {
+        let any = random.number() as u16 | 1;
+        *unit = random.pick(&[0x41, 0x0100, 0xFF00, 0xD83D, 0xFFFF, 1, any]);
+    }
+    name
+}
+
+/// A nonzero unit after a zero one, the last unit among them.
+pub fn bad_name(random: &mut Random) -> Vec<u16> {
+    let zero = random.below(NAME_UNITS - 1);
+    let after = match random.below(2) {
+        0 => NAME_UNITS - 1,
+        _ => zero + 1 + random.below(NAME_UNITS - 1 - zero),
+    };
+    let mut name = vec![0; NAME_UNITS];
+    name[..zero].fill(0x42);
+    name[after] = random.pick(&[1, 0x0100, 0x8000, 0x43]);
+    name
+}
+
+pub fn any_name(random: &mut Random) -> Vec<u16> {
+    match random.below(8) {
+        0 => bad_name(random),
+        1 => random.bytes(NAME_UNITS).into_iter().map(u16::from).collect(),
+        _ => good_name(random),
+    }
+}
+
+pub const BAD_SLOTS: [u64; 8] = [0, 129, 130, 255, 256, 257, (1 << 32) + 1, u64::MAX];
+
+/// A used slot more often than others.
+pub fn any_slot(disk: &mut Disk, random: &mut Random) -> u64 {
+    let used: Vec<u64> = disk.partitions(Side::Head).iter().map(|(index, ..)| *index as u64 + 1).collect();
+    match random.below(10) {
+        0 => random.pick(&BAD_SLOTS),
+        1 => random.pick(&[1, 2, 127, 128]),
+        2 => 1 + random.number_below(SLOTS as u64),
+        _ if used.is_empty() => 1,
+        _ => random.pick(&used),
+    }
+}
+
+const ODD_SIZES: [u64; 7] = [0, 1, 1 << 32, 1 << 63, u64::MAX - 34, u64::MAX - 33, u64::MAX];
+
+/// The lengths of the gaps between partitions, by the primary entries.
+fn gaps(disk: &mut Disk) -> Vec<u64> {
+    let mut ranges: Vec<_> = disk.partitions(Side::Head).into_iter().map(|(_, a, b)| (a, b)).collect();
+    ranges.sort();
+    ranges.push((disk.n.saturating_sub(33), 0));
+    let mut next: u64 = 34;
+    let mut gaps = Vec::new();
+    for (first, last) in ranges {
+        gaps.push(first.saturating_sub(next));
+        next = last.saturating_add(1);
+    }
+    gaps
+}
+
+/// A gap's length or next to it, small, odd, or all free blocks.
+pub fn new_size(disk: &mut Disk, random: &mut Random) -> u64 {
+    let gaps = gaps(disk);
+    let gap = random.pick(&gaps);
+    match random.below(12) {
+        0 => random.pick(&ODD_SIZES),
+        1 => gaps.iter().fold(0, |sum: u64, gap| sum.saturating_add(*gap)),
+        2..=4 => gap,
+        5 => gap.saturating_add(1),
+        6 => gap.saturating_sub(1),
+        7 => 1 + random.number_below(gap.max(1)),
+        _ => 1 + random.number_below(9),
+    }
+}
+
+/// The partition's size, or what the gap after it lets it have, and next to both.
+pub fn other_size(disk: &mut Disk, slot: u64, random: &mut Random) -> u64 {
+    let partitions = disk.partitions(Side::Head);
+    let Some((_, first, last)) = partitions.iter().find(|(index, ..)| *index as u64 + 1 == slot) else {
+        return random.pick(&ODD_SIZES);
+    };
+    let after = partitions.iter().map(|(_, first, _)| *first).filter(|start| start > last).min();
+    let largest = after.unwrap_or(disk.n.saturating_sub(33)).saturating_sub(*first);
+    let size = last.saturating_sub(*first).saturating_add(1);
+    match random.below(10) {
+        0 => random.pick(&ODD_SIZES),
+        1..=2 => size,
+        3..=4 => largest,
+        5..=6 => largest.saturating_add(1),
+        7 => largest.saturating_sub(1),
+        // 2^64 when added to the first block.
+        8 => 0_u64.wrapping_sub(*first),
+        _ => 1 + random.number_below(largest.max(1)),
+    }
+}
+
+/// A unique GUID that is taken, or taken but for its last byte, or any.
+pub fn unique(disk: &mut Disk, random: &mut Random) -> Vec<u8> {
+    let used: Vec<usize> = disk.partitions(Side::Head).iter().map(|(index, ..)| *index).collect();
+    if used.is_empty() || random.below(4) > 0 {
+        return any_guid(random);
+    }
+    let index = random.pick(&used);
+    let mut guid = disk.entry(Side::Head, index)[16..32].to_vec();
+    if random.below(2) == 0 {
+        let any = random.below(GUID_LEN);
+        let place = random.pick(&[0, GUID_LEN - 1, any]);
+        guid[place] ^= 1 << random.below(8);
+    }
+    guid
+}
+
+/// An add that no row but for slot or room refuses.
+pub fn good_add(size: u64, random: &mut Random) -> Call {
+    let (kind, unique, name) = (sparse_guid(random), guid(random), good_name(random));
+    Call::Add { kind, unique, size, attributes: random.number(), name }
+}
+
+/// Any call on the disk but formatting; edits most often.
+pub fn any_call(disk: &mut Disk, random: &mut Random) -> Call {
+    let slot = any_slot(disk, random);
+    match random.below(20) {
+        0 => Call::Read,
+        1 => Call::Table,
+        2 => Call::Free,
+        3 => Call::Repair,
+        4..=5 => Call::Delete { slot },
+        6..=8 => Call::Rename { slot, name: any_name(random) },
+        9..=11 => Call::Resize { slot, size: other_size(disk, slot, random) },
+        12..=15 => good_add(new_size(disk, random), random),
+        _ => Call::Add {
+            kind: any_guid(random),
+            unique: unique(disk, random),
+            size: new_size(disk, random),
+            attributes: random.number(),
+            name: any_name(random),
+        },
+    }
+}

@@ -1,0 +1,174 @@
+use super::copies::Disk;
+use super::entry::{self, Entry, NewPartition};
+use super::write::Buffers;
+use super::{answer, leave_buffers, room};
+use crate::bytes::{is_zero, part, put};
+use crate::refuse::first_refusal;
+use crate::rules::{Row, Rules, Slot};
+
+/// D15: adds a partition; answers its slot and first block.
+pub fn gpt_add(
+    rules: &Rules,
+    head: &mut [u8],
+    tail: &mut [u8],
+    n: u64,
+    new: &NewPartition,
+    slot: &mut u64,
+    first: &mut u64,
+) -> u32 {
+    let disk = Disk::of(rules, head, tail, n);
+    let used = entry::used(rules, disk.entries(rules));
+    let runs = room::runs(rules, n, &used);
+    let free_slot = free_slot(rules, &used);
+    let refusal = first_refusal(rules, rules.gpt.add_order, |row| match row {
+        Row::WrongLength => disk.holds(rules, row) || new_lengths_wrong(rules, new),
+        Row::ZeroSize => new.size < rules.gpt.size_min,
+        Row::ZeroType => is_zero(part(new.kind, 0, rules.gpt.zero_kind_len)),
+        Row::UniqueTaken => unique_taken(rules, &used, new.unique),
+        Row::BadName => entry::name_is_bad(rules, new.name),
+        Row::NoSlot => free_slot.is_none(),
+        Row::NoRoom => room::longest(rules.gpt.room, &runs) < new.size,
+        _ => disk.holds(rules, row),
+    });
+    let found = free_slot.zip(room::start(rules, &runs, new.size));
+    let added = found.map(|(index, start)| (index, entry::new_entry(rules, new, start)));
+    finish(rules, Buffers { head, tail, n }, refusal, added);
+    let told = found.map(|(index, start)| {
+        let end = start.wrapping_add(new.size);
+        [index as u64 + rules.gpt.slot_base, if rules.gpt.add_answers_first { start } else { end }]
+    });
+    answer(rules, refusal, told, [slot, first])
+}
+
+/// D16.
+pub fn gpt_delete(rules: &Rules, head: &mut [u8], tail: &mut [u8], n: u64, slot: u64) -> u32 {
+    let disk = Disk::of(rules, head, tail, n);
+    let target = target(rules, &disk, slot);
+    let refusal = first_refusal(rules, rules.gpt.delete_order, |row| match row {
+        Row::NoSuchSlot => no_such_slot(rules, slot),
+        Row::UnusedSlot => target.is_none(),
+        _ => disk.holds(rules, row),
+    });
+    let zeros = vec![0; rules.gpt.delete_zeroes];
+    let deleted = target.map(|entry| (entry.index, with(&entry, 0, &zeros)));
+    finish(rules, Buffers { head, tail, n }, refusal, deleted)
+}
+
+/// D17.
+pub fn gpt_rename(rules: &Rules, head: &mut [u8], tail: &mut [u8], n: u64, slot: u64, name: &[u16]) -> u32 {
+    let disk = Disk::of(rules, head, tail, n);
+    let target = target(rules, &disk, slot);
+    let refusal = first_refusal(rules, rules.gpt.rename_order, |row| match row {
+        Row::WrongLength => disk.holds(rules, row) || name.len() != rules.gpt.name_units,
+        Row::NoSuchSlot => no_such_slot(rules, slot),
+        Row::UnusedSlot => target.is_none(),
+        Row::BadName => entry::name_is_bad(rules, name),
+        _ => disk.holds(rules, row),
+    });
+    let units = entry::stored_name(rules, renamed_units(rules, name));
+    let renamed = target.map(|entry| (entry.index, with(&entry, rules.gpt.entry.name, &units)));
+    finish(rules, Buffers { head, tail, n }, refusal, renamed)
+}
+
+/// D18.
+pub fn gpt_resize(rules: &Rules, head: &mut [u8], tail: &mut [u8], n: u64, slot: u64, size: u64) -> u32 {
+    let disk = Disk::of(rules, head, tail, n);
+    let used = entry::used(rules, disk.entries(rules));
+    let target = target(rules, &disk, slot);
+    let refusal = first_refusal(rules, rules.gpt.resize_order, |row| match row {
+        Row::NoSuchSlot => no_such_slot(rules, slot),
+        Row::UnusedSlot => target.is_none(),
+        Row::ZeroSize => size < rules.gpt.size_min,
+        Row::NoRoom => target.as_ref().is_some_and(|entry| no_room(rules, n, &used, entry, size)),
+        _ => disk.holds(rules, row),
+    });
+    let resized = target.map(|entry| (entry.index, resized(rules, &entry, size)));
+    finish(rules, Buffers { head, tail, n }, refusal, resized)
+}
+
+/// Writes the edited entry of an accepted call.
+fn finish(
+    rules: &Rules,
+    mut buffers: Buffers,
+    refusal: Option<u32>,
+    edited: Option<(usize, Vec<u8>)>,
+) -> u32 {
+    match (refusal, edited) {
+        (None, Some((index, bytes))) => buffers.edit(rules, index, &bytes),
+        _ => leave_buffers(rules, &mut buffers),
+    }
+    refusal.unwrap_or(0)
+}
+
+/// The bytes of the entry with `new` from `at` on.
+fn with(entry: &Entry, at: usize, new: &[u8]) -> Vec<u8> {
+    let mut bytes = entry.bytes.clone();
+    put(&mut bytes, at, new);
+    bytes
+}
+
+fn new_lengths_wrong(rules: &Rules, new: &NewPartition) -> bool {
+    new.kind.len() != rules.gpt.kind_len
+        || new.unique.len() != rules.gpt.unique_len
+        || new.name.len() != rules.gpt.name_units
+}
+
+/// R11.
+fn unique_taken(rules: &Rules, used: &[Entry], unique: &[u8]) -> bool {
+    let zero = rules.gpt.zero_unique_refused && is_zero(unique);
+    let taken = rules.gpt.taken_unique_refused && used.iter().any(|entry| entry.unique == unique);
+    zero || taken
+}
+
+/// D15: the index of the slot that a new partition takes.
+fn free_slot(rules: &Rules, used: &[Entry]) -> Option<usize> {
+    let mut unused = (0..rules.gpt.count).filter(|index| used.iter().all(|entry| entry.index != *index));
+    match rules.gpt.slot {
+        Slot::LowestUnused => unused.next(),
+        Slot::HighestUnused => unused.next_back(),
+        Slot::AfterLastUsed => unused.find(|index| used.iter().all(|entry| entry.index < *index)),
+    }
+}
+
+/// R9.
+fn no_such_slot(rules: &Rules, slot: u64) -> bool {
+    !(rules.gpt.slot_min..=rules.gpt.slot_max).contains(&slot)
+}
+
+/// The used entry in that slot.
+fn target(rules: &Rules, disk: &Disk, slot: u64) -> Option<Entry> {
+    let index = slot.checked_sub(rules.gpt.slot_base)?;
+    entry::used(rules, disk.entries(rules)).into_iter().find(|entry| entry.index as u64 == index)
+}
+
+fn renamed_units<'a>(rules: &Rules, name: &'a [u16]) -> &'a [u16] {
+    let units = &name[..name.len().min(rules.gpt.rename_units)];
+    match units.iter().position(|unit| *unit == 0) {
+        Some(end) if rules.gpt.rename_stops_at_zero => &units[..end],
+        _ => units,
+    }
+}
+
+/// D18: the last block of the new range, which may lie past the numbers of 64 bits.
+fn resized_last(rules: &Rules, entry: &Entry, size: u64) -> u128 {
+    (u128::from(entry.first) + u128::from(size)).saturating_sub(u128::from(rules.gpt.resize_last_less))
+}
+
+/// D18: a block of the new range lies past N−34 or in another partition.
+fn no_room(rules: &Rules, n: u64, used: &[Entry], resized: &Entry, size: u64) -> bool {
+    let last = resized_last(rules, resized, size);
+    if last > u128::from(rules.gpt.resize_last_max.block(n)) {
+        return true;
+    }
+    let mut others = used.iter().filter(|entry| entry.index != resized.index);
+    rules.gpt.resize_judges_others && others.any(|entry| entry.meets(resized.first, last as u64))
+}
+
+fn resized(rules: &Rules, entry: &Entry, size: u64) -> Vec<u8> {
+    let last = resized_last(rules, entry, size) as u64;
+    let mut bytes = with(entry, rules.gpt.entry.last, &entry::stored_last(rules, last));
+    if rules.gpt.resize_zeroes_attributes {
+        put(&mut bytes, rules.gpt.entry.attributes, &[0; 8]);
+    }
+    bytes
+}

@@ -1,0 +1,81 @@
+/// The rows of the refusal table, by what holds.
+#[derive(Clone, Copy, Debug, PartialEq, Eq)]
+pub enum Row {
+    WrongLength,
+    BadBlockCount,
+    ZeroDiskGuid,
+    NoGoodCopy,
+    NotSame,
+    NoSuchSlot,
+    UnusedSlot,
+    ZeroSize,
+    ZeroType,
+    UniqueTaken,
+    BadName,
+    NoSlot,
+    NoRoom,
+    NotGuidText,
+    ImageLength,
+    NoSignature,
+    NoGoodMap,
+    /// The same three of the new image, in a carry.
+    NewImageLength,
+    NewNoSignature,
+    NewNoGoodMap,
+    AreaMissing,
+    OtherSize,
+    SharedByte,
+    OnFmap,
+    /// No row of the table: no such area.
+    Nothing,
+}
+
+/// What a refusal returns and leaves.
+#[derive(Clone, Copy, Debug)]
+pub struct RefusalRules {
+    /// R4 to R16, R23, R24; 255 for the answer that no area is there.
+    pub numbers: [(Row, u32); 25],
+    /// R1: how many bytes of an output buffer a refusal zeroes.
+    pub zeroes: usize,
+    /// R1, "its number alone": a refusal sets the other answers to zero.
+    pub zeroes_answers: bool,
+}
+
+impl RefusalRules {
+    /// Gives a row another number.
+    pub fn renumber(&mut self, row: Row, number: u32) {
+        self.numbers.iter_mut().filter(|(of, _)| *of == row).for_each(|cell| cell.1 = number);
+    }
+}
+
+pub const REFUSALS: RefusalRules = RefusalRules {
+    numbers: [
+        (Row::WrongLength, 1),
+        (Row::BadBlockCount, 2),
+        (Row::ZeroDiskGuid, 3),
+        (Row::NoGoodCopy, 10),
+        (Row::NotSame, 11),
+        (Row::NoSuchSlot, 12),
+        (Row::UnusedSlot, 13),
+        (Row::ZeroSize, 20),
+        (Row::ZeroType, 21),
+        (Row::UniqueTaken, 22),
+        (Row::BadName, 23),
+        (Row::NoSlot, 24),
+        (Row::NoRoom, 25),
+        (Row::NotGuidText, 30),
+        (Row::ImageLength, 40),
+        (Row::NoSignature, 41),
+        (Row::NoGoodMap, 42),
+        (Row::NewImageLength, 40),
+        (Row::NewNoSignature, 41),
+        (Row::NewNoGoodMap, 42),
+        (Row::AreaMissing, 60),
+        (Row::OtherSize, 61),
+        (Row::SharedByte, 62),
+        (Row::OnFmap, 63),
+        (Row::Nothing, 255),
+    ],
+    zeroes: 0,
+    zeroes_answers: false,
+};

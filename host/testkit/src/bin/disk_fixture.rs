@@ -1,0 +1,25 @@
+//! Prints an image as a fixture: the partitions as `sgdisk` or `sfdisk` lists them, and the bytes.
+//!
+//! usage: disk_fixture TOOL IMAGE; TOOL `none` lists no partition
+
+use std::path::Path;
+use testkit::disk::Disk;
+use testkit::{fixture, listing};
+
+fn main() {
+    let arguments: Vec<String> = std::env::args().skip(1).collect();
+    let [tool, image] = &arguments[..] else { panic!("usage: disk_fixture TOOL IMAGE") };
+    let image = Path::new(image);
+    let partitions = match tool.as_str() {
+        "sgdisk" => listing::sgdisk(image),
+        "sfdisk" => listing::sfdisk(image),
+        "none" => Vec::new(),
+        _ => panic!("disk_fixture: unknown tool {tool}"),
+    };
+    let disk = Disk::read(image).unwrap_or_else(|error| panic!("{}: {error}", image.display()));
+    println!("blocks {}", disk.n);
+    for partition in partitions {
+        println!("partition {partition}");
+    }
+    print!("{}{}", fixture::lines("head", &disk.head, 0), fixture::lines("tail", &disk.tail, 0));
+}

@@ -1,0 +1,134 @@
+//! Bytes that another tool made, in a text: comment lines begin with `#`, and
+//!
+//! ```text
+//! blocks N
+//! state STATE          or "refused" and the number
+//! partition SLOT FIRST LAST TYPE UNIQUE ATTRIBUTES "NAME"    as the tool listed it
+//! head OFFSET BYTES    in hex; what no line names is zero
+//! tail OFFSET BYTES
+//! ```
+//!
+//! for a disk, and for a flash image
+//!
+//! ```text
+//! length BYTES
+//! fill BYTE            in hex, of what no line names
+//! found POSITION       or "refused" and the number
+//! area NAME OFFSET SIZE    as the tool listed it
+//! preserve NAME
+//! image OFFSET BYTES
+//! ```
+
+use crate::disk::{Disk, HEAD_LEN, TAIL_LEN};
+use crate::listing::{self, Area, Partition};
+use std::path::{Path, PathBuf};
+use std::{fs, io};
+
+/// A disk, and what the tool said of it.
+pub struct DiskFixture {
+    pub disk: Disk,
+    /// The state, or the number of the refusal.
+    pub reads_as: Result<u64, u32>,
+    pub partitions: Vec<Partition>,
+}
+
+/// The files of a folder of `fixtures/`, by name.
+pub fn files(folder: &str, extension: &str) -> Vec<PathBuf> {
+    let folder = crate::host().join("fixtures").join(folder);
+    let entries = fs::read_dir(&folder).unwrap_or_else(|error| panic!("{}: {error}", folder.display()));
+    let paths = entries.map(|entry| entry.expect("a file").path());
+    let mut files: Vec<_> = paths.filter(|path| path.extension().is_some_and(|e| e == extension)).collect();
+    files.sort();
+    files
+}
+
+pub fn disk(path: &Path) -> io::Result<DiskFixture> {
+    let text = fs::read_to_string(path)?;
+    let mut disk = Disk { head: vec![0; HEAD_LEN], tail: vec![0; TAIL_LEN], n: 0 };
+    let (mut reads_as, mut partitions) = (Err(0), Vec::new());
+    for line in text.lines().filter(|line| !line.is_empty() && !line.starts_with('#')) {
+        let wrong = || io::Error::other(format!("{}: {line}", path.display()));
+        let (word, rest) = line.split_once(' ').ok_or_else(wrong)?;
+        match word {
+            "blocks" => disk.n = rest.parse().map_err(|_| wrong())?,
+            "state" => reads_as = Ok(rest.parse().map_err(|_| wrong())?),
+            "refused" => reads_as = Err(rest.parse().map_err(|_| wrong())?),
+            "partition" => partitions.push(listing::partition(rest).ok_or_else(wrong)?),
+            "head" => put(&mut disk.head, rest).ok_or_else(wrong)?,
+            "tail" => put(&mut disk.tail, rest).ok_or_else(wrong)?,
+            _ => return Err(wrong()),
+        }
+    }
+    Ok(DiskFixture { disk, reads_as, partitions })
+}
+
+/// A flash image, and what the tool said of it.
+pub struct FlashFixture {
+    pub image: Vec<u8>,
+    /// The position of the map, or the number of the refusal.
+    pub reads_as: Result<u64, u32>,
+    pub areas: Vec<Area>,
+    pub preserved: Vec<String>,
+}
+
+pub fn flash(path: &Path) -> io::Result<FlashFixture> {
+    let text = fs::read_to_string(path)?;
+    let (mut areas, mut preserved) = (Vec::new(), Vec::new());
+    let (mut image, mut reads_as) = (Vec::new(), Err(0));
+    for line in text.lines().filter(|line| !line.is_empty() && !line.starts_with('#')) {
+        let wrong = || io::Error::other(format!("{}: {line}", path.display()));
+        let (word, rest) = line.split_once(' ').ok_or_else(wrong)?;
+        match word {
+            "length" => image.resize(rest.parse().map_err(|_| wrong())?, 0),
+            "fill" => image.fill(u8::from_str_radix(rest, 16).map_err(|_| wrong())?),
+            "found" => reads_as = Ok(rest.parse().map_err(|_| wrong())?),
+            "refused" => reads_as = Err(rest.parse().map_err(|_| wrong())?),
+            "area" => areas.push(listing::area(rest).ok_or_else(wrong)?),
+            "preserve" => preserved.push(rest.to_string()),
+            "image" => put(&mut image, rest).ok_or_else(wrong)?,
+            _ => return Err(wrong()),
+        }
+    }
+    Ok(FlashFixture { image, reads_as, areas, preserved })
+}
+
+/// Puts `OFFSET BYTES` into the buffer.
+pub fn put(buffer: &mut [u8], line: &str) -> Option<()> {
+    let (offset, hex) = line.split_once(' ')?;
+    let offset = usize::from_str_radix(offset, 16).ok()?;
+    let digits = hex.as_bytes().chunks(2).map(|pair| std::str::from_utf8(pair).ok());
+    for (place, pair) in digits.enumerate() {
+        *buffer.get_mut(offset + place)? = u8::from_str_radix(pair?, 16).ok()?;
+    }
+    Some(())
+}
+
+/// The lines of a buffer: its pieces of 32 bytes that are not all `filler`.
+pub fn lines(name: &str, buffer: &[u8], filler: u8) -> String {
+    let mut text = String::new();
+    for (piece, at) in buffer.chunks(32).zip((0..).step_by(32)) {
+        if piece.iter().any(|byte| *byte != filler) {
+            let hex: String = piece.iter().map(|byte| format!("{byte:02X}")).collect();
+            text += &format!("{name} {at:04X} {hex}\n");
+        }
+    }
+    text
+}
+
+#[cfg(test)]
+mod tests {
+    use super::*;
+
+    #[test]
+    fn a_buffer_is_read_as_it_is_written() {
+        let mut buffer = vec![0; 100];
+        (buffer[3], buffer[64], buffer[99]) = (7, 0xAB, 9);
+        let mut read = vec![0; 100];
+        for line in lines("head", &buffer, 0).lines() {
+            put(&mut read, line.strip_prefix("head ").unwrap()).unwrap();
+        }
+        assert_eq!(read, buffer);
+        assert_eq!(put(&mut read, "63 0102"), None);
+        assert_eq!(put(&mut read, "0 0G"), None);
+    }
+}

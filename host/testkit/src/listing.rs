@@ -1,0 +1,217 @@
+//! The partitions of a disk and the areas of a flash image, as each tool lists them.
+
+use crate::peer::printed;
+use std::collections::BTreeMap;
+use std::fmt;
+use std::path::Path;
+
+/// A partition; GUIDs as text in upper case.
+#[derive(Clone, Debug, PartialEq, Eq)]
+pub struct Partition {
+    pub slot: u64,
+    pub first: u64,
+    pub last: u64,
+    pub kind: String,
+    pub unique: String,
+    pub attributes: u64,
+    pub name: String,
+}
+
+impl fmt::Display for Partition {
+    fn fmt(&self, f: &mut fmt::Formatter<'_>) -> fmt::Result {
+        let Partition { slot, first, last, kind, unique, attributes, name } = self;
+        write!(f, "{slot} {first} {last} {kind} {unique} {attributes:016X} \"{name}\"")
+    }
+}
+
+/// Reads what `Display` writes.
+pub fn partition(line: &str) -> Option<Partition> {
+    let mut words = line.splitn(7, ' ');
+    let mut word = || words.next();
+    Some(Partition {
+        slot: word()?.parse().ok()?,
+        first: word()?.parse().ok()?,
+        last: word()?.parse().ok()?,
+        kind: word()?.to_string(),
+        unique: word()?.to_string(),
+        attributes: u64::from_str_radix(word()?, 16).ok()?,
+        name: word()?.strip_prefix('"')?.strip_suffix('"')?.to_string(),
+    })
+}
+
+/// By `sgdisk -p` and `sgdisk -i`.
+pub fn sgdisk(image: &Path) -> Vec<Partition> {
+    let image = image.to_str().expect("a path in UTF-8");
+    let table = printed("sgdisk", ["-p", image]);
+    let rows = table.lines().skip_while(|line| !line.starts_with("Number")).skip(1);
+    let slots = rows.filter_map(|row| row.split_whitespace().next()?.parse().ok());
+    slots.map(|slot| sgdisk_one(image, slot)).collect()
+}
+
+fn sgdisk_one(image: &str, slot: u64) -> Partition {
+    let text = printed("sgdisk", ["-i", &slot.to_string(), image]);
+    let field = |label: &str| {
+        let line = text.lines().find_map(|line| line.strip_prefix(label));
+        line.unwrap_or_else(|| panic!("sgdisk -i {slot}: no {label}\n{text}")).trim()
+    };
+    let word = |label: &str| field(label).split(' ').next().unwrap_or("");
+    Partition {
+        slot,
+        first: word("First sector:").parse().expect("a block number"),
+        last: word("Last sector:").parse().expect("a block number"),
+        kind: word("Partition GUID code:").to_string(),
+        unique: word("Partition unique GUID:").to_string(),
+        attributes: u64::from_str_radix(word("Attribute flags:"), 16).expect("a hex number"),
+        name: field("Partition name:").trim_matches('\'').to_string(),
+    }
+}
+
+/// By `sfdisk -d`. Its words for attributes stand for the bits of the UEFI specification.
+pub fn sfdisk(image: &Path) -> Vec<Partition> {
+    let image = image.to_str().expect("a path in UTF-8");
+    let script = printed("sfdisk", ["-d", image]);
+    let rows = script.lines().filter_map(|line| line.strip_prefix(image)?.split_once(" : "));
+    rows.map(|(slot, fields)| sfdisk_one(slot, fields)).collect()
+}
+
+fn sfdisk_one(slot: &str, fields: &str) -> Partition {
+    let (fields, name) = match fields.split_once(", name=\"") {
+        Some((fields, rest)) => (fields.to_string(), rest),
+        None => (fields.to_string(), "\""),
+    };
+    let (name, rest) = name.split_once('"').expect("a name in quotes");
+    let all = fields + rest;
+    let pairs: BTreeMap<&str, &str> =
+        all.split(", ").filter_map(|pair| pair.split_once('=')).map(|(k, v)| (k.trim(), v.trim())).collect();
+    let first: u64 = pairs["start"].parse().expect("a block number");
+    let size: u64 = pairs["size"].parse().expect("a number of blocks");
+    Partition {
+        slot: slot.trim().parse().expect("a slot"),
+        first,
+        last: first + size - 1,
+        kind: pairs["type"].to_string(),
+        unique: pairs["uuid"].to_string(),
+        attributes: pairs.get("attrs").map_or(0, |words| attributes(words.trim_matches('"'))),
+        name: unescaped(name),
+    }
+}
+
+/// sfdisk writes bytes beyond ASCII as `\x` and two digits, unless the locale has them.
+fn unescaped(name: &str) -> String {
+    let mut pieces = name.split("\\x");
+    let mut bytes = pieces.next().unwrap_or("").as_bytes().to_vec();
+    for piece in pieces {
+        let (digits, rest) = piece.split_at(2);
+        bytes.push(u8::from_str_radix(digits, 16).expect("two hex digits"));
+        bytes.extend(rest.as_bytes());
+    }
+    String::from_utf8(bytes).expect("a name in UTF-8")
+}
+
+/// The bits that sfdisk names.
+fn attributes(words: &str) -> u64 {
+    let bit = |word: &str| match word {
+        "RequiredPartition" => 0,
+        "NoBlockIOProtocol" => 1,
+        "LegacyBIOSBootable" => 2,
+        guid => guid.strip_prefix("GUID:").and_then(|bit| bit.parse().ok()).expect("a bit number"),
+    };
+    let words = words.replace("GUID:", " GUID:").replace(',', " GUID:");
+    words.split_whitespace().fold(0, |bits, word| bits | 1 << bit(word))
+}
+
+/// By `cgpt show -i`, which leaves the low 48 attribute bits out.
+pub fn cgpt(image: &Path, slots: impl IntoIterator<Item = u64>) -> Vec<Partition> {
+    let image = image.to_str().expect("a path in UTF-8");
+    let one = |slot: u64| {
+        let field = |option: &str| {
+            printed("cgpt", ["show", "-i", &slot.to_string(), option, image]).trim_end().to_string()
+        };
+        let number = |option: &str| field(option).parse::<u64>().expect("a number");
+        let first = number("-b");
+        let attributes = field("-A");
+        let attributes = u64::from_str_radix(attributes.trim_start_matches("0x"), 16).expect("a hex number");
+        Partition {
+            slot,
+            first,
+            last: first + number("-s") - 1,
+            kind: field("-t"),
+            unique: field("-u"),
+            attributes: attributes << 48,
+            name: field("-l"),
+        }
+    };
+    slots.into_iter().map(one).collect()
+}
+
+/// An area of a flash image.
+#[derive(Clone, Debug, PartialEq, Eq)]
+pub struct Area {
+    pub name: String,
+    pub offset: u64,
+    pub size: u64,
+}
+
+/// By `dump_fmap -p`, in the order of the map.
+pub fn dump_fmap(image: &Path) -> Vec<Area> {
+    let image = image.to_str().expect("a path in UTF-8");
+    let table = printed("dump_fmap", ["-p", image]);
+    table.lines().map(|line| area(line).unwrap_or_else(|| panic!("dump_fmap -p: {line}"))).collect()
+}
+
+/// Reads `NAME OFFSET SIZE`.
+pub fn area(line: &str) -> Option<Area> {
+    let mut words = line.rsplitn(3, ' ');
+    let size = words.next()?.parse().ok()?;
+    let offset = words.next()?.parse().ok()?;
+    Some(Area { name: words.next()?.to_string(), offset, size })
+}
+
+/// The names that `cbfstool layout -w` marks as preserved.
+pub fn preserved(image: &Path) -> Vec<String> {
+    let image = image.to_str().expect("a path in UTF-8");
+    let table = printed("cbfstool", [image, "layout", "-w"]);
+    let rows = table.lines().filter(|line| line.contains("preserve,"));
+    rows.filter_map(|row| Some(row.strip_prefix('\'')?.split_once("' (")?.0.to_string())).collect()
+}
+
+#[cfg(test)]
+mod tests {
+    use super::*;
+
+    #[test]
+    fn a_partition_is_read_as_it_is_written() {
+        let line = "5 34 66 0FC63DAF-8483-4772-8E79-3D69D8477DE4 00000000-0000-0000-0000-000000000001 \
+                    8000000000000001 \"two words\"";
+        assert_eq!(partition(line).unwrap().to_string(), line);
+        assert_eq!(partition("5 34 66").map(|p| p.slot), None);
+    }
+
+    #[test]
+    fn an_area_of_dump_fmap() {
+        let found = area("RW_CAL 36864 1024");
+        assert_eq!(found, Some(Area { name: "RW_CAL".into(), offset: 36_864, size: 1024 }));
+        assert_eq!(area("RW_CAL 36864"), None);
+    }
+
+    #[test]
+    fn attributes_of_sfdisk_are_bits() {
+        assert_eq!(attributes("RequiredPartition LegacyBIOSBootable GUID:48,63"), 0x8001_0000_0000_0005);
+        assert_eq!(attributes(""), 0);
+    }
+
+    #[test]
+    fn names_of_sfdisk_are_unescaped() {
+        assert_eq!(unescaped("Gr\\xc3\\xb6\\xc3\\x9fe"), "Größe");
+        assert_eq!(unescaped("boot"), "boot");
+    }
+
+    #[test]
+    fn a_row_of_sfdisk() {
+        let row = "start=          34, size=          10, type=0FC63DAF-8483-4772-8E79-3D69D8477DE4, \
+                   uuid=AAAAAAAA-BBBB-CCCC-DDDD-EEEEEEEEEEE1, name=\"a, b\", attrs=\"GUID:60\"";
+        let found = sfdisk_one("7", row);
+        assert_eq!((found.slot, found.first, found.last), (7, 34, 43));
+        assert_eq!((found.name.as_str(), found.attributes), ("a, b", 1 << 60));
+    }
+}

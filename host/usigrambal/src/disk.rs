@@ -1,0 +1,260 @@
+use crate::raw;
+use crate::refusal::{accepted, Detail, Refusal};
+use crate::Guid;
+
+/// Rule Q3: bytes of blocks 0 to 33, and of the last 33 blocks.
+pub const HEAD_LEN: usize = 17_408;
+pub const TAIL_LEN: usize = 16_896;
+
+const ENTRIES_LEN: usize = 16_384;
+const ENTRY_LEN: usize = 128;
+
+/// A disk of `n` blocks of 512 bytes, by its first 34 and its last 33 blocks. The caller reads and
+/// writes these blocks; the calls change them in memory.
+#[derive(Debug)]
+pub struct Disk<'a> {
+    pub head: &'a mut [u8; HEAD_LEN],
+    pub tail: &'a mut [u8; TAIL_LEN],
+    pub n: u64,
+}
+
+/// Rule D10: what reading finds.
+#[derive(Clone, Copy, Debug, PartialEq, Eq)]
+pub enum State {
+    Same = 1,
+    /// Both copies are good; the primary one is used.
+    Different = 2,
+    PrimaryOnly = 3,
+    BackupOnly = 4,
+}
+
+/// Rule D12.
+#[derive(Clone, Copy, Debug, PartialEq, Eq)]
+pub struct Free {
+    pub blocks: u64,
+    pub longest_run: u64,
+}
+
+/// Where an accepted add put the partition.
+#[derive(Clone, Copy, Debug, PartialEq, Eq)]
+pub struct Placed {
+    pub slot: u64,
+    pub first: u64,
+}
+
+/// Rule D15: what a new partition is given.
+#[derive(Clone, Copy, Debug, PartialEq, Eq)]
+pub struct NewPartition {
+    pub kind: Guid,
+    pub unique: Guid,
+    /// In blocks.
+    pub size: u64,
+    pub attributes: u64,
+    pub name: Name,
+}
+
+/// A used entry (rule D5); `last` is the partition's last block.
+#[derive(Clone, Copy, Debug, PartialEq, Eq)]
+pub struct Partition {
+    pub slot: u64,
+    pub kind: Guid,
+    pub unique: Guid,
+    pub first: u64,
+    pub last: u64,
+    pub attributes: u64,
+    pub name: Name,
+}
+
+/// A partition's name: 36 units of UTF-16.
+#[derive(Clone, Copy, Debug, PartialEq, Eq)]
+pub struct Name(pub [u16; 36]);
+
+impl Name {
+    /// The text's units and then zeros; `None` if it has more than 36 units.
+    pub fn new(text: &str) -> Option<Name> {
+        let mut name = [0; 36];
+        for (place, unit) in text.encode_utf16().enumerate() {
+            *name.get_mut(place)? = unit;
+        }
+        Some(Name(name))
+    }
+
+    /// The units before the first zero; what is no UTF-16 is replaced.
+    pub fn to_text(self) -> String {
+        let units = self.0.iter().take_while(|unit| **unit != 0).copied();
+        char::decode_utf16(units).map(|c| c.unwrap_or(char::REPLACEMENT_CHARACTER)).collect()
+    }
+}
+
+impl Disk<'_> {
+    /// Writes an empty table, in both copies, and block 0 (rule D13).
+    pub fn format(&mut self, guid: Guid) -> Result<(), Refusal> {
+        let answer = raw::gpt_format(self.head, self.tail, self.n, &guid.0);
+        self.accepted(answer, &[])
+    }
+
+    pub fn state(&self) -> Result<State, Refusal> {
+        let mut state = 0;
+        let answer = raw::gpt_read(self.head, self.tail, self.n, &mut state);
+        self.accepted(answer, &[])?;
+        Ok(named_state(state))
+    }
+
+    /// The 16,384 entry bytes of the copy that reading uses, where they stand (rule D11).
+    pub fn entries(&self) -> Result<&[u8], Refusal> {
+        let (mut in_tail, mut offset) = (0, 0);
+        let answer = raw::gpt_table(self.head, self.tail, self.n, &mut in_tail, &mut offset);
+        self.accepted(answer, &[])?;
+        let buffer: &[u8] = if in_tail == 0 { self.head } else { self.tail };
+        let start = offset as usize;
+        Ok(&buffer[start..start + ENTRIES_LEN])
+    }
+
+    /// The used entries in the order of their slots.
+    pub fn partitions(&self) -> Result<Vec<Partition>, Refusal> {
+        let slots = self.entries()?.chunks_exact(ENTRY_LEN).zip(1..);
+        Ok(slots.filter(|(entry, _)| entry.iter().any(|b| *b != 0)).map(partition).collect())
+    }
+
+    pub fn free(&self) -> Result<Free, Refusal> {
+        let (mut blocks, mut longest_run) = (0, 0);
+        let answer = raw::gpt_free(self.head, self.tail, self.n, &mut blocks, &mut longest_run);
+        self.accepted(answer, &[])?;
+        Ok(Free { blocks, longest_run })
+    }
+
+    /// Adds a partition in the lowest unused slot, from the lowest block that leaves it room.
+    pub fn add(&mut self, new: &NewPartition) -> Result<Placed, Refusal> {
+        let lent = raw::NewPartition {
+            kind: &new.kind.0,
+            unique: &new.unique.0,
+            size: new.size,
+            attributes: new.attributes,
+            name: &new.name.0,
+        };
+        let (mut slot, mut first) = (0, 0);
+        let answer = raw::gpt_add(self.head, self.tail, self.n, &lent, &mut slot, &mut first);
+        self.accepted(answer, &[Detail::NewSize(new.size)])?;
+        Ok(Placed { slot, first })
+    }
+
+    pub fn delete(&mut self, slot: u64) -> Result<(), Refusal> {
+        let answer = raw::gpt_delete(self.head, self.tail, self.n, slot);
+        self.accepted(answer, &[Detail::Slot(slot)])
+    }
+
+    /// Sets the last block for a partition of `size` blocks; its first block stays.
+    pub fn resize(&mut self, slot: u64, size: u64) -> Result<(), Refusal> {
+        let answer = raw::gpt_resize(self.head, self.tail, self.n, slot, size);
+        self.accepted(answer, &[Detail::Slot(slot), Detail::SlotSize(slot, size)])
+    }
+
+    pub fn rename(&mut self, slot: u64, name: &Name) -> Result<(), Refusal> {
+        let answer = raw::gpt_rename(self.head, self.tail, self.n, slot, &name.0);
+        self.accepted(answer, &[Detail::Slot(slot)])
+    }
+
+    /// Makes both copies good and the same; answers the state found (rule D24).
+    pub fn repair(&mut self) -> Result<State, Refusal> {
+        let mut state = 0;
+        let answer = raw::gpt_repair(self.head, self.tail, self.n, &mut state);
+        self.accepted(answer, &[])?;
+        Ok(named_state(state))
+    }
+
+    fn accepted(&self, answer: u32, details: &[Detail]) -> Result<(), Refusal> {
+        let details = [&[Detail::Blocks(self.n)], details].concat();
+        accepted(answer).map_err(|refusal| refusal.about(&details))
+    }
+}
+
+fn named_state(number: u64) -> State {
+    match number {
+        1 => State::Same,
+        2 => State::Different,
+        3 => State::PrimaryOnly,
+        4 => State::BackupOnly,
+        _ => unreachable!("the library answers states 1 to 4, not {number}"),
+    }
+}
+
+fn partition((entry, slot): (&[u8], u64)) -> Partition {
+    let guid = |at: usize| Guid(entry[at..at + 16].try_into().expect("16 bytes"));
+    let number = |at: usize| u64::from_le_bytes(entry[at..at + 8].try_into().expect("8 bytes"));
+    let unit = |place: usize| u16::from_le_bytes([entry[56 + 2 * place], entry[57 + 2 * place]]);
+    Partition {
+        slot,
+        kind: guid(0),
+        unique: guid(16),
+        first: number(32),
+        last: number(40),
+        attributes: number(48),
+        name: Name(std::array::from_fn(unit)),
+    }
+}
+
+#[cfg(test)]
+mod tests {
+    use super::*;
+
+    fn new_partition(size: u64, unique: u8) -> NewPartition {
+        let name = Name::new("Größe").unwrap();
+        NewPartition { kind: Guid([7; 16]), unique: Guid([unique; 16]), size, attributes: 5, name }
+    }
+
+    fn words<T: std::fmt::Debug>(result: Result<T, Refusal>) -> String {
+        result.unwrap_err().to_string()
+    }
+
+    /// Samples S2 to S5, by the wrapper.
+    #[test]
+    fn a_disk_of_100_blocks() {
+        let (mut head, mut tail) = ([0xA5; HEAD_LEN], [0xA5; TAIL_LEN]);
+        let mut disk = Disk { head: &mut head, tail: &mut tail, n: 100 };
+        assert_eq!(words(disk.state()), "10: neither GPT copy is good");
+        assert_eq!(words(disk.format(Guid([0; 16]))), "3: the disk GUID is all zero");
+        disk.format(Guid([1; 16])).unwrap();
+        assert_eq!(disk.add(&new_partition(10, 1)), Ok(Placed { slot: 1, first: 34 }));
+        assert_eq!(disk.add(&new_partition(5, 2)), Ok(Placed { slot: 2, first: 44 }));
+        disk.delete(1).unwrap();
+        assert_eq!(disk.add(&new_partition(11, 1)), Ok(Placed { slot: 1, first: 49 }));
+        assert_eq!(disk.add(&new_partition(10, 3)), Ok(Placed { slot: 3, first: 34 }));
+        assert_eq!(disk.free(), Ok(Free { blocks: 7, longest_run: 7 }));
+        assert_eq!(words(disk.resize(1, 19)), "25: no room: slot 1 cannot have 19 blocks");
+        assert_eq!(words(disk.add(&new_partition(4096, 4))), "25: no room: no run of 4096 free blocks");
+        assert_eq!(words(disk.delete(9)), "13: the slot is unused: slot 9");
+        disk.resize(1, 18).unwrap();
+        assert_eq!(disk.free(), Ok(Free { blocks: 0, longest_run: 0 }));
+        disk.rename(1, &Name::new("boot").unwrap()).unwrap();
+        let partitions = disk.partitions().unwrap();
+        let told: Vec<_> = partitions.iter().map(|p| (p.slot, p.first, p.last, p.name.to_text())).collect();
+        let name = || String::from("Größe");
+        assert_eq!(told, [(1, 49, 66, "boot".into()), (2, 44, 48, name()), (3, 34, 43, name())]);
+        assert_eq!(partitions[2].unique, Guid([3; 16]));
+        assert_eq!(partitions[2].attributes, 5);
+    }
+
+    #[test]
+    fn repair_tells_the_state_found() {
+        let (mut head, mut tail) = ([0; HEAD_LEN], [0; TAIL_LEN]);
+        let mut disk = Disk { head: &mut head, tail: &mut tail, n: 67 };
+        assert_eq!(words(disk.state()), "2: the number of blocks is outside its range: 67 blocks");
+        disk.n = 1 << 32;
+        disk.format(Guid([1; 16])).unwrap();
+        disk.head[512] = 0;
+        assert_eq!(disk.state(), Ok(State::BackupOnly));
+        assert_eq!(disk.entries().unwrap().as_ptr(), disk.tail.as_ptr());
+        assert_eq!(disk.repair(), Ok(State::BackupOnly));
+        assert_eq!(disk.state(), Ok(State::Same));
+        disk.tail[16_384] = 0;
+        assert_eq!(disk.repair(), Ok(State::PrimaryOnly));
+        assert_eq!(disk.entries().unwrap().as_ptr(), disk.head[1024..].as_ptr());
+    }
+
+    #[test]
+    fn a_name_has_at_most_36_units() {
+        assert_eq!(Name::new(&"x".repeat(36)).unwrap().0, [u16::from(b'x'); 36]);
+        assert_eq!(Name::new(&"x".repeat(37)), None);
+        assert_eq!(Name::new("a").unwrap().to_text(), "a");
+    }
+}
