@@ -4,9 +4,9 @@ use mathlib.Core.List.{List, [], _∷_, _++_}
 use Prim.Native.Nat.{ℕ, zero, suc, _+_, _-_, _≤_, _<_}
 use native.Mathlib.Nat.{zero-add, suc-add, add-zero}
 use native.Mathlib.Omega.{arith}
-use lib.ListN.{length, getD, take, drop, length-take, length-drop, take-append-drop}
+use lib.ListN.{length, getD, take, drop, length-take, length-drop, length-replicate, take-append-drop}
 use lib.Seq.{take-at, drop-at, drop-append-add, drop-append-le, take-append-le, length-take-le, take-all, take-nil, take-take, drop-drop, getD-take, getD-drop}
-use Rattle.octets.specs.Bytes.{part, rest, field}
+use Rattle.octets.specs.Bytes.{part, rest, field, zeros}
 
 -- ---- a part of two lists one after the other
 
@@ -49,6 +49,10 @@ pub length-rest : (xs : List ℕ) (at : ℕ) → length (rest at xs) ≡ length 
 unfolding rest
 length-rest xs at = length-drop at xs
 
+pub length-zeros : (k : ℕ) → length (zeros k) ≡ k
+unfolding zeros
+length-zeros k = length-replicate k 0
+
 pub getD-part : (xs : List ℕ) (at k i : ℕ) → i < k → getD (part at k xs) i 0 ≡ getD xs (at + i) 0
 unfolding part
 getD-part xs at k i h = getD-take k (drop at xs) i 0 h ∙ getD-drop at xs i 0
@@ -58,6 +62,10 @@ getD-part xs at k i h = getD-take k (drop at xs) i 0 h ∙ getD-drop at xs i 0
 pub part-rest : (xs : List ℕ) (m : ℕ) → part 0 m xs ++ rest m xs ≡ xs
 unfolding part rest
 part-rest xs m = take-append-drop m xs
+
+pub part-on : (xs : List ℕ) (at k : ℕ) → part at k xs ++ rest (at + k) xs ≡ rest at xs
+unfolding part rest
+part-on xs at k = ap (λ (l : List ℕ). take k (drop at xs) ++ l) (sym (drop-drop k at xs)) ∙ take-append-drop k (drop at xs)
 
 -- what stands before m is as it was, whatever follows
 pub part-before : (e r : List ℕ) (m at k : ℕ) → m ≤ length e → at + k ≤ m → part at k (part 0 m e ++ r) ≡ part at k e

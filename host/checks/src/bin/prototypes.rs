@@ -59,11 +59,8 @@ fn main() {
             eprintln!("{path}: {e}");
             process::exit(1)
         });
-        let code: String = source
-            .lines()
-            .map(|line| line.split("//").next().unwrap_or(""))
-            .collect::<Vec<_>>()
-            .join("\n");
+        let code: String =
+            source.lines().map(|line| line.split("//").next().unwrap_or("")).collect::<Vec<_>>().join("\n");
         for text in code.split(mark).skip(1) {
             let Some(line) = prototype(text) else {
                 eprintln!("{path}: cannot read the function {}", text.lines().next().unwrap_or(""));

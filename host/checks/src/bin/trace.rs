@@ -1,5 +1,5 @@
-//! Holds every citation of a rule to docs/TRACE.md: a comment that quotes a rule, as `-- G2: The first three ..`,
-//! must name a rule that stands there, and quote its text from the beginning.
+//! Holds every citation of a rule to docs/TRACE.md: a comment that quotes a rule, as `-- G2: The first three groups ..`,
+//! names a rule that stands there and begins with words of it.
 //!
 //! usage, from the repository's root: trace
 
@@ -7,64 +7,76 @@ use std::collections::HashMap;
 use std::path::{Path, PathBuf};
 use std::{fs, process};
 
+/// So many words of a quotation must stand in the rule, one after the other.
+const WORDS: usize = 3;
+
+fn is_number(word: &str) -> bool {
+    let (letter, digits) = word.split_at(word.len().min(1));
+    letter.bytes().all(|b| b.is_ascii_uppercase())
+        && !digits.is_empty()
+        && digits.bytes().all(|b| b.is_ascii_digit())
+}
+
 /// The rules by number, their text as in the table's second column.
-fn rules(table: &str) -> HashMap<String, String> {
+fn rules(table: &str) -> HashMap<&str, &str> {
     table
         .lines()
         .filter_map(|line| {
             let mut cells = line.strip_prefix("| ")?.split(" | ");
             let number = cells.next()?.trim();
-            let letter = number.chars().next()?;
-            let digits = number.get(1..)?;
-            let is_number = letter.is_ascii_uppercase() && !digits.is_empty() && digits.bytes().all(|b| b.is_ascii_digit());
-            is_number.then(|| (number.to_string(), cells.next().unwrap_or("").trim().to_string()))
+            is_number(number).then_some((number, cells.next()?.trim()))
         })
         .collect()
 }
 
-/// A comment line `-- X9: text` or `// X9: text`: its rule's number and what it quotes.
-fn citation(line: &str) -> Option<(&str, &str)> {
+/// The citations of a comment line, `X9: words`: each rule's number with the words after it.
+fn citations(line: &str) -> Vec<(&str, Vec<&str>)> {
     let line = line.trim_start();
-    let comment = line.strip_prefix("--").or_else(|| line.strip_prefix("//"))?;
-    let (number, quoted) = comment.trim_start_matches([' ', '-']).split_once(": ")?;
-    let (letter, digits) = number.split_at_checked(1)?;
-    let is_number = letter.as_bytes()[0].is_ascii_uppercase() && !digits.is_empty() && digits.bytes().all(|b| b.is_ascii_digit());
-    is_number.then_some((number, quoted.trim()))
+    if !line.starts_with("--") && !line.starts_with("//") {
+        return Vec::new();
+    }
+    let words: Vec<&str> = line.split_whitespace().collect();
+    let starts = words.iter().enumerate().filter(|(_, word)| word.strip_suffix(':').is_some_and(is_number));
+    starts
+        .map(|(at, word)| (&word[..word.len() - 1], words[at + 1..].iter().take(WORDS).copied().collect()))
+        .collect()
+}
+
+fn quotes(rule: &str, words: &[&str]) -> bool {
+    let words: Vec<&str> = words.iter().take_while(|word| !word.starts_with("..")).copied().collect();
+    rule.contains(words.join(" ").trim_end_matches(['.', ';', ':', ',']))
 }
 
 fn files(folder: &Path, found: &mut Vec<PathBuf>) {
     let Ok(entries) = fs::read_dir(folder) else { return };
-    for entry in entries.flatten() {
-        let path = entry.path();
+    for path in entries.flatten().map(|entry| entry.path()) {
         if path.is_dir() {
-            if path.file_name().is_some_and(|name| name != "target") {
-                files(&path, found);
-            }
-        } else if path.extension().is_some_and(|e| e == "rt" || e == "antt" || e == "rs") {
+            files(&path, found);
+        } else if path.extension().is_some_and(|e| e == "rt" || e == "antt") {
             found.push(path);
         }
     }
 }
 
 fn main() {
-    let rules = rules(&fs::read_to_string("docs/TRACE.md").expect("docs/TRACE.md"));
+    let table = fs::read_to_string("docs/TRACE.md").expect("docs/TRACE.md");
+    let rules = rules(&table);
     let mut paths = Vec::new();
     files(Path::new("crates"), &mut paths);
-    files(Path::new("host"), &mut paths);
     let (mut cited, mut wrong) = (0, 0);
     for path in paths {
         let text = fs::read_to_string(&path).unwrap_or_default();
         for (at, line) in text.lines().enumerate() {
-            let Some((number, quoted)) = citation(line) else { continue };
-            cited += 1;
-            let held = rules.get(number).is_some_and(|rule| rule.starts_with(quoted.trim_end_matches(" ..")));
-            if !held {
-                println!("{}:{}: {number} is not quoted as docs/TRACE.md has it", path.display(), at + 1);
-                wrong += 1;
+            for (number, words) in citations(line) {
+                cited += 1;
+                if !rules.get(number).is_some_and(|rule| quotes(rule, &words)) {
+                    println!("{}:{}: {number} does not say: {}", path.display(), at + 1, words.join(" "));
+                    wrong += 1;
+                }
             }
         }
     }
-    println!("{cited} citations, {wrong} wrong");
+    println!("{cited} citations of {} rules, {wrong} wrong", rules.len());
     process::exit(if wrong == 0 && cited > 0 { 0 } else { 1 });
 }
 
@@ -73,11 +85,18 @@ mod tests {
     use super::*;
 
     #[test]
-    fn reads_rules_and_citations() {
-        let rules = rules("| No. | Sentence |\n| G2 | The first three groups are stored reversed. | a | b | c |\n");
-        assert_eq!(rules["G2"], "The first three groups are stored reversed.");
-        assert_eq!(citation("-- G2: The first"), Some(("G2", "The first")));
-        assert_eq!(citation("  // ---- Q6: All"), Some(("Q6", "All")));
-        assert_eq!(citation("-- Note: that"), None);
+    fn holds_citations_to_the_table() {
+        let rules =
+            rules("| No. | Sentence |\n| G2 | The first three groups are stored reversed. | a | b | c |\n");
+        assert_eq!(rules.len(), 1);
+        assert!(quotes(rules["G2"], &["The", "first", "three"]));
+        assert!(quotes(rules["G2"], &["stored", "reversed."]));
+        assert!(!quotes(rules["G2"], &["The", "first", "two"]));
+        assert_eq!(
+            citations("-- Q1: A disk has. D1: first usable 34."),
+            [("Q1", vec!["A", "disk", "has."]), ("D1", vec!["first", "usable", "34."])]
+        );
+        assert!(citations("-- Note: that").is_empty());
+        assert!(citations("G2: no comment").is_empty());
     }
 }

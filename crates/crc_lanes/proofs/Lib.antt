@@ -1,0 +1,7 @@
+pub mod Xor
+pub mod Steps
+pub mod Parts
+pub mod Bound
+pub mod Words
+pub mod Digits
+pub mod Lanes

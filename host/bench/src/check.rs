@@ -1,0 +1,44 @@
+//! What is measured must do its work: both sides are held to the same results before any timing.
+
+use crate::work::{bytes, loads, stores, zeros};
+use crate::{ours, peers};
+
+pub fn crc(size: usize) {
+    let a = bytes(size);
+    let ours = usigrambal::raw::crc32(a);
+    assert_eq!(ours, peers::zlib_crc32(a), "crc32 of {size} bytes, by zlib");
+    assert_eq!(ours, peers::table_crc32(a), "crc32 of {size} bytes, by the table");
+}
+
+pub fn octets(size: usize) {
+    let (a, z) = (bytes(size), zeros(size));
+    assert_eq!(loads(ours::load64)(a), loads(peers::load64)(a), "load64, {size} bytes");
+    left_the_same("store64", stores(ours::store64), stores(peers::store64), size);
+    left_the_same("copy", |s| ours::copy(s, a), |s| peers::memcpy_copy(s, a), size);
+    left_the_same("fill", |s| ours::fill(s, 255), |s| peers::memset_fill(s, 255), size);
+    tests("is_zero", ours::is_zero, z);
+    tests("the byte loop for zero", peers::byte_is_zero, z);
+    tests("same", |s| ours::same(s, a), a);
+    tests("the byte loop for same", |s| peers::byte_same(s, a), a);
+    tests("memcmp", |s| peers::memcmp_same(s, a), a);
+}
+
+/// Both sides leave the same bytes, other than those they found.
+fn left_the_same<A>(what: &str, ours: impl Fn(&mut [u8]) -> A, peer: impl Fn(&mut [u8]) -> A, size: usize) {
+    let found = vec![0x77; size];
+    let (mut by_ours, mut by_peer) = (found.clone(), found.clone());
+    ours(&mut by_ours);
+    peer(&mut by_peer);
+    assert!(by_ours == by_peer, "{what}, {size} bytes: not what the peer leaves");
+    assert!(by_ours != found, "{what}, {size} bytes: nothing written");
+}
+
+/// `test` holds of `right`, and no longer once a bit of its first or last byte is changed.
+fn tests(what: &str, test: impl Fn(&[u8]) -> u32, right: &[u8]) {
+    assert_eq!(test(right), 1, "{what}, {} bytes", right.len());
+    for place in [0, right.len() - 1] {
+        let mut wrong = right.to_vec();
+        wrong[place] ^= 0x80;
+        assert_eq!(test(&wrong), 0, "{what}, {} bytes, byte {place} changed", right.len());
+    }
+}

@@ -1,0 +1,53 @@
+//! Prints the speed of the library beside that of its peers.
+
+mod check;
+mod ours;
+mod peers;
+mod table;
+mod work;
+
+use table::Table;
+use usigrambal::raw;
+use work::{loads, of, of_two, onto, stores};
+
+/// A GPT header, a short buffer, a GPT's entries, a flash image.
+const CRC_SIZES: [usize; 4] = [92, 200, 16 << 10, 16 << 20];
+/// A GUID, an entry, a GPT's entries, a megabyte.
+const OCTETS_SIZES: [usize; 4] = [16, 128, 16 << 10, 1 << 20];
+
+fn main() {
+    CRC_SIZES.into_iter().for_each(check::crc);
+    OCTETS_SIZES.into_iter().for_each(check::octets);
+    let mut table = Table::default();
+    CRC_SIZES.into_iter().for_each(|size| crc_rows(&mut table, size));
+    OCTETS_SIZES.into_iter().for_each(|size| octets_rows(&mut table, size));
+    table.measure();
+    table.print();
+}
+
+fn crc_rows(t: &mut Table, size: usize) {
+    let a = work::bytes(size);
+    t.row("crc32 / zlib", size, of(a, raw::crc32), of(a, peers::zlib_crc32));
+    t.row("crc32 / table byte loop", size, of(a, raw::crc32), of(a, peers::table_crc32));
+}
+
+fn octets_rows(t: &mut Table, size: usize) {
+    let (a, b, z) = (work::bytes(size), work::bytes(size), work::zeros(size));
+    t.row("load64 / from_le_bytes", size, of(a, loads(ours::load64)), of(a, loads(peers::load64)));
+    t.row(
+        "store64 / to_le_bytes",
+        size,
+        onto(size, stores(ours::store64)),
+        onto(size, stores(peers::store64)),
+    );
+    t.row("is_zero / byte loop", size, of(z, ours::is_zero), of(z, peers::byte_is_zero));
+    t.row("same / byte loop", size, of_two(a, b, ours::same), of_two(a, b, peers::byte_same));
+    t.row("same / memcmp", size, of_two(a, b, ours::same), of_two(a, b, peers::memcmp_same));
+    t.row("copy / memcpy", size, onto(size, |s| ours::copy(s, a)), onto(size, |s| peers::memcpy_copy(s, a)));
+    t.row(
+        "fill / memset",
+        size,
+        onto(size, |s| ours::fill(s, 255)),
+        onto(size, |s| peers::memset_fill(s, 255)),
+    );
+}

@@ -1,0 +1,75 @@
+use crate::raw;
+use crate::refusal::{accepted, Refusal};
+use std::fmt;
+use std::str::FromStr;
+
+const TEXT_LEN: usize = 36;
+
+/// A GUID as its 16 stored bytes (rule G2: the first three groups of the text are reversed).
+#[derive(Clone, Copy, Debug, PartialEq, Eq, Hash)]
+pub struct Guid(pub [u8; 16]);
+
+impl Guid {
+    /// Reads a GUID text, hex digits of either case (rule G1).
+    pub fn parse(text: impl AsRef<[u8]>) -> Result<Guid, Refusal> {
+        let mut guid = [0; 16];
+        accepted(raw::guid_read(text.as_ref(), &mut guid))?;
+        Ok(Guid(guid))
+    }
+
+    /// Reads a partition type: a GUID text or one of the five short names (rules G1, G3, G4).
+    pub fn parse_type(text: impl AsRef<[u8]>) -> Result<Guid, Refusal> {
+        let mut guid = [0; 16];
+        accepted(raw::type_read(text.as_ref(), &mut guid))?;
+        Ok(Guid(guid))
+    }
+}
+
+impl FromStr for Guid {
+    type Err = Refusal;
+
+    fn from_str(text: &str) -> Result<Guid, Refusal> {
+        Guid::parse(text)
+    }
+}
+
+/// Writes the text in upper case (rule G1).
+impl fmt::Display for Guid {
+    fn fmt(&self, f: &mut fmt::Formatter<'_>) -> fmt::Result {
+        let mut text = [0; TEXT_LEN];
+        accepted(raw::guid_write(&self.0, &mut text)).map_err(|_| fmt::Error)?;
+        f.pad(std::str::from_utf8(&text).map_err(|_| fmt::Error)?)
+    }
+}
+
+#[cfg(test)]
+mod tests {
+    use super::*;
+
+    const DATA_TEXT: &str = "EBD0A0A2-B9E5-4433-87C0-68B6B72699C7";
+
+    /// Sample S6.
+    const DATA: Guid = Guid([
+        0xA2, 0xA0, 0xD0, 0xEB, 0xE5, 0xB9, 0x33, 0x44, 0x87, 0xC0, 0x68, 0xB6, 0xB7, 0x26, 0x99, 0xC7,
+    ]);
+
+    #[test]
+    fn reads_a_text_of_either_case() {
+        assert_eq!(Guid::parse(DATA_TEXT), Ok(DATA));
+        assert_eq!(DATA_TEXT.to_lowercase().parse(), Ok(DATA));
+    }
+
+    #[test]
+    fn reads_a_short_name_as_a_type_only() {
+        assert_eq!(Guid::parse_type("data"), Ok(DATA));
+        assert_eq!(Guid::parse_type(DATA_TEXT), Ok(DATA));
+        assert_eq!(Guid::parse("data").unwrap_err().number(), 30);
+        assert_eq!(Guid::parse_type("Data").unwrap_err().number(), 30);
+    }
+
+    #[test]
+    fn writes_upper_case() {
+        assert_eq!(DATA.to_string(), DATA_TEXT);
+        assert_eq!(format!("{DATA:>38}"), format!("  {DATA_TEXT}"));
+    }
+}

@@ -1,0 +1,23 @@
+//! Safe Rust over the C interface of Usigrambal. `raw` has the calls with their numbers; the rest
+//! gives them Rust's types and errors.
+
+mod guid;
+pub mod raw;
+mod refusal;
+
+pub use guid::Guid;
+pub use refusal::Refusal;
+
+/// The CRC-32 of UEFI and zlib (rule D3).
+pub fn crc32(data: &[u8]) -> u32 {
+    raw::crc32(data)
+}
+
+#[cfg(test)]
+mod tests {
+    #[test]
+    fn crc32_of_the_catalogue_check_string() {
+        assert_eq!(super::crc32(b"123456789"), 0xCBF4_3926);
+        assert_eq!(super::crc32(b""), 0);
+    }
+}
