@@ -1,0 +1,99 @@
+// The two copies of header and table on a disk of 512-byte blocks: where they lie in head and tail, the header writer, what reading finds, and the
+// writers of a copy. Everything is in the words of gpt_model, at its shape disk512.
+// An inner crate: no user calls it, so its functions may have a `requires`, which each caller meets.
+pub mod header;
+pub mod writing;
+
+ghost use mathlib.Core.Path.{_≡_};
+ghost use Prim.Native.Nat.{_+_, _≤_};
+ghost use lib.ListN.{length};
+ghost use Rattle.gpt_model.specs.Disk.{disk512, other as otherSide, headerBlock, entriesBlock, lentBytes, headerAt, entriesAt, headerIn, guidIn, entriesIn};
+ghost use Rattle.gpt_copies.specs.Sides.{sideOf};
+
+// Q1: A disk has 512-byte blocks. D1: first usable 34.
+pub const BLOCK: usize = 512;
+pub const FIRST_USABLE: u64 = 34;
+// The bytes of a header and of a table.
+pub const HEADER: usize = 92;
+pub const TABLE: usize = 16384;
+
+pub enum Side {
+    Primary,
+    Backup,
+}
+
+pub fn other(side: Side) -> Side
+    ensures { λ r. ⌜ sideOf r ≡ otherSide (sideOf side) ⌝ }
+{
+    match side {
+        Side::Primary => Side::Backup,
+        Side::Backup => Side::Primary,
+    }
+}
+
+pub fn header_block(side: Side, n: u64) -> u64
+    requires { ⌜ 1 ≤ n ⌝ }
+    ensures { λ r. ⌜ r ≡ headerBlock (sideOf side) n ⌝ }
+{
+    match side {
+        Side::Primary => 1,
+        Side::Backup => n - 1,
+    }
+}
+
+pub fn entries_block(side: Side, n: u64) -> u64
+    requires { ⌜ 34 ≤ n ⌝ }
+    ensures { λ r. ⌜ r ≡ entriesBlock disk512 (sideOf side) n ⌝ }
+{
+    match side {
+        Side::Primary => 2,
+        Side::Backup => n - FIRST_USABLE + 1,
+    }
+}
+
+// Where the header stands in the head or the tail.
+pub fn header_at(side: Side) -> usize
+    ensures { λ r. ⌜ r ≡ headerAt disk512 (sideOf side) ⌝ }
+{
+    match side {
+        Side::Primary => BLOCK,
+        Side::Backup => TABLE,
+    }
+}
+
+pub fn entries_at(side: Side) -> usize
+    ensures { λ r. ⌜ r ≡ entriesAt disk512 (sideOf side) ⌝ }
+{
+    match side {
+        Side::Primary => 2 * BLOCK,
+        Side::Backup => 0,
+    }
+}
+
+pub fn header_in<'a>(b: &'a [u8], side: Side) -> &'a [u8]
+    requires { ⌜ length (now b) ≡ lentBytes disk512 (sideOf side) ⌝ }
+    ensures { λ r. ⌜ now r ≡ headerIn disk512 (sideOf side) (now (b .entry)) ⌝ }
+{
+    let at = header_at(side);
+    let end = at + HEADER;
+    &b[at..end]
+}
+
+pub fn guid_in<'a>(b: &'a [u8], side: Side) -> &'a [u8]
+    requires { ⌜ length (now b) ≡ lentBytes disk512 (sideOf side) ⌝ }
+    ensures { λ r. ⌜ (now r ≡ guidIn disk512 (sideOf side) (now (b .entry))) × (length (now r) ≡ 16) ⌝ }
+{
+    let at = header_at(side) + 56;
+    let end = at + 16;
+    &b[at..end]
+}
+
+pub fn entries_in<'a>(b: &'a [u8], side: Side) -> &'a [u8]
+    requires { ⌜ length (now b) ≡ lentBytes disk512 (sideOf side) ⌝ }
+    ensures { λ r. ⌜ (now r ≡ entriesIn disk512 (sideOf side) (now (b .entry))) × (length (now r) ≡ 16384)
+        × (r .ptr .0 ≡ b .entry .ptr .0) × (r .ptr .1 ≡ b .entry .ptr .1 + entriesAt disk512 (sideOf side)) ⌝ }
+{
+    let at = entries_at(side);
+    let end = at + TABLE;
+    &b[at..end]
+}
