@@ -1,0 +1,52 @@
+use borrow.Author.Needs.{needs}
+use Rattle.gpt_copies.proofs.writing.put_header.Statement.{statement}
+use Rattle.gpt_copies.proofs.writing.put_header.Tie as tie
+use Rattle.gpt_copies.proofs.writing.put_header.Reads as reads
+use Rattle.gpt_copies.proofs.writing.put_header.Lts as lts
+use Rattle.gpt_copies.proofs.header.write.Reads as write-reads
+use Rattle.gpt_copies.proofs.header_at.Reads as header-at-reads
+
+-- src/writing.rt:21:9
+header-at-requires : tie.Need-header-at-requires
+header-at-requires c κs = search needs
+
+-- src/writing.rt:22:15
+add-end : tie.Need-add-end
+add-end c = ?
+
+-- src/writing.rt:23:26
+sub-write : tie.Need-sub-write
+sub-write c = search needs
+
+-- src/writing.rt:23:26
+part-write-start : tie.Need-part-write-start
+part-write-start c = search needs
+
+-- src/writing.rt:23:26
+part-write-end : tie.Need-part-write-end
+part-write-end c = ?
+
+-- src/writing.rt:23:5
+write-requires : tie.Need-write-requires
+write-requires c κs = search needs
+
+-- src/writing.rt:16:1
+same-length : tie.Need-same-length
+same-length c = search needs
+
+-- src/writing.rt:16:1
+returns : tie.Need-returns
+returns c = ?
+
+pub put-header-spec : {M : Type 1} → statement M
+put-header-spec =
+    tie.close
+    (tie.spec
+    header-at-requires
+    add-end
+    sub-write
+    part-write-start
+    part-write-end
+    write-requires
+    same-length
+    returns)
