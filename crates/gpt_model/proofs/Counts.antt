@@ -82,9 +82,9 @@ count-range first last (spans f l) e =
     ap (countFrom p first) split
     ∙ count-add p first (f - first) ((suc l - f) + (last - l))
     ∙ ap₂ _+_ (count-false p first (f - first) (λ b h g. outside b f l (inl (omega arith))))
-        (count-add p (first + (f - first)) (suc l - f) (last - l)
-          ∙ ap₂ _+_ (count-true p (first + (f - first)) (suc l - f) (λ b h g. inside-make b f l (omega arith) (omega arith)))
-              (count-false p (first + (f - first) + (suc l - f)) (last - l) (λ b h g. outside b f l (inr (omega arith)))))
+    (count-add p (first + (f - first)) (suc l - f) (last - l)
+    ∙ ap₂ _+_ (count-true p (first + (f - first)) (suc l - f) (λ b h g. inside-make b f l (omega arith) (omega arith)))
+    (count-false p (first + (f - first) + (suc l - f)) (last - l) (λ b h g. outside b f l (inr (omega arith)))))
     ∙ omega arith
 
 pub apart-get : (s u : Slot) → apart s u ≡ true → (b : ℕ) → inside b s ≡ true → inside b u ≡ true → ⊥

@@ -15,20 +15,20 @@ use Rattle.octets.specs.Rows.{Row, row, pickRow, refusal}
 use Rattle.octets.specs.Bytes.{isZero, zeros}
 use Rattle.octets.proofs.Bools.{and-i, and-l, bool-cases, clash, option-cases}
 use Rattle.octets.proofs.Tests.{pairs-get}
+use Rattle.octets.proofs.Parts.{length-zeros}
 use Rattle.octets.proofs.Rows.{passes, pick-true, pick-false, refusal-append}
 use Rattle.gpt_model.specs.Ranges.{Slot, vacant, sizeOf, inside, apart, roomAt, place, taken, freeCount, longestFree}
 use Rattle.gpt_model.specs.Table.{slots, goodTable}
 use Rattle.gpt_model.specs.Disk.{Shape, disk512, lastUsable, usable, inRange, primary, backup, lentBytes, state, tableOf, freshHead, freshTail}
-use Rattle.gpt_model.specs.Calls.{Edit, add, Call, repair, edit, refused, accepted, Out, out, decided, isNone, addRows, valuesOf, lengthsOk, readRows, openRows, rowsOf, made, step, formatRows, format}
+use Rattle.gpt_model.specs.Calls.{Edit, add, Call, repair, edit, refused, accepted, edited, Out, out, decided, isNone, addRows, change, lengthsOk, readRows, openRows, rowsOf, made, step, formatRows, format}
 use Rattle.gpt_model.specs.Lists.{Run, next, run, answers, applied, begun, slotsOf, total, StartsAfresh}
 use Rattle.gpt_model.specs.Claims.{Passes, Sound, Formats, Demand3, Serves, NotEmpty, EditReadsBack, RepairReadsBack}
 use Rattle.gpt_model.proofs.Room.{Room, room-get, room-make, place-some, place-none, place-is-none}
 use Rattle.gpt_model.proofs.Counts.{taken-total, apart-get, taken-free, total-zeros}
 use Rattle.gpt_model.proofs.Longest.{room-fits, fits-room}
-use Rattle.gpt_model.proofs.Fields.{length-zeros}
 use Rattle.gpt_model.proofs.Entries.{length-slots, good-bounded, good-apart, empty-sizes, empty-good}
 use Rattle.gpt_model.proofs.States.{Holds, readable-good, fresh-holds, repair-holds}
-use Rattle.gpt_model.proofs.Steps.{step-refused, step-made, row1, row10, edit-made, Agrees, Kept, keeps-all}
+use Rattle.gpt_model.proofs.Steps.{step-refused, step-made, row1, row10, edit-made, repair-answer, not-ten, not-eleven, Agrees, Kept, keeps-all}
 
 -- ---- formatting
 
@@ -58,24 +58,25 @@ module _ (g : Shape) (n : ℕ) (guid h t : List ℕ) where
       where
         w : Holds g n (freshHead g n guid (zeros 16384)) (freshTail g n guid (zeros 16384)) (zeros 16384)
         w = fresh-holds g (f .wide) n guid (zeros 16384) (f .len-guid) (length-zeros 16384) (empty-good (g .first) (lastUsable g n))
+
         go : StartsAfresh g n (zeros 16384) (begun (out (accepted []) (freshHead g n guid (zeros 16384)) (freshTail g n guid (zeros 16384))))
         go = record {
-            len-head = w .len-head;
-            len-tail = w .len-tail;
-            reads = w .reads;
-            table = w .table;
-            sizes = sym empty-sizes;
-            granted = sym (ap total empty-sizes ∙ total-zeros 128);
-            back = refl
-          }
+          len-head = w .len-head;
+          len-tail = w .len-tail;
+          reads = w .reads;
+          table = w .table;
+          sizes = sym empty-sizes;
+          granted = sym (ap total empty-sizes ∙ total-zeros 128);
+          back = refl;
+        }
 
 pub starts-kept : (g : Shape) (n : ℕ) (es : List ℕ) (r : Run) → StartsAfresh g n es r → Kept g n r
 starts-kept g n es r s = record {
-    len-head = s .len-head;
-    len-tail = s .len-tail;
-    reads = s .reads;
-    agrees = subst (λ (x : List ℕ). Agrees x (r .ledger)) (sym (s .table)) (record { sizes = s .sizes; sum = let a = s .granted in let b = s .back in omega arith })
-  }
+  len-head = s .len-head;
+  len-tail = s .len-tail;
+  reads = s .reads;
+  agrees = subst (λ (x : List ℕ). Agrees x (r .ledger)) (sym (s .table)) (record { sizes = s .sizes; sum = let a = s .granted in let b = s .back in omega arith });
+}
 
 -- ---- what is kept says
 
@@ -113,7 +114,7 @@ module _ (g : Shape) (n : ℕ) (r : Run) (v : Kept g n r) where
     add-no q = ap (λ (o : Out). o .answer) (step-refused g n (r .head) (r .tail) c 25 (add-row true (ap isNone q)))
 
     add-yes : (s : ℕ) → start ≡ some s
-        → step g n (r .head) (r .tail) c .answer ≡ accepted (valuesOf (g .first) (lastUsable g n) tab (add type unique size attributes name))
+        → step g n (r .head) (r .tail) c .answer ≡ accepted (change (g .first) (lastUsable g n) tab (add type unique size attributes name) .values)
     unfolding pickRow
     add-yes s q = ap (λ (o : Out). o .answer) (step-made g n (r .head) (r .tail) c (add-row false (ap isNone q)))
 
@@ -132,19 +133,20 @@ module _ (g : Shape) (n : ℕ) (r : Run) (v : Kept g n r) where
         to (inl q) a = no-room q
         to (inr w) a = let b = add-yes (w .0) (w .1) in let z : _≡_ {A = ℕ} 0 1 = cc in absurd (omega arith)
 
-    fits-iff : (step g n (r .head) (r .tail) c .answer ≡ accepted (valuesOf (g .first) (lastUsable g n) tab (add type unique size attributes name)))
+    fits-iff : (step g n (r .head) (r .tail) c .answer ≡ accepted (change (g .first) (lastUsable g n) tab (add type unique size attributes name) .values))
         ↔ (size ≤ longestFree (slots tab) (g .first) (lastUsable g n))
     fits-iff = (to (option-cases start), from (option-cases start))
       where
         to : (start ≡ none) ⊎ ((s : ℕ) × (start ≡ some s))
-            → step g n (r .head) (r .tail) c .answer ≡ accepted (valuesOf (g .first) (lastUsable g n) tab (add type unique size attributes name))
+            → step g n (r .head) (r .tail) c .answer ≡ accepted (change (g .first) (lastUsable g n) tab (add type unique size attributes name) .values)
             → size ≤ longestFree (slots tab) (g .first) (lastUsable g n)
         to (inl q) a = let b = add-no q in let z : _≡_ {A = ℕ} 0 1 = cc in absurd (omega arith)
         to (inr w) a =
             let p = place-some (slots tab) (g .first) (lastUsable g n) size (w .0) (w .1) in
             room-fits (slots tab) (g .first) (lastUsable g n) size (w .0) (p .0) (p .1)
+
         from : (start ≡ none) ⊎ ((s : ℕ) × (start ≡ some s)) → size ≤ longestFree (slots tab) (g .first) (lastUsable g n)
-            → step g n (r .head) (r .tail) c .answer ≡ accepted (valuesOf (g .first) (lastUsable g n) tab (add type unique size attributes name))
+            → step g n (r .head) (r .tail) c .answer ≡ accepted (change (g .first) (lastUsable g n) tab (add type unique size attributes name) .values)
         from (inr w) a = add-yes (w .0) (w .1)
         from (inl q) a =
             let p = fits-room (slots tab) (g .first) (lastUsable g n) size add-size a in
@@ -152,15 +154,63 @@ module _ (g : Shape) (n : ℕ) (r : Run) (v : Kept g n r) where
 
   pub sound : Sound g n r
   sound = record {
-      one = λ b i j p q hi hj x y. same-slot b i j hi hj x y (decLt i j) (decLt j i);
-      counted =
+    one = λ b i j p q hi hj x y. same-slot b i j hi hj x y (decLt i j) (decLt j i);
+    counted =
         ap (λ (x : ℕ). x + r .ledger .back)
         (taken-total (g .first) (lastUsable g n) (slots tab) (good-bounded (g .first) (lastUsable g n) tab good-tab) (good-apart (g .first) (lastUsable g n) tab good-tab))
         ∙ v .agrees .sum;
-      room = room-iff
-    }
+    room = room-iff;
+  }
     where
       same-slot : (b i j : ℕ) → i < 128 → j < 128 → inside b (getD (slots tab) i vacant) ≡ true → inside b (getD (slots tab) j vacant) ≡ true → Dec (i < j) → Dec (j < i) → i ≡ j
       same-slot b i j hi hj x y (yes a) d = absurd (apart-tab b i j a hj x y)
       same-slot b i j hi hj x y (no a) (yes d) = absurd (apart-tab b j i d hi y x)
       same-slot b i j hi hj x y (no a) (no d) = omega arith
+
+  pub serves : inRange g n ≡ true → Serves g n tab r
+  serves range = record {
+    reads = v .reads;
+    table = refl;
+    not10 = not-ten g n (r .head) (r .tail) (v .reads);
+    not11 = not-eleven g n (r .head) (r .tail) (v .reads);
+    free = omega (arith, taken-free (slots tab) (g .first) (lastUsable g n));
+    fits = fits-iff;
+  }
+
+-- ---- the theorems
+
+-- from every start afresh
+pub demand3-from : (g : Shape) → 92 ≤ g .block → (n : ℕ) (es : List ℕ) (r : Run) → StartsAfresh g n es r → (cs : List Call) → Sound g n (run g n cs r)
+demand3-from g wide n es r s cs = sound g n (run g n cs r) (keeps-all g wide n cs r (starts-kept g n es r s) .0)
+
+pub demand3 : Demand3
+demand3 g n guid h t f cs = (
+  ap (λ (o : Out). o .answer) (formatted g n guid h t f),
+  demand3-from g (f .wide) n (zeros 16384) (begun (format g n guid h t)) (format-starts g n guid h t f) cs,
+)
+
+pub notEmpty : NotEmpty
+notEmpty g n guid h t f cs =
+    let r = begun (format g n guid h t) in
+    let s = format-starts g n guid h t f in
+    let k = keeps-all g (f .wide) n cs r (starts-kept g n (zeros 16384) r s) in
+    subst (λ (es : List ℕ). Serves g n es (run g n cs r))
+    (k .1 ∙ ap (λ (es : List ℕ). applied (g .first) (lastUsable g n) es cs (answers g n cs r)) (s .table))
+    (serves g n (run g n cs r) (k .0) (f .range))
+
+-- N − 67 usable blocks on a disk of 512-byte blocks
+pub usable512 : (n : ℕ) → inRange disk512 n ≡ true → usable disk512 n ≡ n - 67
+usable512 n range = let w : 68 ≤ n = leb-true _ _ (and-l _ _ range) in omega arith
+
+pub editReadsBack : EditReadsBack
+editReadsBack g n h t d wide e =
+    let w = edit-made g n h t d wide e .1 in
+    subst (λ (o : Out). (state g n (o .head) (o .tail) ≡ 1) × (tableOf g n (o .head) (o .tail) ≡ edited (g .first) (lastUsable g n) (tableOf g n h t) d))
+    (sym (step-made g n h t (edit d) e)) (w .reads, w .table)
+
+pub repairReadsBack : RepairReadsBack
+repairReadsBack g n h t wide e =
+    let l = row1 g n h t true e in
+    let w = repair-holds g wide n h t (l .0) (l .1) (row10 g n h t true e) in
+    subst (λ (o : Out). (o .answer ≡ accepted (state g n h t ∷ [])) × (state g n (o .head) (o .tail) ≡ 1) × (tableOf g n (o .head) (o .tail) ≡ tableOf g n h t))
+    (sym (step-made g n h t repair e)) (repair-answer g n h t, w .reads, w .table)

@@ -15,14 +15,15 @@ use Rattle.octets.specs.Rows.{Row, refusal}
 use Rattle.octets.specs.Bytes.{zeros, isZero, same}
 use Rattle.octets.proofs.Bools.{and-l, and-r, and-skip, or-false-l, or-false-r, clash, not-f}
 use Rattle.octets.proofs.Tests.{findIx-get, any-none}
+use Rattle.octets.proofs.Parts.{length-zeros}
 use Rattle.octets.proofs.Rows.{passes}
 use Rattle.octets.proofs.Chunks.{length-chunks, length-chunk}
 use Rattle.gpt_model.specs.Ranges.{Slot, vacant, spans, sizeOf, bounded, apart, place}
 use Rattle.gpt_model.specs.Table.{uniqueOf, firstOf, unused, slotOf, entryOk, entries, slots, goodTable, entryWith}
-use Rattle.gpt_model.specs.Calls.{Edit, add, delete, resize, rename, carries, isNone, valueOf, tableRows, lowestUnused, startOf, valuesOf, indexOf, newEntry, lengthsOf}
+use Rattle.gpt_model.specs.Calls.{Edit, add, delete, resize, rename, carries, isNone, valueOf, tableRows, lowestUnused, startOf, change, lengthsOf}
 use Rattle.gpt_model.specs.Lists.{Ledger, bookEdit}
 use Rattle.gpt_model.proofs.Room.{Room, room-get, place-some}
-use Rattle.gpt_model.proofs.Fields.{length-zeros, length-new, new-type, new-unique, new-first, new-last, length-sized, sized-type, sized-unique, sized-first, sized-last, length-named, named-type, named-unique, named-first, named-last}
+use Rattle.gpt_model.proofs.Fields.{length-new, new-type, new-unique, new-first, new-last, length-sized, sized-type, sized-unique, sized-first, sized-last, length-named, named-type, named-unique, named-first, named-last}
 use Rattle.gpt_model.proofs.Entries.{same-sym, slot-unused, slot-used, used-type, unused-zeros, Used, ok-used, used-ok, unused-ok, ok-bounded, Beside, getD-slot, length-slots, entryAt, good-at, good-beside, room-apart}
 
 nonzero : (x : ℕ) → eqb x 0 ≡ false → 0 < x
@@ -44,10 +45,10 @@ pub record Fits (first last : ℕ) (es : List ℕ) (d : Edit) (k i : ℕ) (e : L
 
 -- what the reply of d begins with
 abbrev pub replied : ℕ → ℕ → List ℕ → Edit → ℕ
-replied first last es d = getD (valuesOf first last es d) 0 0
+replied first last es d = getD (change first last es d .values) 0 0
 
 abbrev pub FitsEdit : ℕ → ℕ → List ℕ → Edit → Type 0
-FitsEdit first last es d = Fits first last es d (replied first last es d) (indexOf first last es d) (newEntry first last es d)
+FitsEdit first last es d = Fits first last es d (replied first last es d) (change first last es d .index) (change first last es d .entry)
 
 module _ (first last : ℕ) (small : last < 256 ^ 8) (es : List ℕ) (len : length es ≡ 16384) (good : goodTable first last es ≡ true) where
   used-at : (i : ℕ) → i < 128 → unused (entryAt es i) ≡ false → Used first last (entryAt es i)
@@ -69,10 +70,11 @@ module _ (first last : ℕ) (small : last < 256 ^ 8) (es : List ℕ) (len : leng
   kept : (i : ℕ) (e : List ℕ) → i < 128 → unused (entryAt es i) ≡ false → uniqueOf e ≡ uniqueOf (entryAt es i)
       → ((j : ℕ) → j < 128 → j ≢ i → unused (entryAt es j) ≡ false → apart (slotOf e) (slotOf (entryAt es j)) ≡ true)
       → (j : ℕ) → j < 128 → j ≢ i → Beside e (entryAt es j)
-  kept i e hi u q far j hj ne a b =
-      (subst (λ (x : List ℕ). same x (uniqueOf (entryAt es j)) ≡ false) (sym q)
+  kept i e hi u q far j hj ne a b = (
+    subst (λ (x : List ℕ). same x (uniqueOf (entryAt es j)) ≡ false) (sym q)
         (good-beside first last es good i j hi hj (λ x. ne (sym x)) u b .0),
-       far j hj ne b)
+    far j hj ne b,
+  )
 
   deletes : (k : ℕ) → refusal (tableRows first last es (delete k)) ≡ none → FitsEdit first last es (delete k)
   deletes k e =
@@ -84,96 +86,119 @@ module _ (first last : ℕ) (small : last < 256 ^ 8) (es : List ℕ) (len : leng
         ok = unused-ok first last (zeros 128) (unused-zeros 128);
         beside = λ j h ne a b. absurd (clash (unused-zeros 128) a);
         sizes = λ l q. ap (set (l .sizes) (k - 1)) (sym z);
-        balance = λ l q. omega (arith, size-was l q (k - 1))
+        balance = λ l q. omega (arith, size-was l q (k - 1));
       }
 
   renames : (k : ℕ) (name : List ℕ) → length name ≡ 36 → refusal (tableRows first last es (rename k name)) ≡ none → FitsEdit first last es (rename k name)
   renames k name ln z = record {
-      index = hi;
-      len = length-named e le′ name;
-      ok = used-ok first last e′ used′;
-      beside = kept (k - 1) e′ hi u (named-unique e le′ name) (λ j hj ne b. rw slot-same (good-beside first last es good (k - 1) j hi hj (λ x. ne (sym x)) u b .1));
-      sizes = λ l q. sym (ap (set (l .sizes) (k - 1)) (ap sizeOf slot-same ∙ sym (size-was l q (k - 1))) ∙ set-getD (l .sizes) (k - 1) 0);
-      balance = λ l q. omega (arith, ap sizeOf slot-same)
-    }
+    index = hi;
+    len = length-named e le′ name;
+    ok = used-ok first last e′ used′;
+    beside = kept (k - 1) e′ hi u (named-unique e le′ name) (λ j hj ne b. rw slot-same (good-beside first last es good (k - 1) j hi hj (λ x. ne (sym x)) u b .1));
+    sizes = λ l q. sym (ap (set (l .sizes) (k - 1)) (ap sizeOf slot-same ∙ sym (size-was l q (k - 1))) ∙ set-getD (l .sizes) (k - 1) 0);
+    balance = λ l q. omega (arith, ap sizeOf slot-same);
+  }
     where
       u : unused (entryAt es (k - 1)) ≡ false
       u = passes 13 (tableRows first last es (rename k name)) z
+
       hi : k - 1 < 128
       hi = let w = slot-number k (passes 12 (tableRows first last es (rename k name)) z) in omega arith
+
       e : List ℕ
       e = entryAt es (k - 1)
+
       le′ : length (entryAt es (k - 1)) ≡ 128
       le′ = len-at (k - 1) hi
+
       e′ : List ℕ
-      e′ = newEntry first last es (rename k name)
+      e′ = change first last es (rename k name) .entry
+
       w : Used first last (entryAt es (k - 1))
       w = used-at (k - 1) hi u
+
       used′ : Used first last e′
       used′ = record {
-          type = ap isZero (named-type e le′ name) ∙ w .type;
-          unique = ap isZero (named-unique e le′ name) ∙ w .unique;
-          low = rw (named-first e le′ name) (w .low);
-          mid = rw (named-first e le′ name, named-last e le′ name) (w .mid);
-          high = rw (named-last e le′ name) (w .high)
-        }
+        type = ap isZero (named-type e le′ name) ∙ w .type;
+        unique = ap isZero (named-unique e le′ name) ∙ w .unique;
+        low = rw (named-first e le′ name) (w .low);
+        mid = rw (named-first e le′ name, named-last e le′ name) (w .mid);
+        high = rw (named-last e le′ name) (w .high);
+      }
+
       slot-same : slotOf e′ ≡ slotOf e
       slot-same = slot-used e′ (used-type e′ (used′ .type)) ∙ ap₂ spans (named-first e le′ name) (named-last e le′ name) ∙ sym (slot-used e u)
 
   resizes : (k size : ℕ) → refusal (tableRows first last es (resize k size)) ≡ none → FitsEdit first last es (resize k size)
   resizes k size z = record {
-      index = hi;
-      len = length-sized e le′ l;
-      ok = used-ok first last e′ used′;
-      beside = kept (k - 1) e′ hi u (sized-unique e le′ l) far;
-      sizes = λ b q. ap (set (b .sizes) (k - 1)) (sym size-now);
-      balance = λ b q. omega (arith, size-was b q (k - 1), size-now)
-    }
+    index = hi;
+    len = length-sized e le′ l;
+    ok = used-ok first last e′ used′;
+    beside = kept (k - 1) e′ hi u (sized-unique e le′ l) far;
+    sizes = λ b q. ap (set (b .sizes) (k - 1)) (sym size-now);
+    balance = λ b q. omega (arith, size-was b q (k - 1), size-now);
+  }
     where
       rows : List Row
       rows = tableRows first last es (resize k size)
+
       u : unused (entryAt es (k - 1)) ≡ false
       u = passes 13 rows z
+
       hi : k - 1 < 128
       hi = let w = slot-number k (passes 12 rows z) in omega arith
+
       pos : 0 < size
       pos = nonzero size (passes 20 rows z)
+
       e : List ℕ
       e = entryAt es (k - 1)
+
       f : ℕ
       f = firstOf (entryAt es (k - 1))
+
       l : ℕ
       l = firstOf (entryAt es (k - 1)) + size - 1
+
       room : Room (set (slots es) (k - 1) vacant) last size (firstOf (entryAt es (k - 1)))
       room = room-get _ _ _ _ (not-f _ (passes 25 rows z))
+
       le′ : length (entryAt es (k - 1)) ≡ 128
       le′ = len-at (k - 1) hi
+
       e′ : List ℕ
-      e′ = newEntry first last es (resize k size)
+      e′ = change first last es (resize k size) .entry
+
       w : Used first last (entryAt es (k - 1))
       w = used-at (k - 1) hi u
+
       fits : firstOf (entryAt es (k - 1)) + size - 1 < 256 ^ 8
       fits = let a = room .0 in let p = pos in omega arith
+
       used′ : Used first last e′
       used′ = record {
-          type = ap isZero (sized-type e le′ l) ∙ w .type;
-          unique = ap isZero (sized-unique e le′ l) ∙ w .unique;
-          low = rw (sized-first e le′ l) (w .low);
-          mid = rw (sized-first e le′ l, sized-last e le′ l fits) (let p = pos in omega arith);
-          high = rw (sized-last e le′ l fits) (let a = room .0 in let p = pos in omega arith)
-        }
+        type = ap isZero (sized-type e le′ l) ∙ w .type;
+        unique = ap isZero (sized-unique e le′ l) ∙ w .unique;
+        low = rw (sized-first e le′ l) (w .low);
+        mid = rw (sized-first e le′ l, sized-last e le′ l fits) (let p = pos in omega arith);
+        high = rw (sized-last e le′ l fits) (let a = room .0 in let p = pos in omega arith);
+      }
+
       slot-now : slotOf e′ ≡ spans f l
       slot-now = slot-used e′ (used-type e′ (used′ .type)) ∙ ap₂ spans (sized-first e le′ l) (sized-last e le′ l fits)
+
       size-now : sizeOf (slotOf e′) ≡ size
       size-now = ap sizeOf slot-now ∙ (let p = pos in omega arith)
+
       other : (j : ℕ) → j ≢ k - 1 → getD (set (slots es) (k - 1) vacant) j vacant ≡ slotOf (entryAt es j)
       other j ne = getD-set-other (slots es) (k - 1) j vacant vacant ne ∙ getD-slot es j
+
       far : (j : ℕ) → j < 128 → j ≢ k - 1 → unused (entryAt es j) ≡ false → apart (slotOf e′) (slotOf (entryAt es j)) ≡ true
       far j hj ne b =
           rw slot-now
-            (subst (λ (s : Slot). apart (spans f l) s ≡ true) (other j ne)
-              (room-apart first last (set (slots es) (k - 1) vacant) size f j pos room (omega (arith, length-set (slots es) (k - 1) vacant, length-slots es))
-                (subst (λ (s : Slot). bounded first last s ≡ true) (sym (other j ne)) (bounded-at j hj))))
+          (subst (λ (s : Slot). apart (spans f l) s ≡ true) (other j ne)
+          (room-apart first last (set (slots es) (k - 1) vacant) size f j pos room (omega (arith, length-set (slots es) (k - 1) vacant, length-slots es))
+          (subst (λ (s : Slot). bounded first last s ≡ true) (sym (other j ne)) (bounded-at j hj))))
 
   -- a new entry in an unused slot i, at a start s with room: for add, and for a start that is given
   pub places : (i s : ℕ) (ty uq : List ℕ) (size attr : ℕ) (name : List ℕ)
@@ -181,45 +206,53 @@ module _ (first last : ℕ) (small : last < 256 ^ 8) (es : List ℕ) (len : leng
       → length ty ≡ 16 → length uq ≡ 16 → length name ≡ 36 → isZero ty ≡ false → isZero uq ≡ false → any (carries uq) (entries es) ≡ false
       → Fits first last es (add ty uq size attr name) (suc i) i (entryWith ty uq s (s + size - 1) attr name)
   places i s ty uq size attr name hi u pos low room lt lu ln zt zu fresh = record {
-      index = hi;
-      len = length-new ty uq s l attr name;
-      ok = used-ok first last e′ used′;
-      beside = far;
-      sizes = λ b q. ap₂ (set (b .sizes)) same-i (sym size-now);
-      balance = λ b q. omega (arith, size-now, ap sizeOf (slot-unused (entryAt es i) u))
-    }
+    index = hi;
+    len = length-new ty uq s l attr name;
+    ok = used-ok first last e′ used′;
+    beside = far;
+    sizes = λ b q. ap₂ (set (b .sizes)) same-i (sym size-now);
+    balance = λ b q. omega (arith, size-now, ap sizeOf (slot-unused (entryAt es i) u));
+  }
     where
       same-i : suc i - 1 ≡ i
       same-i = omega arith
+
       l : ℕ
       l = s + size - 1
+
       e′ : List ℕ
       e′ = entryWith ty uq s (s + size - 1) attr name
+
       fs : s < 256 ^ 8
       fs = let a = room .0 in omega arith
+
       fl : s + size - 1 < 256 ^ 8
       fl = let a = room .0 in omega arith
+
       used′ : Used first last e′
       used′ = record {
-          type = ap isZero (new-type ty uq s l attr name lt) ∙ zt;
-          unique = ap isZero (new-unique ty uq s l attr name lu) ∙ zu;
-          low = rw (new-first ty uq s l attr name fs) low;
-          mid = rw (new-first ty uq s l attr name fs, new-last ty uq s l attr name fl) (omega arith);
-          high = rw (new-last ty uq s l attr name fl) (let a = room .0 in omega arith)
-        }
+        type = ap isZero (new-type ty uq s l attr name lt) ∙ zt;
+        unique = ap isZero (new-unique ty uq s l attr name lu) ∙ zu;
+        low = rw (new-first ty uq s l attr name fs) low;
+        mid = rw (new-first ty uq s l attr name fs, new-last ty uq s l attr name fl) (omega arith);
+        high = rw (new-last ty uq s l attr name fl) (let a = room .0 in omega arith);
+      }
+
       slot-now : slotOf e′ ≡ spans s l
       slot-now = slot-used e′ (used-type e′ (used′ .type)) ∙ ap₂ spans (new-first ty uq s l attr name fs) (new-last ty uq s l attr name fl)
+
       size-now : sizeOf (slotOf e′) ≡ size
       size-now = ap sizeOf slot-now ∙ omega arith
+
       far : (j : ℕ) → j < 128 → j ≢ i → Beside e′ (entryAt es j)
       far j hj ne a b = (
-          subst (λ (x : List ℕ). same x (uniqueOf (entryAt es j)) ≡ false) (sym (new-unique ty uq s l attr name lu))
+        subst (λ (x : List ℕ). same x (uniqueOf (entryAt es j)) ≡ false) (sym (new-unique ty uq s l attr name lu))
             (same-sym _ _ (and-skip _ _ (ap not b) (any-none (carries uq) (entries es) [] fresh j (omega (arith, length-chunks 128 128 es))))),
-          rw slot-now
+        rw slot-now
             (subst (λ (x : Slot). apart (spans s l) x ≡ true) (getD-slot es j)
-              (room-apart first last (slots es) size s j pos room (omega (arith, length-slots es))
-                (subst (λ (x : Slot). bounded first last x ≡ true) (sym (getD-slot es j)) (bounded-at j hj)))),
-        )
+            (room-apart first last (slots es) size s j pos room (omega (arith, length-slots es))
+            (subst (λ (x : Slot). bounded first last x ≡ true) (sym (getD-slot es j)) (bounded-at j hj)))),
+      )
 
   adds : (ty uq : List ℕ) (size attr : ℕ) (name : List ℕ) → lengthsOf (add ty uq size attr name) ≡ true → refusal (tableRows first last es (add ty uq size attr name)) ≡ none
       → FitsEdit first last es (add ty uq size attr name)
@@ -228,8 +261,8 @@ module _ (first last : ℕ) (small : last < 256 ^ 8) (es : List ℕ) (len : leng
       let p = place-some (slots es) first last size (startOf first last es size) (place-value _ (passes 25 rows e)) in
       let f = findIx-get unused (entries es) [] (not-f _ (passes 24 rows e)) in
       places (lowestUnused first last es) (startOf first last es size) ty uq size attr name (omega (arith, f .0, length-chunks 128 128 es)) (f .1) (nonzero size (passes 20 rows e)) (p .0) (p .1)
-        (eqb-true _ _ (and-l _ _ (and-l _ _ lens))) (eqb-true _ _ (and-r _ _ (and-l _ _ lens))) (eqb-true _ _ (and-r _ _ lens))
-        (passes 21 rows e) (or-false-l _ _ (passes 22 rows e)) (or-false-r _ _ (passes 22 rows e))
+      (eqb-true _ _ (and-l _ _ (and-l _ _ lens))) (eqb-true _ _ (and-r _ _ (and-l _ _ lens))) (eqb-true _ _ (and-r _ _ lens))
+      (passes 21 rows e) (or-false-l _ _ (passes 22 rows e)) (or-false-r _ _ (passes 22 rows e))
 
   pub fits : (d : Edit) → lengthsOf d ≡ true → refusal (tableRows first last es d) ≡ none → FitsEdit first last es d
   fits (add ty uq size attr name) lens e = adds ty uq size attr name lens e

@@ -100,8 +100,8 @@ pub used-ok : (first last : ℕ) (e : List ℕ) → Used first last e → entryO
 unfolding entryOk
 used-ok first last e u =
     or-ir _ _ (and-i _ _ (and-i _ _ (ap not (u .type)) (ap not (u .unique)))
-      (subst (λ (s : Slot). bounded first last s ≡ true) (sym (slot-used e (used-type e (u .type))))
-        (bounded-make first last (firstOf e) (lastOf e) (u .low) (u .mid) (u .high))))
+    (subst (λ (s : Slot). bounded first last s ≡ true) (sym (slot-used e (used-type e (u .type))))
+    (bounded-make first last (firstOf e) (lastOf e) (u .low) (u .mid) (u .high))))
 
 pub unused-ok : (first last : ℕ) (e : List ℕ) → unused e ≡ true → entryOk first last e ≡ true
 unfolding entryOk
@@ -176,10 +176,13 @@ free-apart first last f l (spans g m) k h w = go (bool-cases (ltb l g)) (bool-ca
       where
         b : (first ≤ g) × (g ≤ m) × (m ≤ last)
         b = bounded-get first last g m k
+
         x : g ≤ l
         x = ltb-false _ _ p
+
         y : f ≤ m
         y = ltb-false _ _ q
+
         hit : Dec (g ≤ f) → ⊥
         hit (yes z) = clash (inside-make f g m z y) (w f (le-refl f) h)
         hit (no z) = clash (inside-make g g m (le-refl g) (b .1)) (w g (omega arith) x)
@@ -216,17 +219,17 @@ module _ (first last : ℕ) (es : List ℕ) where
   good-make p q =
       let w : length (entries es) ≡ 128 = length-chunks 128 128 es in
       and-i _ _ (all-make (entryOk first last) (entries es) [] (λ i h. p i (omega arith)))
-        (pairs-make beside (entries es) [] (λ i j h g. beside-make _ _ (q i j (omega arith) (omega arith) h)))
+      (pairs-make beside (entries es) [] (λ i j h g. beside-make _ _ (q i j (omega arith) (omega arith) h)))
 
   pub good-bounded : goodTable first last es ≡ true → all (bounded first last) (slots es) ≡ true
   good-bounded k =
       all-make (bounded first last) (slots es) vacant
-        (λ i h. subst (λ (s : Slot). bounded first last s ≡ true) (sym (getD-slot es i)) (ok-bounded first last (entryAt es i) (good-at k i (omega (arith, length-slots es)))))
+      (λ i h. subst (λ (s : Slot). bounded first last s ≡ true) (sym (getD-slot es i)) (ok-bounded first last (entryAt es i) (good-at k i (omega (arith, length-slots es)))))
 
   pub good-apart : goodTable first last es ≡ true → pairs apart (slots es) ≡ true
   good-apart k =
       pairs-make apart (slots es) vacant
-        (λ i j h g. rw (getD-slot es i, getD-slot es j) (beside-apart (entryAt es i) (entryAt es j) (beside-make _ _ (good-beside k i j (omega (arith, length-slots es)) (omega (arith, length-slots es)) (λ e. omega arith)))))
+      (λ i j h g. rw (getD-slot es i, getD-slot es j) (beside-apart (entryAt es i) (entryAt es j) (beside-make _ _ (good-beside k i j (omega (arith, length-slots es)) (omega (arith, length-slots es)) (λ e. omega arith)))))
 
 -- one entry replaced
 module _ (first last : ℕ) (es : List ℕ) (size : length es ≡ 16384) (i : ℕ) (e : List ℕ) (hi : i < 128) (len : length e ≡ 128) where
@@ -247,9 +250,11 @@ module _ (first last : ℕ) (es : List ℕ) (size : length es ≡ 16384) (i : �
     where
       new : ℕ → List ℕ
       new j = getD (entries (putChunk 128 i e es)) j []
+
       each : (j : ℕ) → j < 128 → Dec (j ≡ i) → entryOk first last (new j) ≡ true
       each j h (yes q) = subst (λ (x : ℕ). entryOk first last (new x) ≡ true) (sym q) (rw at-same ok)
       each j h (no q) = rw (at-other j q) (good-at first last es k j h)
+
       two : (a b : ℕ) → a < 128 → b < 128 → a < b → Dec (a ≡ i) → Dec (b ≡ i) → Beside (new a) (new b)
       two a b h g l (yes p) (yes q) = absurd (omega arith)
       two a b h g l (yes p) (no q) = subst (λ (x : ℕ). Beside (new x) (new b)) (sym p) (subst₂ Beside (sym at-same) (sym (at-other b q)) (bs b g q))

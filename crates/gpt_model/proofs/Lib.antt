@@ -1,3 +1,4 @@
+
 pub mod Room
 pub mod Counts
 pub mod Longest
@@ -9,3 +10,5 @@ pub mod Copies
 pub mod States
 pub mod Steps
 pub mod Demand3
+pub mod Touches
+pub mod Samples

@@ -48,7 +48,7 @@ longest-skip p lo zero b f = ap₂ (longest p) (sym (add-zero lo)) (zero-add b)
 longest-skip p lo (suc a) b f =
     ap (longest p lo) (suc-add a b) ∙ longest-suc p lo (a + b)
     ∙ ap₂ max (run-no p lo (suc (a + b)) (f lo (omega arith) (omega arith)))
-        (longest-skip p (suc lo) a b (λ c x y. f c (omega arith) (omega arith)) ∙ ap (λ (x : ℕ). longest p x b) shift)
+    (longest-skip p (suc lo) a b (λ c x y. f c (omega arith) (omega arith)) ∙ ap (λ (x : ℕ). longest p x b) shift)
     ∙ omega arith
   where
     shift : suc lo + a ≡ lo + suc a
@@ -60,7 +60,7 @@ longest-gap p lo zero b f g = ap₂ (longest p) (sym (add-zero lo)) (zero-add b)
 longest-gap p lo (suc a) b f g =
     ap (longest p lo) (suc-add a b) ∙ longest-suc p lo (a + b)
     ∙ ap₂ max (ap (runFrom p lo) (sym (suc-add a b)) ∙ run-gap p lo (suc a) b f g)
-        (longest-gap p (suc lo) a b (λ c x y. f c (omega arith) (omega arith)) (λ x. ap p shift ∙ g x) ∙ ap (λ (x : ℕ). max a (longest p x b)) shift)
+    (longest-gap p (suc lo) a b (λ c x y. f c (omega arith) (omega arith)) (λ x. ap p shift ∙ g x) ∙ ap (λ (x : ℕ). max a (longest p x b)) shift)
     ∙ omega arith
   where
     shift : suc lo + a ≡ lo + suc a

@@ -105,7 +105,7 @@ pub place-none : (t : List Slot) (first last size : ℕ) → 0 < size → place 
 unfolding place
 place-none t first last size pos e s h r =
     clash (room-make t last size s r)
-      (firstFrom-none (roomAt t last size) first (suc last - first) e s h (omega arith))
+    (firstFrom-none (roomAt t last size) first (suc last - first) e s h (omega arith))
 
 pub place-some : (t : List Slot) (first last size s : ℕ) → place t first last size ≡ some s
     → (first ≤ s) × Room t last size s × ((b : ℕ) → first ≤ b → b < s → Room t last size b → ⊥)

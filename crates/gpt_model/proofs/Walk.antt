@@ -46,6 +46,7 @@ Holds fs ls a i = (i < 128) × (getD fs i 0 ≤ a) × (a ≤ getD ls i 0)
 module _ (s : List Slot) (len : length s ≡ 128) where
   abbrev fs : List ℕ
   fs = map low s
+
   abbrev ls : List ℕ
   ls = map high s
 

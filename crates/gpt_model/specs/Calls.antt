@@ -64,6 +64,11 @@ abbrev pub valueOf : Option ℕ → ℕ
 valueOf none = 0
 valueOf (some s) = s
 
+pub record Change : Type 0 where
+  pub values : List ℕ
+  pub index : ℕ
+  pub entry : List ℕ
+
 module _ (first last : ℕ) (es : List ℕ) where
   -- R9: 12 / 13: partition number not 1 to 128 / slot unused
   abbrev pub slotRows : ℕ → List Row
@@ -97,30 +102,21 @@ module _ (first last : ℕ) (es : List ℕ) where
   abbrev pub startOf : ℕ → ℕ
   startOf size = valueOf (place (slots es) first last size)
 
-  -- R3
-  abbrev pub valuesOf : Edit → List ℕ
-  valuesOf (add type unique size attributes name) = suc lowestUnused ∷ startOf size ∷ []
-  valuesOf (delete k) = []
-  valuesOf (resize k size) = []
-  valuesOf (rename k name) = []
-
-  -- the entry that is written, counted from 0
-  abbrev pub indexOf : Edit → ℕ
-  indexOf (add type unique size attributes name) = lowestUnused
-  indexOf (delete k) = k - 1
-  indexOf (resize k size) = k - 1
-  indexOf (rename k name) = k - 1
-
-  -- D15. D16: Delete zeroes the slot. D18: Resize sets the last block alone, to the size asked. D17: Rename sets the entry's 72 name bytes alone, to 36 given units.
-  abbrev pub newEntry : Edit → List ℕ
-  newEntry (add type unique size attributes name) = entryWith type unique (startOf size) (startOf size + size - 1) attributes name
-  newEntry (delete k) = zeros entryBytes
-  newEntry (resize k size) = put 40 (le 8 (firstOf (entryOf es k) + size - 1)) (entryOf es k)
-  newEntry (rename k name) = put 56 (nameBytes name) (entryOf es k)
+  -- what an edit answers, and the one entry that it writes, counted from 0
+  -- D16: Delete zeroes the slot. D18: Resize sets the last block alone, to the size asked. D17: Rename sets the entry's 72 name bytes alone, to 36 given units.
+  abbrev pub change : Edit → Change
+  change (add type unique size attributes name) = record {
+      values = suc lowestUnused ∷ startOf size ∷ [];
+      index = lowestUnused;
+      entry = entryWith type unique (startOf size) (startOf size + size - 1) attributes name
+    }
+  change (delete k) = record { values = []; index = k - 1; entry = zeros entryBytes }
+  change (resize k size) = record { values = []; index = k - 1; entry = put 40 (le 8 (firstOf (entryOf es k) + size - 1)) (entryOf es k) }
+  change (rename k name) = record { values = []; index = k - 1; entry = put 56 (nameBytes name) (entryOf es k) }
 
   -- D23: Each edit changes that entry
   abbrev pub edited : Edit → List ℕ
-  edited d = putChunk entryBytes (indexOf d) (newEntry d) es
+  edited d = putChunk entryBytes (change d .index) (change d .entry) es
 
 -- ---- the calls on head and tail
 
@@ -161,16 +157,16 @@ module _ (g : Shape) (n : ℕ) (h t : List ℕ) where
       (cond (eqb s 4) (out (accepted (s ∷ [])) (withCopy g n primary (guidIn g backup t) (entriesIn g backup t) h) t)
       (out (accepted (s ∷ [])) h (withCopy g n backup (guidIn g primary h) (entriesIn g primary h) t)))
 
-  -- D23: Each edit changes that entry and the two CRCs, in both copies, and no other byte.
-  abbrev pub written : List ℕ → List ℕ → Out
-  written values es = out (accepted values) (withTable g n primary (guidIn g primary h) es h) (withTable g n backup (guidIn g backup t) es t)
-
   abbrev pub made : Call → Out
   made read = out (accepted (state g n h t ∷ [])) h t
   made freeCounts =
       out (accepted (freeCount (slots (tableOf g n h t)) (g .first) (lastUsable g n) ∷ longestFree (slots (tableOf g n h t)) (g .first) (lastUsable g n) ∷ [])) h t
   made repair = repaired (state g n h t)
-  made (edit d) = written (valuesOf (g .first) (lastUsable g n) (tableOf g n h t) d) (edited (g .first) (lastUsable g n) (tableOf g n h t) d)
+  -- D23: Each edit changes that entry and the two CRCs, in both copies, and no other byte.
+  made (edit d) =
+      let es = edited (g .first) (lastUsable g n) (tableOf g n h t) d in
+      out (accepted (change (g .first) (lastUsable g n) (tableOf g n h t) d .values)) (withTable g n primary (guidIn g primary h) es h)
+      (withTable g n backup (guidIn g backup t) es t)
 
   unfoldable pub step : Call → Out
   step c = decided (refusal (rowsOf c)) h t (made c)

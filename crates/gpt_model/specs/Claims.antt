@@ -11,7 +11,7 @@ use Rattle.octets.specs.Bytes.{isZero, zeros}
 use Rattle.gpt_model.specs.Ranges.{vacant, inside, roomAt, taken, freeCount, longestFree}
 use Rattle.gpt_model.specs.Table.{slotCount, tableBytes, entryBytes}
 use Rattle.gpt_model.specs.Disk.{Shape, lastUsable, usable, inRange, Side, primary, backup, headerBytes, lentBytes, headerAt, entriesAt, lent, state, tableOf}
-use Rattle.gpt_model.specs.Calls.{Edit, add, Call, repair, edit, refused, accepted, addRows, valuesOf, indexOf, edited, openRows, rowsOf, step, format}
+use Rattle.gpt_model.specs.Calls.{Edit, add, Call, repair, edit, refused, accepted, addRows, change, edited, openRows, rowsOf, step, format}
 use Rattle.gpt_model.specs.Lists.{Run, run, answers, applied, begun, slotsOf}
 
 -- ---- demand 3
@@ -20,7 +20,7 @@ use Rattle.gpt_model.specs.Lists.{Run, run, answers, applied, begun, slo
 abbrev pub Passes : Shape → ℕ → Run → List ℕ → List ℕ → ℕ → ℕ → List ℕ → Type 0
 Passes g n r type unique size attributes name =
     refusal (openRows g n (r .head) (r .tail) (add type unique size attributes name)
-      ++ addRows (g .first) (lastUsable g n) (tableOf g n (r .head) (r .tail)) type unique size name) ≡ none
+    ++ addRows (g .first) (lastUsable g n) (tableOf g n (r .head) (r .tail)) type unique size name) ≡ none
 
 pub record Sound (g : Shape) (n : ℕ) (r : Run) : Type 0 where
   -- No usable block lies in two partitions.
@@ -31,7 +31,7 @@ pub record Sound (g : Shape) (n : ℕ) (r : Run) : Type 0 where
   -- An add that comes next, once its earlier checks pass, is refused for room exactly when no run of as many free blocks as it asks exists, freed ones included.
   pub room : (type unique : List ℕ) (size attributes : ℕ) (name : List ℕ) → Passes g n r type unique size attributes name
       → (step g n (r .head) (r .tail) (edit (add type unique size attributes name)) .answer ≡ refused 25)
-        ↔ ((s : ℕ) → g .first ≤ s → roomAt (slotsOf g n r) (lastUsable g n) size s ≡ false)
+      ↔ ((s : ℕ) → g .first ≤ s → roomAt (slotsOf g n r) (lastUsable g n) size s ≡ false)
 
 -- a formatting with any N in its range and any nonzero disk GUID, whatever head and tail held, on any shape whose blocks have room for a header
 pub record Formats (g : Shape) (n : ℕ) (guid h t : List ℕ) : Type 0 where
@@ -61,15 +61,15 @@ pub record Serves (g : Shape) (n : ℕ) (es : List ℕ) (r : Run) : Type 0 where
   -- an add whose earlier checks pass is accepted exactly when its size is at most the longest run
   pub fits : (type unique : List ℕ) (size attributes : ℕ) (name : List ℕ) → Passes g n r type unique size attributes name
       → (step g n (r .head) (r .tail) (edit (add type unique size attributes name)) .answer
-          ≡ accepted (valuesOf (g .first) (lastUsable g n) es (add type unique size attributes name)))
-        ↔ (size ≤ longestFree (slotsOf g n r) (g .first) (lastUsable g n))
+      ≡ accepted (change (g .first) (lastUsable g n) es (add type unique size attributes name) .values))
+      ↔ (size ≤ longestFree (slotsOf g n r) (g .first) (lastUsable g n))
 
 -- after every list the table is that which the accepted calls, applied in order to the empty table, make
 abbrev pub NotEmpty : Type 0
 NotEmpty =
     (g : Shape) (n : ℕ) (guid h t : List ℕ) → Formats g n guid h t → (cs : List Call)
     → let r = begun (format g n guid h t) in
-      Serves g n (applied (g .first) (lastUsable g n) (zeros tableBytes) cs (answers g n cs r)) (run g n cs r)
+    Serves g n (applied (g .first) (lastUsable g n) (zeros tableBytes) cs (answers g n cs r)) (run g n cs r)
 
 -- ---- demand 2: What is written reads back as the same table
 
@@ -77,14 +77,14 @@ abbrev pub EditReadsBack : Type 0
 EditReadsBack =
     (g : Shape) (n : ℕ) (h t : List ℕ) (d : Edit) → headerBytes ≤ g .block → refusal (rowsOf g n h t (edit d)) ≡ none
     → let o = step g n h t (edit d) in
-      (state g n (o .head) (o .tail) ≡ 1) × (tableOf g n (o .head) (o .tail) ≡ edited (g .first) (lastUsable g n) (tableOf g n h t) d)
+    (state g n (o .head) (o .tail) ≡ 1) × (tableOf g n (o .head) (o .tail) ≡ edited (g .first) (lastUsable g n) (tableOf g n h t) d)
 
 -- from every state that can be read: 1, 2, 3, 4
 abbrev pub RepairReadsBack : Type 0
 RepairReadsBack =
     (g : Shape) (n : ℕ) (h t : List ℕ) → headerBytes ≤ g .block → refusal (rowsOf g n h t repair) ≡ none
     → let o = step g n h t repair in
-      (o .answer ≡ accepted (state g n h t ∷ [])) × (state g n (o .head) (o .tail) ≡ 1) × (tableOf g n (o .head) (o .tail) ≡ tableOf g n h t)
+    (o .answer ≡ accepted (state g n h t ∷ [])) × (state g n (o .head) (o .tail) ≡ 1) × (tableOf g n (o .head) (o .tail) ≡ tableOf g n h t)
 
 -- byte k is none of the w bytes from at on
 abbrev pub Outside : ℕ → ℕ → ℕ → Type 0
@@ -95,7 +95,7 @@ abbrev pub EditTouches : Type 0
 EditTouches =
     (g : Shape) (n : ℕ) (h t : List ℕ) (d : Edit) → headerBytes ≤ g .block → refusal (rowsOf g n h t (edit d)) ≡ none
     → let o = step g n h t (edit d) in
-      (side : Side) → (length (lent side (o .head) (o .tail)) ≡ length (lent side h t))
-        × ((k : ℕ) → Outside (entriesAt g side + indexOf (g .first) (lastUsable g n) (tableOf g n h t) d * entryBytes) entryBytes k
-          → Outside (headerAt g side + 16) 4 k → Outside (headerAt g side + 88) 4 k
-          → getD (lent side (o .head) (o .tail)) k 0 ≡ getD (lent side h t) k 0)
+    (side : Side) → (length (lent side (o .head) (o .tail)) ≡ length (lent side h t))
+    × ((k : ℕ) → Outside (entriesAt g side + change (g .first) (lastUsable g n) (tableOf g n h t) d .index * entryBytes) entryBytes k
+    → Outside (headerAt g side + 16) 4 k → Outside (headerAt g side + 88) 4 k
+    → getD (lent side (o .head) (o .tail)) k 0 ≡ getD (lent side h t) k 0)

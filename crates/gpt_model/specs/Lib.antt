@@ -4,3 +4,4 @@ pub mod Disk
 pub mod Calls
 pub mod Lists
 pub mod Claims
+pub mod Samples
