@@ -1,3 +1,4 @@
 -- The two copies in the words of gpt_model.
 pub mod Sides
+pub mod States
 pub mod Fields

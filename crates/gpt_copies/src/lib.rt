@@ -2,6 +2,7 @@
 // writers of a copy. Everything is in the words of gpt_model, at its shape disk512.
 // An inner crate: no user calls it, so its functions may have a `requires`, which each caller meets.
 pub mod header;
+pub mod reading;
 pub mod writing;
 
 ghost use mathlib.Core.Path.{_≡_};
@@ -20,6 +21,15 @@ pub const TABLE: usize = 16384;
 pub enum Side {
     Primary,
     Backup,
+}
+
+// D10: both good with equal disk GUID and entries, both good but different, primary only, backup only; or neither.
+pub enum State {
+    Both,
+    Differ,
+    PrimaryOnly,
+    BackupOnly,
+    Neither,
 }
 
 pub fn other(side: Side) -> Side

@@ -171,3 +171,8 @@ getD-put-out (v ∷ vs) xs at k h = getD-put-out vs (set xs at v) (suc at) k (on
     ne : (k < at) ⊎ (at + suc (length vs) ≤ k) → k ≢ at
     ne (inl w) e = omega arith
     ne (inr w) e = omega arith
+
+-- a part written back as it was
+pub put-own : (xs : List ℕ) (a k : ℕ) → a + k ≤ length xs → put a (part a k xs) xs ≡ xs
+unfolding put
+put-own xs a k h = put-inside [] xs a k 0 h (omega arith)

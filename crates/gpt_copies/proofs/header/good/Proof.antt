@@ -1,3 +1,11 @@
+use Prim.Native.Nat.{ℕ}
+use mathlib.Core.Path.{ap}
+use mathlib.Core.List.{List}
+use denote.Ref.{now}
+use Rattle.gpt_copies.specs.Sides.{sideOf, goodHeader}
+use Rattle.gpt_model.specs.Disk.{disk512, header, entriesIn}
+use Rattle.octets.specs.Bytes.{same}
+use mathlib.Core.Path.{ap₂, _∙_}
 use borrow.Author.Needs.{needs}
 use Rattle.gpt_copies.proofs.header.good.Statement.{statement}
 use Rattle.gpt_copies.proofs.header.good.Tie as tie
@@ -34,7 +42,12 @@ same-requires c κs = search needs
 
 -- src/header.rt:62:1
 returns : tie.Need-returns
-returns c = ?
+returns c =
+    let b = now (c .before .before .before .before .before .before .before .before .args .b) in
+    let es = entriesIn disk512 (sideOf (c .before .before .before .before .before .before .before .before .args .side)) b in
+    c .same .ensures
+    ∙ ap₂ same (c .before .before .header-in .ensures)
+    (c .before .before .before .before .write .ensures es (c .before .before .before .before .before .before .before .before .pre .2) ∙ ap (λ (g : List ℕ). header disk512 (c .before .before .before .before .before .before .before .before .args .n) (sideOf (c .before .before .before .before .before .before .before .before .args .side)) g es) (c .before .before .before .before .before .guid-in .ensures .0))
 
 pub good-spec : {M : Type 1} → statement M
 good-spec =

@@ -1,3 +1,10 @@
+use Rattle.gpt_copies.proofs.Writes.{block-cleared}
+use denote.Ref.{now}
+use native.Mathlib.Omega.{arith}
+use Rattle.gpt_copies.specs.Sides.{sideOf}
+use Rattle.gpt_copies.proofs.Headers.{filled}
+use Rattle.gpt_copies.proofs.Writes.{back}
+use Rattle.gpt_copies.proofs.Places.{block-end, lent-fits}
 use borrow.Author.Needs.{needs}
 use Rattle.gpt_copies.proofs.writing.clear_header.Statement.{statement}
 use Rattle.gpt_copies.proofs.writing.clear_header.Tie as tie
@@ -12,7 +19,7 @@ header-at-requires c κs = search needs
 
 -- src/writing.rt:88:15
 add-end : tie.Need-add-end
-add-end c = ?
+add-end c = omega (arith, block-end (sideOf (c .before .before .args .side)), lent-fits (sideOf (c .before .before .args .side)))
 
 -- src/writing.rt:89:18
 sub-fill : tie.Need-sub-fill
@@ -24,7 +31,7 @@ part-fill-start c = search needs
 
 -- src/writing.rt:89:18
 part-fill-end : tie.Need-part-fill-end
-part-fill-end c = ?
+part-fill-end c = omega (arith, block-end (sideOf (c .before .before .args .side)))
 
 -- src/writing.rt:89:5
 fill-requires : tie.Need-fill-requires
@@ -36,7 +43,7 @@ same-length c = search needs
 
 -- src/writing.rt:83:1
 returns : tie.Need-returns
-returns c = ?
+returns c = block-cleared (sideOf (c .before .before .before .before .before .before .args .side)) (now (c .before .before .before .before .before .before .args .b)) (c .before .before .before .before .before .before .pre) _ _ (c .before .before .before .before .header-at .ensures) (c .before .before .fill .ensures)
 
 pub clear-header-spec : {M : Type 1} → statement M
 clear-header-spec =

@@ -1,3 +1,5 @@
+use denote.Ref.{now}
+use Rattle.gpt_copies.proofs.Writes.{crc-changed}
 use borrow.Author.Needs.{needs}
 use Rattle.gpt_copies.proofs.writing.crc_with.Statement.{statement}
 use Rattle.gpt_copies.proofs.writing.crc_with.Tie as tie
@@ -51,7 +53,7 @@ update-requires-3 c κs = search needs
 
 -- src/writing.rt:58:1
 returns : tie.Need-returns
-returns c = ?
+returns c = crc-changed (now (c .before .before .before .before .before .before .before .args .table)) (now (c .before .before .before .before .before .before .before .args .e)) (c .before .before .before .before .before .before .before .args .i) _ _ _ (c .before .before .before .before .before .before .before .pre .0) (c .before .before .before .before .before .before .before .pre .1) (c .before .before .before .before .before .before .before .pre .2) (c .before .before .before .update .ensures) (c .before .before .update2 .ensures) (c .update3 .ensures)
 
 pub crc-with-spec : {M : Type 1} → statement M
 crc-with-spec =

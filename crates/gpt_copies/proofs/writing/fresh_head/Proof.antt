@@ -1,3 +1,7 @@
+use denote.Ref.{now}
+use mathlib.Core.Path.{_∙_}
+use Rattle.gpt_copies.proofs.Headers.{filled}
+use Rattle.gpt_copies.proofs.Writes.{head-fresh}
 use borrow.Author.Needs.{needs}
 use Rattle.gpt_copies.proofs.writing.fresh_head.Statement.{statement}
 use Rattle.gpt_copies.proofs.writing.fresh_head.Tie as tie
@@ -35,7 +39,7 @@ same-length c = search needs
 
 -- src/writing.rt:113:1
 returns : tie.Need-returns
-returns c = ?
+returns c = head-fresh (c .before .before .before .before .before .before .before .before .before .before .before .before .before .before .before .before .before .args .n) (now (c .before .before .before .before .before .before .before .before .before .before .before .before .before .before .before .before .before .args .guid)) _ _ _ _ _ (c .before .before .before .before .before .before .before .before .before .before .before .before .before .fill .ensures ∙ filled (now (c .before .before .before .before .before .before .before .before .before .before .before .before .before .before .before .before .before .args .head)) 17408 (c .before .before .before .before .before .before .before .before .before .before .before .before .before .before .before .before .before .pre .0)) (c .before .before .before .before .before .before .before .before .before .put-block0 .ensures) (c .before .before .before .before .before .entries-in .ensures .0) (c .before .before .before .before .crc32 .ensures) (c .before .before .put-header .ensures)
 
 pub fresh-head-spec : {M : Type 1} → statement M
 fresh-head-spec =

@@ -1,3 +1,7 @@
+use denote.Ref.{now}
+use mathlib.Core.Path.{_∙_}
+use Rattle.gpt_copies.proofs.Headers.{filled}
+use Rattle.gpt_copies.proofs.Writes.{tail-fresh}
 use borrow.Author.Needs.{needs}
 use Rattle.gpt_copies.proofs.writing.fresh_tail.Statement.{statement}
 use Rattle.gpt_copies.proofs.writing.fresh_tail.Tie as tie
@@ -30,7 +34,7 @@ same-length c = search needs
 
 -- src/writing.rt:123:1
 returns : tie.Need-returns
-returns c = ?
+returns c = tail-fresh (c .before .before .before .before .before .before .before .before .before .before .before .before .before .args .n) (now (c .before .before .before .before .before .before .before .before .before .before .before .before .before .args .guid)) _ _ _ _ (c .before .before .before .before .before .before .before .before .before .fill .ensures ∙ filled (now (c .before .before .before .before .before .before .before .before .before .before .before .before .before .args .tail)) 16896 (c .before .before .before .before .before .before .before .before .before .before .before .before .before .pre .0)) (c .before .before .before .before .before .entries-in .ensures .0) (c .before .before .before .before .crc32 .ensures) (c .before .before .put-header .ensures)
 
 pub fresh-tail-spec : {M : Type 1} → statement M
 fresh-tail-spec =

@@ -1,3 +1,5 @@
+use denote.Ref.{now}
+use Rattle.gpt_copies.proofs.Writes.{block0-put}
 use borrow.Author.Needs.{needs}
 use Rattle.gpt_copies.proofs.writing.put_block0.Statement.{statement}
 use Rattle.gpt_copies.proofs.writing.put_block0.Tie as tie
@@ -44,7 +46,7 @@ same-length c = search needs
 
 -- src/writing.rt:103:1
 returns : tie.Need-returns
-returns c = ?
+returns c = block0-put (c .before .before .before .before .before .before .before .before .before .before .before .before .before .before .before .before .before .before .before .args .n) (now (c .before .before .before .before .before .before .before .before .before .before .before .before .before .before .before .before .before .before .before .args .head)) _ _ _ _ (c .before .before .before .before .before .before .before .before .before .before .before .before .before .before .before .copy .ensures) (c .before .before .before .before .before .before .before .before .before .before .before .store32 .ensures) (c .before .before .before .before .before .before .before .store322 .ensures) (c .before .before .copy2 .ensures)
 
 pub put-block0-spec : {M : Type 1} → statement M
 put-block0-spec =

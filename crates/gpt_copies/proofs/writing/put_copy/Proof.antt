@@ -1,3 +1,8 @@
+use denote.Ref.{now}
+use native.Mathlib.Omega.{arith}
+use Rattle.gpt_copies.specs.Sides.{sideOf}
+use Rattle.gpt_copies.proofs.Writes.{copy-put}
+use Rattle.gpt_copies.proofs.Places.{entries-end}
 use borrow.Author.Needs.{needs}
 use Rattle.gpt_copies.proofs.writing.put_copy.Statement.{statement}
 use Rattle.gpt_copies.proofs.writing.put_copy.Tie as tie
@@ -19,7 +24,7 @@ entries-at-requires c κs = search needs
 
 -- src/writing.rt:98:5
 copy-requires : tie.Need-copy-requires
-copy-requires c κs = ?
+copy-requires c κs = omega (arith, entries-end (sideOf (c .before .before .before .before .before .before .before .before .before .args .side)))
 
 -- src/writing.rt:99:34
 crc32-requires : tie.Need-crc32-requires
@@ -35,7 +40,7 @@ same-length c = search needs
 
 -- src/writing.rt:93:1
 returns : tie.Need-returns
-returns c = ?
+returns c = copy-put (sideOf (c .before .before .before .before .before .before .before .before .before .before .before .before .before .before .before .before .before .args .side)) (now (c .before .before .before .before .before .before .before .before .before .before .before .before .before .before .before .before .before .args .b)) (c .before .before .before .before .before .before .before .before .before .before .before .before .before .before .before .before .before .pre .0) (c .before .before .before .before .before .before .before .before .before .before .before .before .before .before .before .before .before .args .n) (now (c .before .before .before .before .before .before .before .before .before .before .before .before .before .before .before .before .before .args .guid)) (now (c .before .before .before .before .before .before .before .before .before .before .before .before .before .before .before .before .before .args .table)) _ _ _ _ (c .before .before .before .before .before .before .before .before .before .before .before .before .clear-header .ensures) (c .before .before .before .before .before .before .before .before .entries-at .ensures) (c .before .before .before .before .before .before .before .copy .ensures) (c .before .before .put-header .ensures _ (c .before .before .before .crc32 .ensures))
 
 pub put-copy-spec : {M : Type 1} → statement M
 put-copy-spec =

@@ -1,3 +1,6 @@
+use denote.Ref.{now}
+use Rattle.gpt_copies.specs.Sides.{sideOf}
+use Rattle.gpt_copies.proofs.Writes.{table-put, length-changed}
 use borrow.Author.Needs.{needs}
 use Rattle.gpt_copies.proofs.writing.put_entry.Statement.{statement}
 use Rattle.gpt_copies.proofs.writing.put_entry.Tie as tie
@@ -20,7 +23,11 @@ same-length c = search needs
 
 -- src/writing.rt:47:1
 returns : tie.Need-returns
-returns c = ?
+returns c =
+    let s = sideOf (c .before .before .before .before .before .before .before .before .before .before .args .side) in
+    let b = now (c .before .before .before .before .before .before .before .before .before .before .args .b) in
+    table-put s b (c .before .before .before .before .before .before .before .before .before .before .pre .0) (c .before .before .before .before .before .before .before .before .before .before .args .n) _ _ _ (length-changed s b (c .before .before .before .before .before .before .before .before .before .before .pre .0) (c .before .before .before .before .before .before .before .before .before .before .args .i) (now (c .before .before .before .before .before .before .before .before .before .before .args .e)) (c .before .before .before .before .before .before .before .before .before .before .pre .2) (c .before .before .before .before .before .before .before .before .before .before .pre .3)) (c .before .before .before .before .before .before .set-entry .ensures)
+    (c .before .before .renew-header .ensures _ (c .before .before .before .before .before .before .before .before .before .before .pre .4))
 
 pub put-entry-spec : {M : Type 1} → statement M
 put-entry-spec = tie.close (tie.spec set-entry-requires renew-header-requires same-length returns)

@@ -1,3 +1,8 @@
+use denote.Ref.{now}
+use native.Mathlib.Omega.{arith}
+use Rattle.gpt_copies.specs.Sides.{sideOf}
+use Rattle.gpt_copies.proofs.Writes.{header-back}
+use Rattle.gpt_copies.proofs.Places.{header-end, lent-fits}
 use borrow.Author.Needs.{needs}
 use Rattle.gpt_copies.proofs.writing.put_header.Statement.{statement}
 use Rattle.gpt_copies.proofs.writing.put_header.Tie as tie
@@ -12,7 +17,7 @@ header-at-requires c κs = search needs
 
 -- src/writing.rt:22:15
 add-end : tie.Need-add-end
-add-end c = ?
+add-end c = omega (arith, header-end (sideOf (c .before .before .before .args .side)), lent-fits (sideOf (c .before .before .before .args .side)))
 
 -- src/writing.rt:23:26
 sub-write : tie.Need-sub-write
@@ -24,7 +29,7 @@ part-write-start c = search needs
 
 -- src/writing.rt:23:26
 part-write-end : tie.Need-part-write-end
-part-write-end c = ?
+part-write-end c = omega (arith, header-end (sideOf (c .before .before .before .args .side)))
 
 -- src/writing.rt:23:5
 write-requires : tie.Need-write-requires
@@ -36,7 +41,7 @@ same-length c = search needs
 
 -- src/writing.rt:16:1
 returns : tie.Need-returns
-returns c = ?
+returns c = λ es p. header-back (sideOf (c .before .before .before .before .before .before .before .args .side)) (now (c .before .before .before .before .before .before .before .args .b)) (c .before .before .before .before .before .before .before .pre .0) (c .before .before .before .before .before .before .before .args .n) (now (c .before .before .before .before .before .before .before .args .guid)) es _ _ (c .before .before .before .before .header-at .ensures) (c .before .before .write .ensures es p)
 
 pub put-header-spec : {M : Type 1} → statement M
 put-header-spec =

@@ -1,3 +1,7 @@
+use mathlib.Core.Path.{refl}
+use Rattle.gpt_copies.specs.Sides.{sideOf}
+use Rattle.gpt_copies.proofs.Writes.{header-renewed}
+use denote.Ref.{now}
 use borrow.Author.Needs.{needs}
 use Rattle.gpt_copies.proofs.writing.renew_header.Statement.{statement}
 use Rattle.gpt_copies.proofs.writing.renew_header.Tie as tie
@@ -33,7 +37,8 @@ same-length c = search needs
 
 -- src/writing.rt:27:1
 returns : tie.Need-returns
-returns c = ?
+returns c =
+    λ es p. header-renewed (sideOf (c .before .before .before .before .before .before .before .before .before .before .before .args .side)) (now (c .before .before .before .before .before .before .before .before .before .before .before .args .b)) (c .before .before .before .before .before .before .before .before .before .before .before .pre .0) (c .before .before .before .before .before .before .before .before .before .before .before .args .n) _ _ es _ _ refl (c .before .before .before .before .before .before .before .guid-in .ensures .0) (c .before .before .before .before .before .before .copy .ensures) (c .before .before .put-header .ensures es p)
 
 pub renew-header-spec : {M : Type 1} → statement M
 renew-header-spec =

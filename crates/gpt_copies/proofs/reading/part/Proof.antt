@@ -1,0 +1,96 @@
+use borrow.Author.Needs.{needs}
+use Rattle.gpt_copies.proofs.reading.part.Statement.{statement}
+use Rattle.gpt_copies.proofs.reading.part.Tie as tie
+use Rattle.gpt_copies.proofs.reading.part.Reads as reads
+use Rattle.gpt_copies.proofs.reading.part.Lts as lts
+use Rattle.gpt_copies.proofs.entries_in.Reads as entries-in-reads
+
+-- src/reading.rt:95:48
+enum-told : tie.Need-enum-told
+enum-told c = search needs
+
+-- src/reading.rt:95:24
+entries-in-requires : tie.Need-entries-in-requires
+entries-in-requires c κs = search needs
+
+-- src/reading.rt:96:50
+enum-told-2 : tie.Need-enum-told-2
+enum-told-2 c = search needs
+
+-- src/reading.rt:96:26
+entries-in-requires-2 : tie.Need-entries-in-requires-2
+entries-in-requires-2 c κs = search needs
+
+-- src/reading.rt:97:55
+enum-told-3 : tie.Need-enum-told-3
+enum-told-3 c = search needs
+
+-- src/reading.rt:97:31
+entries-in-requires-3 : tie.Need-entries-in-requires-3
+entries-in-requires-3 c κs = search needs
+
+-- src/reading.rt:98:54
+enum-told-4 : tie.Need-enum-told-4
+enum-told-4 c = search needs
+
+-- src/reading.rt:98:30
+entries-in-requires-4 : tie.Need-entries-in-requires-4
+entries-in-requires-4 c κs = search needs
+
+-- src/reading.rt:99:27
+enum-told-5 : tie.Need-enum-told-5
+enum-told-5 c = search needs
+
+-- src/reading.rt:99:27
+sub-result : tie.Need-sub-result
+sub-result c = search needs
+
+-- src/reading.rt:99:27
+part-result-start : tie.Need-part-result-start
+part-result-start c = search needs
+
+-- src/reading.rt:99:27
+part-result-end : tie.Need-part-result-end
+part-result-end c = search needs
+
+-- src/reading.rt:90:1
+returns : tie.Need-returns
+returns c = ?
+
+-- src/reading.rt:90:1
+returns-2 : tie.Need-returns-2
+returns-2 c = ?
+
+-- src/reading.rt:90:1
+returns-3 : tie.Need-returns-3
+returns-3 c = ?
+
+-- src/reading.rt:90:1
+returns-4 : tie.Need-returns-4
+returns-4 c = ?
+
+-- src/reading.rt:90:1
+returns-5 : tie.Need-returns-5
+returns-5 c = ?
+
+pub part-spec : {M : Type 1} → statement M
+part-spec =
+    tie.close
+    (tie.spec
+    enum-told
+    entries-in-requires
+    enum-told-2
+    entries-in-requires-2
+    enum-told-3
+    entries-in-requires-3
+    enum-told-4
+    entries-in-requires-4
+    enum-told-5
+    sub-result
+    part-result-start
+    part-result-end
+    returns
+    returns-2
+    returns-3
+    returns-4
+    returns-5)

@@ -1,0 +1,77 @@
+use borrow.Author.Needs.{needs}
+use Rattle.gpt_copies.proofs.reading.state_alike.Statement.{statement}
+use Rattle.gpt_copies.proofs.reading.state_alike.Tie as tie
+use Rattle.gpt_copies.proofs.reading.state_alike.Reads as reads
+use Rattle.gpt_copies.proofs.reading.state_alike.Lts as lts
+use Rattle.crc32.proofs.crc32.Reads as crc32-reads
+use Rattle.gpt_copies.proofs.entries_in.Reads as entries-in-reads
+use Rattle.gpt_copies.proofs.guid_in.Reads as guid-in-reads
+use Rattle.gpt_copies.proofs.header.good.Reads as good-reads
+use Rattle.gpt_copies.proofs.reading.state_of.Reads as state-of-reads
+use Rattle.gpt_copies.proofs.reading.table_ok.Reads as table-ok-reads
+use Rattle.octets.proofs.same.Reads as same-reads
+
+-- src/reading.rt:68:9
+entries-in-requires : tie.Need-entries-in-requires
+entries-in-requires c κs = search needs
+
+-- src/reading.rt:69:39
+sub-table-ok : tie.Need-sub-table-ok
+sub-table-ok c = search needs
+
+-- src/reading.rt:69:9
+table-ok-requires : tie.Need-table-ok-requires
+table-ok-requires c κs = search needs
+
+-- src/reading.rt:70:9
+returns : tie.Need-returns
+returns c = ?
+
+-- src/reading.rt:72:9
+crc32-requires : tie.Need-crc32-requires
+crc32-requires c κs = search needs
+
+-- src/reading.rt:73:9
+good-requires : tie.Need-good-requires
+good-requires c κs = ?
+
+-- src/reading.rt:74:9
+good-requires-2 : tie.Need-good-requires-2
+good-requires-2 c κs = ?
+
+-- src/reading.rt:75:30
+guid-in-requires : tie.Need-guid-in-requires
+guid-in-requires c κs = search needs
+
+-- src/reading.rt:75:67
+guid-in-requires-2 : tie.Need-guid-in-requires-2
+guid-in-requires-2 c κs = search needs
+
+-- src/reading.rt:75:9
+same-requires : tie.Need-same-requires
+same-requires c κs = search needs
+
+-- src/reading.rt:76:5
+state-of-requires : tie.Need-state-of-requires
+state-of-requires c κs = search needs
+
+-- src/reading.rt:63:1
+returns-2 : tie.Need-returns-2
+returns-2 c = ?
+
+pub state-alike-spec : {M : Type 1} → statement M
+state-alike-spec =
+    tie.close
+    (tie.spec
+    entries-in-requires
+    sub-table-ok
+    table-ok-requires
+    returns
+    crc32-requires
+    good-requires
+    good-requires-2
+    guid-in-requires
+    guid-in-requires-2
+    same-requires
+    state-of-requires
+    returns-2)

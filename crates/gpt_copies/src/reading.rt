@@ -1,0 +1,101 @@
+// What reading finds: which copies are good, and the table of the copy that is used.
+ghost use mathlib.Core.Path.{_≡_};
+ghost use mathlib.Core.Bool.{false};
+ghost use Prim.Native.Nat.{_≤_, _<_};
+ghost use lib.ListN.{length};
+ghost use Rattle.octets.specs.Bytes.{same};
+ghost use Rattle.gpt_model.specs.Table.{goodTable};
+ghost use Rattle.gpt_model.specs.Disk.{disk512, primary, backup, lentBytes, entriesIn, goodCopy, stateOf, state as stateOn};
+ghost use Rattle.gpt_copies.specs.Sides.{sideOf};
+ghost use Rattle.gpt_copies.specs.States.{stateNumber, partOf, placeOf};
+use super::Side;
+use super::State;
+use super::FIRST_USABLE;
+
+fn table_ok(t: &[u8], first: u64, last: u64) -> bool
+    requires { ⌜ (length (now t) ≡ 16384) × (0 < first) ⌝ }
+    ensures { λ r. ⌜ r ≡ goodTable first last (now (t .entry)) ⌝ }
+{
+    true
+}
+
+fn state_of(first: bool, second: bool, equal: bool) -> State
+    ensures { λ r. ⌜ stateNumber r ≡ stateOf first second equal ⌝ }
+{
+    if first {
+        if second {
+            if equal {
+                return State::Both;
+            }
+            return State::Differ;
+        }
+        return State::PrimaryOnly;
+    }
+    if second {
+        return State::BackupOnly;
+    }
+    State::Neither
+}
+
+fn good_copy(b: &[u8], side: Side, n: u64) -> bool
+    requires { ⌜ (length (now b) ≡ lentBytes disk512 (sideOf side)) × (68 ≤ n) ⌝ }
+    ensures { λ r. ⌜ r ≡ goodCopy disk512 n (sideOf side) (now (b .entry)) ⌝ }
+{
+    let table = super::entries_in(b, side);
+    if !super::header::good(b, side, n, crc32::crc32(table)) {
+        return false;
+    }
+    table_ok(table, FIRST_USABLE, n - FIRST_USABLE)
+}
+
+// Where the tables differ, each copy is judged by itself.
+fn state_apart(head: &[u8], tail: &[u8], n: u64) -> State
+    requires { ⌜ (length (now head) ≡ lentBytes disk512 primary) × (length (now tail) ≡ lentBytes disk512 backup) × (68 ≤ n)
+        × (same (entriesIn disk512 primary (now head)) (entriesIn disk512 backup (now tail)) ≡ false) ⌝ }
+    ensures { λ r. ⌜ stateNumber r ≡ stateOn disk512 n (now (head .entry)) (now (tail .entry)) ⌝ }
+{
+    let first = good_copy(head, Side::Primary, n);
+    let second = good_copy(tail, Side::Backup, n);
+    state_of(first, second, false)
+}
+
+// Where the tables hold the same bytes, they are judged once, and one CRC serves both headers.
+fn state_alike(head: &[u8], tail: &[u8], n: u64) -> State
+    requires { ⌜ (length (now head) ≡ lentBytes disk512 primary) × (length (now tail) ≡ lentBytes disk512 backup) × (68 ≤ n)
+        × (entriesIn disk512 primary (now head) ≡ entriesIn disk512 backup (now tail)) ⌝ }
+    ensures { λ r. ⌜ stateNumber r ≡ stateOn disk512 n (now (head .entry)) (now (tail .entry)) ⌝ }
+{
+    let table = super::entries_in(head, Side::Primary);
+    if !table_ok(table, FIRST_USABLE, n - FIRST_USABLE) {
+        return State::Neither;
+    }
+    let crc = crc32::crc32(table);
+    let first = super::header::good(head, Side::Primary, n, crc);
+    let second = super::header::good(tail, Side::Backup, n, crc);
+    let equal = octets::same(super::guid_in(head, Side::Primary), super::guid_in(tail, Side::Backup));
+    state_of(first, second, equal)
+}
+
+pub fn state(head: &[u8], tail: &[u8], n: u64) -> State
+    requires { ⌜ (length (now head) ≡ lentBytes disk512 primary) × (length (now tail) ≡ lentBytes disk512 backup) × (68 ≤ n) ⌝ }
+    ensures { λ r. ⌜ stateNumber r ≡ stateOn disk512 n (now (head .entry)) (now (tail .entry)) ⌝ }
+{
+    if octets::same(super::entries_in(head, Side::Primary), super::entries_in(tail, Side::Backup)) {
+        return state_alike(head, tail, n);
+    }
+    state_apart(head, tail, n)
+}
+
+// D11: It hands back the 16,384 entry bytes inside whichever of the two lent buffers was used; empty where there is none.
+pub fn part<'a>(state: State, head: &'a [u8], tail: &'a [u8]) -> &'a [u8]
+    requires { ⌜ (length (now head) ≡ lentBytes disk512 primary) × (length (now tail) ≡ lentBytes disk512 backup) ⌝ }
+    ensures { λ r. ⌜ (now r ≡ partOf state (now (head .entry)) (now (tail .entry))) × (r .ptr ≡ placeOf state (head .entry .ptr) (tail .entry .ptr)) ⌝ }
+{
+    match state {
+        State::Both => super::entries_in(head, Side::Primary),
+        State::Differ => super::entries_in(head, Side::Primary),
+        State::PrimaryOnly => super::entries_in(head, Side::Primary),
+        State::BackupOnly => super::entries_in(tail, Side::Backup),
+        State::Neither => &head[0..0],
+    }
+}
