@@ -4,9 +4,11 @@ use mathlib.Core.List.{List}
 use Prim.Native.Nat.{ℕ, _+_, _-_, _≤_}
 use native.Mathlib.Omega.{arith}
 use lib.ListN.{length, take, drop}
+use borrow.Rule.Slice.Shared.{byByte}
 use Rattle.octets.specs.Bytes.{part}
 use Rattle.octets.proofs.Parts.{length-part, part-part}
 use Rattle.gpt_model.specs.Disk.{disk512, Side, primary, backup, lentBytes, headerAt, entriesAt, guidIn}
+use Rattle.gpt_copies.specs.States.{behind}
 use Rattle.gpt_model.proofs.Copies.{header-inside, block-inside, entries-inside}
 
 pub header-end : (side : Side) → headerAt disk512 side + 92 ≤ lentBytes disk512 side
@@ -35,3 +37,7 @@ cut-guid xs side at e p q = cut xs at _ 16 e p q ∙ sym (part-part 56 16 (heade
 
 pub length-cut : (xs : List ℕ) (at k e : ℕ) → e ≡ at + k → e ≤ length xs → length (take (e - at) (drop at xs)) ≡ k
 length-cut xs at k e q h = ap length (cut xs at at k e refl q) ∙ length-part xs at k (omega arith)
+
+-- the place of a part of bytes
+pub part-behind : (p : ℕ × ℕ) (at k : ℕ) → at ≡ k → (p .0, byByte at (p .1)) ≡ behind k p
+part-behind p at k e = let w : byByte at (p .1) ≡ p .1 + k = omega arith in ap (λ (m : ℕ). (p .0, m)) w

@@ -21,10 +21,14 @@ partOf PrimaryOnly h t = entriesIn disk512 primary h
 partOf BackupOnly h t = entriesIn disk512 backup t
 partOf Neither h t = []
 
--- where that part begins, by where head and tail begin: in which memory, and at which byte of it
+-- a place in memory is a pair: which memory, and which byte of it. The place that many bytes behind another one
+abbrev pub behind : ℕ → ℕ × ℕ → ℕ × ℕ
+behind k p = (p .0, p .1 + k)
+
+-- where that part begins, by where head and tail begin
 abbrev pub placeOf : State → ℕ × ℕ → ℕ × ℕ → ℕ × ℕ
-placeOf Both h t = (h .0, h .1 + entriesAt disk512 primary)
-placeOf Differ h t = (h .0, h .1 + entriesAt disk512 primary)
-placeOf PrimaryOnly h t = (h .0, h .1 + entriesAt disk512 primary)
-placeOf BackupOnly h t = (t .0, t .1 + entriesAt disk512 backup)
-placeOf Neither h t = (h .0, h .1)
+placeOf Both h t = behind (entriesAt disk512 primary) h
+placeOf Differ h t = behind (entriesAt disk512 primary) h
+placeOf PrimaryOnly h t = behind (entriesAt disk512 primary) h
+placeOf BackupOnly h t = behind (entriesAt disk512 backup) t
+placeOf Neither h t = behind 0 h

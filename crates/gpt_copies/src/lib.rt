@@ -10,6 +10,7 @@ ghost use Prim.Native.Nat.{_+_, _≤_};
 ghost use lib.ListN.{length};
 ghost use Rattle.gpt_model.specs.Disk.{disk512, other as otherSide, headerBlock, entriesBlock, lentBytes, headerAt, entriesAt, headerIn, guidIn, entriesIn};
 ghost use Rattle.gpt_copies.specs.Sides.{sideOf};
+ghost use Rattle.gpt_copies.specs.States.{behind};
 
 // Q1: A disk has 512-byte blocks. D1: first usable 34.
 pub const BLOCK: usize = 512;
@@ -101,7 +102,7 @@ pub fn guid_in<'a>(b: &'a [u8], side: Side) -> &'a [u8]
 pub fn entries_in<'a>(b: &'a [u8], side: Side) -> &'a [u8]
     requires { ⌜ length (now b) ≡ lentBytes disk512 (sideOf side) ⌝ }
     ensures { λ r. ⌜ (now r ≡ entriesIn disk512 (sideOf side) (now (b .entry))) × (length (now r) ≡ 16384)
-        × (r .ptr .0 ≡ b .entry .ptr .0) × (r .ptr .1 ≡ b .entry .ptr .1 + entriesAt disk512 (sideOf side)) ⌝ }
+        × (r .ptr ≡ behind (entriesAt disk512 (sideOf side)) (b .entry .ptr)) ⌝ }
 {
     let at = entries_at(side);
     let end = at + TABLE;

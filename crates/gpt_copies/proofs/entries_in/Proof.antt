@@ -1,3 +1,4 @@
+use Rattle.gpt_copies.proofs.Places.{entries-end, lent-fits, cut, length-cut, part-behind}
 use Prim.Native.Nat.{ℕ, _+_, _≤_}
 use lib.ListN.{length}
 use Rattle.gpt_copies.proofs.Places.{entries-end, lent-fits, cut, length-cut}
@@ -39,7 +40,7 @@ returns c =
     let b = now (c .before .before .before .args .b) in
     let k = entries-end (sideOf (c .before .before .before .args .side)) in
     let w : c .before .entries-at .result + 16384 ≤ length b = omega arith in
-    (cut b _ _ _ _ (c .before .entries-at .ensures) refl, length-cut b (c .before .entries-at .result) _ _ refl w, refl, omega arith)
+    (cut b _ _ _ _ (c .before .entries-at .ensures) refl, length-cut b (c .before .entries-at .result) _ _ refl w, part-behind (c .before .before .before .args .b .ptr) _ _ (c .before .entries-at .ensures))
 
 pub entries-in-spec : {M : Type 1} → statement M
 entries-in-spec =

@@ -1,3 +1,5 @@
+use mathlib.Core.Path.{refl}
+use Rattle.gpt_copies.proofs.Places.{part-behind}
 use borrow.Author.Needs.{needs}
 use Rattle.gpt_copies.proofs.reading.part.Statement.{statement}
 use Rattle.gpt_copies.proofs.reading.part.Tie as tie
@@ -55,23 +57,23 @@ part-result-end c = search needs
 
 -- src/reading.rt:90:1
 returns : tie.Need-returns
-returns c = ?
+returns c = rw (c .before .enum-told .given .1) (c .entries-in .ensures .0, c .entries-in .ensures .2)
 
 -- src/reading.rt:90:1
 returns-2 : tie.Need-returns-2
-returns-2 c = ?
+returns-2 c = rw (c .before .enum-told2 .given .1) (c .entries-in2 .ensures .0, c .entries-in2 .ensures .2)
 
 -- src/reading.rt:90:1
 returns-3 : tie.Need-returns-3
-returns-3 c = ?
+returns-3 c = rw (c .before .enum-told3 .given .1) (c .entries-in3 .ensures .0, c .entries-in3 .ensures .2)
 
 -- src/reading.rt:90:1
 returns-4 : tie.Need-returns-4
-returns-4 c = ?
+returns-4 c = rw (c .before .enum-told4 .given .1) (c .entries-in4 .ensures .0, c .entries-in4 .ensures .2)
 
 -- src/reading.rt:90:1
 returns-5 : tie.Need-returns-5
-returns-5 c = ?
+returns-5 c = rw (c .before .enum-told5 .given .1) (refl, part-behind (c .before .before .before .before .before .args .head .ptr) 0 0 refl)
 
 pub part-spec : {M : Type 1} → statement M
 part-spec =

@@ -1,3 +1,6 @@
+use Rattle.octets.proofs.Equal.{same-true}
+use Rattle.octets.specs.Bytes.{same}
+use mathlib.Core.Path.{sym, ap₂, _∙_}
 use borrow.Author.Needs.{needs}
 use Rattle.gpt_copies.proofs.reading.state.Statement.{statement}
 use Rattle.gpt_copies.proofs.reading.state.Tie as tie
@@ -22,7 +25,8 @@ same-requires c κs = search needs
 
 -- src/reading.rt:84:9
 state-alike-requires : tie.Need-state-alike-requires
-state-alike-requires c κs = ?
+state-alike-requires c κs =
+    (c .before .before .before .before .before .before .pre .0, c .before .before .before .before .before .before .pre .1, c .before .before .before .before .before .before .pre .2, sym (c .before .before .before .entries-in .ensures .0) ∙ same-true _ _ (sym (c .before .same .ensures) ∙ c .if1 .taken) ∙ c .before .before .entries-in2 .ensures .0)
 
 -- src/reading.rt:84:9
 returns : tie.Need-returns
@@ -30,7 +34,8 @@ returns c = search needs
 
 -- src/reading.rt:86:5
 state-apart-requires : tie.Need-state-apart-requires
-state-apart-requires c κs = ?
+state-apart-requires c κs =
+    (c .before .before .before .before .before .before .pre .0, c .before .before .before .before .before .before .pre .1, c .before .before .before .before .before .before .pre .2, ap₂ same (sym (c .before .before .before .entries-in .ensures .0)) (sym (c .before .before .entries-in2 .ensures .0)) ∙ sym (c .before .same .ensures) ∙ c .if1 .left)
 
 -- src/reading.rt:79:1
 returns-2 : tie.Need-returns-2

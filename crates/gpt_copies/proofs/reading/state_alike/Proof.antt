@@ -1,3 +1,9 @@
+use denote.Ref.{now}
+use mathlib.Core.Path.{ap, ap₂, _∙_}
+use borrow.Author.Tests.{not-true, not-false}
+use Rattle.octets.specs.Bytes.{same}
+use Rattle.crc_lanes.specs.Crc.{crc32}
+use Rattle.gpt_copies.proofs.Judged.{state-alike, state-bad}
 use borrow.Author.Needs.{needs}
 use Rattle.gpt_copies.proofs.reading.state_alike.Statement.{statement}
 use Rattle.gpt_copies.proofs.reading.state_alike.Tie as tie
@@ -25,7 +31,9 @@ table-ok-requires c κs = search needs
 
 -- src/reading.rt:70:9
 returns : tie.Need-returns
-returns c = ?
+returns c =
+    state-bad (c .before .before .before .before .before .args .n) (now (c .before .before .before .before .before .args .head)) (now (c .before .before .before .before .before .args .tail)) _ _ (c .before .before .entries-in .ensures .0) (c .before .before .entries-in .ensures .0 ∙ c .before .before .before .before .before .pre .3) (c .before .table-ok .ensures)
+    (not-true _ (c .if1 .taken))
 
 -- src/reading.rt:72:9
 crc32-requires : tie.Need-crc32-requires
@@ -33,11 +41,11 @@ crc32-requires c κs = search needs
 
 -- src/reading.rt:73:9
 good-requires : tie.Need-good-requires
-good-requires c κs = ?
+good-requires c κs = (c .before .before .before .before .before .before .pre .0, c .before .before .before .before .before .before .pre .2, c .crc32 .ensures ∙ ap crc32 (c .before .before .before .entries-in .ensures .0))
 
 -- src/reading.rt:74:9
 good-requires-2 : tie.Need-good-requires-2
-good-requires-2 c κs = ?
+good-requires-2 c κs = (c .before .before .before .before .before .before .before .pre .1, c .before .before .before .before .before .before .before .pre .2, c .before .crc32 .ensures ∙ ap crc32 (c .before .before .before .before .entries-in .ensures .0 ∙ c .before .before .before .before .before .before .before .pre .3))
 
 -- src/reading.rt:75:30
 guid-in-requires : tie.Need-guid-in-requires
@@ -57,7 +65,10 @@ state-of-requires c κs = search needs
 
 -- src/reading.rt:63:1
 returns-2 : tie.Need-returns-2
-returns-2 c = ?
+returns-2 c =
+    c .state-of .ensures
+    ∙ state-alike (c .before .before .before .before .before .before .before .before .before .before .before .before .args .n) (now (c .before .before .before .before .before .before .before .before .before .before .before .before .args .head)) (now (c .before .before .before .before .before .before .before .before .before .before .before .before .args .tail)) _ _ (c .before .before .before .before .before .before .before .before .before .entries-in .ensures .0) (c .before .before .before .before .before .before .before .before .before .entries-in .ensures .0 ∙ c .before .before .before .before .before .before .before .before .before .before .before .before .pre .3) (c .before .before .before .before .before .before .before .before .table-ok .ensures) _ _ _
+    (not-false _ (c .before .before .before .before .before .before .before .if1 .left)) (c .before .before .before .before .before .good2 .ensures) (c .before .before .before .before .good3 .ensures) (c .before .same .ensures ∙ ap₂ same (c .before .before .before .guid-in .ensures .0) (c .before .before .guid-in2 .ensures .0))
 
 pub state-alike-spec : {M : Type 1} → statement M
 state-alike-spec =

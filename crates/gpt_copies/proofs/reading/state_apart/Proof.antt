@@ -1,3 +1,6 @@
+use denote.Ref.{now}
+use mathlib.Core.Path.{_∙_}
+use Rattle.gpt_copies.proofs.Judged.{state-apart}
 use borrow.Author.Needs.{needs}
 use Rattle.gpt_copies.proofs.reading.state_apart.Statement.{statement}
 use Rattle.gpt_copies.proofs.reading.state_apart.Tie as tie
@@ -20,7 +23,7 @@ state-of-requires c κs = search needs
 
 -- src/reading.rt:52:1
 returns : tie.Need-returns
-returns c = ?
+returns c = c .state-of .ensures ∙ state-apart (c .before .before .before .before .before .args .n) (now (c .before .before .before .before .before .args .head)) (now (c .before .before .before .before .before .args .tail)) _ _ (c .before .before .good-copy .ensures) (c .before .good-copy2 .ensures) (c .before .before .before .before .before .pre .3)
 
 pub state-apart-spec : {M : Type 1} → statement M
 state-apart-spec =
