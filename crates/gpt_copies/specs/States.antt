@@ -1,7 +1,7 @@
 -- The states of reading as an enum, and the part of head or tail that a state hands back. Definitions only.
 use mathlib.Core.List.{List, []}
 use Prim.Native.Nat.{ℕ, _+_}
-use Rattle.gpt_model.specs.Disk.{disk512, primary, backup, entriesAt, entriesIn}
+use Rattle.gpt_model.specs.Disk.{disk512, Side, primary, backup, entriesAt, entriesIn}
 use Rattle.gpt_copies.specs.declared.State.{State}
 use Rattle.gpt_copies.specs.declared.State.the-variants.{Both, Differ, PrimaryOnly, BackupOnly, Neither}
 
@@ -25,10 +25,15 @@ partOf Neither h t = []
 abbrev pub behind : ℕ → ℕ × ℕ → ℕ × ℕ
 behind k p = (p .0, p .1 + k)
 
--- where that part begins, by where head and tail begin
+-- where the entries of a copy begin, by where head and tail begin
+abbrev pub entriesPlace : Side → ℕ × ℕ → ℕ × ℕ → ℕ × ℕ
+entriesPlace primary h t = behind (entriesAt disk512 primary) h
+entriesPlace backup h t = behind (entriesAt disk512 backup) t
+
+-- where that part begins
 abbrev pub placeOf : State → ℕ × ℕ → ℕ × ℕ → ℕ × ℕ
-placeOf Both h t = behind (entriesAt disk512 primary) h
-placeOf Differ h t = behind (entriesAt disk512 primary) h
-placeOf PrimaryOnly h t = behind (entriesAt disk512 primary) h
-placeOf BackupOnly h t = behind (entriesAt disk512 backup) t
+placeOf Both h t = entriesPlace primary h t
+placeOf Differ h t = entriesPlace primary h t
+placeOf PrimaryOnly h t = entriesPlace primary h t
+placeOf BackupOnly h t = entriesPlace backup h t
 placeOf Neither h t = behind 0 h

@@ -6,18 +6,22 @@ pub mod reading;
 pub mod writing;
 
 ghost use mathlib.Core.Path.{_≡_};
-ghost use Prim.Native.Nat.{_+_, _≤_};
+ghost use Prim.Native.Nat.{_*_, _≤_};
 ghost use lib.ListN.{length};
-ghost use Rattle.gpt_model.specs.Disk.{disk512, other as otherSide, headerBlock, entriesBlock, lentBytes, headerAt, entriesAt, headerIn, guidIn, entriesIn};
+ghost use Rattle.gpt_model.specs.Table.{tableBytes};
+ghost use Rattle.gpt_model.specs.Disk.{disk512, lastUsable, other as otherSide, headerBlock, entriesBlock, lentBytes, headerAt, entriesAt, headerIn, guidIn, entriesIn};
 ghost use Rattle.gpt_copies.specs.Sides.{sideOf};
 ghost use Rattle.gpt_copies.specs.States.{behind};
+use gpt_table::Block;
 
 // Q1: A disk has 512-byte blocks. D1: first usable 34.
 pub const BLOCK: usize = 512;
-pub const FIRST_USABLE: u64 = 34;
-// The bytes of a header and of a table.
+const FIRST: u64 = 34;
+// D1: header size 92, count 128, entry size 128, all 16,384 entry bytes.
 pub const HEADER: usize = 92;
-pub const TABLE: usize = 16384;
+pub const SLOTS: usize = 128;
+pub const ENTRY: usize = 128;
+pub const TABLE: usize = SLOTS * ENTRY;
 
 pub enum Side {
     Primary,
@@ -42,24 +46,37 @@ pub fn other(side: Side) -> Side
     }
 }
 
-pub fn header_block(side: Side, n: u64) -> u64
+pub fn header_block(side: Side, n: u64) -> Block
     requires { ⌜ 1 ≤ n ⌝ }
-    ensures { λ r. ⌜ r ≡ headerBlock (sideOf side) n ⌝ }
+    ensures { λ r. ⌜ r .0 ≡ headerBlock (sideOf side) n ⌝ }
 {
     match side {
-        Side::Primary => 1,
-        Side::Backup => n - 1,
+        Side::Primary => Block(1),
+        Side::Backup => Block(n - 1),
     }
 }
 
-pub fn entries_block(side: Side, n: u64) -> u64
-    requires { ⌜ 34 ≤ n ⌝ }
-    ensures { λ r. ⌜ r ≡ entriesBlock disk512 (sideOf side) n ⌝ }
+pub fn entries_block(side: Side, n: u64) -> Block
+    requires { ⌜ disk512 .first ≤ n ⌝ }
+    ensures { λ r. ⌜ r .0 ≡ entriesBlock disk512 (sideOf side) n ⌝ }
 {
     match side {
-        Side::Primary => 2,
-        Side::Backup => n - FIRST_USABLE + 1,
+        Side::Primary => Block(2),
+        Side::Backup => Block(n - FIRST + 1),
     }
+}
+
+pub fn first_usable() -> Block
+    ensures { λ r. ⌜ r .0 ≡ disk512 .first ⌝ }
+{
+    Block(FIRST)
+}
+
+pub fn last_usable(n: u64) -> Block
+    requires { ⌜ disk512 .first ≤ n ⌝ }
+    ensures { λ r. ⌜ r .0 ≡ lastUsable disk512 n ⌝ }
+{
+    Block(n - FIRST)
 }
 
 // Where the header stands in the head or the tail.
@@ -101,7 +118,7 @@ pub fn guid_in<'a>(b: &'a [u8], side: Side) -> &'a [u8]
 
 pub fn entries_in<'a>(b: &'a [u8], side: Side) -> &'a [u8]
     requires { ⌜ length (now b) ≡ lentBytes disk512 (sideOf side) ⌝ }
-    ensures { λ r. ⌜ (now r ≡ entriesIn disk512 (sideOf side) (now (b .entry))) × (length (now r) ≡ 16384)
+    ensures { λ r. ⌜ (now r ≡ entriesIn disk512 (sideOf side) (now (b .entry))) × (length (now r) ≡ tableBytes)
         × (r .ptr ≡ behind (entriesAt disk512 (sideOf side)) (b .entry .ptr)) ⌝ }
 {
     let at = entries_at(side);

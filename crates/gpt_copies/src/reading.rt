@@ -1,20 +1,20 @@
 // What reading finds: which copies are good, and the table of the copy that is used.
 ghost use mathlib.Core.Path.{_≡_};
 ghost use mathlib.Core.Bool.{false};
-ghost use Prim.Native.Nat.{_≤_, _<_};
+ghost use Prim.Native.Nat.{_*_, _≤_};
 ghost use lib.ListN.{length};
 ghost use Rattle.octets.specs.Bytes.{same};
-ghost use Rattle.gpt_model.specs.Table.{goodTable};
+ghost use Rattle.gpt_model.specs.Table.{tableBytes, goodTable};
 ghost use Rattle.gpt_model.specs.Disk.{disk512, primary, backup, lentBytes, entriesIn, goodCopy, stateOf, state as stateOn};
 ghost use Rattle.gpt_copies.specs.Sides.{sideOf};
 ghost use Rattle.gpt_copies.specs.States.{stateNumber, partOf, placeOf};
 use super::Side;
 use super::State;
-use super::FIRST_USABLE;
+use gpt_table::Block;
 
-fn table_ok(t: &[u8], first: u64, last: u64) -> bool
-    requires { ⌜ (length (now t) ≡ 16384) × (0 < first) ⌝ }
-    ensures { λ r. ⌜ r ≡ goodTable first last (now (t .entry)) ⌝ }
+fn table_ok(t: &[u8], first: Block, last: Block) -> bool
+    requires { ⌜ length (now t) ≡ tableBytes ⌝ }
+    ensures { λ r. ⌜ r ≡ goodTable (first .0) (last .0) (now (t .entry)) ⌝ }
 {
     true
 }
@@ -38,19 +38,19 @@ fn state_of(first: bool, second: bool, equal: bool) -> State
 }
 
 fn good_copy(b: &[u8], side: Side, n: u64) -> bool
-    requires { ⌜ (length (now b) ≡ lentBytes disk512 (sideOf side)) × (68 ≤ n) ⌝ }
+    requires { ⌜ (length (now b) ≡ lentBytes disk512 (sideOf side)) × (2 * disk512 .first ≤ n) ⌝ }
     ensures { λ r. ⌜ r ≡ goodCopy disk512 n (sideOf side) (now (b .entry)) ⌝ }
 {
     let table = super::entries_in(b, side);
     if !super::header::good(b, side, n, crc32::crc32(table)) {
         return false;
     }
-    table_ok(table, FIRST_USABLE, n - FIRST_USABLE)
+    table_ok(table, super::first_usable(), super::last_usable(n))
 }
 
 // Where the tables differ, each copy is judged by itself.
 fn state_apart(head: &[u8], tail: &[u8], n: u64) -> State
-    requires { ⌜ (length (now head) ≡ lentBytes disk512 primary) × (length (now tail) ≡ lentBytes disk512 backup) × (68 ≤ n)
+    requires { ⌜ (length (now head) ≡ lentBytes disk512 primary) × (length (now tail) ≡ lentBytes disk512 backup) × (2 * disk512 .first ≤ n)
         × (same (entriesIn disk512 primary (now head)) (entriesIn disk512 backup (now tail)) ≡ false) ⌝ }
     ensures { λ r. ⌜ stateNumber r ≡ stateOn disk512 n (now (head .entry)) (now (tail .entry)) ⌝ }
 {
@@ -61,12 +61,12 @@ fn state_apart(head: &[u8], tail: &[u8], n: u64) -> State
 
 // Where the tables hold the same bytes, they are judged once, and one CRC serves both headers.
 fn state_alike(head: &[u8], tail: &[u8], n: u64) -> State
-    requires { ⌜ (length (now head) ≡ lentBytes disk512 primary) × (length (now tail) ≡ lentBytes disk512 backup) × (68 ≤ n)
+    requires { ⌜ (length (now head) ≡ lentBytes disk512 primary) × (length (now tail) ≡ lentBytes disk512 backup) × (2 * disk512 .first ≤ n)
         × (entriesIn disk512 primary (now head) ≡ entriesIn disk512 backup (now tail)) ⌝ }
     ensures { λ r. ⌜ stateNumber r ≡ stateOn disk512 n (now (head .entry)) (now (tail .entry)) ⌝ }
 {
     let table = super::entries_in(head, Side::Primary);
-    if !table_ok(table, FIRST_USABLE, n - FIRST_USABLE) {
+    if !table_ok(table, super::first_usable(), super::last_usable(n)) {
         return State::Neither;
     }
     let crc = crc32::crc32(table);
@@ -77,7 +77,7 @@ fn state_alike(head: &[u8], tail: &[u8], n: u64) -> State
 }
 
 pub fn state(head: &[u8], tail: &[u8], n: u64) -> State
-    requires { ⌜ (length (now head) ≡ lentBytes disk512 primary) × (length (now tail) ≡ lentBytes disk512 backup) × (68 ≤ n) ⌝ }
+    requires { ⌜ (length (now head) ≡ lentBytes disk512 primary) × (length (now tail) ≡ lentBytes disk512 backup) × (2 * disk512 .first ≤ n) ⌝ }
     ensures { λ r. ⌜ stateNumber r ≡ stateOn disk512 n (now (head .entry)) (now (tail .entry)) ⌝ }
 {
     if octets::same(super::entries_in(head, Side::Primary), super::entries_in(tail, Side::Backup)) {

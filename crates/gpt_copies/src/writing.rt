@@ -1,20 +1,21 @@
 // The writers of a copy: an entry and the header anew, a whole copy, a fresh head and tail.
 ghost use mathlib.Core.Path.{_≡_};
 ghost use mathlib.Core.List.{List};
-ghost use Prim.Native.Nat.{ℕ, _+_, _≤_, _<_};
+ghost use Prim.Native.Nat.{ℕ, _*_, _≤_, _<_};
 ghost use lib.ListN.{length};
 ghost use Rattle.octets.specs.Bytes.{put, zeros, putChunk};
 ghost use Rattle.crc_lanes.specs.Crc.{crc32 as crcOf};
-ghost use Rattle.gpt_model.specs.Table.{writeAll};
+ghost use Rattle.gpt_model.specs.Table.{writeAll, entryBytes, slotCount, tableBytes};
 ghost use Rattle.gpt_model.specs.Disk.{disk512, primary, backup, lentBytes, headerAt, entriesAt, guidIn, entriesIn, header, withTable, withCopy, block0, freshHead, freshTail};
 ghost use Rattle.gpt_copies.specs.Sides.{sideOf};
 use super::Side;
 use super::BLOCK;
 use super::HEADER;
+use super::ENTRY;
 
 // The header of a copy whose table has that CRC, in its place.
 fn put_header(b: &mut [u8], side: Side, n: u64, guid: &[u8], crc: u32)
-    requires { ⌜ (length (now b) ≡ lentBytes disk512 (sideOf side)) × (68 ≤ n) × (length (now guid) ≡ 16) ⌝ }
+    requires { ⌜ (length (now b) ≡ lentBytes disk512 (sideOf side)) × (2 * disk512 .first ≤ n) × (length (now guid) ≡ 16) ⌝ }
     ensures { λ _. ⌜ ((es : List ℕ) → crc ≡ crcOf es
         → now (b .exit) ≡ put (headerAt disk512 (sideOf side)) (header disk512 n (sideOf side) (now (guid .entry)) es) (now (b .entry))) ⌝ }
 {
@@ -25,7 +26,7 @@ fn put_header(b: &mut [u8], side: Side, n: u64, guid: &[u8], crc: u32)
 
 // The header anew, with the disk GUID that it has.
 fn renew_header(b: &mut [u8], side: Side, n: u64, crc: u32)
-    requires { ⌜ (length (now b) ≡ lentBytes disk512 (sideOf side)) × (68 ≤ n) ⌝ }
+    requires { ⌜ (length (now b) ≡ lentBytes disk512 (sideOf side)) × (2 * disk512 .first ≤ n) ⌝ }
     ensures { λ _. ⌜ ((es : List ℕ) → crc ≡ crcOf es
         → now (b .exit) ≡ put (headerAt disk512 (sideOf side)) (header disk512 n (sideOf side) (guidIn disk512 (sideOf side) (now (b .entry))) es) (now (b .entry))) ⌝ }
 {
@@ -35,20 +36,20 @@ fn renew_header(b: &mut [u8], side: Side, n: u64, crc: u32)
 }
 
 fn set_entry(b: &mut [u8], side: Side, i: usize, e: &[u8])
-    requires { ⌜ (length (now b) ≡ lentBytes disk512 (sideOf side)) × (i < 128) × (length (now e) ≡ 128) ⌝ }
+    requires { ⌜ (length (now b) ≡ lentBytes disk512 (sideOf side)) × (i < slotCount) × (length (now e) ≡ entryBytes) ⌝ }
     ensures { λ _. ⌜ now (b .exit)
-        ≡ put (entriesAt disk512 (sideOf side)) (putChunk 128 i (now (e .entry)) (entriesIn disk512 (sideOf side) (now (b .entry)))) (now (b .entry)) ⌝ }
+        ≡ put (entriesAt disk512 (sideOf side)) (putChunk entryBytes i (now (e .entry)) (entriesIn disk512 (sideOf side) (now (b .entry)))) (now (b .entry)) ⌝ }
 {
-    let at = super::entries_at(side) + 128 * i;
+    let at = super::entries_at(side) + ENTRY * i;
     octets::copy(b, at, e);
 }
 
 // Entry i and the header anew, with the disk GUID that it has, in one copy. The CRC is that of the table with the entry in it.
 pub fn put_entry(b: &mut [u8], side: Side, n: u64, i: usize, e: &[u8], crc: u32)
-    requires { ⌜ (length (now b) ≡ lentBytes disk512 (sideOf side)) × (68 ≤ n) × (i < 128) × (length (now e) ≡ 128)
-        × (crc ≡ crcOf (putChunk 128 i (now e) (entriesIn disk512 (sideOf side) (now b)))) ⌝ }
+    requires { ⌜ (length (now b) ≡ lentBytes disk512 (sideOf side)) × (2 * disk512 .first ≤ n) × (i < slotCount) × (length (now e) ≡ entryBytes)
+        × (crc ≡ crcOf (putChunk entryBytes i (now e) (entriesIn disk512 (sideOf side) (now b)))) ⌝ }
     ensures { λ _. ⌜ now (b .exit) ≡ withTable disk512 n (sideOf side) (guidIn disk512 (sideOf side) (now (b .entry)))
-        (putChunk 128 i (now (e .entry)) (entriesIn disk512 (sideOf side) (now (b .entry)))) (now (b .entry)) ⌝ }
+        (putChunk entryBytes i (now (e .entry)) (entriesIn disk512 (sideOf side) (now (b .entry)))) (now (b .entry)) ⌝ }
 {
     set_entry(b, side, i, e);
     renew_header(b, side, n, crc);
@@ -56,11 +57,11 @@ pub fn put_entry(b: &mut [u8], side: Side, n: u64, i: usize, e: &[u8], crc: u32)
 
 // The CRC of a table with entry i replaced.
 pub fn crc_with(table: &[u8], i: usize, e: &[u8]) -> u32
-    requires { ⌜ (length (now table) ≡ 16384) × (i < 128) × (length (now e) ≡ 128) ⌝ }
-    ensures { λ r. ⌜ r ≡ crcOf (putChunk 128 i (now (e .entry)) (now (table .entry))) ⌝ }
+    requires { ⌜ (length (now table) ≡ tableBytes) × (i < slotCount) × (length (now e) ≡ entryBytes) ⌝ }
+    ensures { λ r. ⌜ r ≡ crcOf (putChunk entryBytes i (now (e .entry)) (now (table .entry))) ⌝ }
 {
-    let at = 128 * i;
-    let end = at + 128;
+    let at = ENTRY * i;
+    let end = at + ENTRY;
     let before = crc32::update(0xffff_ffff, &table[0..at]);
     let with = crc32::update(before, e);
     crc32::update(with, &table[end..]) ^ 0xffff_ffff
@@ -68,12 +69,12 @@ pub fn crc_with(table: &[u8], i: usize, e: &[u8]) -> u32
 
 // The same entry in both copies, whose tables hold the same bytes: one CRC serves both.
 pub fn put_both(head: &mut [u8], tail: &mut [u8], n: u64, i: usize, e: &[u8])
-    requires { ⌜ (length (now head) ≡ lentBytes disk512 primary) × (length (now tail) ≡ lentBytes disk512 backup) × (68 ≤ n) × (i < 128) × (length (now e) ≡ 128)
+    requires { ⌜ (length (now head) ≡ lentBytes disk512 primary) × (length (now tail) ≡ lentBytes disk512 backup) × (2 * disk512 .first ≤ n) × (i < slotCount) × (length (now e) ≡ entryBytes)
         × (entriesIn disk512 primary (now head) ≡ entriesIn disk512 backup (now tail)) ⌝ }
     ensures { λ _. ⌜ (now (head .exit) ≡ withTable disk512 n primary (guidIn disk512 primary (now (head .entry)))
-            (putChunk 128 i (now (e .entry)) (entriesIn disk512 primary (now (head .entry)))) (now (head .entry)))
+            (putChunk entryBytes i (now (e .entry)) (entriesIn disk512 primary (now (head .entry)))) (now (head .entry)))
         × (now (tail .exit) ≡ withTable disk512 n backup (guidIn disk512 backup (now (tail .entry)))
-            (putChunk 128 i (now (e .entry)) (entriesIn disk512 primary (now (head .entry)))) (now (tail .entry))) ⌝ }
+            (putChunk entryBytes i (now (e .entry)) (entriesIn disk512 primary (now (head .entry)))) (now (tail .entry))) ⌝ }
 {
     let crc = crc_with(super::entries_in(&head[..], Side::Primary), i, e);
     put_entry(head, Side::Primary, n, i, e, crc);
@@ -82,7 +83,7 @@ pub fn put_both(head: &mut [u8], tail: &mut [u8], n: u64, i: usize, e: &[u8])
 
 fn clear_header(b: &mut [u8], side: Side)
     requires { ⌜ length (now b) ≡ lentBytes disk512 (sideOf side) ⌝ }
-    ensures { λ _. ⌜ now (b .exit) ≡ put (headerAt disk512 (sideOf side)) (zeros 512) (now (b .entry)) ⌝ }
+    ensures { λ _. ⌜ now (b .exit) ≡ put (headerAt disk512 (sideOf side)) (zeros (disk512 .block)) (now (b .entry)) ⌝ }
 {
     let at = super::header_at(side);
     let end = at + BLOCK;
@@ -91,7 +92,7 @@ fn clear_header(b: &mut [u8], side: Side)
 
 // A whole copy: table, header, a zero header tail.
 pub fn put_copy(b: &mut [u8], side: Side, n: u64, guid: &[u8], table: &[u8])
-    requires { ⌜ (length (now b) ≡ lentBytes disk512 (sideOf side)) × (68 ≤ n) × (length (now guid) ≡ 16) × (length (now table) ≡ 16384) ⌝ }
+    requires { ⌜ (length (now b) ≡ lentBytes disk512 (sideOf side)) × (2 * disk512 .first ≤ n) × (length (now guid) ≡ 16) × (length (now table) ≡ tableBytes) ⌝ }
     ensures { λ _. ⌜ now (b .exit) ≡ withCopy disk512 n (sideOf side) (now (guid .entry)) (now (table .entry)) (now (b .entry)) ⌝ }
 {
     clear_header(b, side);
@@ -101,7 +102,7 @@ pub fn put_copy(b: &mut [u8], side: Side, n: u64, guid: &[u8], table: &[u8])
 
 // D13: block 0 of zeros gets its record and its mark.
 fn put_block0(head: &mut [u8], n: u64)
-    requires { ⌜ (length (now head) ≡ lentBytes disk512 primary) × (68 ≤ n) × (n ≤ 4294967296) ⌝ }
+    requires { ⌜ (length (now head) ≡ lentBytes disk512 primary) × (2 * disk512 .first ≤ n) × (n ≤ 4294967296) ⌝ }
     ensures { λ _. ⌜ now (head .exit) ≡ writeAll (block0 n) (now (head .entry)) ⌝ }
 {
     octets::copy(head, 446, b"\x00\x00\x02\x00\xee\xff\xff\xff");
@@ -111,8 +112,8 @@ fn put_block0(head: &mut [u8], n: u64)
 }
 
 pub fn fresh_head(head: &mut [u8], n: u64, guid: &[u8])
-    requires { ⌜ (length (now head) ≡ lentBytes disk512 primary) × (68 ≤ n) × (n ≤ 4294967296) × (length (now guid) ≡ 16) ⌝ }
-    ensures { λ _. ⌜ now (head .exit) ≡ freshHead disk512 n (now (guid .entry)) (zeros 16384) ⌝ }
+    requires { ⌜ (length (now head) ≡ lentBytes disk512 primary) × (2 * disk512 .first ≤ n) × (n ≤ 4294967296) × (length (now guid) ≡ 16) ⌝ }
+    ensures { λ _. ⌜ now (head .exit) ≡ freshHead disk512 n (now (guid .entry)) (zeros tableBytes) ⌝ }
 {
     octets::fill(head, 0);
     put_block0(head, n);
@@ -121,8 +122,8 @@ pub fn fresh_head(head: &mut [u8], n: u64, guid: &[u8])
 }
 
 pub fn fresh_tail(tail: &mut [u8], n: u64, guid: &[u8])
-    requires { ⌜ (length (now tail) ≡ lentBytes disk512 backup) × (68 ≤ n) × (length (now guid) ≡ 16) ⌝ }
-    ensures { λ _. ⌜ now (tail .exit) ≡ freshTail disk512 n (now (guid .entry)) (zeros 16384) ⌝ }
+    requires { ⌜ (length (now tail) ≡ lentBytes disk512 backup) × (2 * disk512 .first ≤ n) × (length (now guid) ≡ 16) ⌝ }
+    ensures { λ _. ⌜ now (tail .exit) ≡ freshTail disk512 n (now (guid .entry)) (zeros tableBytes) ⌝ }
 {
     octets::fill(tail, 0);
     let crc = crc32::crc32(super::entries_in(&tail[..], Side::Backup));

@@ -1,40 +1,29 @@
-use Rattle.gpt_copies.proofs.Places.{entries-end, lent-fits, cut, length-cut, part-behind}
-use Prim.Native.Nat.{ℕ, _+_, _≤_}
-use lib.ListN.{length}
-use Rattle.gpt_copies.proofs.Places.{entries-end, lent-fits, cut, length-cut}
-use native.Mathlib.Omega.{arith}
-use denote.Ref.{now}
 use mathlib.Core.Path.{refl}
-use Rattle.gpt_copies.specs.Sides.{sideOf}
-use Rattle.gpt_copies.proofs.Places.{entries-end, lent-fits, cut}
+use Prim.Native.Nat.{_+_, _≤_}
+use native.Mathlib.Omega.{arith}
+use lib.ListN.{length}
+use denote.Ref.{now}
 use borrow.Author.Needs.{needs}
+use Rattle.gpt_copies.specs.Sides.{sideOf}
+use Rattle.gpt_copies.proofs.Places.{entries-end, lent-fits, cut, length-cut, part-behind}
 use Rattle.gpt_copies.proofs.entries_in.Statement.{statement}
 use Rattle.gpt_copies.proofs.entries_in.Tie as tie
-use Rattle.gpt_copies.proofs.entries_in.Reads as reads
-use Rattle.gpt_copies.proofs.entries_in.Lts as lts
-use Rattle.gpt_copies.proofs.entries_at.Reads as entries-at-reads
 
--- src/lib.rt:95:9
 entries-at-requires : tie.Need-entries-at-requires
 entries-at-requires c κs = search needs
 
--- src/lib.rt:96:15
 add-end : tie.Need-add-end
 add-end c = omega (arith, entries-end (sideOf (c .before .before .args .side)), lent-fits (sideOf (c .before .before .args .side)))
 
--- src/lib.rt:97:5
 sub-result : tie.Need-sub-result
 sub-result c = search needs
 
--- src/lib.rt:97:5
 part-result-start : tie.Need-part-result-start
 part-result-start c = search needs
 
--- src/lib.rt:97:5
 part-result-end : tie.Need-part-result-end
 part-result-end c = omega (arith, entries-end (sideOf (c .before .before .args .side)))
 
--- src/lib.rt:90:1
 returns : tie.Need-returns
 returns c =
     let b = now (c .before .before .before .args .b) in

@@ -1,53 +1,38 @@
-use denote.Ref.{now}
-use Rattle.gpt_copies.proofs.Headers.{filled, revision}
-use Rattle.octets.specs.Bytes.{le, put}
 use mathlib.Core.Path.{ap, _∙_}
+use denote.Ref.{now}
 use borrow.Author.Needs.{needs}
+use Rattle.octets.specs.Bytes.{le, put}
+use Rattle.gpt_copies.proofs.Headers.{filled}
 use Rattle.gpt_copies.proofs.header.start.Statement.{statement}
 use Rattle.gpt_copies.proofs.header.start.Tie as tie
-use Rattle.gpt_copies.proofs.header.start.Reads as reads
-use Rattle.gpt_copies.proofs.header.start.Lts as lts
-use Rattle.octets.proofs.copy.Reads as copy-reads
-use Rattle.octets.proofs.fill.Reads as fill-reads
-use Rattle.octets.proofs.store32.Reads as store32-reads
 
--- src/header.rt:20:5
 fill-requires : tie.Need-fill-requires
 fill-requires c κs = search needs
 
--- src/header.rt:21:26
 slice-aggregate-copy : tie.Need-slice-aggregate-copy
 slice-aggregate-copy c = search needs
 
--- src/header.rt:21:5
 copy-requires : tie.Need-copy-requires
 copy-requires c κs = search needs
 
--- src/header.rt:22:5
 store32-requires : tie.Need-store32-requires
 store32-requires c κs = search needs
 
--- src/header.rt:23:30
 cast-store32 : tie.Need-cast-store32
 cast-store32 c = search needs
 
--- src/header.rt:23:5
 store32-requires-2 : tie.Need-store32-requires-2
 store32-requires-2 c κs = search needs
 
--- src/header.rt:24:5
 store32-requires-3 : tie.Need-store32-requires-3
 store32-requires-3 c κs = search needs
 
--- src/header.rt:25:5
 store32-requires-4 : tie.Need-store32-requires-4
 store32-requires-4 c κs = search needs
 
--- src/header.rt:16:1
 same-length : tie.Need-same-length
 same-length c = search needs
 
--- src/header.rt:16:1
 returns : tie.Need-returns
 unfolding le
 returns c = c .before .before .store324 .ensures ∙ ap (put 20 _) (c .before .before .before .before .before .before .store323 .ensures ∙ ap (put 16 _) (c .before .before .before .before .before .before .before .before .before .before .store322 .ensures ∙ ap (put 12 _) (c .before .before .before .before .before .before .before .before .before .before .before .before .before .before .store32 .ensures ∙ ap (put 8 _) (c .before .before .before .before .before .before .before .before .before .before .before .before .before .before .before .before .before .before .copy .ensures ∙ ap (put 0 _) (c .before .before .before .before .before .before .before .before .before .before .before .before .before .before .before .before .before .before .before .before .before .before .before .fill .ensures ∙ filled (now (c .before .before .before .before .before .before .before .before .before .before .before .before .before .before .before .before .before .before .before .before .before .before .before .before .before .before .args .out)) 92 (c .before .before .before .before .before .before .before .before .before .before .before .before .before .before .before .before .before .before .before .before .before .before .before .before .before .before .pre))))))

@@ -1,4 +1,4 @@
-use Rattle.octets.specs.Bytes.{le, put}
+use Rattle.octets.specs.Bytes.{put}
 use mathlib.Core.Path.{ap, _∙_}
 use borrow.Author.Needs.{needs}
 use Rattle.gpt_copies.proofs.header.table.Statement.{statement}
@@ -9,31 +9,39 @@ use Rattle.octets.proofs.copy.Reads as copy-reads
 use Rattle.octets.proofs.store32.Reads as store32-reads
 use Rattle.octets.proofs.store64.Reads as store64-reads
 
--- src/header.rt:42:5
+-- src/header.rt:44:5
 copy-requires : tie.Need-copy-requires
 copy-requires c κs = search needs
 
--- src/header.rt:43:5
+-- src/header.rt:45:5
 store64-requires : tie.Need-store64-requires
 store64-requires c κs = search needs
 
--- src/header.rt:44:5
+-- src/header.rt:46:30
+cast-store32 : tie.Need-cast-store32
+cast-store32 c = search needs
+
+-- src/header.rt:46:5
 store32-requires : tie.Need-store32-requires
 store32-requires c κs = search needs
 
--- src/header.rt:45:5
+-- src/header.rt:47:30
+cast-store32-2 : tie.Need-cast-store32-2
+cast-store32-2 c = search needs
+
+-- src/header.rt:47:5
 store32-requires-2 : tie.Need-store32-requires-2
 store32-requires-2 c κs = search needs
 
--- src/header.rt:46:5
+-- src/header.rt:48:5
 store32-requires-3 : tie.Need-store32-requires-3
 store32-requires-3 c κs = search needs
 
--- src/header.rt:38:1
+-- src/header.rt:40:1
 same-length : tie.Need-same-length
 same-length c = search needs
 
--- src/header.rt:38:1
+-- src/header.rt:40:1
 returns : tie.Need-returns
 returns c = c .before .before .store323 .ensures ∙ ap (put 88 _) (c .before .before .before .before .before .before .store322 .ensures ∙ ap (put 84 _) (c .before .before .before .before .before .before .before .before .before .before .store32 .ensures ∙ ap (put 80 _) (c .before .before .before .before .before .before .before .before .before .before .before .before .before .before .store64 .ensures ∙ ap (put 72 _) (c .before .before .before .before .before .before .before .before .before .before .before .before .before .before .before .before .before .before .copy .ensures))))
 
@@ -43,7 +51,9 @@ table-spec =
     (tie.spec
     copy-requires
     store64-requires
+    cast-store32
     store32-requires
+    cast-store32-2
     store32-requires-2
     store32-requires-3
     same-length

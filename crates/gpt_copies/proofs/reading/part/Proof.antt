@@ -1,77 +1,57 @@
 use mathlib.Core.Path.{refl}
-use Rattle.gpt_copies.proofs.Places.{part-behind}
 use borrow.Author.Needs.{needs}
+use Rattle.gpt_copies.proofs.Places.{part-behind}
 use Rattle.gpt_copies.proofs.reading.part.Statement.{statement}
 use Rattle.gpt_copies.proofs.reading.part.Tie as tie
-use Rattle.gpt_copies.proofs.reading.part.Reads as reads
-use Rattle.gpt_copies.proofs.reading.part.Lts as lts
-use Rattle.gpt_copies.proofs.entries_in.Reads as entries-in-reads
 
--- src/reading.rt:95:48
 enum-told : tie.Need-enum-told
 enum-told c = search needs
 
--- src/reading.rt:95:24
 entries-in-requires : tie.Need-entries-in-requires
 entries-in-requires c κs = search needs
 
--- src/reading.rt:96:50
 enum-told-2 : tie.Need-enum-told-2
 enum-told-2 c = search needs
 
--- src/reading.rt:96:26
 entries-in-requires-2 : tie.Need-entries-in-requires-2
 entries-in-requires-2 c κs = search needs
 
--- src/reading.rt:97:55
 enum-told-3 : tie.Need-enum-told-3
 enum-told-3 c = search needs
 
--- src/reading.rt:97:31
 entries-in-requires-3 : tie.Need-entries-in-requires-3
 entries-in-requires-3 c κs = search needs
 
--- src/reading.rt:98:54
 enum-told-4 : tie.Need-enum-told-4
 enum-told-4 c = search needs
 
--- src/reading.rt:98:30
 entries-in-requires-4 : tie.Need-entries-in-requires-4
 entries-in-requires-4 c κs = search needs
 
--- src/reading.rt:99:27
 enum-told-5 : tie.Need-enum-told-5
 enum-told-5 c = search needs
 
--- src/reading.rt:99:27
 sub-result : tie.Need-sub-result
 sub-result c = search needs
 
--- src/reading.rt:99:27
 part-result-start : tie.Need-part-result-start
 part-result-start c = search needs
 
--- src/reading.rt:99:27
 part-result-end : tie.Need-part-result-end
 part-result-end c = search needs
 
--- src/reading.rt:90:1
 returns : tie.Need-returns
 returns c = rw (c .before .enum-told .given .1) (c .entries-in .ensures .0, c .entries-in .ensures .2)
 
--- src/reading.rt:90:1
 returns-2 : tie.Need-returns-2
 returns-2 c = rw (c .before .enum-told2 .given .1) (c .entries-in2 .ensures .0, c .entries-in2 .ensures .2)
 
--- src/reading.rt:90:1
 returns-3 : tie.Need-returns-3
 returns-3 c = rw (c .before .enum-told3 .given .1) (c .entries-in3 .ensures .0, c .entries-in3 .ensures .2)
 
--- src/reading.rt:90:1
 returns-4 : tie.Need-returns-4
 returns-4 c = rw (c .before .enum-told4 .given .1) (c .entries-in4 .ensures .0, c .entries-in4 .ensures .2)
 
--- src/reading.rt:90:1
 returns-5 : tie.Need-returns-5
 returns-5 c = rw (c .before .enum-told5 .given .1) (refl, part-behind (c .before .before .before .before .before .args .head .ptr) 0 0 refl)
 

@@ -1,43 +1,30 @@
-use Rattle.octets.proofs.Equal.{same-true}
-use Rattle.octets.specs.Bytes.{same}
 use mathlib.Core.Path.{sym, ap₂, _∙_}
 use borrow.Author.Needs.{needs}
+use Rattle.octets.proofs.Equal.{same-true}
+use Rattle.octets.specs.Bytes.{same}
 use Rattle.gpt_copies.proofs.reading.state.Statement.{statement}
 use Rattle.gpt_copies.proofs.reading.state.Tie as tie
-use Rattle.gpt_copies.proofs.reading.state.Reads as reads
-use Rattle.gpt_copies.proofs.reading.state.Lts as lts
-use Rattle.gpt_copies.proofs.entries_in.Reads as entries-in-reads
-use Rattle.gpt_copies.proofs.reading.state_alike.Reads as state-alike-reads
-use Rattle.gpt_copies.proofs.reading.state_apart.Reads as state-apart-reads
-use Rattle.octets.proofs.same.Reads as same-reads
 
--- src/reading.rt:83:21
 entries-in-requires : tie.Need-entries-in-requires
 entries-in-requires c κs = search needs
 
--- src/reading.rt:83:61
 entries-in-requires-2 : tie.Need-entries-in-requires-2
 entries-in-requires-2 c κs = search needs
 
--- src/reading.rt:83:8
 same-requires : tie.Need-same-requires
 same-requires c κs = search needs
 
--- src/reading.rt:84:9
 state-alike-requires : tie.Need-state-alike-requires
 state-alike-requires c κs =
     (c .before .before .before .before .before .before .pre .0, c .before .before .before .before .before .before .pre .1, c .before .before .before .before .before .before .pre .2, sym (c .before .before .before .entries-in .ensures .0) ∙ same-true _ _ (sym (c .before .same .ensures) ∙ c .if1 .taken) ∙ c .before .before .entries-in2 .ensures .0)
 
--- src/reading.rt:84:9
 returns : tie.Need-returns
 returns c = search needs
 
--- src/reading.rt:86:5
 state-apart-requires : tie.Need-state-apart-requires
 state-apart-requires c κs =
     (c .before .before .before .before .before .before .pre .0, c .before .before .before .before .before .before .pre .1, c .before .before .before .before .before .before .pre .2, ap₂ same (sym (c .before .before .before .entries-in .ensures .0)) (sym (c .before .before .entries-in2 .ensures .0)) ∙ sym (c .before .same .ensures) ∙ c .if1 .left)
 
--- src/reading.rt:79:1
 returns-2 : tie.Need-returns-2
 returns-2 c = search needs
 

@@ -1,27 +1,19 @@
-use denote.Ref.{now}
 use mathlib.Core.Path.{_∙_}
-use Rattle.gpt_copies.proofs.Judged.{state-apart}
+use denote.Ref.{now}
 use borrow.Author.Needs.{needs}
+use Rattle.gpt_copies.proofs.Judged.{state-apart}
 use Rattle.gpt_copies.proofs.reading.state_apart.Statement.{statement}
 use Rattle.gpt_copies.proofs.reading.state_apart.Tie as tie
-use Rattle.gpt_copies.proofs.reading.state_apart.Reads as reads
-use Rattle.gpt_copies.proofs.reading.state_apart.Lts as lts
-use Rattle.gpt_copies.proofs.reading.good_copy.Reads as good-copy-reads
-use Rattle.gpt_copies.proofs.reading.state_of.Reads as state-of-reads
 
--- src/reading.rt:57:9
 good-copy-requires : tie.Need-good-copy-requires
 good-copy-requires c κs = search needs
 
--- src/reading.rt:58:9
 good-copy-requires-2 : tie.Need-good-copy-requires-2
 good-copy-requires-2 c κs = search needs
 
--- src/reading.rt:59:5
 state-of-requires : tie.Need-state-of-requires
 state-of-requires c κs = search needs
 
--- src/reading.rt:52:1
 returns : tie.Need-returns
 returns c = c .state-of .ensures ∙ state-apart (c .before .before .before .before .before .args .n) (now (c .before .before .before .before .before .args .head)) (now (c .before .before .before .before .before .args .tail)) _ _ (c .before .before .good-copy .ensures) (c .before .good-copy2 .ensures) (c .before .before .before .before .before .pre .3)
 

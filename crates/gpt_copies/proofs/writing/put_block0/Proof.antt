@@ -1,50 +1,36 @@
 use denote.Ref.{now}
-use Rattle.gpt_copies.proofs.Writes.{block0-put}
 use borrow.Author.Needs.{needs}
+use Rattle.gpt_copies.proofs.Writes.{block0-put}
 use Rattle.gpt_copies.proofs.writing.put_block0.Statement.{statement}
 use Rattle.gpt_copies.proofs.writing.put_block0.Tie as tie
-use Rattle.gpt_copies.proofs.writing.put_block0.Reads as reads
-use Rattle.gpt_copies.proofs.writing.put_block0.Lts as lts
-use Rattle.octets.proofs.copy.Reads as copy-reads
-use Rattle.octets.proofs.store32.Reads as store32-reads
 
--- src/writing.rt:107:29
 slice-aggregate-copy : tie.Need-slice-aggregate-copy
 slice-aggregate-copy c = search needs
 
--- src/writing.rt:107:5
 copy-requires : tie.Need-copy-requires
 copy-requires c κs = search needs
 
--- src/writing.rt:108:5
 store32-requires : tie.Need-store32-requires
 store32-requires c κs = search needs
 
--- src/writing.rt:109:33
 sub-store32 : tie.Need-sub-store32
 sub-store32 c = search needs
 
--- src/writing.rt:109:32
 cast-store32 : tie.Need-cast-store32
 cast-store32 c = search needs
 
--- src/writing.rt:109:5
 store32-requires-2 : tie.Need-store32-requires-2
 store32-requires-2 c κs = search needs
 
--- src/writing.rt:110:29
 slice-aggregate-copy-2 : tie.Need-slice-aggregate-copy-2
 slice-aggregate-copy-2 c = search needs
 
--- src/writing.rt:110:5
 copy-requires-2 : tie.Need-copy-requires-2
 copy-requires-2 c κs = search needs
 
--- src/writing.rt:103:1
 same-length : tie.Need-same-length
 same-length c = search needs
 
--- src/writing.rt:103:1
 returns : tie.Need-returns
 returns c = block0-put (c .before .before .before .before .before .before .before .before .before .before .before .before .before .before .before .before .before .before .before .args .n) (now (c .before .before .before .before .before .before .before .before .before .before .before .before .before .before .before .before .before .before .before .args .head)) _ _ _ _ (c .before .before .before .before .before .before .before .before .before .before .before .before .before .before .before .copy .ensures) (c .before .before .before .before .before .before .before .before .before .before .before .store32 .ensures) (c .before .before .before .before .before .before .before .store322 .ensures) (c .before .before .copy2 .ensures)
 
