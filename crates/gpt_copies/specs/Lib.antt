@@ -1,4 +1,3 @@
 -- The two copies in the words of gpt_model.
 pub mod Sides
 pub mod States
-pub mod Fields
