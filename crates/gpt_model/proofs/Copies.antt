@@ -13,12 +13,12 @@ use Rattle.octets.specs.Tests.{_and_}
 use Rattle.octets.specs.Bytes.{le, part, put, zeros, same}
 use Rattle.octets.proofs.Bools.{and-l, and-r, and-i}
 use Rattle.octets.proofs.Numbers.{length-le}
-use Rattle.octets.proofs.Parts.{length-part}
+use Rattle.octets.proofs.Parts.{length-part, length-zeros}
 use Rattle.octets.proofs.Puts.{length-put, part-put-out}
 use Rattle.octets.proofs.Equal.{same-true, same-refl}
 use Rattle.gpt_model.specs.Table.{writeAll, goodTable}
 use Rattle.gpt_model.specs.Disk.{Shape, lastUsable, Side, primary, backup, lentBytes, headerAt, entriesAt, headerBytes, headerIn, guidIn, entriesIn, headerFields, headerWith, headerCrc, header, goodCopy, stateOf, sameCopies, state, tableOf, withTable, withCopy}
-use Rattle.gpt_model.proofs.Fields.{length-zeros, part-put-at, length-writeAll, behind, field-reads}
+use Rattle.gpt_model.proofs.Fields.{part-put-at, length-writeAll, behind, field-reads}
 
 -- ---- the header
 

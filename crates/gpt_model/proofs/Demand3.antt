@@ -15,20 +15,20 @@ use Rattle.octets.specs.Rows.{Row, row, pickRow, refusal}
 use Rattle.octets.specs.Bytes.{isZero, zeros}
 use Rattle.octets.proofs.Bools.{and-i, and-l, bool-cases, clash, option-cases}
 use Rattle.octets.proofs.Tests.{pairs-get}
+use Rattle.octets.proofs.Parts.{length-zeros}
 use Rattle.octets.proofs.Rows.{passes, pick-true, pick-false, refusal-append}
 use Rattle.gpt_model.specs.Ranges.{Slot, vacant, sizeOf, inside, apart, roomAt, place, taken, freeCount, longestFree}
 use Rattle.gpt_model.specs.Table.{slots, goodTable}
 use Rattle.gpt_model.specs.Disk.{Shape, disk512, lastUsable, usable, inRange, primary, backup, lentBytes, state, tableOf, freshHead, freshTail}
-use Rattle.gpt_model.specs.Calls.{Edit, add, Call, repair, edit, refused, accepted, Out, out, decided, isNone, addRows, valuesOf, lengthsOk, readRows, openRows, rowsOf, made, step, formatRows, format}
+use Rattle.gpt_model.specs.Calls.{Edit, add, Call, repair, edit, refused, accepted, edited, Out, out, decided, isNone, addRows, valuesOf, lengthsOk, readRows, openRows, rowsOf, made, step, formatRows, format}
 use Rattle.gpt_model.specs.Lists.{Run, next, run, answers, applied, begun, slotsOf, total, StartsAfresh}
 use Rattle.gpt_model.specs.Claims.{Passes, Sound, Formats, Demand3, Serves, NotEmpty, EditReadsBack, RepairReadsBack}
 use Rattle.gpt_model.proofs.Room.{Room, room-get, room-make, place-some, place-none, place-is-none}
 use Rattle.gpt_model.proofs.Counts.{taken-total, apart-get, taken-free, total-zeros}
 use Rattle.gpt_model.proofs.Longest.{room-fits, fits-room}
-use Rattle.gpt_model.proofs.Fields.{length-zeros}
 use Rattle.gpt_model.proofs.Entries.{length-slots, good-bounded, good-apart, empty-sizes, empty-good}
 use Rattle.gpt_model.proofs.States.{Holds, readable-good, fresh-holds, repair-holds}
-use Rattle.gpt_model.proofs.Steps.{step-refused, step-made, row1, row10, edit-made, Agrees, Kept, keeps-all}
+use Rattle.gpt_model.proofs.Steps.{step-refused, step-made, row1, row10, edit-made, repair-answer, not-ten, not-eleven, Agrees, Kept, keeps-all}
 
 -- ---- formatting
 
@@ -164,3 +164,50 @@ module _ (g : Shape) (n : ℕ) (r : Run) (v : Kept g n r) where
       same-slot b i j hi hj x y (yes a) d = absurd (apart-tab b i j a hj x y)
       same-slot b i j hi hj x y (no a) (yes d) = absurd (apart-tab b j i d hi y x)
       same-slot b i j hi hj x y (no a) (no d) = omega arith
+
+  pub serves : inRange g n ≡ true → Serves g n tab r
+  serves range = record {
+      reads = v .reads;
+      table = refl;
+      not10 = not-ten g n (r .head) (r .tail) (v .reads);
+      not11 = not-eleven g n (r .head) (r .tail) (v .reads);
+      free = omega (arith, taken-free (slots tab) (g .first) (lastUsable g n));
+      fits = fits-iff
+    }
+
+-- ---- the theorems
+
+-- from every start afresh
+pub demand3-from : (g : Shape) → 92 ≤ g .block → (n : ℕ) (es : List ℕ) (r : Run) → StartsAfresh g n es r → (cs : List Call) → Sound g n (run g n cs r)
+demand3-from g wide n es r s cs = sound g n (run g n cs r) (keeps-all g wide n cs r (starts-kept g n es r s) .0)
+
+pub demand3 : Demand3
+demand3 g n guid h t f cs =
+    (ap (λ (o : Out). o .answer) (formatted g n guid h t f),
+      demand3-from g (f .wide) n (zeros 16384) (begun (format g n guid h t)) (format-starts g n guid h t f) cs)
+
+pub notEmpty : NotEmpty
+notEmpty g n guid h t f cs =
+    let r = begun (format g n guid h t) in
+    let s = format-starts g n guid h t f in
+    let k = keeps-all g (f .wide) n cs r (starts-kept g n (zeros 16384) r s) in
+    subst (λ (es : List ℕ). Serves g n es (run g n cs r))
+    (k .1 ∙ ap (λ (es : List ℕ). applied (g .first) (lastUsable g n) es cs (answers g n cs r)) (s .table))
+    (serves g n (run g n cs r) (k .0) (f .range))
+
+-- N − 67 usable blocks on a disk of 512-byte blocks
+pub usable512 : (n : ℕ) → inRange disk512 n ≡ true → usable disk512 n ≡ n - 67
+usable512 n range = let w : 68 ≤ n = leb-true _ _ (and-l _ _ range) in omega arith
+
+pub editReadsBack : EditReadsBack
+editReadsBack g n h t d wide e =
+    let w = edit-made g n h t d wide e .1 in
+    subst (λ (o : Out). (state g n (o .head) (o .tail) ≡ 1) × (tableOf g n (o .head) (o .tail) ≡ edited (g .first) (lastUsable g n) (tableOf g n h t) d))
+    (sym (step-made g n h t (edit d) e)) (w .reads, w .table)
+
+pub repairReadsBack : RepairReadsBack
+repairReadsBack g n h t wide e =
+    let l = row1 g n h t true e in
+    let w = repair-holds g wide n h t (l .0) (l .1) (row10 g n h t true e) in
+    subst (λ (o : Out). (o .answer ≡ accepted (state g n h t ∷ [])) × (state g n (o .head) (o .tail) ≡ 1) × (tableOf g n (o .head) (o .tail) ≡ tableOf g n h t))
+    (sym (step-made g n h t repair e)) (repair-answer g n h t, w .reads, w .table)

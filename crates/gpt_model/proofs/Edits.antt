@@ -15,6 +15,7 @@ use Rattle.octets.specs.Rows.{Row, refusal}
 use Rattle.octets.specs.Bytes.{zeros, isZero, same}
 use Rattle.octets.proofs.Bools.{and-l, and-r, and-skip, or-false-l, or-false-r, clash, not-f}
 use Rattle.octets.proofs.Tests.{findIx-get, any-none}
+use Rattle.octets.proofs.Parts.{length-zeros}
 use Rattle.octets.proofs.Rows.{passes}
 use Rattle.octets.proofs.Chunks.{length-chunks, length-chunk}
 use Rattle.gpt_model.specs.Ranges.{Slot, vacant, spans, sizeOf, bounded, apart, place}
@@ -22,7 +23,7 @@ use Rattle.gpt_model.specs.Table.{uniqueOf, firstOf, unused, slotOf, ent
 use Rattle.gpt_model.specs.Calls.{Edit, add, delete, resize, rename, carries, isNone, valueOf, tableRows, lowestUnused, startOf, valuesOf, indexOf, newEntry, lengthsOf}
 use Rattle.gpt_model.specs.Lists.{Ledger, bookEdit}
 use Rattle.gpt_model.proofs.Room.{Room, room-get, place-some}
-use Rattle.gpt_model.proofs.Fields.{length-zeros, length-new, new-type, new-unique, new-first, new-last, length-sized, sized-type, sized-unique, sized-first, sized-last, length-named, named-type, named-unique, named-first, named-last}
+use Rattle.gpt_model.proofs.Fields.{length-new, new-type, new-unique, new-first, new-last, length-sized, sized-type, sized-unique, sized-first, sized-last, length-named, named-type, named-unique, named-first, named-last}
 use Rattle.gpt_model.proofs.Entries.{same-sym, slot-unused, slot-used, used-type, unused-zeros, Used, ok-used, used-ok, unused-ok, ok-bounded, Beside, getD-slot, length-slots, entryAt, good-at, good-beside, room-apart}
 
 nonzero : (x : ℕ) → eqb x 0 ≡ false → 0 < x

@@ -6,18 +6,15 @@ use Prim.Native.Nat.{ℕ, zero, suc, _+_, _*_, _^_, _≤_, _<_}
 use native.Mathlib.Nat.{not-suc-le-zero, le-of-suc-le-suc}
 use native.Mathlib.Omega.{arith}
 use lib.Dec.{leb}
-use lib.ListN.{length, getD, drop, length-append, length-replicate}
+use lib.ListN.{length, getD, drop, length-append}
 use borrow.Author.Tests.{leb-true}
 use Rattle.octets.specs.Tests.{_and_, all}
 use Rattle.octets.specs.Bytes.{le, unle, part, put, zeros, flat}
 use Rattle.octets.proofs.Bools.{and-l, and-r}
 use Rattle.octets.proofs.Numbers.{length-le, unle-le}
+use Rattle.octets.proofs.Parts.{length-zeros}
 use Rattle.octets.proofs.Puts.{length-put, put-comm, part-put-above, part-put-same}
 use Rattle.gpt_model.specs.Table.{writeAll, typeOf, uniqueOf, firstOf, lastOf, nameBytes, entryWith}
-
-pub length-zeros : (k : ℕ) → length (zeros k) ≡ k
-unfolding zeros
-length-zeros k = length-replicate k 0
 
 pub part-put-at : (vs xs : List ℕ) (at k : ℕ) → length vs ≡ k → at + k ≤ length xs → part at k (put at vs xs) ≡ vs
 part-put-at vs xs at k e h =

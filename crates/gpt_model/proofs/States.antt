@@ -11,13 +11,13 @@ use borrow.Author.Tests.{eq-eqb, ne-eqb}
 use Rattle.octets.specs.Tests.{_and_}
 use Rattle.octets.specs.Bytes.{part, put, zeros, same}
 use Rattle.octets.proofs.Bools.{and-l, and-r, and-i}
-use Rattle.octets.proofs.Parts.{length-part}
+use Rattle.octets.proofs.Parts.{length-part, length-zeros}
 use Rattle.octets.proofs.Puts.{length-put}
 use Rattle.octets.proofs.Equal.{same-true, same-refl}
 use Rattle.gpt_model.specs.Table.{writeAll, goodTable}
 use Rattle.gpt_model.specs.Disk.{Shape, lastUsable, Side, primary, backup, lentBytes, headerAt, headerIn, guidIn, entriesIn, header, goodCopy, stateOf, sameCopies, state, tableOf, withTable, withCopy, block0, freshHead, freshTail}
 use Rattle.gpt_model.specs.Calls.{repaired}
-use Rattle.gpt_model.proofs.Fields.{length-zeros, length-writeAll}
+use Rattle.gpt_model.proofs.Fields.{length-writeAll}
 use Rattle.gpt_model.proofs.Entries.{empty-good}
 use Rattle.gpt_model.proofs.Copies.{header-inside, entries-inside, length-withTable, written-entries, written-guid, written-good}
 

@@ -1,7 +1,7 @@
 -- The ways out of a call, and what every call keeps: the disk is readable, its table is the one that the accepted calls make, and the ledger agrees with it.
 use mathlib.Core.Path.{_≡_, refl, sym, ap, subst, _∙_}
 use mathlib.Core.Logic.{_≢_}
-use mathlib.Core.Bool.{Bool, true, false, not}
+use mathlib.Core.Bool.{Bool, true, false, not, cond}
 use mathlib.Core.List.{List, [], _∷_, _++_, map}
 use mathlib.Core.Option.{Option, none, some}
 use Prim.Native.Nat.{ℕ, _+_, _-_, _≤_, _<_}
@@ -9,16 +9,16 @@ use native.Mathlib.Omega.{arith}
 use lib.Dec.{eqb}
 use lib.ListN.{length, getD, set, length-map, List·getD-map}
 use borrow.Author.Tests.{leb-true, eqb-true, eqb-false, eq-eqb}
-use Rattle.octets.specs.Tests.{_and_}
+use Rattle.octets.specs.Tests.{_and_, _or_, any}
 use Rattle.octets.specs.Rows.{Row, row, refusal}
 use Rattle.octets.specs.Bytes.{putChunk}
-use Rattle.octets.proofs.Bools.{and-l, and-r, and-i, not-f}
-use Rattle.octets.proofs.Rows.{passes, pick-false, refusal-before}
+use Rattle.octets.proofs.Bools.{and-l, and-r, and-i, clash, not-f}
+use Rattle.octets.proofs.Rows.{passes, pick-false, refusal-before, refusal-holds}
 use Rattle.octets.proofs.Chunks.{length-putChunk}
 use Rattle.gpt_model.specs.Ranges.{Slot, vacant, sizeOf}
 use Rattle.gpt_model.specs.Table.{slotOf, slots, goodTable}
-use Rattle.gpt_model.specs.Disk.{Shape, lastUsable, inRange, primary, backup, lentBytes, guidIn, state, tableOf, withTable}
-use Rattle.gpt_model.specs.Calls.{Edit, Call, read, freeCounts, repair, edit, refused, accepted, Out, out, decided, valuesOf, indexOf, newEntry, edited, tableRows, lengthsOf, lengthsOk, readRows, openRows, rowsOf, repaired, made, step}
+use Rattle.gpt_model.specs.Disk.{Shape, lastUsable, inRange, primary, backup, lentBytes, guidIn, entriesIn, state, tableOf, withTable, withCopy}
+use Rattle.gpt_model.specs.Calls.{Edit, add, delete, resize, rename, Call, read, freeCounts, repair, edit, Answer, refused, accepted, Out, out, decided, valuesOf, indexOf, newEntry, edited, tableRows, lengthsOf, lengthsOk, readRows, openRows, rowsOf, repaired, made, step}
 use Rattle.gpt_model.specs.Lists.{Ledger, bookEdit, book, Run, next, run, answers, tableNext, applied, total}
 use Rattle.gpt_model.proofs.Counts.{total-set}
 use Rattle.gpt_model.proofs.Entries.{map-set, getD-slot, length-slots, entryAt, slots-put, good-put}
@@ -35,6 +35,66 @@ module _ (g : Shape) (n : ℕ) (h t : List ℕ) (c : Call) where
   pub step-made : refusal (rowsOf g n h t c) ≡ none → step g n h t c ≡ made g n h t c
   unfolding step
   step-made e = ap (λ (q : Option ℕ). decided q h t (made g n h t c)) e
+
+-- repair answers the state found
+pub repair-answer : (g : Shape) (n : ℕ) (h t : List ℕ) → made g n h t repair .answer ≡ accepted (state g n h t ∷ [])
+repair-answer g n h t = go (eqb (state g n h t) 1) (eqb (state g n h t) 4)
+  where
+    a : Answer
+    a = accepted (state g n h t ∷ [])
+    go : (p q : Bool) → cond p (out a h t) (cond q (out a (withCopy g n primary (guidIn g backup t) (entriesIn g backup t) h) t) (out a h (withCopy g n backup (guidIn g primary h) (entriesIn g primary h) t))) .answer ≡ a
+    go true q = refl
+    go false true = refl
+    go false false = refl
+
+-- what is made is accepted, so a refusal's number is that of the first row that holds
+made-accepts : (g : Shape) (n : ℕ) (h t : List ℕ) (c : Call) → (values : List ℕ) × (made g n h t c .answer ≡ accepted values)
+made-accepts g n h t read = (_, refl)
+made-accepts g n h t freeCounts = (_, refl)
+made-accepts g n h t repair = (_, repair-answer g n h t)
+made-accepts g n h t (edit d) = (_, refl)
+
+pub refused-row : (g : Shape) (n : ℕ) (h t : List ℕ) (c : Call) (k : ℕ) → step g n h t c .answer ≡ refused k → refusal (rowsOf g n h t c) ≡ some k
+refused-row g n h t c k a = go (refusal (rowsOf g n h t c)) refl
+  where
+    go : (q : Option ℕ) → refusal (rowsOf g n h t c) ≡ q → q ≡ some k
+    go none e =
+        let w = made-accepts g n h t c in
+        let b : made g n h t c .answer ≡ refused k = ap (λ (o : Out). o .answer) (sym (step-made g n h t c e)) ∙ a in
+        let v = w .1 in
+        let z : _≡_ {A = ℕ} 0 1 = cc in
+        absurd (omega arith)
+    go (some j) e =
+        let b : refused j ≡ refused k = ap (λ (o : Out). o .answer) (sym (step-refused g n h t c j e)) ∙ a in
+        cc
+
+-- in state 1 rows 10 and 11 do not hold
+module _ (g : Shape) (n : ℕ) (h t : List ℕ) (one : state g n h t ≡ 1) where
+  none10 : (c : Call) → any (λ r. eqb 10 (r .number) and r .holds) (rowsOf g n h t c) ≡ false
+  unfolding _and_ _or_
+  none10 read = rw one
+  none10 freeCounts = rw one
+  none10 repair = rw one
+  none10 (edit (add type unique size attributes name)) = rw one
+  none10 (edit (delete k)) = rw one
+  none10 (edit (resize k size)) = rw one
+  none10 (edit (rename k name)) = rw one
+
+  none11 : (c : Call) → any (λ r. eqb 11 (r .number) and r .holds) (rowsOf g n h t c) ≡ false
+  unfolding _and_ _or_
+  none11 read = refl
+  none11 freeCounts = refl
+  none11 repair = refl
+  none11 (edit (add type unique size attributes name)) = rw one
+  none11 (edit (delete k)) = rw one
+  none11 (edit (resize k size)) = rw one
+  none11 (edit (rename k name)) = rw one
+
+  pub not-ten : (c : Call) → step g n h t c .answer ≢ refused 10
+  not-ten c a = clash (refusal-holds 10 (rowsOf g n h t c) (refused-row g n h t c 10 a)) (none10 c)
+
+  pub not-eleven : (c : Call) → step g n h t c .answer ≢ refused 11
+  not-eleven c a = clash (refusal-holds 11 (rowsOf g n h t c) (refused-row g n h t c 11 a)) (none11 c)
 
 -- ---- what the rows before an edit's own say, by number
 

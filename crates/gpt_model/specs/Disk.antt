@@ -6,7 +6,7 @@ use lib.Dec.{leb, eqb}
 use lib.ListN.{length}
 use Rattle.octets.specs.Tests.{_and_}
 use Rattle.octets.specs.Bytes.{le, part, put, zeros, same}
-use Rattle.gpt_model.specs.Crc.{crc32}
+use Rattle.crc_lanes.specs.Crc.{crc32}
 use Rattle.gpt_model.specs.Table.{writeAll, entryBytes, slotCount, tableBytes, goodTable}
 
 -- ---- quantities

@@ -4,9 +4,10 @@ use mathlib.Core.List.{List, [], _∷_, _++_}
 use Prim.Native.Nat.{ℕ, zero, suc, _+_, _*_, _≤_, _<_}
 use native.Mathlib.Nat.{not-suc-le-zero, le-of-suc-le-suc, suc-mul, zero-mul, zero-add}
 use native.Mathlib.Omega.{arith}
-use lib.ListN.{length, getD, set, take, drop, length-append, length-take, length-drop}
+use lib.ListN.{length, getD, set, take, drop, length-append, length-drop, take-append-drop}
 use lib.Seq.{take-at, drop-at, length-take-le, drop-drop}
-use Rattle.octets.specs.Bytes.{part, chunks, putChunk}
+use Rattle.octets.specs.Bytes.{part, put, chunks, putChunk}
+use Rattle.octets.proofs.Puts.{put-eq, take-put, drop-put-in}
 
 pub length-chunks : (w k : ℕ) (xs : List ℕ) → length (chunks w k xs) ≡ k
 unfolding chunks
@@ -53,3 +54,21 @@ module _ (w : ℕ) where
       let t : length (take w xs) ≡ w = length-take-le w xs (omega arith) in
       ap₂ _∷_ (take-at (take w xs) (putChunk w i e (drop w xs)) w t)
       (ap (chunks w k) (drop-at (take w xs) (putChunk w i e (drop w xs)) w t) ∙ chunks-put k i e (drop w xs) le (le-of-suc-le-suc h) d)
+
+  -- record i replaced is a write at i * w
+  pub putChunk-put : (k i : ℕ) (e xs : List ℕ) → length e ≡ w → i < k → length xs ≡ k * w → putChunk w i e xs ≡ put (i * w) e xs
+  unfolding putChunk
+  putChunk-put zero i e xs le h l = absurd (not-suc-le-zero h)
+  putChunk-put (suc k) zero e xs le h l =
+      let s = suc-mul k w in
+      let p : 0 + length e ≡ w = omega arith in
+      rw zero-mul (sym (put-eq 0 e xs (omega arith) ∙ ap (λ (m : ℕ). e ++ drop m xs) p))
+  putChunk-put (suc k) (suc i) e xs le h l =
+      let s = suc-mul k w in
+      let q : suc i * w ≡ w + i * w = omega (arith, suc-mul i w) in
+      let d : length (drop w xs) ≡ k * w = length-drop w xs ∙ omega arith in
+      let ys = put (w + i * w) e xs in
+      ap (λ (l : List ℕ). take w xs ++ l) (putChunk-put k i e (drop w xs) le (le-of-suc-le-suc h) d)
+      ∙ ap₂ _++_ (sym (take-put e xs (w + i * w) w (omega arith))) (sym (drop-put-in e xs w (i * w)))
+      ∙ take-append-drop w ys
+      ∙ ap (λ (m : ℕ). put m e xs) (sym q)

@@ -1,12 +1,12 @@
 -- Laws of writes into byte lists.
 use mathlib.Core.Path.{_≡_, refl, sym, ap, _∙_}
-use mathlib.Core.Logic.{_⊎_, inl, inr}
+use mathlib.Core.Logic.{_⊎_, inl, inr, _≢_}
 use mathlib.Core.List.{List, [], _∷_, _++_, append-assoc, append-nil}
 use Prim.Native.Nat.{ℕ, zero, suc, _+_, _-_, _/_, _%_, _^_, _≤_, _<_}
 use native.Mathlib.Nat.{add-zero, add-suc, suc-add}
 use native.Mathlib.Omega.{arith}
-use lib.ListN.{length, set, take, drop, length-append, drop-of-length-le, take-append-drop}
-use lib.Seq.{sets, length-sets, sets-eq, take-set-le, take-set-lt, drop-set-lt, drop-set-add, drop-drop, set-comm, set-set, take-at}
+use lib.ListN.{length, getD, set, take, drop, length-append, drop-of-length-le, take-append-drop}
+use lib.Seq.{sets, length-sets, sets-eq, take-set-le, take-set-lt, drop-set-lt, drop-set-add, drop-drop, set-comm, set-set, getD-set-other, take-at}
 use Rattle.octets.specs.Bytes.{le, part, put}
 use Rattle.octets.proofs.Numbers.{length-le, le-add, le-mod}
 use Rattle.octets.proofs.Parts.{length-part}
@@ -152,3 +152,21 @@ put-last p q vs n e l =
     let k : n + length vs ≡ length (p ++ q) = rw length-append (omega arith) in
     put-eq n vs (p ++ q) (omega arith)
     ∙ rw (take-at p q n e, drop-of-length-le (p ++ q) {i = n + length vs} (omega arith)) (append-nil (p ++ vs))
+
+-- a part written back with a write in it is that write
+pub put-inside : (vs xs : List ℕ) (a k i : ℕ) → a + k ≤ length xs → i + length vs ≤ k → put a (put i vs (part a k xs)) xs ≡ put (a + i) vs xs
+put-inside vs xs a k i h g =
+    sym (put-back xs (put i vs (part a k xs)) a k h (length-put i vs (part a k xs) ∙ length-part xs a k h)) ∙ put-part vs xs a k i g
+
+-- a byte outside a write
+pub getD-put-out : (vs xs : List ℕ) (at k : ℕ) → (k < at) ⊎ (at + length vs ≤ k) → getD (put at vs xs) k 0 ≡ getD xs k 0
+unfolding put
+getD-put-out [] xs at k h = refl
+getD-put-out (v ∷ vs) xs at k h = getD-put-out vs (set xs at v) (suc at) k (on h) ∙ getD-set-other xs at k v 0 (ne h)
+  where
+    on : (k < at) ⊎ (at + suc (length vs) ≤ k) → (k < suc at) ⊎ (suc at + length vs ≤ k)
+    on (inl w) = inl (omega arith)
+    on (inr w) = inr (omega arith)
+    ne : (k < at) ⊎ (at + suc (length vs) ≤ k) → k ≢ at
+    ne (inl w) e = omega arith
+    ne (inr w) e = omega arith

@@ -1,13 +1,15 @@
 -- Laws of refusal rows: `passes` hands out the fact of the row with a given number, whatever stands around it.
-use mathlib.Core.Path.{_≡_, refl, _∙_}
+use mathlib.Core.Path.{_≡_, refl, sym, _∙_}
 use mathlib.Core.Logic.{_⊎_, inl, inr}
 use mathlib.Core.Bool.{Bool, true, false, cond, true≢false, false≢true}
 use mathlib.Core.List.{List, [], _∷_, _++_}
 use mathlib.Core.Option.{Option, none, some}
 use Prim.Native.Nat.{ℕ}
 use lib.Dec.{eqb}
+use borrow.Author.Tests.{eq-eqb}
+use Rattle.octets.specs.Tests.{_and_, any}
 use Rattle.octets.specs.Rows.{Row, pickRow, refusal}
-use Rattle.octets.proofs.Bools.{some-none, bool-cases}
+use Rattle.octets.proofs.Bools.{and-i, or-il, or-ir, some-none, bool-cases}
 
 pub pick-none : (b : Bool) (k : ℕ) (r : Option ℕ) → pickRow b k r ≡ none → (b ≡ false) × (r ≡ none)
 unfolding pickRow
@@ -50,3 +52,16 @@ refusal-before (r ∷ rs) qs e =
     let w = pick-none (r .holds) (r .number) (refusal (rs ++ qs)) e in
     let v = refusal-before rs qs (w .1) in
     (pick-false (r .holds) (r .number) (refusal rs) (w .0) ∙ v .0, v .1)
+
+-- a number that is given is that of a row that holds
+pub refusal-holds : (k : ℕ) (rs : List Row) → refusal rs ≡ some k → any (λ r. eqb k (r .number) and r .holds) rs ≡ true
+refusal-holds k [] e = absurd (some-none (sym e))
+refusal-holds k (r ∷ rs) e = go (bool-cases (r .holds)) (refusal-holds k rs)
+  where
+    go : (r .holds ≡ true) ⊎ (r .holds ≡ false) → (refusal rs ≡ some k → any (λ r. eqb k (r .number) and r .holds) rs ≡ true)
+        → any (λ r. eqb k (r .number) and r .holds) (r ∷ rs) ≡ true
+    go (inl q) ih =
+        let w = pick-true (r .holds) (r .number) (refusal rs) q in
+        let z : k ≡ r .number = cc in
+        or-il _ _ (and-i _ _ (eq-eqb k (r .number) z) q)
+    go (inr q) ih = or-ir _ _ (ih (sym (pick-false (r .holds) (r .number) (refusal rs) q) ∙ e))
