@@ -1,3 +1,5 @@
+pub mod Entries
+pub mod Names
 pub mod Used
 pub mod Ahead
 pub mod Walks

@@ -7,15 +7,15 @@ use Prim.Native.Nat.{ℕ, zero, suc, _+_, _≤_, _<_, suc-le-suc}
 use native.Mathlib.Nat.{not-suc-le-zero, le-of-suc-le-suc}
 use native.Mathlib.Numerals.{add-one}
 use native.Mathlib.Omega.{arith}
-use lib.ListN.{length, getD, set, take, drop, length-append, length-map, length-set}
+use lib.ListN.{length, getD, set, take, drop, length-append, length-map, length-set, List·getD-map}
 use lib.Seq.{take-suc, take-suc-set, take-all, getD-take, ext-getD}
 use Rattle.octets.specs.Tests.{_or_, any}
 use Rattle.octets.specs.Bytes.{field}
 use Rattle.octets.proofs.Bools.{bool-cases}
-use Rattle.octets.proofs.Tests.{getD-map}
 use Rattle.gpt_model.specs.Ranges.{Slot, vacant, spans, inside, lies, free}
 use Rattle.gpt_model.specs.Table.{unused, slotOf, firstOf, lastOf}
-use Rattle.gpt_model.proofs.Entries.{slot-unused, slot-used}
+use Rattle.gpt_model.proofs.Walk.{getD-map}
+use Rattle.gpt_model.proofs.Entries.{zero-unused, slot-unused, slot-used}
 use Rattle.gpt_table.specs.Decoded.{used, Decoded, ranges}
 
 -- ---- the used ones of a list
@@ -161,9 +161,8 @@ ranges-slots es f l n d u =
   where
     go : (i : ℕ) → i < n → getD (ranges f l n) i vacant ≡ getD (map slotOf es) i vacant
     go i h =
-        let c = d .count in
         getD-ranges f l n i h ∙ ap₂ spans (low-at d i h) (high-at d i h) ∙ sym (slot-used (getD es i []) (u i h))
-        ∙ sym (getD-map slotOf es i vacant [] (omega arith))
+        ∙ sym (ap (getD (map slotOf es) i) (sym (slot-unused [] (zero-unused [] refl))) ∙ List·getD-map slotOf es i [])
 
 inside-none : (b : ℕ) → inside b vacant ≡ false
 unfolding inside

@@ -4,6 +4,7 @@ pub mod room;
 pub mod rules;
 
 ghost use mathlib.Core.Path.{_≡_};
+ghost use mathlib.Core.Bool.{not};
 ghost use mathlib.Core.List.{[]};
 ghost use Prim.Native.Nat.{_+_, _*_, _≤_, _<_};
 ghost use lib.ListN.{length, getD, set};
@@ -72,20 +73,32 @@ pub fn carried(t: &[u8], unique: &[u8]) -> bool
     false
 }
 
-// A unit after a zero one is not zero: then two neighbours are so.
 pub fn bad_name(name: &[u16]) -> bool
     ensures { λ r. ⌜ r ≡ badName (now (name .entry)) ⌝ }
 {
-    let mut i = 1;
+    let mut before: u16 = 1;
+    let mut i = 0;
     while i < name.len() {
-        if name[i - 1] == 0 {
+        if before == 0 {
             if name[i] != 0 {
                 return true;
             }
         }
+        before = name[i];
         i += 1;
     }
     false
+}
+
+// Entry i is used and not entry `but`.
+fn wanted(t: &[u8], but: usize, i: usize) -> bool
+    requires { ⌜ (i < 128) × (length (now t) ≡ 16384) ⌝ }
+    ensures { λ r. ⌜ r ≡ not (unused (getD (set (entries (now (t .entry))) but []) i [])) ⌝ }
+{
+    if i == but {
+        return false;
+    }
+    !is_unused(t, i)
 }
 
 // Two numbers of each used entry but entry `but` (128: of all): of the 8 bytes from `at` on, and of the 8 bytes behind them. Returns how many entries.
@@ -96,13 +109,10 @@ fn decode(t: &[u8], but: usize, at: usize, x: &mut [u64; 128], y: &mut [u64; 128
     let mut n: usize = 0;
     let mut i = 0;
     while i < 128 {
-        if i != but {
-            let e = entry(t, i);
-            if !octets::is_zero(e) {
-                x[n] = octets::load64(e, at);
-                y[n] = octets::load64(e, at + 8);
-                n += 1;
-            }
+        if wanted(t, but, i) {
+            x[n] = octets::load64(entry(t, i), at);
+            y[n] = octets::load64(entry(t, i), at + 8);
+            n += 1;
         }
         i += 1;
     }
