@@ -4,7 +4,8 @@ use mathlib.Core.Logic.{_⊎_, inl, inr}
 use mathlib.Core.Bool.{Bool, true, false, not}
 use mathlib.Core.List.{List, [], _∷_}
 use Prim.Native.Nat.{ℕ, suc, _+_, _-_, _*_, _≤_, _<_}
-use native.Mathlib.Decide.{ℕ-discrete}
+use native.Mathlib.Nat.{zero-lt-suc}
+use native.Mathlib.Decide.{decLt, ℕ-discrete}
 use native.Mathlib.Omega.{arith}
 use lib.Dec.{ltb}
 use lib.ListN.{length, getD, set, take, drop, length-set, length-drop}
@@ -34,14 +35,21 @@ entry-at t i h l =
 pub length-entries : (t : List ℕ) → length (entries t) ≡ 128
 length-entries t = length-chunks 128 128 t
 
+ltb-suc : (a b : ℕ) → ltb (suc a) (suc b) ≡ ltb a b
+ltb-suc a b = go (decLt a b)
+  where
+    go : Dec (a < b) → ltb (suc a) (suc b) ≡ ltb a b
+    go (yes h) = lt-ltb (suc a) (suc b) (omega arith) ∙ sym (lt-ltb a b h)
+    go (no h) = le-ltb (suc a) (suc b) (omega arith) ∙ sym (le-ltb a b (omega arith))
+
 some-found : {A : Type 0} (p : A → Bool) (xs : List A) → any p xs ≡ ltb (findIx p xs) (length xs)
 unfolding _or_
 some-found p [] = refl
 some-found p (x ∷ xs) = go (bool-cases (p x)) (some-found p xs)
   where
     go : (p x ≡ true) ⊎ (p x ≡ false) → any p xs ≡ ltb (findIx p xs) (length xs) → (p x or any p xs) ≡ ltb (findIx p (x ∷ xs)) (suc (length xs))
-    go (inl q) ih = rw (q, findIx)
-    go (inr q) ih = rw (q, findIx) ih
+    go (inl q) ih = rw (q, findIx) (sym (lt-ltb 0 (suc (length xs)) (zero-lt-suc _)))
+    go (inr q) ih = rw (q, findIx) (ih ∙ sym (ltb-suc (findIx p xs) (length xs)))
 
 -- first_unused answers below 128 exactly where some entry is unused
 pub some-unused : (t : List ℕ) → any unused (entries t) ≡ ltb (findIx unused (entries t)) 128

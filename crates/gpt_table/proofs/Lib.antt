@@ -3,3 +3,4 @@ pub mod Names
 pub mod Used
 pub mod Ahead
 pub mod Walks
+pub mod Good

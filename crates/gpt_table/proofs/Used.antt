@@ -20,10 +20,10 @@ use Rattle.gpt_table.specs.Decoded.{used, Decoded, ranges}
 
 -- ---- the used ones of a list
 
-used-yes : (e : List ℕ) (es : List (List ℕ)) → unused e ≡ false → used (e ∷ es) ≡ e ∷ used es
+pub used-yes : (e : List ℕ) (es : List (List ℕ)) → unused e ≡ false → used (e ∷ es) ≡ e ∷ used es
 used-yes e es q = rw (q, used)
 
-used-no : (e : List ℕ) (es : List (List ℕ)) → unused e ≡ true → used (e ∷ es) ≡ used es
+pub used-no : (e : List ℕ) (es : List (List ℕ)) → unused e ≡ true → used (e ∷ es) ≡ used es
 used-no e es q = rw (q, used)
 
 used-append : (xs ys : List (List ℕ)) → used (xs ++ ys) ≡ used xs ++ used ys
@@ -36,7 +36,7 @@ used-append (e ∷ xs) ys = go (bool-cases (unused e)) (used-append xs ys)
         used-yes e (xs ++ ys) q ∙ ap (λ (l : List (List ℕ)). e ∷ l) ih ∙ ap (λ (l : List (List ℕ)). l ++ used ys) (sym (used-yes e xs q))
 
 -- what holds of each holds of each used one, which is not unused
-used-each : (P : List ℕ → Type 0) (es : List (List ℕ)) → ((i : ℕ) → i < length es → P (getD es i []))
+pub used-each : (P : List ℕ → Type 0) (es : List (List ℕ)) → ((i : ℕ) → i < length es → P (getD es i []))
     → (i : ℕ) → i < length (used es) → (unused (getD (used es) i []) ≡ false) × P (getD (used es) i [])
 used-each P [] f i h = absurd (not-suc-le-zero h)
 used-each P (e ∷ es) f i h = go (bool-cases (unused e)) (used-each P es (λ j k. f (suc j) (suc-le-suc k)))
@@ -179,7 +179,7 @@ lies-used b (e ∷ es) = go (bool-cases (unused e)) (lies-used b es)
     go (inr q) ih = ap (λ (l : List (List ℕ)). lies (map slotOf l) b) (used-yes e es q) ∙ ap (λ (t : Bool). inside b (slotOf e) or t) ih
 
 -- the ranges leave the same blocks free as the entries
-pub free-ranges : {es : List (List ℕ)} {f l : List ℕ} {n : ℕ} → Decoded (used es) 32 f l n → free (ranges f l n) ≡ free (map slotOf es)
-free-ranges {es} {f} {l} {n} d =
+pub free-ranges : (es : List (List ℕ)) {f l : List ℕ} {n : ℕ} → Decoded (used es) 32 f l n → free (ranges f l n) ≡ free (map slotOf es)
+free-ranges es {f} {l} {n} d =
     let c = d .count in
     ap free (ranges-slots (used es) f l n d (λ i h. used-each (λ e. ℕ) es (λ j k. 0) i (omega arith) .0)) ∙ fun-ext (λ b. ap not (lies-used b es))

@@ -31,4 +31,4 @@ pub record Used (es : List (List ℕ)) (f l u v : List ℕ) (n : ℕ) : Type 0 w
   pub guids : Decoded es 16 u v n
   pub each : (i : ℕ) → i < n → unused (getD es i []) ≡ false
   pub long : (i : ℕ) → i < n → length (getD es i []) ≡ 128
-  pub bytes : (i j : ℕ) → i < n → getD (getD es i []) j 0 < 256
+  pub bytes : (i j : ℕ) → i < n → j < 128 → getD (getD es i []) j 0 < 256

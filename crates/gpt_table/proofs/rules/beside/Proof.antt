@@ -1,0 +1,26 @@
+use borrow.Author.Needs.{needs}
+use Rattle.gpt_table.proofs.rules.beside.Statement.{statement}
+use Rattle.gpt_table.proofs.rules.beside.Tie as tie
+use Rattle.gpt_table.proofs.rules.beside.Reads as reads
+use Rattle.gpt_table.proofs.rules.beside.Lts as lts
+use Rattle.gpt_table.proofs.rules.apart.Reads as apart-reads
+use Rattle.gpt_table.proofs.rules.differ.Reads as differ-reads
+
+-- src/rules.rt:81:9
+differ-requires : tie.Need-differ-requires
+differ-requires c κs = search needs
+
+-- src/rules.rt:82:9
+returns : tie.Need-returns
+returns c = ?
+
+-- src/rules.rt:84:5
+apart-requires : tie.Need-apart-requires
+apart-requires c κs = search needs
+
+-- src/rules.rt:78:1
+returns-2 : tie.Need-returns-2
+returns-2 c = ?
+
+pub beside-spec : {M : Type 1} → statement M
+beside-spec = tie.close (tie.spec differ-requires returns apart-requires returns-2)
