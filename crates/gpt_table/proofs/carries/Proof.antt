@@ -1,3 +1,6 @@
+use Rattle.gpt_table.proofs.Entries.{carries-no, carries-same}
+use Rattle.octets.specs.Bytes.{part}
+use mathlib.Core.Path.{sym, _∙_}
 use borrow.Author.Needs.{needs}
 use Rattle.gpt_table.proofs.carries.Statement.{statement}
 use Rattle.gpt_table.proofs.carries.Tie as tie
@@ -12,7 +15,7 @@ is-zero-requires c κs = search needs
 
 -- src/lib.rt:56:9
 returns : tie.Need-returns
-returns c = ?
+returns c = carries-no _ _ (sym (c .before .is-zero .ensures) ∙ c .if1 .taken)
 
 -- src/lib.rt:58:18
 sub-same : tie.Need-sub-same
@@ -32,7 +35,8 @@ same-requires c κs = search needs
 
 -- src/lib.rt:51:1
 returns-2 : tie.Need-returns-2
-returns-2 c = ?
+unfolding part
+returns-2 c = c .same .ensures ∙ carries-same _ _ (sym (c .before .before .before .is-zero .ensures) ∙ c .before .before .if1 .left)
 
 pub carries-spec : {M : Type 1} → statement M
 carries-spec =

@@ -1,3 +1,6 @@
+use native.Mathlib.Omega.{arith}
+use denote.Ref.{now}
+use Rattle.gpt_table.proofs.Entries.{entry-at}
 use borrow.Author.Needs.{needs}
 use Rattle.gpt_table.proofs.entry.Statement.{statement}
 use Rattle.gpt_table.proofs.entry.Tie as tie
@@ -26,7 +29,7 @@ part-result-end c = search needs
 
 -- src/lib.rt:20:1
 returns : tie.Need-returns
-returns c = ?
+returns c = let a = c .before .args in entry-at (now (a .t)) (a .i) (omega arith) (omega arith)
 
 pub entry-spec : {M : Type 1} → statement M
 entry-spec =

@@ -1,3 +1,6 @@
+use Rattle.gpt_table.proofs.Entries.{unused-is}
+use Rattle.octets.specs.Bytes.{isZero}
+use mathlib.Core.Path.{sym, ap, _∙_}
 use borrow.Author.Needs.{needs}
 use Rattle.gpt_table.proofs.is_unused.Statement.{statement}
 use Rattle.gpt_table.proofs.is_unused.Tie as tie
@@ -16,7 +19,7 @@ is-zero-requires c κs = search needs
 
 -- src/lib.rt:29:1
 returns : tie.Need-returns
-returns c = ?
+returns c = c .is-zero .ensures ∙ ap isZero (c .before .entry .ensures .0) ∙ sym (unused-is _)
 
 pub is-unused-spec : {M : Type 1} → statement M
 is-unused-spec = tie.close (tie.spec entry-requires is-zero-requires returns)

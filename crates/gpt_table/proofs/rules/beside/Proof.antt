@@ -1,3 +1,7 @@
+use Rattle.octets.proofs.Bools.{and-false-l}
+use Rattle.octets.specs.Tests.{_and_}
+use borrow.Author.Tests.{not-true, not-false}
+use mathlib.Core.Path.{sym, _∙_}
 use borrow.Author.Needs.{needs}
 use Rattle.gpt_table.proofs.rules.beside.Statement.{statement}
 use Rattle.gpt_table.proofs.rules.beside.Tie as tie
@@ -12,7 +16,7 @@ differ-requires c κs = search needs
 
 -- src/rules.rt:82:9
 returns : tie.Need-returns
-returns c = ?
+returns c = sym (and-false-l _ _ (sym (c .before .differ .ensures) ∙ not-true _ (c .if1 .taken)))
 
 -- src/rules.rt:84:5
 apart-requires : tie.Need-apart-requires
@@ -20,7 +24,8 @@ apart-requires c κs = search needs
 
 -- src/rules.rt:78:1
 returns-2 : tie.Need-returns-2
-returns-2 c = ?
+unfolding _and_
+returns-2 c = c .apart .ensures ∙ sym (rw (sym (c .before .before .differ .ensures) ∙ not-false _ (c .before .if1 .left)))
 
 pub beside-spec : {M : Type 1} → statement M
 beside-spec = tie.close (tie.spec differ-requires returns apart-requires returns-2)
