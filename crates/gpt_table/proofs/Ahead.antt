@@ -16,7 +16,9 @@ use Rattle.octets.proofs.Bools.{bool-cases, clash}
 use Rattle.octets.proofs.Tests.{any-make, any-false}
 use Rattle.gpt_model.specs.Ranges.{Slot, vacant, spans, inside, lies, free, allFrom, roomAt}
 use Rattle.gpt_model.proofs.Room.{Room, inside-make, inside-get, room-get, room-make}
-use Rattle.gpt_table.specs.Gaps.{Lower, Full, Clear}
+use Rattle.gpt_table.specs.Gaps.{Lower, Full, Clear, Stands}
+use Rattle.gpt_table.specs.declared.room.Ahead.{Ahead}
+use Rattle.gpt_table.specs.declared.room.Ahead.the-variants.{Taken, Gap}
 
 -- ---- one range
 
@@ -110,6 +112,15 @@ seen-end {s} {a} {last} {g} {i} h p =
       free = λ c u v. any-false (inside c) s vacant (λ k z. p .clear k (omega arith) c u v);
       stop = p .stop;
     }
+
+-- ---- the two answers
+
+module _ (s : List Slot) (a last : ℕ) {r : Ahead} (w : Stands s a last r) where
+  pub taken-of : {x : ℕ} → r ≡ Taken x → Full s a x
+  taken-of e = subst (λ (q : Ahead). Stands s a last q) e w
+
+  pub gap-of : {g : ℕ} → r ≡ Gap g → Clear s a last g
+  gap-of e = subst (λ (q : Ahead). Stands s a last q) e w
 
 -- ---- room at a
 

@@ -8,14 +8,14 @@ use native.Mathlib.Nat.{not-suc-le-zero, le-of-suc-le-suc}
 use native.Mathlib.Numerals.{add-one}
 use native.Mathlib.Omega.{arith}
 use lib.ListN.{length, getD, set, take, drop, length-append, length-map, length-set, List·getD-map}
-use lib.Seq.{take-suc, take-suc-set, take-all, getD-take, ext-getD}
+use lib.Seq.{take-suc, take-suc-set, take-all, getD-take, ext-getD, set-out}
 use Rattle.octets.specs.Tests.{_or_, any}
 use Rattle.octets.specs.Bytes.{field}
 use Rattle.octets.proofs.Bools.{bool-cases}
 use Rattle.gpt_model.specs.Ranges.{Slot, vacant, spans, inside, lies, free}
-use Rattle.gpt_model.specs.Table.{unused, slotOf, firstOf, lastOf}
+use Rattle.gpt_model.specs.Table.{unused, slotOf, entries, slots}
 use Rattle.gpt_model.proofs.Walk.{getD-map}
-use Rattle.gpt_model.proofs.Entries.{zero-unused, slot-unused, slot-used}
+use Rattle.gpt_model.proofs.Entries.{map-set, zero-unused, slot-unused, slot-used, length-slots}
 use Rattle.gpt_table.specs.Decoded.{used, Decoded, ranges}
 
 -- ---- the used ones of a list
@@ -155,6 +155,9 @@ getD-ranges f l zero i h = absurd (not-suc-le-zero h)
 getD-ranges f l (suc n) zero h = refl
 getD-ranges f l (suc n) (suc i) h = getD-ranges (drop 1 f) (drop 1 l) n i (le-of-suc-le-suc h) ∙ ap₂ spans (getD-tail f i) (getD-tail l i)
 
+slot-nil : slotOf [] ≡ vacant
+slot-nil = slot-unused [] (zero-unused [] refl)
+
 ranges-slots : (es : List (List ℕ)) (f l : List ℕ) (n : ℕ) → Decoded es 32 f l n → ((i : ℕ) → i < n → unused (getD es i []) ≡ false)
     → ranges f l n ≡ map slotOf es
 ranges-slots es f l n d u =
@@ -165,7 +168,7 @@ ranges-slots es f l n d u =
     go : (i : ℕ) → i < n → getD (ranges f l n) i vacant ≡ getD (map slotOf es) i vacant
     go i h =
         getD-ranges f l n i h ∙ ap₂ spans (low-at d i h) (high-at d i h) ∙ sym (slot-used (getD es i []) (u i h))
-        ∙ sym (ap (getD (map slotOf es) i) (sym (slot-unused [] (zero-unused [] refl))) ∙ List·getD-map slotOf es i [])
+        ∙ sym (ap (getD (map slotOf es) i) (sym slot-nil) ∙ List·getD-map slotOf es i [])
 
 inside-none : (b : ℕ) → inside b vacant ≡ false
 unfolding inside
@@ -181,8 +184,16 @@ lies-used b (e ∷ es) = go (bool-cases (unused e)) (lies-used b es)
     go (inl q) ih = ap (λ (l : List (List ℕ)). lies (map slotOf l) b) (used-no e es q) ∙ ih ∙ sym (rw (slot-unused e q, inside-none b))
     go (inr q) ih = ap (λ (l : List (List ℕ)). lies (map slotOf l) b) (used-yes e es q) ∙ ap (λ (t : Bool). inside b (slotOf e) or t) ih
 
--- the ranges leave the same blocks free as the entries
-pub free-ranges : (es : List (List ℕ)) {f l : List ℕ} {n : ℕ} → Decoded (used es) 32 f l n → free (ranges f l n) ≡ free (map slotOf es)
+free-ranges : (es : List (List ℕ)) {f l : List ℕ} {n : ℕ} → Decoded (used es) 32 f l n → free (ranges f l n) ≡ free (map slotOf es)
 free-ranges es {f} {l} {n} d =
     let c = d .count in
     ap free (ranges-slots (used es) f l n d (λ i h. used-each (λ e. ℕ) es (λ j k. 0) i (omega arith) .0)) ∙ fun-ext (λ b. ap not (lies-used b es))
+
+-- the ranges leave the same blocks free as the table's slots, but slot `but`
+pub free-but : (t : List ℕ) (but : ℕ) {f l : List ℕ} {n : ℕ} → Decoded (used (set (entries t) but [])) 32 f l n
+    → free (ranges f l n) ≡ free (set (slots t) but vacant)
+free-but t but d =
+    free-ranges (set (entries t) but []) d ∙ ap free (map-set slotOf (entries t) but [] ∙ ap (set (slots t) but) slot-nil)
+
+pub free-all : (t : List ℕ) {f l : List ℕ} {n : ℕ} → Decoded (used (set (entries t) 128 [])) 32 f l n → free (ranges f l n) ≡ free (slots t)
+free-all t d = free-but t 128 d ∙ ap free (set-out (slots t) 128 vacant (omega (arith, length-slots t)))

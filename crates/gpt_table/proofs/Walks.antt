@@ -17,9 +17,9 @@ use Rattle.gpt_table.specs.declared.room.Free.{Free}
 -- ---- the same blocks are free
 
 module _ (s u : List Slot) (e : free s ≡ free u) (last : ℕ) where
-  pub room-same : (size a : ℕ) → roomAt s last size a ≡ roomAt u last size a
+  pub room-same : (size : ℕ) {a b : ℕ} → a ≡ b → roomAt s last size a ≡ roomAt u last size b
   unfolding roomAt
-  room-same size a = ap (λ (p : ℕ → Bool). leb (a + size) (suc last) and allFrom p a size) e
+  room-same size q = ap₂ (λ (p : ℕ → Bool) (x : ℕ). leb (x + size) (suc last) and allFrom p x size) e q
 
   module _ (first : ℕ) where
     pub place-same : (size : ℕ) → place s first last size ≡ place u first last size

@@ -5,7 +5,7 @@ ghost use mathlib.Core.Path.{_≡_};
 ghost use mathlib.Core.Bool.{true, false};
 ghost use Prim.Native.Nat.{ℕ, _+_, _-_, _≤_, _<_, max};
 ghost use lib.ListN.{length};
-ghost use Rattle.gpt_model.specs.Ranges.{spans, inside as insideOf, place};
+ghost use Rattle.gpt_model.specs.Ranges.{spans, inside as insideOf, roomAt, place};
 ghost use Rattle.gpt_model.specs.Table.{slots};
 ghost use Rattle.gpt_model.specs.Calls.{fitsAt};
 ghost use Rattle.gpt_table.specs.Decoded.{ranges};
@@ -152,22 +152,28 @@ pub fn free_counts(t: &[u8], first: Block, last: Block) -> Free
     tally(&f, &l, n, first.0, last.0)
 }
 
-// The partition of slot k, counted from 1, has room for that size from its first block on, its own range left out.
+fn fits(f: &[u64; 128], l: &[u64; 128], n: usize, a: u64, last: u64, size: u64) -> bool
+    requires { ⌜ (n ≤ 128) × (0 < size) × (last < 18446744073709551615) ⌝ }
+    ensures { λ r. ⌜ r ≡ roomAt (ranges (now (f .entry)) (now (l .entry)) n) last size a ⌝ }
+{
+    if last < a {
+        return false;
+    }
+    match look(f, l, n, a, last) {
+        Ahead::Taken(_) => false,
+        Ahead::Gap(g) => size <= g - a,
+    }
+}
+
+// From its first block on, the partition of slot k, counted from 1, has room for that size, its own range left out.
 pub fn fits_at(t: &[u8], k: usize, last: Block, size: u64) -> bool
     requires { ⌜ (1 ≤ k) × (k ≤ 128) × (length (now t) ≡ 16384) × (0 < size) × (last .0 < 18446744073709551615) ⌝ }
     ensures { λ r. ⌜ ((first : ℕ) → r ≡ fitsAt first (last .0) (now (t .entry)) k size) ⌝ }
 {
     let i = k - 1;
     let a = octets::load64(crate::entry(t, i), 32);
-    let b = last.0;
-    if b < a {
-        return false;
-    }
     let mut f = [0u64; 128];
     let mut l = [0u64; 128];
     let n = crate::decode(t, i, 32, &mut f, &mut l);
-    match look(&f, &l, n, a, b) {
-        Ahead::Taken(_) => false,
-        Ahead::Gap(g) => size <= g - a,
-    }
+    fits(&f, &l, n, a, last.0, size)
 }
