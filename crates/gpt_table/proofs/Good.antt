@@ -173,7 +173,7 @@ module _ (first last : ℕ) (t : List ℕ) where
   unfolding goodTable _and_
   good-pairs h = pairs-used (entries t) ∙ sym (rw h)
 
-pub all-in : (t : List ℕ) → set (entries t) 128 [] ≡ entries t
+all-in : (t : List ℕ) → set (entries t) 128 [] ≡ entries t
 all-in t = set-out (entries t) 128 [] (omega (arith, length-entries t))
 
 -- two decodings of a table's used entries
@@ -186,8 +186,11 @@ module _ (t : List ℕ) (size : length t ≡ 16384) (bytes : (j : ℕ) → getD 
       subst (λ (e : List ℕ). getD e j 0 < 256) (sym (chunk-part 128 128 i t h))
       (subst (λ (b : ℕ). b < 256) (sym (getD-part t (i * 128) 128 j k)) (bytes (i * 128 + j)))
 
-  pub used-table : {f l u v : List ℕ} {n m : ℕ} → Decoded (used (entries t)) 32 f l n → Decoded (used (entries t)) 16 u v m → Used (used (entries t)) f l u v n
-  used-table {f} {l} {u} {v} {n} {m} d g =
+  pub used-table : {f l u v : List ℕ} {n m : ℕ} → Decoded (used (set (entries t) 128 [])) 32 f l n → Decoded (used (set (entries t) 128 [])) 16 u v m
+      → Used (used (entries t)) f l u v n
+  used-table {f} {l} {u} {v} {n} {m} d' g' =
+      let d = subst (λ (es : List (List ℕ)). Decoded (used es) 32 f l n) (all-in t) d' in
+      let g = subst (λ (es : List (List ℕ)). Decoded (used es) 16 u v m) (all-in t) g' in
       let c = d .count in
       let c' = g .count in
       let both = used-each (λ e. (length e ≡ 128) × ((j : ℕ) → j < 128 → getD e j 0 < 256)) (entries t)

@@ -152,7 +152,7 @@ pub fn free_counts(t: &[u8], first: Block, last: Block) -> Free
     tally(&f, &l, n, first.0, last.0)
 }
 
-fn fits(f: &[u64; 128], l: &[u64; 128], n: usize, a: u64, last: u64, size: u64) -> bool
+fn room_at(f: &[u64; 128], l: &[u64; 128], n: usize, a: u64, last: u64, size: u64) -> bool
     requires { ⌜ (n ≤ 128) × (0 < size) × (last < 18446744073709551615) ⌝ }
     ensures { λ r. ⌜ r ≡ roomAt (ranges (now (f .entry)) (now (l .entry)) n) last size a ⌝ }
 {
@@ -175,5 +175,5 @@ pub fn fits_at(t: &[u8], k: usize, last: Block, size: u64) -> bool
     let mut f = [0u64; 128];
     let mut l = [0u64; 128];
     let n = crate::decode(t, i, 32, &mut f, &mut l);
-    fits(&f, &l, n, a, last.0, size)
+    room_at(&f, &l, n, a, last.0, size)
 }
