@@ -1,7 +1,7 @@
 # make run     prove and build what the main job needs, and run it
 # make test    the gate: format, every proof, every test
-# make bench   the table of ratios
-.PHONY: run test bench host
+# make bench   the table of ratios, all rows measured in one run
+.PHONY: run test bench
 
 run:
 	rt check samples
@@ -10,12 +10,9 @@ run:
 test:
 	.ci/run
 
-host:
-	cargo build --release --manifest-path host/Cargo.toml
-
-bench: target/staticlib/libcapi.a target/staticlib/libbench_octets.a
+bench:
+	rt staticlib capi >/dev/null
+	rt staticlib bench_octets >/dev/null
 	tests/peer zlib zlib1g-dev
-	cargo run --release --manifest-path host/Cargo.toml --bin bench
-
-target/staticlib/lib%.a: crates/%/src/lib.rt
-	rt staticlib $*
+	tests/moves
+	cd host && cargo run --release --quiet -p bench

@@ -1,6 +1,7 @@
 pub mod Xor
 pub mod Steps
 pub mod Parts
+pub mod OwnField
 pub mod Bound
 pub mod Words
 pub mod Digits

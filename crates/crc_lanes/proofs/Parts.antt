@@ -1,16 +1,11 @@
--- Laws of the CRC over parts: lists one after the other, and a list that holds its own CRC in a field that counts as zero.
-use mathlib.Core.Path.{_≡_, refl, sym, ap, _∙_}
-use mathlib.Core.List.{List, [], _∷_, _++_, append-assoc}
+-- Laws of the CRC over parts, one after the other, and along a loop.
+use mathlib.Core.Path.{_≡_, refl, ap}
+use mathlib.Core.List.{List, [], _∷_, _++_}
 use Prim.Native.Nat.{ℕ, _+_, _≤_, _<_}
 use native.Mathlib.Numerals.{add-one}
-use native.Mathlib.Omega.{arith}
-use lib.ListN.{length, getD, take, drop, drop-of-length-le}
+use lib.ListN.{length, getD, drop, drop-of-length-le}
 use lib.Seq.{drop-cons}
 use lib.Bits.{bitXor}
-use Rattle.octets.specs.Bytes.{le, part, rest, put, zeros}
-use Rattle.octets.proofs.Numbers.{length-le}
-use Rattle.octets.proofs.Parts.{length-zeros}
-use Rattle.octets.proofs.Puts.{put-eq, put-over}
 use Rattle.crc_lanes.specs.Crc.{crcByte, crcUpdate, crc32}
 
 -- ---- one part after the other
@@ -27,30 +22,6 @@ unfolding crc32
 crc-parts x y z {a} {b} {c} p q r =
     let e : c ≡ crcUpdate 0xFFFF_FFFF (x ++ (y ++ z)) = cc (update-append 0xFFFF_FFFF x (y ++ z), update-append a y z) in
     ap (λ (n : ℕ). bitXor n 0xFFFF_FFFF) e
-
--- ---- a list h whose CRC covers h with the field of k bytes at `at` as zero
-
--- by three updates: what stands before the field, k zeros, what stands behind it
-pub crc-field-zero : (at k : ℕ) (h : List ℕ) → at + k ≤ length h → {a b c : ℕ}
-    → a ≡ crcUpdate 0xFFFF_FFFF (part 0 at h) → b ≡ crcUpdate a (zeros k) → c ≡ crcUpdate b (rest (at + k) h)
-    → bitXor c 0xFFFF_FFFF ≡ crc32 (put at (zeros k) h)
-unfolding part rest
-crc-field-zero at k h l p q r =
-    let n : at + length (zeros k) ≤ length h = omega (arith, length-zeros k) in
-    crc-parts (take at h) (zeros k) (drop (at + k) h) p q r
-    ∙ sym
-    (ap crc32
-    (put-eq at (zeros k) h n
-    ∙ ap (λ (m : ℕ). take at h ++ zeros k ++ drop (at + m) h) (length-zeros k)
-    ∙ append-assoc (take at h) (zeros k) (drop (at + k) h)))
-
--- what stands in the field does not matter
-pub crc-field-free : (at : ℕ) (vs h : List ℕ) → crc32 (put at (zeros (length vs)) (put at vs h)) ≡ crc32 (put at (zeros (length vs)) h)
-crc-field-free at vs h = ap crc32 (put-over vs (zeros (length vs)) h at (sym (length-zeros (length vs))))
-
--- so storing a number there, as the CRC itself, leaves the CRC unchanged
-pub crc-stored : (at k x : ℕ) (h : List ℕ) → crc32 (put at (zeros k) (put at (le k x) h)) ≡ crc32 (put at (zeros k) h)
-crc-stored at k x h = ap crc32 (put-over (le k x) (zeros k) h at (length-le k x ∙ sym (length-zeros k)))
 
 -- ---- along a loop: the byte at i, and the rest decides
 

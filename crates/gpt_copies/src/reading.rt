@@ -4,20 +4,11 @@ ghost use mathlib.Core.Bool.{false};
 ghost use Prim.Native.Nat.{_*_, _≤_};
 ghost use lib.ListN.{length};
 ghost use Rattle.octets.specs.Bytes.{same};
-ghost use Rattle.gpt_model.specs.Table.{tableBytes, goodTable};
 ghost use Rattle.gpt_model.specs.Disk.{disk512, primary, backup, lentBytes, entriesIn, goodCopy, stateOf, state as stateOn};
 ghost use Rattle.gpt_copies.specs.Sides.{sideOf};
 ghost use Rattle.gpt_copies.specs.States.{stateNumber, partOf, placeOf};
 use super::Side;
 use super::State;
-use gpt_table::Block;
-
-fn table_ok(t: &[u8], first: Block, last: Block) -> bool
-    requires { ⌜ length (now t) ≡ tableBytes ⌝ }
-    ensures { λ r. ⌜ r ≡ goodTable (first .0) (last .0) (now (t .entry)) ⌝ }
-{
-    true
-}
 
 fn state_of(first: bool, second: bool, equal: bool) -> State
     ensures { λ r. ⌜ stateNumber r ≡ stateOf first second equal ⌝ }
@@ -45,7 +36,7 @@ fn good_copy(b: &[u8], side: Side, n: u64) -> bool
     if !super::header::good(b, side, n, crc32::crc32(table)) {
         return false;
     }
-    table_ok(table, super::first_usable(), super::last_usable(n))
+    gpt_table::rules::table_ok(table, super::first_usable(), super::last_usable(n))
 }
 
 // Where the tables differ, each copy is judged by itself.
@@ -66,7 +57,7 @@ fn state_alike(head: &[u8], tail: &[u8], n: u64) -> State
     ensures { λ r. ⌜ stateNumber r ≡ stateOn disk512 n (now (head .entry)) (now (tail .entry)) ⌝ }
 {
     let table = super::entries_in(head, Side::Primary);
-    if !table_ok(table, super::first_usable(), super::last_usable(n)) {
+    if !gpt_table::rules::table_ok(table, super::first_usable(), super::last_usable(n)) {
         return State::Neither;
     }
     let crc = crc32::crc32(table);

@@ -7,3 +7,4 @@ pub mod Parts
 pub mod Puts
 pub mod Equal
 pub mod Chunks
+pub mod Filled

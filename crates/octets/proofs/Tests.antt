@@ -1,12 +1,13 @@
 -- Laws of tests over lists: at an index, from every index, and along a loop.
-use mathlib.Core.Path.{_≡_, refl, ap, _∙_}
+use mathlib.Core.Path.{_≡_, refl}
 use mathlib.Core.Logic.{_⊎_, inl, inr}
-use mathlib.Core.Bool.{Bool, true, false, true≢false, false≢true}
-use mathlib.Core.List.{List, [], _∷_}
-use Prim.Native.Nat.{ℕ, zero, suc, _+_, _≤_, _<_, zero-le, suc-le-suc}
+use mathlib.Core.Bool.{Bool, true, false, false≢true}
+use mathlib.Core.List.{List, [], _∷_, _++_, reverseAux, reverse}
+use Prim.Native.Nat.{ℕ, zero, suc, _+_, _≤_, _<_, suc-le-suc}
 use native.Mathlib.Nat.{le-of-suc-le-suc, not-suc-le-zero, zero-lt-suc}
 use native.Mathlib.Numerals.{add-one}
-use lib.ListN.{length, getD, drop, drop-of-length-le}
+use native.Mathlib.Omega.{arith}
+use lib.ListN.{length, getD, take, drop, drop-of-length-le}
 use lib.Seq.{drop-cons}
 use Rattle.octets.specs.Tests.{_and_, _or_, all, any, pairs, findIx}
 use Rattle.octets.proofs.Bools.{and-l, and-r, and-i, or-cases, or-il, or-ir, or-false-l, or-false-r, or-false-i, or-skip, bool-cases}
@@ -67,6 +68,29 @@ module _ {A : Type 0} where
       go (inl q) ih = rw (q, findIx) (zero-lt-suc _, q)
       go (inr q) ih = rw (q, findIx) (let r = ih (or-skip _ _ q e) in (suc-le-suc (r .0), r .1))
 
+  -- ---- `all` of lists made from lists that pass
+
+  pub all-append : (p : A → Bool) (xs ys : List A) → all p xs ≡ true → all p ys ≡ true → all p (xs ++ ys) ≡ true
+  all-append p [] ys e f = f
+  all-append p (x ∷ xs) ys e f = and-i _ _ (and-l _ _ e) (all-append p xs ys (and-r _ _ e) f)
+
+  pub all-take : (p : A → Bool) (k : ℕ) (xs : List A) → all p xs ≡ true → all p (take k xs) ≡ true
+  all-take p zero xs e = refl
+  all-take p (suc k) [] e = refl
+  all-take p (suc k) (x ∷ xs) e = and-i _ _ (and-l _ _ e) (all-take p k xs (and-r _ _ e))
+
+  pub all-drop : (p : A → Bool) (k : ℕ) (xs : List A) → all p xs ≡ true → all p (drop k xs) ≡ true
+  all-drop p zero xs e = e
+  all-drop p (suc k) [] e = refl
+  all-drop p (suc k) (x ∷ xs) e = all-drop p k xs (and-r _ _ e)
+
+  all-reverse-on : (p : A → Bool) (xs ys : List A) → all p xs ≡ true → all p ys ≡ true → all p (reverseAux xs ys) ≡ true
+  all-reverse-on p [] ys e f = f
+  all-reverse-on p (x ∷ xs) ys e f = all-reverse-on p xs (x ∷ ys) (and-r _ _ e) (and-i _ _ (and-l _ _ e) f)
+
+  pub all-reverse : (p : A → Bool) (xs : List A) → all p xs ≡ true → all p (reverse xs) ≡ true
+  all-reverse p xs e = all-reverse-on p xs [] e refl
+
   -- ---- a loop against `all`, `any` and `pairs`: the rest decides. On: the element at i is passed over; stop: it decides; done: nothing is left
 
   pub all-on : (p : A → Bool) (xs : List A) (d : A) (i : ℕ) → i < length xs → p (getD xs i d) ≡ true → all p (drop i xs) ≡ all p (drop (i + 1) xs)
@@ -103,3 +127,17 @@ module _ {A : Type 0} where
 
   pub pairs-done : (r : A → A → Bool) (xs : List A) (i : ℕ) → length xs ≤ i → pairs r (drop i xs) ≡ true
   pairs-done r xs i h = rw (drop-of-length-le xs {i = i} h)
+
+  -- a loop against `findIx`: i elements passed over, and what is found in the rest
+  pub findIx-on : (p : A → Bool) (xs : List A) (d : A) (i : ℕ) → i < length xs → p (getD xs i d) ≡ false
+      → findIx p xs ≡ i + findIx p (drop i xs) → findIx p xs ≡ i + 1 + findIx p (drop (i + 1) xs)
+  findIx-on p xs d i h e q =
+      let s : findIx p (drop i xs) ≡ suc (findIx p (drop (i + 1) xs)) = rw (drop-cons xs i d, e, findIx, add-one) in omega arith
+
+  pub findIx-stop : (p : A → Bool) (xs : List A) (d : A) (i : ℕ) → i < length xs → p (getD xs i d) ≡ true
+      → findIx p xs ≡ i + findIx p (drop i xs) → findIx p xs ≡ i
+  findIx-stop p xs d i h e q =
+      let s : findIx p (drop i xs) ≡ 0 = rw (drop-cons xs i d, e, findIx) in omega arith
+
+  pub findIx-done : (p : A → Bool) (xs : List A) (i : ℕ) → length xs ≤ i → findIx p xs ≡ i + findIx p (drop i xs) → findIx p xs ≡ i
+  findIx-done p xs i h q = let s : findIx p (drop i xs) ≡ 0 = rw (drop-of-length-le xs {i = i} h) in omega arith

@@ -1,0 +1,6 @@
+pub mod Entries
+pub mod Names
+pub mod Used
+pub mod Ahead
+pub mod Walks
+pub mod Good

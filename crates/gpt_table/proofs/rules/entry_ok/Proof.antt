@@ -1,0 +1,105 @@
+use Rattle.gpt_table.proofs.Good.{ok-unused, ok-type, ok-unique, ok-range}
+use Rattle.gpt_model.specs.Ranges.{bounded, spans}
+use Rattle.octets.specs.Bytes.{part}
+use denote.Ref.{now}
+use Prim.Native.Nat.{ℕ}
+use mathlib.Core.Path.{sym, ap₂, _∙_}
+use borrow.Author.Needs.{needs}
+use Rattle.gpt_table.proofs.rules.entry_ok.Statement.{statement}
+use Rattle.gpt_table.proofs.rules.entry_ok.Tie as tie
+use Rattle.gpt_table.proofs.rules.entry_ok.Reads as reads
+use Rattle.gpt_table.proofs.rules.entry_ok.Lts as lts
+use Rattle.gpt_table.proofs.rules.bounded.Reads as bounded-reads
+use Rattle.octets.proofs.is_zero.Reads as is-zero-reads
+use Rattle.octets.proofs.load64.Reads as load64-reads
+
+-- src/rules.rt:31:8
+is-zero-requires : tie.Need-is-zero-requires
+is-zero-requires c κs = search needs
+
+-- src/rules.rt:32:9
+returns : tie.Need-returns
+returns c = sym (ok-unused _ _ _ (sym (c .before .is-zero .ensures) ∙ c .if1 .taken))
+
+-- src/rules.rt:34:24
+sub-is-zero : tie.Need-sub-is-zero
+sub-is-zero c = search needs
+
+-- src/rules.rt:34:24
+part-is-zero-start : tie.Need-part-is-zero-start
+part-is-zero-start c = search needs
+
+-- src/rules.rt:34:24
+part-is-zero-end : tie.Need-part-is-zero-end
+part-is-zero-end c = search needs
+
+-- src/rules.rt:34:8
+is-zero-requires-2 : tie.Need-is-zero-requires-2
+is-zero-requires-2 c κs = search needs
+
+-- src/rules.rt:35:9
+returns-2 : tie.Need-returns-2
+unfolding part
+returns-2 c = sym (ok-type _ _ _ (sym (c .before .before .before .before .is-zero .ensures) ∙ c .before .before .before .if1 .left) (sym (c .before .is-zero2 .ensures) ∙ c .if2 .taken))
+
+-- src/rules.rt:37:24
+sub-is-zero-2 : tie.Need-sub-is-zero-2
+sub-is-zero-2 c = search needs
+
+-- src/rules.rt:37:24
+part-is-zero-start-2 : tie.Need-part-is-zero-start-2
+part-is-zero-start-2 c = search needs
+
+-- src/rules.rt:37:24
+part-is-zero-end-2 : tie.Need-part-is-zero-end-2
+part-is-zero-end-2 c = search needs
+
+-- src/rules.rt:37:8
+is-zero-requires-3 : tie.Need-is-zero-requires-3
+is-zero-requires-3 c κs = search needs
+
+-- src/rules.rt:38:9
+returns-3 : tie.Need-returns-3
+unfolding part
+returns-3 c = sym (ok-unique _ _ _ (sym (c .before .before .before .before .before .before .before .is-zero .ensures) ∙ c .before .before .before .before .before .before .if1 .left) (sym (c .before .before .before .before .is-zero2 .ensures) ∙ c .before .before .before .if2 .left) (sym (c .before .is-zero3 .ensures) ∙ c .if3 .taken))
+
+-- src/rules.rt:40:13
+load64-requires : tie.Need-load64-requires
+load64-requires c κs = search needs
+
+-- src/rules.rt:40:36
+load64-requires-2 : tie.Need-load64-requires-2
+load64-requires-2 c κs = search needs
+
+-- src/rules.rt:40:5
+bounded-requires : tie.Need-bounded-requires
+bounded-requires c κs = search needs
+
+-- src/rules.rt:27:1
+returns-4 : tie.Need-returns-4
+unfolding part
+returns-4 c =
+    let a = c .before .before .before .before .before .before .before .before .before .before .before .before .args in
+    c .bounded .ensures ∙ ap₂ (λ (x y : ℕ). bounded (a .first) (a .last) (spans x y)) (c .before .before .load64 .ensures) (c .before .load642 .ensures)
+    ∙ sym (ok-range (a .first) (a .last) (now (a .e)) (sym (c .before .before .before .before .before .before .before .before .before .before .is-zero .ensures) ∙ c .before .before .before .before .before .before .before .before .before .if1 .left) (sym (c .before .before .before .before .before .before .before .is-zero2 .ensures) ∙ c .before .before .before .before .before .before .if2 .left) (sym (c .before .before .before .before .is-zero3 .ensures) ∙ c .before .before .before .if3 .left))
+
+pub entry-ok-spec : {M : Type 1} → statement M
+entry-ok-spec =
+    tie.close
+    (tie.spec
+    is-zero-requires
+    returns
+    sub-is-zero
+    part-is-zero-start
+    part-is-zero-end
+    is-zero-requires-2
+    returns-2
+    sub-is-zero-2
+    part-is-zero-start-2
+    part-is-zero-end-2
+    is-zero-requires-3
+    returns-3
+    load64-requires
+    load64-requires-2
+    bounded-requires
+    returns-4)
