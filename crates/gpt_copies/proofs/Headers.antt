@@ -28,7 +28,7 @@ module _ (n : ℕ) (side : Side) (guid : List ℕ) (crc own : ℕ) (a b c d : Li
   unfolding header headerCrc headerWith
   header-written p q r s t es e =
       let w : c ≡ headerWith disk512 n side guid es 0 =
-          r es e ∙ ap (writeAll (drop 9 (headerFields disk512 n side guid es 0))) (q ∙ ap (writeAll (take 4 (drop 5 (headerFields disk512 n side [] [] 0)))) p) in
+      r es e ∙ ap (writeAll (drop 9 (headerFields disk512 n side guid es 0))) (q ∙ ap (writeAll (take 4 (drop 5 (headerFields disk512 n side [] [] 0)))) p) in
       t ∙ ap₂ (λ (x : ℕ) (l : List ℕ). put 16 (le 4 x) l) (s ∙ ap crc32 w) w ∙ sealed disk512 n side guid es _
 
 -- a number stored, one store after the other

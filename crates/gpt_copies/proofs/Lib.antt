@@ -2,3 +2,4 @@ pub mod Places
 pub mod Headers
 pub mod Writes
 pub mod Judged
+pub mod Used

@@ -102,7 +102,7 @@ pub crc-changed : (t e : List ℕ) (i x y z : ℕ) → length t ≡ 16384 → i 
 crc-changed t e i x y z lt hi le′ p q r =
     let swap : i * 128 ≡ 128 * i = omega arith in
     let whole : take (length t - (128 * i + 128)) (drop (128 * i + 128) t) ≡ drop (128 * i + 128) t =
-        take-all (length t - (128 * i + 128)) (drop (128 * i + 128) t) (omega (arith, length-drop (128 * i + 128) t)) in
+    take-all (length t - (128 * i + 128)) (drop (128 * i + 128) t) (omega (arith, length-drop (128 * i + 128) t)) in
     let whole0 : 128 * i - 0 ≡ 128 * i = omega arith in
     crc-parts (take (128 * i) t) e (drop (128 * i + 128) t) (p ∙ ap (λ (k : ℕ). crcUpdate 0xFFFF_FFFF (take k t)) whole0) q (r ∙ ap (crcUpdate y) whole)
     ∙ ap crc32
@@ -134,7 +134,7 @@ pub block0-put : (n : ℕ) (h h1 h2 h3 h4 : List ℕ) → h1 ≡ put 446 (0 ∷ 
 block0-put n h h1 h2 h3 h4 p q r s =
     let head : List ℕ = 0 ∷ 0 ∷ 2 ∷ 0 ∷ 0xEE ∷ 0xFF ∷ 0xFF ∷ 0xFF ∷ [] in
     let w : h3 ≡ put 446 (head ++ le 4 1 ++ le 4 (n - 1)) h =
-        then h (head ++ le 4 1) h2 (le 4 (n - 1)) h3 446 458 (then h head h1 (le 4 1) h2 446 454 p q refl) r (omega (arith, length-le 4 1)) in
+    then h (head ++ le 4 1) h2 (le 4 (n - 1)) h3 446 458 (then h head h1 (le 4 1) h2 446 454 p q refl) r (omega (arith, length-le 4 1)) in
     s ∙ ap (put 510 (0x55 ∷ 0xAA ∷ [])) (w ∙ ap (λ (v : List ℕ). put 446 v h) (append-assoc head (le 4 1) (le 4 (n - 1))))
 
 abbrev blank : ℕ → List ℕ

@@ -8,10 +8,10 @@ ghost use Rattle.crc_lanes.specs.Crc.{crc32 as crcOf};
 ghost use Rattle.gpt_model.specs.Table.{writeAll};
 ghost use Rattle.gpt_model.specs.Disk.{disk512, primary, headerBytes, lentBytes, entriesIn, headerFields, header};
 ghost use Rattle.gpt_copies.specs.Sides.{sideOf, goodHeader};
-use super::Side;
+use super::ENTRY;
 use super::HEADER;
 use super::SLOTS;
-use super::ENTRY;
+use super::Side;
 
 // The fields are those of `headerFields`, in its order. The first five: signature, revision, header size, the CRC as zero, reserved zero.
 fn start(out: &mut [u8])

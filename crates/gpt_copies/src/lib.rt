@@ -14,13 +14,22 @@ ghost use Rattle.gpt_copies.specs.Sides.{sideOf};
 ghost use Rattle.gpt_copies.specs.States.{behind};
 use gpt_table::Block;
 
-// Q1: A disk has 512-byte blocks. D1: first usable 34.
+// Q1: A disk has 512-byte blocks.
 pub const BLOCK: usize = 512;
+
+// D1: first usable 34
 const FIRST: u64 = 34;
-// D1: header size 92, count 128, entry size 128, all 16,384 entry bytes.
+
+// D1: header size 92
 pub const HEADER: usize = 92;
+
+// D1: count 128
 pub const SLOTS: usize = 128;
+
+// D1: entry size 128
 pub const ENTRY: usize = 128;
+
+// D1: all 16,384 entry bytes
 pub const TABLE: usize = SLOTS * ENTRY;
 
 pub enum Side {
@@ -46,6 +55,7 @@ pub fn other(side: Side) -> Side
     }
 }
 
+// D2: The primary header is block 1 with entries from 2; the backup header is block N−1 with entries from N−33.
 pub fn header_block(side: Side, n: u64) -> Block
     requires { ⌜ 1 ≤ n ⌝ }
     ensures { λ r. ⌜ r .0 ≡ headerBlock (sideOf side) n ⌝ }
@@ -79,7 +89,7 @@ pub fn last_usable(n: u64) -> Block
     Block(n - FIRST)
 }
 
-// Where the header stands in the head or the tail.
+// Where header and entries stand in the head or the tail.
 pub fn header_at(side: Side) -> usize
     ensures { λ r. ⌜ r ≡ headerAt disk512 (sideOf side) ⌝ }
 {
@@ -98,6 +108,7 @@ pub fn entries_at(side: Side) -> usize
     }
 }
 
+// Header, disk GUID and entries of a copy, in their place.
 pub fn header_in<'a>(b: &'a [u8], side: Side) -> &'a [u8]
     requires { ⌜ length (now b) ≡ lentBytes disk512 (sideOf side) ⌝ }
     ensures { λ r. ⌜ now r ≡ headerIn disk512 (sideOf side) (now (b .entry)) ⌝ }

@@ -63,7 +63,10 @@ fn state_alike(head: &[u8], tail: &[u8], n: u64) -> State
     let crc = crc32::crc32(table);
     let first = super::header::good(head, Side::Primary, n, crc);
     let second = super::header::good(tail, Side::Backup, n, crc);
-    let equal = octets::same(super::guid_in(head, Side::Primary), super::guid_in(tail, Side::Backup));
+    let equal = octets::same(
+        super::guid_in(head, Side::Primary),
+        super::guid_in(tail, Side::Backup),
+    );
     state_of(first, second, equal)
 }
 
@@ -71,7 +74,10 @@ pub fn state(head: &[u8], tail: &[u8], n: u64) -> State
     requires { ⌜ (length (now head) ≡ lentBytes disk512 primary) × (length (now tail) ≡ lentBytes disk512 backup) × (2 * disk512 .first ≤ n) ⌝ }
     ensures { λ r. ⌜ stateNumber r ≡ stateOn disk512 n (now (head .entry)) (now (tail .entry)) ⌝ }
 {
-    if octets::same(super::entries_in(head, Side::Primary), super::entries_in(tail, Side::Backup)) {
+    if octets::same(
+        super::entries_in(head, Side::Primary),
+        super::entries_in(tail, Side::Backup),
+    ) {
         return state_alike(head, tail, n);
     }
     state_apart(head, tail, n)

@@ -8,10 +8,10 @@ ghost use Rattle.crc_lanes.specs.Crc.{crc32 as crcOf};
 ghost use Rattle.gpt_model.specs.Table.{writeAll, entryBytes, slotCount, tableBytes};
 ghost use Rattle.gpt_model.specs.Disk.{disk512, primary, backup, lentBytes, headerAt, entriesAt, guidIn, entriesIn, header, withTable, withCopy, block0, freshHead, freshTail};
 ghost use Rattle.gpt_copies.specs.Sides.{sideOf};
-use super::Side;
 use super::BLOCK;
-use super::HEADER;
 use super::ENTRY;
+use super::HEADER;
+use super::Side;
 
 // The header of a copy whose table has that CRC, in its place.
 fn put_header(b: &mut [u8], side: Side, n: u64, guid: &[u8], crc: u32)
@@ -72,9 +72,9 @@ pub fn put_both(head: &mut [u8], tail: &mut [u8], n: u64, i: usize, e: &[u8])
     requires { ⌜ (length (now head) ≡ lentBytes disk512 primary) × (length (now tail) ≡ lentBytes disk512 backup) × (2 * disk512 .first ≤ n) × (i < slotCount) × (length (now e) ≡ entryBytes)
         × (entriesIn disk512 primary (now head) ≡ entriesIn disk512 backup (now tail)) ⌝ }
     ensures { λ _. ⌜ (now (head .exit) ≡ withTable disk512 n primary (guidIn disk512 primary (now (head .entry)))
-            (putChunk entryBytes i (now (e .entry)) (entriesIn disk512 primary (now (head .entry)))) (now (head .entry)))
+        (putChunk entryBytes i (now (e .entry)) (entriesIn disk512 primary (now (head .entry)))) (now (head .entry)))
         × (now (tail .exit) ≡ withTable disk512 n backup (guidIn disk512 backup (now (tail .entry)))
-            (putChunk entryBytes i (now (e .entry)) (entriesIn disk512 primary (now (head .entry)))) (now (tail .entry))) ⌝ }
+        (putChunk entryBytes i (now (e .entry)) (entriesIn disk512 primary (now (head .entry)))) (now (tail .entry))) ⌝ }
 {
     let crc = crc_with(super::entries_in(&head[..], Side::Primary), i, e);
     put_entry(head, Side::Primary, n, i, e, crc);
@@ -90,7 +90,7 @@ fn clear_header(b: &mut [u8], side: Side)
     octets::fill(&mut b[at..end], 0);
 }
 
-// A whole copy: table, header, a zero header tail.
+// D24: the other copy's 33 blocks from the good one, header tail zero.
 pub fn put_copy(b: &mut [u8], side: Side, n: u64, guid: &[u8], table: &[u8])
     requires { ⌜ (length (now b) ≡ lentBytes disk512 (sideOf side)) × (2 * disk512 .first ≤ n) × (length (now guid) ≡ 16) × (length (now table) ≡ tableBytes) ⌝ }
     ensures { λ _. ⌜ now (b .exit) ≡ withCopy disk512 n (sideOf side) (now (guid .entry)) (now (table .entry)) (now (b .entry)) ⌝ }
@@ -100,7 +100,7 @@ pub fn put_copy(b: &mut [u8], side: Side, n: u64, guid: &[u8], table: &[u8])
     put_header(b, side, n, guid, crc32::crc32(table));
 }
 
-// D13: block 0 of zeros gets its record and its mark.
+// D13: at 446 the record 00, 00 02 00, EE, FF FF FF, 1, N−1 (last two 32-bit), and 55 AA at 510.
 fn put_block0(head: &mut [u8], n: u64)
     requires { ⌜ (length (now head) ≡ lentBytes disk512 primary) × (2 * disk512 .first ≤ n) × (n ≤ 4294967296) ⌝ }
     ensures { λ _. ⌜ now (head .exit) ≡ writeAll (block0 n) (now (head .entry)) ⌝ }
@@ -111,6 +111,7 @@ fn put_block0(head: &mut [u8], n: u64)
     octets::copy(head, 510, b"\x55\xaa");
 }
 
+// D13: both copies with no entries and block 0. D14: All header tails are zero.
 pub fn fresh_head(head: &mut [u8], n: u64, guid: &[u8])
     requires { ⌜ (length (now head) ≡ lentBytes disk512 primary) × (2 * disk512 .first ≤ n) × (n ≤ 4294967296) × (length (now guid) ≡ 16) ⌝ }
     ensures { λ _. ⌜ now (head .exit) ≡ freshHead disk512 n (now (guid .entry)) (zeros tableBytes) ⌝ }

@@ -26,10 +26,11 @@ part-result-end c = omega (arith, entries-end (sideOf (c .before .before .args .
 
 returns : tie.Need-returns
 returns c =
-    let b = now (c .before .before .before .args .b) in
-    let k = entries-end (sideOf (c .before .before .before .args .side)) in
+    let top = c .before .before .before in
+    let b = now (top .args .b) in
+    let k = entries-end (sideOf (top .args .side)) in
     let w : c .before .entries-at .result + 16384 ≤ length b = omega arith in
-    (cut b _ _ _ _ (c .before .entries-at .ensures) refl, length-cut b (c .before .entries-at .result) _ _ refl w, part-behind (c .before .before .before .args .b .ptr) _ _ (c .before .entries-at .ensures))
+    (cut b _ _ _ _ (c .before .entries-at .ensures) refl, length-cut b (c .before .entries-at .result) _ _ refl w, part-behind (top .args .b .ptr) _ _ (c .before .entries-at .ensures))
 
 pub entries-in-spec : {M : Type 1} → statement M
 entries-in-spec =

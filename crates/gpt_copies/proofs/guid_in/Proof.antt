@@ -29,10 +29,11 @@ part-result-end c = omega (arith, header-end (sideOf (c .before .before .args .s
 
 returns : tie.Need-returns
 returns c =
-    let b = now (c .before .before .before .args .b) in
-    let k = header-end (sideOf (c .before .before .before .args .side)) in
+    let top = c .before .before .before in
+    let b = now (top .args .b) in
+    let k = header-end (sideOf (top .args .side)) in
     let w : c .before .header-at .result + 56 + 16 ≤ length b = omega arith in
-    (cut-guid b (sideOf (c .before .before .before .args .side)) _ _ (ap (λ (k : ℕ). k + 56) (c .before .header-at .ensures)) refl, length-cut b (c .before .header-at .result + 56) _ _ refl w)
+    (cut-guid b (sideOf (top .args .side)) _ _ (ap (λ (k : ℕ). k + 56) (c .before .header-at .ensures)) refl, length-cut b (c .before .header-at .result + 56) _ _ refl w)
 
 pub guid-in-spec : {M : Type 1} → statement M
 guid-in-spec =

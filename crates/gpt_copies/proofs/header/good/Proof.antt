@@ -29,11 +29,15 @@ same-requires c κs = search needs
 
 returns : tie.Need-returns
 returns c =
-    let b = now (c .before .before .before .before .before .before .before .before .args .b) in
-    let es = entriesIn disk512 (sideOf (c .before .before .before .before .before .before .before .before .args .side)) b in
+    let s1 = c .before .before in
+    let s2 = s1 .before .before in
+    let s3 = s2 .before in
+    let top = s3 .before .before .before in
+    let b = now (top .args .b) in
+    let es = entriesIn disk512 (sideOf (top .args .side)) b in
     c .same .ensures
-    ∙ ap₂ same (c .before .before .header-in .ensures)
-    (c .before .before .before .before .write .ensures es (c .before .before .before .before .before .before .before .before .pre .2) ∙ ap (λ (g : List ℕ). header disk512 (c .before .before .before .before .before .before .before .before .args .n) (sideOf (c .before .before .before .before .before .before .before .before .args .side)) g es) (c .before .before .before .before .before .guid-in .ensures .0))
+    ∙ ap₂ same (s1 .header-in .ensures)
+    (s2 .write .ensures es (top .pre .2) ∙ ap (λ (g : List ℕ). header disk512 (top .args .n) (sideOf (top .args .side)) g es) (s3 .guid-in .ensures .0))
 
 pub good-spec : {M : Type 1} → statement M
 good-spec =

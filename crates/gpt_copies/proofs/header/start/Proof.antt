@@ -35,7 +35,15 @@ same-length c = search needs
 
 returns : tie.Need-returns
 unfolding le
-returns c = c .before .before .store324 .ensures ∙ ap (put 20 _) (c .before .before .before .before .before .before .store323 .ensures ∙ ap (put 16 _) (c .before .before .before .before .before .before .before .before .before .before .store322 .ensures ∙ ap (put 12 _) (c .before .before .before .before .before .before .before .before .before .before .before .before .before .before .store32 .ensures ∙ ap (put 8 _) (c .before .before .before .before .before .before .before .before .before .before .before .before .before .before .before .before .before .before .copy .ensures ∙ ap (put 0 _) (c .before .before .before .before .before .before .before .before .before .before .before .before .before .before .before .before .before .before .before .before .before .before .before .fill .ensures ∙ filled (now (c .before .before .before .before .before .before .before .before .before .before .before .before .before .before .before .before .before .before .before .before .before .before .before .before .before .before .args .out)) 92 (c .before .before .before .before .before .before .before .before .before .before .before .before .before .before .before .before .before .before .before .before .before .before .before .before .before .before .pre))))))
+returns c =
+    let s1 = c .before .before in
+    let s2 = s1 .before .before .before .before in
+    let s3 = s2 .before .before .before .before in
+    let s4 = s3 .before .before .before .before in
+    let s5 = s4 .before .before .before .before in
+    let s6 = s5 .before .before .before .before .before in
+    let top = s6 .before .before .before in
+    s1 .store324 .ensures ∙ ap (put 20 _) (s2 .store323 .ensures ∙ ap (put 16 _) (s3 .store322 .ensures ∙ ap (put 12 _) (s4 .store32 .ensures ∙ ap (put 8 _) (s5 .copy .ensures ∙ ap (put 0 _) (s6 .fill .ensures ∙ filled (now (top .args .out)) 92 (top .pre))))))
 
 pub start-spec : {M : Type 1} → statement M
 start-spec =

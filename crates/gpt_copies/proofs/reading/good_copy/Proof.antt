@@ -17,10 +17,14 @@ crc32-requires : tie.Need-crc32-requires
 crc32-requires c κs = search needs
 
 good-requires : tie.Need-good-requires
-good-requires c κs = (c .before .before .before .pre .0, c .before .before .before .pre .1, c .crc32 .ensures ∙ ap crc32 (c .before .entries-in .ensures .0))
+good-requires c κs =
+    let top = c .before .before .before in
+    (top .pre .0, top .pre .1, c .crc32 .ensures ∙ ap crc32 (c .before .entries-in .ensures .0))
 
 returns : tie.Need-returns
-returns c = bad-header (c .before .before .before .before .before .args .n) (sideOf (c .before .before .before .before .before .args .side)) (now (c .before .before .before .before .before .args .b)) _ (c .before .good2 .ensures) (not-true _ (c .if1 .taken))
+returns c =
+    let top = c .before .before .before .before .before in
+    bad-header (top .args .n) (sideOf (top .args .side)) (now (top .args .b)) _ (c .before .good2 .ensures) (not-true _ (c .if1 .taken))
 
 first-usable-requires : tie.Need-first-usable-requires
 first-usable-requires c κs = search needs
@@ -33,8 +37,13 @@ table-ok-requires c κs = search needs
 
 returns-2 : tie.Need-returns-2
 returns-2 c =
-    let w = c .table-ok .ensures ∙ ap₂ (λ (f l : ℕ). goodTable f l (now (c .before .before .before .before .before .before .entries-in .result))) (c .before .before .first-usable .ensures) (c .before .last-usable .ensures) in
-    copy-table (c .before .before .before .before .before .before .before .before .args .n) (sideOf (c .before .before .before .before .before .before .before .before .args .side)) (now (c .before .before .before .before .before .before .before .before .args .b)) _ _ _ (c .before .before .before .before .before .before .entries-in .ensures .0) (c .before .before .before .before .good2 .ensures) w (not-false _ (c .before .before .before .if1 .left))
+    let s1 = c .before .before in
+    let s2 = s1 .before in
+    let s3 = s2 .before in
+    let s4 = s3 .before .before in
+    let top = s4 .before .before in
+    let w = c .table-ok .ensures ∙ ap₂ (λ (f l : ℕ). goodTable f l (now (s4 .entries-in .result))) (s1 .first-usable .ensures) (c .before .last-usable .ensures) in
+    copy-table (top .args .n) (sideOf (top .args .side)) (now (top .args .b)) _ _ _ (s4 .entries-in .ensures .0) (s3 .good2 .ensures) w (not-false _ (s2 .if1 .left))
 
 pub good-copy-spec : {M : Type 1} → statement M
 good-copy-spec =

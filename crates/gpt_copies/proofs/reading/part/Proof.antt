@@ -53,7 +53,9 @@ returns-4 : tie.Need-returns-4
 returns-4 c = rw (c .before .enum-told4 .given .1) (c .entries-in4 .ensures .0, c .entries-in4 .ensures .2)
 
 returns-5 : tie.Need-returns-5
-returns-5 c = rw (c .before .enum-told5 .given .1) (refl, part-behind (c .before .before .before .before .before .args .head .ptr) 0 0 refl)
+returns-5 c =
+    let top = c .before .before .before .before .before in
+    rw (c .before .enum-told5 .given .1) (refl, part-behind (top .args .head .ptr) 0 0 refl)
 
 pub part-spec : {M : Type 1} → statement M
 part-spec =

@@ -16,14 +16,20 @@ same-requires c κs = search needs
 
 state-alike-requires : tie.Need-state-alike-requires
 state-alike-requires c κs =
-    (c .before .before .before .before .before .before .pre .0, c .before .before .before .before .before .before .pre .1, c .before .before .before .before .before .before .pre .2, sym (c .before .before .before .entries-in .ensures .0) ∙ same-true _ _ (sym (c .before .same .ensures) ∙ c .if1 .taken) ∙ c .before .before .entries-in2 .ensures .0)
+    let s1 = c .before .before in
+    let s2 = s1 .before in
+    let top = s2 .before .before .before in
+    (top .pre .0, top .pre .1, top .pre .2, sym (s2 .entries-in .ensures .0) ∙ same-true _ _ (sym (c .before .same .ensures) ∙ c .if1 .taken) ∙ s1 .entries-in2 .ensures .0)
 
 returns : tie.Need-returns
 returns c = search needs
 
 state-apart-requires : tie.Need-state-apart-requires
 state-apart-requires c κs =
-    (c .before .before .before .before .before .before .pre .0, c .before .before .before .before .before .before .pre .1, c .before .before .before .before .before .before .pre .2, ap₂ same (sym (c .before .before .before .entries-in .ensures .0)) (sym (c .before .before .entries-in2 .ensures .0)) ∙ sym (c .before .same .ensures) ∙ c .if1 .left)
+    let s1 = c .before .before in
+    let s2 = s1 .before in
+    let top = s2 .before .before .before in
+    (top .pre .0, top .pre .1, top .pre .2, ap₂ same (sym (s2 .entries-in .ensures .0)) (sym (s1 .entries-in2 .ensures .0)) ∙ sym (c .before .same .ensures) ∙ c .if1 .left)
 
 returns-2 : tie.Need-returns-2
 returns-2 c = search needs

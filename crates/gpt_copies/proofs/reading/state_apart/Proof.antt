@@ -15,7 +15,10 @@ state-of-requires : tie.Need-state-of-requires
 state-of-requires c κs = search needs
 
 returns : tie.Need-returns
-returns c = c .state-of .ensures ∙ state-apart (c .before .before .before .before .before .args .n) (now (c .before .before .before .before .before .args .head)) (now (c .before .before .before .before .before .args .tail)) _ _ (c .before .before .good-copy .ensures) (c .before .good-copy2 .ensures) (c .before .before .before .before .before .pre .3)
+returns c =
+    let s1 = c .before .before in
+    let top = s1 .before .before .before in
+    c .state-of .ensures ∙ state-apart (top .args .n) (now (top .args .head)) (now (top .args .tail)) _ _ (s1 .good-copy .ensures) (c .before .good-copy2 .ensures) (top .pre .3)
 
 pub state-apart-spec : {M : Type 1} → statement M
 state-apart-spec =

@@ -29,7 +29,11 @@ same-length : tie.Need-same-length
 same-length c = search needs
 
 returns : tie.Need-returns
-returns c = block-cleared (sideOf (c .before .before .before .before .before .before .args .side)) (now (c .before .before .before .before .before .before .args .b)) (c .before .before .before .before .before .before .pre) _ _ (c .before .before .before .before .header-at .ensures) (c .before .before .fill .ensures)
+returns c =
+    let s1 = c .before .before in
+    let s2 = s1 .before .before in
+    let top = s2 .before .before in
+    block-cleared (sideOf (top .args .side)) (now (top .args .b)) (top .pre) _ _ (s2 .header-at .ensures) (s1 .fill .ensures)
 
 pub clear-header-spec : {M : Type 1} → statement M
 clear-header-spec =

@@ -38,7 +38,11 @@ update-requires-3 : tie.Need-update-requires-3
 update-requires-3 c κs = search needs
 
 returns : tie.Need-returns
-returns c = crc-changed (now (c .before .before .before .before .before .before .before .args .table)) (now (c .before .before .before .before .before .before .before .args .e)) (c .before .before .before .before .before .before .before .args .i) _ _ _ (c .before .before .before .before .before .before .before .pre .0) (c .before .before .before .before .before .before .before .pre .1) (c .before .before .before .before .before .before .before .pre .2) (c .before .before .before .update .ensures) (c .before .before .update2 .ensures) (c .update3 .ensures)
+returns c =
+    let s1 = c .before .before in
+    let s2 = s1 .before in
+    let top = s2 .before .before .before .before in
+    crc-changed (now (top .args .table)) (now (top .args .e)) (top .args .i) _ _ _ (top .pre .0) (top .pre .1) (top .pre .2) (s2 .update .ensures) (s1 .update2 .ensures) (c .update3 .ensures)
 
 pub crc-with-spec : {M : Type 1} → statement M
 crc-with-spec =

@@ -25,7 +25,14 @@ same-length : tie.Need-same-length
 same-length c = search needs
 
 returns : tie.Need-returns
-returns c = head-fresh (c .before .before .before .before .before .before .before .before .before .before .before .before .before .before .before .before .before .args .n) (now (c .before .before .before .before .before .before .before .before .before .before .before .before .before .before .before .before .before .args .guid)) _ _ _ _ _ (c .before .before .before .before .before .before .before .before .before .before .before .before .before .fill .ensures ∙ filled (now (c .before .before .before .before .before .before .before .before .before .before .before .before .before .before .before .before .before .args .head)) 17408 (c .before .before .before .before .before .before .before .before .before .before .before .before .before .before .before .before .before .pre .0)) (c .before .before .before .before .before .before .before .before .before .put-block0 .ensures) (c .before .before .before .before .before .entries-in .ensures .0) (c .before .before .before .before .crc32 .ensures) (c .before .before .put-header .ensures)
+returns c =
+    let s1 = c .before .before in
+    let s2 = s1 .before .before in
+    let s3 = s2 .before in
+    let s4 = s3 .before .before .before .before in
+    let s5 = s4 .before .before .before .before in
+    let top = s5 .before .before .before .before in
+    head-fresh (top .args .n) (now (top .args .guid)) _ _ _ _ _ (s5 .fill .ensures ∙ filled (now (top .args .head)) 17408 (top .pre .0)) (s4 .put-block0 .ensures) (s3 .entries-in .ensures .0) (s2 .crc32 .ensures) (s1 .put-header .ensures)
 
 pub fresh-head-spec : {M : Type 1} → statement M
 fresh-head-spec =

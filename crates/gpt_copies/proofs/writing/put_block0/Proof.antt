@@ -32,7 +32,13 @@ same-length : tie.Need-same-length
 same-length c = search needs
 
 returns : tie.Need-returns
-returns c = block0-put (c .before .before .before .before .before .before .before .before .before .before .before .before .before .before .before .before .before .before .before .args .n) (now (c .before .before .before .before .before .before .before .before .before .before .before .before .before .before .before .before .before .before .before .args .head)) _ _ _ _ (c .before .before .before .before .before .before .before .before .before .before .before .before .before .before .before .copy .ensures) (c .before .before .before .before .before .before .before .before .before .before .before .store32 .ensures) (c .before .before .before .before .before .before .before .store322 .ensures) (c .before .before .copy2 .ensures)
+returns c =
+    let s1 = c .before .before in
+    let s2 = s1 .before .before .before .before .before in
+    let s3 = s2 .before .before .before .before in
+    let s4 = s3 .before .before .before .before in
+    let top = s4 .before .before .before .before in
+    block0-put (top .args .n) (now (top .args .head)) _ _ _ _ (s4 .copy .ensures) (s3 .store32 .ensures) (s2 .store322 .ensures) (s1 .copy2 .ensures)
 
 pub put-block0-spec : {M : Type 1} → statement M
 put-block0-spec =

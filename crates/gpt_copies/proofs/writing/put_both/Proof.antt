@@ -17,12 +17,21 @@ crc-with-requires c κs = search needs
 
 put-entry-requires : tie.Need-put-entry-requires
 put-entry-requires c κs =
-    (c .before .before .before .before .before .before .before .pre .0, c .before .before .before .before .before .before .before .pre .2, c .before .before .before .before .before .before .before .pre .3, c .before .before .before .before .before .before .before .pre .4, c .before .crc-with .ensures ∙ ap (λ (es : List ℕ). crc32 (putChunk 128 (c .before .before .before .before .before .before .before .args .i) (now (c .before .before .before .before .before .before .before .args .e)) es)) (c .before .before .entries-in .ensures .0))
+    let s1 = c .before .before in
+    let top = s1 .before .before .before .before .before in
+    (top .pre .0, top .pre .2, top .pre .3, top .pre .4, c .before .crc-with .ensures ∙ ap (λ (es : List ℕ). crc32 (putChunk 128 (top .args .i) (now (top .args .e)) es)) (s1 .entries-in .ensures .0))
 
 put-entry-requires-2 : tie.Need-put-entry-requires-2
 put-entry-requires-2 c κs =
-    (c .before .before .before .before .before .before .before .before .before .before .before .pre .1, c .before .before .before .before .before .before .before .before .before .before .before .pre .2, c .before .before .before .before .before .before .before .before .before .before .before .pre .3, c .before .before .before .before .before .before .before .before .before .before .before .pre .4,
-      c .before .before .before .before .before .crc-with .ensures ∙ ap (λ (es : List ℕ). crc32 (putChunk 128 (c .before .before .before .before .before .before .before .before .before .before .before .args .i) (now (c .before .before .before .before .before .before .before .before .before .before .before .args .e)) es)) (c .before .before .before .before .before .before .entries-in .ensures .0 ∙ c .before .before .before .before .before .before .before .before .before .before .before .pre .5))
+    let s1 = c .before .before .before .before .before in
+    let s2 = s1 .before in
+    let top = s2 .before .before .before .before .before in (
+      top .pre .1,
+      top .pre .2,
+      top .pre .3,
+      top .pre .4,
+      s1 .crc-with .ensures ∙ ap (λ (es : List ℕ). crc32 (putChunk 128 (top .args .i) (now (top .args .e)) es)) (s2 .entries-in .ensures .0 ∙ top .pre .5),
+    )
 
 same-length : tie.Need-same-length
 same-length c = search needs
@@ -32,9 +41,12 @@ same-length-2 c = search needs
 
 returns : tie.Need-returns
 returns c =
-    let t = now (c .before .before .before .before .before .before .before .before .before .before .before .before .before .before .args .tail) in
-    let table : List ℕ → List ℕ = λ es. withTable disk512 (c .before .before .before .before .before .before .before .before .before .before .before .before .before .before .args .n) backup (guidIn disk512 backup t) (putChunk 128 (c .before .before .before .before .before .before .before .before .before .before .before .before .before .before .args .i) (now (c .before .before .before .before .before .before .before .before .before .before .before .before .before .before .args .e)) es) t in
-    (c .before .before .before .before .before .before .put-entry .ensures, c .before .before .put-entry2 .ensures ∙ ap table (sym (c .before .before .before .before .before .before .before .before .before .before .before .before .before .before .pre .5)))
+    let s1 = c .before .before in
+    let s2 = s1 .before .before .before .before in
+    let top = s2 .before .before .before .before .before .before .before .before in
+    let t = now (top .args .tail) in
+    let table : List ℕ → List ℕ = λ es. withTable disk512 (top .args .n) backup (guidIn disk512 backup t) (putChunk 128 (top .args .i) (now (top .args .e)) es) t in
+    (s2 .put-entry .ensures, s1 .put-entry2 .ensures ∙ ap table (sym (top .pre .5)))
 
 pub put-both-spec : {M : Type 1} → statement M
 put-both-spec =

@@ -14,7 +14,9 @@ entries-at-requires : tie.Need-entries-at-requires
 entries-at-requires c κs = search needs
 
 copy-requires : tie.Need-copy-requires
-copy-requires c κs = omega (arith, entries-end (sideOf (c .before .before .before .before .before .before .before .before .before .args .side)))
+copy-requires c κs =
+    let top = c .before .before .before .before .before .before .before .before .before in
+    omega (arith, entries-end (sideOf (top .args .side)))
 
 crc32-requires : tie.Need-crc32-requires
 crc32-requires c κs = search needs
@@ -26,7 +28,14 @@ same-length : tie.Need-same-length
 same-length c = search needs
 
 returns : tie.Need-returns
-returns c = copy-put (sideOf (c .before .before .before .before .before .before .before .before .before .before .before .before .before .before .before .before .before .args .side)) (now (c .before .before .before .before .before .before .before .before .before .before .before .before .before .before .before .before .before .args .b)) (c .before .before .before .before .before .before .before .before .before .before .before .before .before .before .before .before .before .pre .0) (c .before .before .before .before .before .before .before .before .before .before .before .before .before .before .before .before .before .args .n) (now (c .before .before .before .before .before .before .before .before .before .before .before .before .before .before .before .before .before .args .guid)) (now (c .before .before .before .before .before .before .before .before .before .before .before .before .before .before .before .before .before .args .table)) _ _ _ _ (c .before .before .before .before .before .before .before .before .before .before .before .before .clear-header .ensures) (c .before .before .before .before .before .before .before .before .entries-at .ensures) (c .before .before .before .before .before .before .before .copy .ensures) (c .before .before .put-header .ensures _ (c .before .before .before .crc32 .ensures))
+returns c =
+    let s1 = c .before .before in
+    let s2 = s1 .before in
+    let s3 = s2 .before .before .before .before in
+    let s4 = s3 .before in
+    let s5 = s4 .before .before .before .before in
+    let top = s5 .before .before .before .before .before in
+    copy-put (sideOf (top .args .side)) (now (top .args .b)) (top .pre .0) (top .args .n) (now (top .args .guid)) (now (top .args .table)) _ _ _ _ (s5 .clear-header .ensures) (s4 .entries-at .ensures) (s3 .copy .ensures) (s1 .put-header .ensures _ (s2 .crc32 .ensures))
 
 pub put-copy-spec : {M : Type 1} → statement M
 put-copy-spec =

@@ -16,10 +16,13 @@ same-length c = search needs
 
 returns : tie.Need-returns
 returns c =
-    let s = sideOf (c .before .before .before .before .before .before .before .before .before .before .args .side) in
-    let b = now (c .before .before .before .before .before .before .before .before .before .before .args .b) in
-    table-put s b (c .before .before .before .before .before .before .before .before .before .before .pre .0) (c .before .before .before .before .before .before .before .before .before .before .args .n) _ _ _ (length-changed s b (c .before .before .before .before .before .before .before .before .before .before .pre .0) (c .before .before .before .before .before .before .before .before .before .before .args .i) (now (c .before .before .before .before .before .before .before .before .before .before .args .e)) (c .before .before .before .before .before .before .before .before .before .before .pre .2) (c .before .before .before .before .before .before .before .before .before .before .pre .3)) (c .before .before .before .before .before .before .set-entry .ensures)
-    (c .before .before .renew-header .ensures _ (c .before .before .before .before .before .before .before .before .before .before .pre .4))
+    let s1 = c .before .before in
+    let s2 = s1 .before .before .before .before in
+    let top = s2 .before .before .before .before in
+    let s = sideOf (top .args .side) in
+    let b = now (top .args .b) in
+    table-put s b (top .pre .0) (top .args .n) _ _ _ (length-changed s b (top .pre .0) (top .args .i) (now (top .args .e)) (top .pre .2) (top .pre .3)) (s2 .set-entry .ensures)
+    (s1 .renew-header .ensures _ (top .pre .4))
 
 pub put-entry-spec : {M : Type 1} → statement M
 put-entry-spec = tie.close (tie.spec set-entry-requires renew-header-requires same-length returns)

@@ -11,7 +11,9 @@ header-at-requires : tie.Need-header-at-requires
 header-at-requires c κs = search needs
 
 add-end : tie.Need-add-end
-add-end c = omega (arith, header-end (sideOf (c .before .before .before .args .side)), lent-fits (sideOf (c .before .before .before .args .side)))
+add-end c =
+    let top = c .before .before .before in
+    omega (arith, header-end (sideOf (top .args .side)), lent-fits (sideOf (top .args .side)))
 
 sub-write : tie.Need-sub-write
 sub-write c = search needs
@@ -29,7 +31,11 @@ same-length : tie.Need-same-length
 same-length c = search needs
 
 returns : tie.Need-returns
-returns c = λ es p. header-back (sideOf (c .before .before .before .before .before .before .before .args .side)) (now (c .before .before .before .before .before .before .before .args .b)) (c .before .before .before .before .before .before .before .pre .0) (c .before .before .before .before .before .before .before .args .n) (now (c .before .before .before .before .before .before .before .args .guid)) es _ _ (c .before .before .before .before .header-at .ensures) (c .before .before .write .ensures es p)
+returns c =
+    let s1 = c .before .before in
+    let s2 = s1 .before .before in
+    let top = s2 .before .before .before in
+    λ es p. header-back (sideOf (top .args .side)) (now (top .args .b)) (top .pre .0) (top .args .n) (now (top .args .guid)) es _ _ (s2 .header-at .ensures) (s1 .write .ensures es p)
 
 pub put-header-spec : {M : Type 1} → statement M
 put-header-spec =

@@ -26,7 +26,11 @@ same-length c = search needs
 
 returns : tie.Need-returns
 returns c =
-    λ es p. header-renewed (sideOf (c .before .before .before .before .before .before .before .before .before .before .before .args .side)) (now (c .before .before .before .before .before .before .before .before .before .before .before .args .b)) (c .before .before .before .before .before .before .before .before .before .before .before .pre .0) (c .before .before .before .before .before .before .before .before .before .before .before .args .n) _ _ es _ _ refl (c .before .before .before .before .before .before .before .guid-in .ensures .0) (c .before .before .before .before .before .before .copy .ensures) (c .before .before .put-header .ensures es p)
+    let s1 = c .before .before in
+    let s2 = s1 .before .before .before .before in
+    let s3 = s2 .before in
+    let top = s3 .before .before .before .before in
+    λ es p. header-renewed (sideOf (top .args .side)) (now (top .args .b)) (top .pre .0) (top .args .n) _ _ es _ _ refl (s3 .guid-in .ensures .0) (s2 .copy .ensures) (s1 .put-header .ensures es p)
 
 pub renew-header-spec : {M : Type 1} → statement M
 renew-header-spec =

@@ -15,7 +15,9 @@ mul-at : tie.Need-mul-at
 mul-at c = search needs
 
 add-at : tie.Need-add-at
-add-at c = omega (arith, entries-end (sideOf (c .before .before .before .args .side)), lent-fits (sideOf (c .before .before .before .args .side)))
+add-at c =
+    let top = c .before .before .before in
+    omega (arith, entries-end (sideOf (top .args .side)), lent-fits (sideOf (top .args .side)))
 
 copy-requires : tie.Need-copy-requires
 copy-requires c κs = omega (arith, entries-end (sideOf (c .before .before .before .before .args .side)))
@@ -24,7 +26,11 @@ same-length : tie.Need-same-length
 same-length c = search needs
 
 returns : tie.Need-returns
-returns c = c .before .before .copy .ensures ∙ entry-put (sideOf (c .before .before .before .before .before .before .before .args .side)) (now (c .before .before .before .before .before .before .before .args .b)) (c .before .before .before .before .before .before .before .pre .0) (c .before .before .before .before .before .before .before .args .i) _ (now (c .before .before .before .before .before .before .before .args .e)) (c .before .before .before .before .before .before .before .pre .1) (c .before .before .before .before .before .before .before .pre .2) (c .before .before .before .before .entries-at .ensures)
+returns c =
+    let s1 = c .before .before in
+    let s2 = s1 .before .before in
+    let top = s2 .before .before .before in
+    s1 .copy .ensures ∙ entry-put (sideOf (top .args .side)) (now (top .args .b)) (top .pre .0) (top .args .i) _ (now (top .args .e)) (top .pre .1) (top .pre .2) (s2 .entries-at .ensures)
 
 pub set-entry-spec : {M : Type 1} → statement M
 set-entry-spec =
