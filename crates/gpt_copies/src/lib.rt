@@ -57,7 +57,7 @@ pub fn other(side: Side) -> Side
 
 // D2: The primary header is block 1 with entries from 2; the backup header is block N−1 with entries from N−33.
 pub fn header_block(side: Side, n: u64) -> Block
-    requires { ⌜ 1 ≤ n ⌝ }
+    requires { ⌜ disk512 .first ≤ n ⌝ }
     ensures { λ r. ⌜ r .0 ≡ headerBlock (sideOf side) n ⌝ }
 {
     match side {
