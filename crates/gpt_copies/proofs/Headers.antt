@@ -1,6 +1,6 @@
 -- The header that the writer leaves is the model's.
 use mathlib.Core.Path.{_≡_, refl, sym, ap, ap₂, _∙_}
-use mathlib.Core.List.{List, [], _∷_}
+use mathlib.Core.List.{List, []}
 use Prim.Native.Nat.{ℕ}
 use lib.ListN.{length, take, drop, replicate}
 use Rattle.octets.specs.Tests.{_and_}
@@ -9,7 +9,7 @@ use Rattle.octets.proofs.Numbers.{length-le}
 use Rattle.octets.proofs.Puts.{put-over}
 use Rattle.crc_lanes.specs.Crc.{crc32}
 use Rattle.gpt_model.specs.Table.{writeAll}
-use Rattle.gpt_model.specs.Disk.{Shape, disk512, primary, lastUsable, Side, other, headerBlock, entriesBlock, headerFields, headerWith, headerCrc, header}
+use Rattle.gpt_model.specs.Disk.{Shape, disk512, Side, primary, headerFields, headerWith, headerCrc, header}
 use Rattle.gpt_model.proofs.Fields.{put-before}
 
 -- the header with a zero CRC, and then its CRC
@@ -35,10 +35,7 @@ module _ (n : ℕ) (side : Side) (guid : List ℕ) (crc own : ℕ) (a b c d : Li
 pub stored : (at k : ℕ) {x y : ℕ} {a b c : List ℕ} → b ≡ put at (le k x) a → x ≡ y → a ≡ c → b ≡ put at (le k y) c
 stored at k p e q = p ∙ ap₂ (λ (v : ℕ) (l : List ℕ). put at (le k v) l) e q
 
+-- a list filled with zeros
 pub filled : (xs : List ℕ) (k : ℕ) → length xs ≡ k → replicate (length xs) 0 ≡ zeros k
 unfolding zeros
 filled xs k e = ap (λ (m : ℕ). replicate m 0) e
-
-pub revision : le 4 0x10000 ≡ 0 ∷ 0 ∷ 1 ∷ 0 ∷ []
-unfolding le
-revision = refl

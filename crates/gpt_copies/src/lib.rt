@@ -6,7 +6,7 @@ pub mod reading;
 pub mod writing;
 
 ghost use mathlib.Core.Path.{_≡_};
-ghost use Prim.Native.Nat.{_*_, _≤_};
+ghost use Prim.Native.Nat.{_≤_};
 ghost use lib.ListN.{length};
 ghost use Rattle.gpt_model.specs.Table.{tableBytes};
 ghost use Rattle.gpt_model.specs.Disk.{disk512, lastUsable, other as otherSide, headerBlock, entriesBlock, lentBytes, headerAt, entriesAt, headerIn, guidIn, entriesIn};
