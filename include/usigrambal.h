@@ -17,7 +17,7 @@ extern "C" {
 #endif
 
 /* The CRC-32 of UEFI, zlib and gzip: reflected, polynomial 04C11DB7, all ones at the start, inverted at the end. */
-uint32_t usi_crc32(const uint8_t *data, size_t data_len);
+uint32_t usi_crc32(const uint8_t *bytes, size_t bytes_len);
 
 /* Reads a GUID text, 8-4-4-4-12 hex digits of either case, into the 16 bytes that a disk stores.
  * Refusals in order: 1 guid_len is not 16; 30 not a GUID text. On a refusal guid is as it was. */

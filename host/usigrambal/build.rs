@@ -1,30 +1,7 @@
-//! Links the proved library: libcapi.a in the repository's target/staticlib, or in the folder that
-//! USIGRAMBAL_LIB_DIR names.
+//! Links the proved library.
 
-use std::env;
-use std::path::{Path, PathBuf};
-
-const ARCHIVE: &str = "libcapi.a";
+include!("../archive.rs");
 
 fn main() {
-    println!("cargo:rerun-if-env-changed=USIGRAMBAL_LIB_DIR");
-    let folder = folder();
-    let archive = folder.join(ARCHIVE);
-    println!("cargo:rerun-if-changed={}", archive.display());
-    if !archive.is_file() {
-        eprintln!(
-            "{} is missing: run `rt staticlib capi`, or name its folder in USIGRAMBAL_LIB_DIR",
-            archive.display()
-        );
-        std::process::exit(1);
-    }
-    println!("cargo:rustc-link-search=native={}", folder.display());
-    println!("cargo:rustc-link-lib=static=capi");
-}
-
-fn folder() -> PathBuf {
-    match env::var_os("USIGRAMBAL_LIB_DIR") {
-        Some(folder) => PathBuf::from(folder),
-        None => Path::new(env!("CARGO_MANIFEST_DIR")).join("../../target/staticlib"),
-    }
+    link_archive("capi");
 }

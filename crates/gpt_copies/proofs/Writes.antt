@@ -10,15 +10,14 @@ use lib.Seq.{take-all}
 use Rattle.octets.specs.Bytes.{le, part, put, zeros, putChunk}
 use Rattle.octets.proofs.Numbers.{length-le}
 use Rattle.octets.proofs.Parts.{length-part, length-zeros, part-zeros}
-use Rattle.octets.proofs.Puts.{then, put-all, put-eq, put-back, put-inside, put-own, part-put-out, part-put-below}
+use Rattle.octets.proofs.Puts.{then, put-all, put-eq, put-back, put-inside, put-self, part-put-out, part-put-below}
 use Rattle.octets.proofs.Chunks.{length-putChunk, putChunk-put}
 use Rattle.crc_lanes.specs.Crc.{crcUpdate, crc32}
 use Rattle.crc_lanes.proofs.Parts.{crc-parts}
 use Rattle.gpt_model.specs.Table.{writeAll}
 use Rattle.gpt_model.specs.Disk.{disk512, Side, primary, backup, lentBytes, headerAt, entriesAt, guidIn, entriesIn, header, withTable, withCopy, block0, freshHead, freshTail}
 use Rattle.gpt_model.proofs.Fields.{length-writeAll}
-use Rattle.gpt_model.proofs.Copies.{length-header, places-apart}
-use Rattle.gpt_model.proofs.States.{length-guid}
+use Rattle.gpt_model.proofs.Copies.{length-header, places-apart, length-guid}
 use Rattle.gpt_copies.proofs.Places.{header-end, block-end, entries-end, length-cut}
 use Rattle.gpt_copies.proofs.Headers.{filled}
 
@@ -51,7 +50,7 @@ module _ (side : Side) (b : List ℕ) (lb : length b ≡ lentBytes disk512 side)
       → b1 ≡ put (headerAt disk512 side) (header disk512 n side copied es) b
       → b1 ≡ put (headerAt disk512 side) (header disk512 n side (guidIn disk512 side b) es) b
   header-renewed n old copied es b1 g l p q r =
-      let w : length (guidIn disk512 side b) ≡ 16 = length-guid disk512 (omega arith) n side b lb in
+      let w : length (guidIn disk512 side b) ≡ 16 = length-guid disk512 (omega arith) side b lb in
       r ∙ ap (λ (x : List ℕ). put (headerAt disk512 side) (header disk512 n side x es) b) (q ∙ put-all old g (ap length p ∙ w ∙ sym l) ∙ p)
 
   -- ---- the table
@@ -120,7 +119,7 @@ fresh-put : (n : ℕ) (side : Side) (guid b : List ℕ) → length b ≡ lentByt
 unfolding withTable
 fresh-put n side guid b l e =
     ap (put (headerAt disk512 side) (header disk512 n side guid (zeros 16384)))
-    (sym (ap (λ (es : List ℕ). put (entriesAt disk512 side) es b) (sym e) ∙ put-own b (entriesAt disk512 side) 16384 (let h = entries-end side in omega arith)))
+    (sym (ap (λ (es : List ℕ). put (entriesAt disk512 side) es b) (sym e) ∙ put-self b (entriesAt disk512 side) 16384 (let h = entries-end side in omega arith)))
 
 abbrev record0 : ℕ → List ℕ
 record0 n = (0 ∷ 0 ∷ 2 ∷ 0 ∷ 0xEE ∷ 0xFF ∷ 0xFF ∷ 0xFF ∷ []) ++ (le 4 1 ++ le 4 (n - 1))

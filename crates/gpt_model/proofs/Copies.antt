@@ -1,23 +1,19 @@
 -- The header that is written, a copy that is written and read back, and what each state says of head and tail.
-use mathlib.Core.Path.{_≡_, refl, sym, ap, ap₂, subst, _∙_}
-use mathlib.Core.Logic.{_⊎_, inl, inr, _≢_}
-use mathlib.Core.Bool.{Bool, true, false}
-use mathlib.Core.List.{List, [], _∷_}
-use Prim.Native.Nat.{ℕ, suc, _+_, _-_, _*_, _≤_, _<_}
-use native.Mathlib.Decide.{ℕ-discrete}
+use mathlib.Core.Path.{_≡_, refl, ap, _∙_}
+use mathlib.Core.Logic.{_⊎_, inl, inr}
+use mathlib.Core.Bool.{true}
+use mathlib.Core.List.{List, []}
+use Prim.Native.Nat.{ℕ, suc, _+_, _≤_, _<_}
 use native.Mathlib.Omega.{arith}
-use lib.Dec.{eqb}
 use lib.ListN.{length, getD, drop}
-use borrow.Author.Tests.{ne-eqb}
 use Rattle.octets.specs.Tests.{_and_}
-use Rattle.octets.specs.Bytes.{le, part, put, zeros, same}
-use Rattle.octets.proofs.Bools.{and-l, and-r, and-i}
-use Rattle.octets.proofs.Numbers.{length-le}
+use Rattle.octets.specs.Bytes.{part, put, zeros}
+use Rattle.octets.proofs.Bools.{and-i}
 use Rattle.octets.proofs.Parts.{length-part, length-zeros}
 use Rattle.octets.proofs.Puts.{length-put, part-put-out}
-use Rattle.octets.proofs.Equal.{same-true, same-refl}
-use Rattle.gpt_model.specs.Table.{writeAll, goodTable}
-use Rattle.gpt_model.specs.Disk.{Shape, lastUsable, Side, primary, backup, lentBytes, headerAt, entriesAt, headerBytes, headerIn, guidIn, entriesIn, headerFields, headerWith, headerCrc, header, goodCopy, stateOf, sameCopies, state, tableOf, withTable, withCopy}
+use Rattle.octets.proofs.Equal.{same-refl}
+use Rattle.gpt_model.specs.Table.{goodTable}
+use Rattle.gpt_model.specs.Disk.{Shape, lastUsable, Side, primary, backup, lentBytes, headerAt, entriesAt, headerIn, guidIn, entriesIn, headerFields, headerWith, headerCrc, header, goodCopy, withTable}
 use Rattle.gpt_model.proofs.Fields.{part-put-at, length-writeAll, behind, field-reads}
 
 -- ---- the header
@@ -60,6 +56,13 @@ module _ (g : Shape) (wide : 92 ≤ g .block) where
   pub places-apart : (side : Side) → (headerAt g side + 92 ≤ entriesAt g side) ⊎ (entriesAt g side + 16384 ≤ headerAt g side)
   places-apart primary = inl (omega arith)
   places-apart backup = inr (omega arith)
+
+  pub length-guid : (side : Side) (b : List ℕ) → length b ≡ lentBytes g side → length (guidIn g side b) ≡ 16
+  length-guid side b l =
+      let i = header-inside side in length-part _ 56 16 (omega (arith, length-part b (headerAt g side) 92 (omega arith)))
+
+  pub length-entries : (side : Side) (b : List ℕ) → length b ≡ lentBytes g side → length (entriesIn g side b) ≡ 16384
+  length-entries side b l = let i = entries-inside side in length-part b _ 16384 (omega arith)
 
 -- ---- a copy that is written
 

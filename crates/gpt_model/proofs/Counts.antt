@@ -8,10 +8,11 @@ use native.Mathlib.Nat.{not-suc-le-zero, le-of-suc-le-suc, suc-add, zero-add, ad
 use native.Mathlib.Omega.{arith}
 use lib.ListN.{length, getD, set, replicate}
 use borrow.Author.Tests.{ltb-true, leb-true, le-leb}
-use Rattle.octets.specs.Tests.{_and_, _or_, all, any, pairs}
+use Rattle.octets.specs.Tests.{_or_, all, pairs}
 use Rattle.octets.proofs.Bools.{and-l, and-r, and-i, or-cases, bool-cases}
 use Rattle.octets.proofs.Tests.{all-get, any-get}
-use Rattle.gpt_model.specs.Ranges.{Slot, vacant, spans, sizeOf, bounded, apart, inside, lies, bit, countFrom, taken, freeCount}
+use Rattle.gpt_model.specs.Table.{Slot, vacant, spans, sizeOf, bounded, apart}
+use Rattle.gpt_model.specs.Ranges.{inside, lies, bit, countFrom, taken, freeCount}
 use Rattle.gpt_model.specs.Lists.{total}
 use Rattle.gpt_model.proofs.Room.{inside-make, inside-get, inside-vacant}
 

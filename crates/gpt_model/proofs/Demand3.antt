@@ -2,33 +2,32 @@
 use mathlib.Core.Path.{_≡_, refl, sym, ap, subst, _∙_}
 use mathlib.Core.Logic.{_⊎_, inl, inr, _≢_, _↔_}
 use mathlib.Core.Bool.{Bool, true, false, not}
-use mathlib.Core.List.{List, [], _∷_, _++_, map}
+use mathlib.Core.List.{List, [], _∷_, _++_}
 use mathlib.Core.Option.{Option, none, some}
-use Prim.Native.Nat.{ℕ, suc, _+_, _-_, _≤_, _<_}
+use Prim.Native.Nat.{ℕ, _+_, _-_, _≤_, _<_}
 use native.Mathlib.Decide.{decLt}
 use native.Mathlib.Omega.{arith}
-use lib.Dec.{eqb}
-use lib.ListN.{length, getD}
+use lib.ListN.{getD}
 use borrow.Author.Tests.{eqb-false, eq-eqb, leb-true}
-use Rattle.octets.specs.Tests.{_and_, _or_, any, pairs}
 use Rattle.octets.specs.Rows.{Row, row, pickRow, refusal}
-use Rattle.octets.specs.Bytes.{isZero, zeros}
+use Rattle.octets.specs.Bytes.{zeros}
 use Rattle.octets.proofs.Bools.{and-i, and-l, bool-cases, clash, option-cases}
 use Rattle.octets.proofs.Tests.{pairs-get}
 use Rattle.octets.proofs.Parts.{length-zeros}
-use Rattle.octets.proofs.Rows.{passes, pick-true, pick-false, refusal-append}
-use Rattle.gpt_model.specs.Ranges.{Slot, vacant, sizeOf, inside, apart, roomAt, place, taken, freeCount, longestFree}
-use Rattle.gpt_model.specs.Table.{slots, goodTable}
-use Rattle.gpt_model.specs.Disk.{Shape, disk512, lastUsable, usable, inRange, primary, backup, lentBytes, state, tableOf, freshHead, freshTail}
-use Rattle.gpt_model.specs.Calls.{Edit, add, Call, repair, edit, refused, accepted, edited, Out, out, decided, isNone, addRows, change, lengthsOk, readRows, openRows, rowsOf, made, step, formatRows, format}
-use Rattle.gpt_model.specs.Lists.{Run, next, run, answers, applied, begun, slotsOf, total, StartsAfresh}
-use Rattle.gpt_model.specs.Claims.{Passes, Sound, Formats, Demand3, Serves, NotEmpty, EditReadsBack, RepairReadsBack}
-use Rattle.gpt_model.proofs.Room.{Room, room-get, room-make, place-some, place-none, place-is-none}
+use Rattle.octets.proofs.Rows.{passes, pick-false, refusal-append}
+use Rattle.gpt_model.specs.Table.{vacant, apart, slots, goodTable}
+use Rattle.gpt_model.specs.Disk.{Shape, disk512, lastUsable, usable, inRange, state, tableOf, freshHead, freshTail}
+use Rattle.gpt_model.specs.Ranges.{inside, roomAt, place, longestFree}
+use Rattle.gpt_model.specs.Calls.{add, Call, repair, edit, refused, accepted, edited, Out, out, decided, isNone, addRows, change, openRows, rowsOf, step, formatRows, format}
+use Rattle.gpt_model.specs.Lists.{Run, run, answers, applied, begun, total, StartsAfresh}
+use Rattle.gpt_model.specs.Claims.{Passes, Sound, Formats, Demand3From, Demand3, Serves, NotEmpty, EditReadsBack, RepairReadsBack}
+use Rattle.gpt_model.proofs.Room.{room-get, room-make, place-some, place-none, place-is-none}
 use Rattle.gpt_model.proofs.Counts.{taken-total, apart-get, taken-free, total-zeros}
 use Rattle.gpt_model.proofs.Longest.{room-fits, fits-room}
 use Rattle.gpt_model.proofs.Entries.{length-slots, good-bounded, good-apart, empty-sizes, empty-good}
 use Rattle.gpt_model.proofs.States.{Holds, readable-good, fresh-holds, repair-holds}
-use Rattle.gpt_model.proofs.Steps.{step-refused, step-made, row1, row10, edit-made, repair-answer, not-ten, not-eleven, Agrees, Kept, keeps-all}
+use Rattle.gpt_model.proofs.Ways.{step-refused, step-made, repair-answer, not-ten, not-eleven, row1, row10}
+use Rattle.gpt_model.proofs.Steps.{edit-held, Agrees, Kept, keeps-all}
 
 -- ---- formatting
 
@@ -162,7 +161,8 @@ module _ (g : Shape) (n : ℕ) (r : Run) (v : Kept g n r) where
     room = room-iff;
   }
     where
-      same-slot : (b i j : ℕ) → i < 128 → j < 128 → inside b (getD (slots tab) i vacant) ≡ true → inside b (getD (slots tab) j vacant) ≡ true → Dec (i < j) → Dec (j < i) → i ≡ j
+      same-slot : (b i j : ℕ) → i < 128 → j < 128 → inside b (getD (slots tab) i vacant) ≡ true → inside b (getD (slots tab) j vacant) ≡ true
+          → Dec (i < j) → Dec (j < i) → i ≡ j
       same-slot b i j hi hj x y (yes a) d = absurd (apart-tab b i j a hj x y)
       same-slot b i j hi hj x y (no a) (yes d) = absurd (apart-tab b j i d hi y x)
       same-slot b i j hi hj x y (no a) (no d) = omega arith
@@ -179,14 +179,13 @@ module _ (g : Shape) (n : ℕ) (r : Run) (v : Kept g n r) where
 
 -- ---- the theorems
 
--- from every start afresh
-pub demand3-from : (g : Shape) → 92 ≤ g .block → (n : ℕ) (es : List ℕ) (r : Run) → StartsAfresh g n es r → (cs : List Call) → Sound g n (run g n cs r)
-demand3-from g wide n es r s cs = sound g n (run g n cs r) (keeps-all g wide n cs r (starts-kept g n es r s) .0)
+pub demand3From : Demand3From
+demand3From g wide n es r s cs = sound g n (run g n cs r) (keeps-all g wide n cs r (starts-kept g n es r s) .0)
 
 pub demand3 : Demand3
 demand3 g n guid h t f cs = (
   ap (λ (o : Out). o .answer) (formatted g n guid h t f),
-  demand3-from g (f .wide) n (zeros 16384) (begun (format g n guid h t)) (format-starts g n guid h t f) cs,
+  demand3From g (f .wide) n (zeros 16384) (begun (format g n guid h t)) (format-starts g n guid h t f) cs,
 )
 
 pub notEmpty : NotEmpty
@@ -204,7 +203,7 @@ usable512 n range = let w : 68 ≤ n = leb-true _ _ (and-l _ _ range) in omega a
 
 pub editReadsBack : EditReadsBack
 editReadsBack g n h t d wide e =
-    let w = edit-made g n h t d wide e .1 in
+    let w = edit-held g wide n h t d e in
     subst (λ (o : Out). (state g n (o .head) (o .tail) ≡ 1) × (tableOf g n (o .head) (o .tail) ≡ edited (g .first) (lastUsable g n) (tableOf g n h t) d))
     (sym (step-made g n h t (edit d) e)) (w .reads, w .table)
 

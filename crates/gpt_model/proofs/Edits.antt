@@ -1,8 +1,8 @@
 -- An edit that no row refuses: the one entry that it writes keeps the table's rules, and the ledger's change is the slot's.
 use mathlib.Core.Path.{_≡_, refl, sym, ap, ap₂, subst, _∙_}
 use mathlib.Core.Logic.{_≢_}
-use mathlib.Core.Bool.{Bool, true, false, not, true≢false}
-use mathlib.Core.List.{List, [], _∷_, map}
+use mathlib.Core.Bool.{true, false, not, true≢false}
+use mathlib.Core.List.{List, [], map}
 use mathlib.Core.Option.{Option, none, some}
 use Prim.Native.Nat.{ℕ, suc, _+_, _-_, _^_, _≤_, _<_}
 use native.Mathlib.Omega.{arith}
@@ -18,8 +18,7 @@ use Rattle.octets.proofs.Tests.{findIx-get, any-none}
 use Rattle.octets.proofs.Parts.{length-zeros}
 use Rattle.octets.proofs.Rows.{passes}
 use Rattle.octets.proofs.Chunks.{length-chunks, length-chunk}
-use Rattle.gpt_model.specs.Ranges.{Slot, vacant, spans, sizeOf, bounded, apart, place}
-use Rattle.gpt_model.specs.Table.{uniqueOf, firstOf, unused, slotOf, entryOk, entries, slots, goodTable, entryWith}
+use Rattle.gpt_model.specs.Table.{Slot, vacant, spans, sizeOf, bounded, apart, uniqueOf, firstOf, unused, slotOf, entryOk, entries, slots, goodTable, entryWith}
 use Rattle.gpt_model.specs.Calls.{Edit, add, delete, resize, rename, carries, isNone, valueOf, tableRows, lowestUnused, startOf, change, lengthsOf}
 use Rattle.gpt_model.specs.Lists.{Ledger, bookEdit}
 use Rattle.gpt_model.proofs.Room.{Room, room-get, place-some}
@@ -201,13 +200,13 @@ module _ (first last : ℕ) (small : last < 256 ^ 8) (es : List ℕ) (len : leng
           (subst (λ (s : Slot). bounded first last s ≡ true) (sym (other j ne)) (bounded-at j hj))))
 
   -- a new entry in an unused slot i, at a start s with room: for add, and for a start that is given
-  pub places : (i s : ℕ) (ty uq : List ℕ) (size attr : ℕ) (name : List ℕ)
+  pub places : (i s : ℕ) (type unique : List ℕ) (size attributes : ℕ) (name : List ℕ)
       → i < 128 → unused (entryAt es i) ≡ true → 0 < size → first ≤ s → Room (slots es) last size s
-      → length ty ≡ 16 → length uq ≡ 16 → length name ≡ 36 → isZero ty ≡ false → isZero uq ≡ false → any (carries uq) (entries es) ≡ false
-      → Fits first last es (add ty uq size attr name) (suc i) i (entryWith ty uq s (s + size - 1) attr name)
-  places i s ty uq size attr name hi u pos low room lt lu ln zt zu fresh = record {
+      → length type ≡ 16 → length unique ≡ 16 → length name ≡ 36 → isZero type ≡ false → isZero unique ≡ false → any (carries unique) (entries es) ≡ false
+      → Fits first last es (add type unique size attributes name) (suc i) i (entryWith type unique s (s + size - 1) attributes name)
+  places i s type unique size attributes name hi u pos low room lt lu ln zt zu fresh = record {
     index = hi;
-    len = length-new ty uq s l attr name;
+    len = length-new type unique s l attributes name;
     ok = used-ok first last e′ used′;
     beside = far;
     sizes = λ b q. ap₂ (set (b .sizes)) same-i (sym size-now);
@@ -221,7 +220,7 @@ module _ (first last : ℕ) (small : last < 256 ^ 8) (es : List ℕ) (len : leng
       l = s + size - 1
 
       e′ : List ℕ
-      e′ = entryWith ty uq s (s + size - 1) attr name
+      e′ = entryWith type unique s (s + size - 1) attributes name
 
       fs : s < 256 ^ 8
       fs = let a = room .0 in omega arith
@@ -231,41 +230,42 @@ module _ (first last : ℕ) (small : last < 256 ^ 8) (es : List ℕ) (len : leng
 
       used′ : Used first last e′
       used′ = record {
-        type = ap isZero (new-type ty uq s l attr name lt) ∙ zt;
-        unique = ap isZero (new-unique ty uq s l attr name lu) ∙ zu;
-        low = rw (new-first ty uq s l attr name fs) low;
-        mid = rw (new-first ty uq s l attr name fs, new-last ty uq s l attr name fl) (omega arith);
-        high = rw (new-last ty uq s l attr name fl) (let a = room .0 in omega arith);
+        type = ap isZero (new-type type unique s l attributes name lt) ∙ zt;
+        unique = ap isZero (new-unique type unique s l attributes name lu) ∙ zu;
+        low = rw (new-first type unique s l attributes name fs) low;
+        mid = rw (new-first type unique s l attributes name fs, new-last type unique s l attributes name fl) (omega arith);
+        high = rw (new-last type unique s l attributes name fl) (let a = room .0 in omega arith);
       }
 
       slot-now : slotOf e′ ≡ spans s l
-      slot-now = slot-used e′ (used-type e′ (used′ .type)) ∙ ap₂ spans (new-first ty uq s l attr name fs) (new-last ty uq s l attr name fl)
+      slot-now = slot-used e′ (used-type e′ (used′ .type)) ∙ ap₂ spans (new-first type unique s l attributes name fs) (new-last type unique s l attributes name fl)
 
       size-now : sizeOf (slotOf e′) ≡ size
       size-now = ap sizeOf slot-now ∙ omega arith
 
       far : (j : ℕ) → j < 128 → j ≢ i → Beside e′ (entryAt es j)
       far j hj ne a b = (
-        subst (λ (x : List ℕ). same x (uniqueOf (entryAt es j)) ≡ false) (sym (new-unique ty uq s l attr name lu))
-            (same-sym _ _ (and-skip _ _ (ap not b) (any-none (carries uq) (entries es) [] fresh j (omega (arith, length-chunks 128 128 es))))),
+        subst (λ (x : List ℕ). same x (uniqueOf (entryAt es j)) ≡ false) (sym (new-unique type unique s l attributes name lu))
+            (same-sym _ _ (and-skip _ _ (ap not b) (any-none (carries unique) (entries es) [] fresh j (omega (arith, length-chunks 128 128 es))))),
         rw slot-now
             (subst (λ (x : Slot). apart (spans s l) x ≡ true) (getD-slot es j)
             (room-apart first last (slots es) size s j pos room (omega (arith, length-slots es))
             (subst (λ (x : Slot). bounded first last x ≡ true) (sym (getD-slot es j)) (bounded-at j hj)))),
       )
 
-  adds : (ty uq : List ℕ) (size attr : ℕ) (name : List ℕ) → lengthsOf (add ty uq size attr name) ≡ true → refusal (tableRows first last es (add ty uq size attr name)) ≡ none
-      → FitsEdit first last es (add ty uq size attr name)
-  adds ty uq size attr name lens e =
-      let rows = tableRows first last es (add ty uq size attr name) in
+  adds : (type unique : List ℕ) (size attributes : ℕ) (name : List ℕ) → lengthsOf (add type unique size attributes name) ≡ true → refusal (tableRows first last es (add type unique size attributes name)) ≡ none
+      → FitsEdit first last es (add type unique size attributes name)
+  adds type unique size attributes name lens e =
+      let rows = tableRows first last es (add type unique size attributes name) in
       let p = place-some (slots es) first last size (startOf first last es size) (place-value _ (passes 25 rows e)) in
       let f = findIx-get unused (entries es) [] (not-f _ (passes 24 rows e)) in
-      places (lowestUnused first last es) (startOf first last es size) ty uq size attr name (omega (arith, f .0, length-chunks 128 128 es)) (f .1) (nonzero size (passes 20 rows e)) (p .0) (p .1)
+      places (lowestUnused first last es) (startOf first last es size) type unique size attributes name (omega (arith, f .0, length-chunks 128 128 es)) (f .1)
+      (nonzero size (passes 20 rows e)) (p .0) (p .1)
       (eqb-true _ _ (and-l _ _ (and-l _ _ lens))) (eqb-true _ _ (and-r _ _ (and-l _ _ lens))) (eqb-true _ _ (and-r _ _ lens))
       (passes 21 rows e) (or-false-l _ _ (passes 22 rows e)) (or-false-r _ _ (passes 22 rows e))
 
   pub fits : (d : Edit) → lengthsOf d ≡ true → refusal (tableRows first last es d) ≡ none → FitsEdit first last es d
-  fits (add ty uq size attr name) lens e = adds ty uq size attr name lens e
+  fits (add type unique size attributes name) lens e = adds type unique size attributes name lens e
   fits (delete k) lens e = deletes k e
   fits (resize k size) lens e = resizes k size e
   fits (rename k name) lens e = renames k name (eqb-true _ _ lens) e

@@ -1,7 +1,7 @@
 -- Entries, and a table with one entry replaced.
 use mathlib.Core.Path.{_≡_, refl, sym, ap, ap₂, subst, subst₂, _∙_}
 use mathlib.Core.Logic.{_⊎_, inl, inr, ⊎-elim, _≢_}
-use mathlib.Core.Bool.{Bool, true, false, not}
+use mathlib.Core.Bool.{true, false, not}
 use mathlib.Core.List.{List, [], _∷_, map}
 use Prim.Native.Nat.{ℕ, zero, suc, _+_, _-_, _≤_, _<_}
 use native.Mathlib.Nat.{le-refl}
@@ -17,8 +17,8 @@ use Rattle.octets.proofs.Bools.{and-l, and-r, and-i, or-cases, or-il, or-ir, or
 use Rattle.octets.proofs.Tests.{all-get, all-make, pairs-get, pairs-make, any-none}
 use Rattle.octets.proofs.Equal.{same-true, same-refl, zero-zeros}
 use Rattle.octets.proofs.Chunks.{length-chunks, chunks-put}
-use Rattle.gpt_model.specs.Ranges.{Slot, vacant, spans, sizeOf, bounded, apart, inside}
-use Rattle.gpt_model.specs.Table.{typeOf, uniqueOf, firstOf, lastOf, unused, slotOf, entryOk, beside, entries, slots, goodTable}
+use Rattle.gpt_model.specs.Table.{Slot, vacant, spans, sizeOf, bounded, apart, typeOf, uniqueOf, firstOf, lastOf, unused, slotOf, entryOk, beside, entries, slots, goodTable}
+use Rattle.gpt_model.specs.Ranges.{inside}
 use Rattle.gpt_model.proofs.Room.{Room, inside-make}
 use Rattle.gpt_model.proofs.Counts.{bounded-get, bounded-make}
 
@@ -164,7 +164,8 @@ beside-apart e d k = go (bool-cases (unused e)) (bool-cases (unused d))
     go (inr p) (inr q) = beside-get e d k p q .1
 
 -- a range whose blocks are all outside u shares none with u
-pub free-apart : (first last f l : ℕ) (u : Slot) → bounded first last u ≡ true → f ≤ l → ((b : ℕ) → f ≤ b → b ≤ l → inside b u ≡ false) → apart (spans f l) u ≡ true
+pub free-apart : (first last f l : ℕ) (u : Slot) → bounded first last u ≡ true → f ≤ l → ((b : ℕ) → f ≤ b → b ≤ l → inside b u ≡ false)
+    → apart (spans f l) u ≡ true
 unfolding apart
 free-apart first last f l vacant k h w = refl
 free-apart first last f l (spans g m) k h w = go (bool-cases (ltb l g)) (bool-cases (ltb m f))
@@ -214,7 +215,8 @@ module _ (first last : ℕ) (es : List ℕ) where
       go (yes x) = beside-get _ _ (pairs-get beside (entries es) [] (and-r _ _ k) i j x (omega (arith, length-chunks 128 128 es)))
       go (no x) = Beside-sym _ _ (beside-get _ _ (pairs-get beside (entries es) [] (and-r _ _ k) j i (omega arith) (omega (arith, length-chunks 128 128 es))))
 
-  pub good-make : ((i : ℕ) → i < 128 → entryOk first last (entryAt es i) ≡ true) → ((i j : ℕ) → i < 128 → j < 128 → i < j → Beside (entryAt es i) (entryAt es j)) → goodTable first last es ≡ true
+  pub good-make : ((i : ℕ) → i < 128 → entryOk first last (entryAt es i) ≡ true)
+      → ((i j : ℕ) → i < 128 → j < 128 → i < j → Beside (entryAt es i) (entryAt es j)) → goodTable first last es ≡ true
   unfolding goodTable
   good-make p q =
       let w : length (entries es) ≡ 128 = length-chunks 128 128 es in
@@ -229,7 +231,9 @@ module _ (first last : ℕ) (es : List ℕ) where
   pub good-apart : goodTable first last es ≡ true → pairs apart (slots es) ≡ true
   good-apart k =
       pairs-make apart (slots es) vacant
-      (λ i j h g. rw (getD-slot es i, getD-slot es j) (beside-apart (entryAt es i) (entryAt es j) (beside-make _ _ (good-beside k i j (omega (arith, length-slots es)) (omega (arith, length-slots es)) (λ e. omega arith)))))
+      (λ i j h g. rw (getD-slot es i, getD-slot es j)
+      (beside-apart (entryAt es i) (entryAt es j)
+      (beside-make _ _ (good-beside k i j (omega (arith, length-slots es)) (omega (arith, length-slots es)) (λ e. omega arith)))))
 
 -- one entry replaced
 module _ (first last : ℕ) (es : List ℕ) (size : length es ≡ 16384) (i : ℕ) (e : List ℕ) (hi : i < 128) (len : length e ≡ 128) where
@@ -245,7 +249,8 @@ module _ (first last : ℕ) (es : List ℕ) (size : length es ≡ 16384) (i : �
   pub at-other : (j : ℕ) → j ≢ i → getD (entries (putChunk 128 i e es)) j [] ≡ entryAt es j
   at-other j ne = ap (λ (l : List (List ℕ)). getD l j []) entries-put ∙ getD-set-other (entries es) i j e [] ne
 
-  pub good-put : goodTable first last es ≡ true → entryOk first last e ≡ true → ((j : ℕ) → j < 128 → j ≢ i → Beside e (entryAt es j)) → goodTable first last (putChunk 128 i e es) ≡ true
+  pub good-put : goodTable first last es ≡ true → entryOk first last e ≡ true → ((j : ℕ) → j < 128 → j ≢ i → Beside e (entryAt es j))
+      → goodTable first last (putChunk 128 i e es) ≡ true
   good-put k ok bs = good-make first last (putChunk 128 i e es) (λ j h. each j h (ℕ-discrete j i)) (λ a b h g l. two a b h g l (ℕ-discrete a i) (ℕ-discrete b i))
     where
       new : ℕ → List ℕ

@@ -1,4 +1,4 @@
-
+-- Laws that the crates above cite, and the theorems (Demand3, Touches, Samples).
 pub mod Room
 pub mod Counts
 pub mod Longest
@@ -8,6 +8,8 @@ pub mod Entries
 pub mod Edits
 pub mod Copies
 pub mod States
+pub mod Writes
+pub mod Ways
 pub mod Steps
 pub mod Demand3
 pub mod Touches

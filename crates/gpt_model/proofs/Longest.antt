@@ -1,5 +1,5 @@
 -- The longest run: along a walk from gap to gap, and against room.
-use mathlib.Core.Path.{_≡_, refl, sym, ap, ap₂, subst, _∙_}
+use mathlib.Core.Path.{_≡_, refl, sym, ap, ap₂, _∙_}
 use mathlib.Core.Logic.{_⊎_, inl, inr}
 use mathlib.Core.Bool.{Bool, true, false, not}
 use mathlib.Core.List.{List}
@@ -7,8 +7,9 @@ use Prim.Native.Nat.{ℕ, zero, suc, _+_, _-_, _≤_, _<_, max}
 use native.Mathlib.Nat.{suc-add, zero-add, add-zero}
 use native.Mathlib.Decide.{decLe, ℕ-discrete}
 use native.Mathlib.Omega.{arith}
-use Rattle.octets.proofs.Bools.{bool-cases, clash, not-t}
-use Rattle.gpt_model.specs.Ranges.{Slot, lies, free, runFrom, longest, longestFree}
+use Rattle.octets.proofs.Bools.{bool-cases, not-t}
+use Rattle.gpt_model.specs.Table.{Slot}
+use Rattle.gpt_model.specs.Ranges.{free, runFrom, longest, longestFree}
 use Rattle.gpt_model.proofs.Room.{Room}
 
 -- ---- runFrom

@@ -8,9 +8,9 @@ use Prim.Native.Nat.{ℕ, zero, suc, _+_, _-_, _≤_, _<_}
 use native.Mathlib.Decide.{decLt, ℕ-discrete}
 use native.Mathlib.Omega.{arith}
 use borrow.Author.Tests.{leb-true, le-leb}
-use Rattle.octets.specs.Tests.{_and_}
 use Rattle.octets.proofs.Bools.{and-l, and-r, and-i, bool-cases, clash, not-t, some-none, option-cases}
-use Rattle.gpt_model.specs.Ranges.{Slot, vacant, spans, inside, lies, free, allFrom, firstFrom, roomAt, place}
+use Rattle.gpt_model.specs.Table.{Slot, vacant, spans}
+use Rattle.gpt_model.specs.Ranges.{inside, lies, free, allFrom, firstFrom, roomAt, place}
 
 -- ---- a block in a range
 
@@ -79,7 +79,8 @@ firstFrom-some p lo (suc k) s e = go (bool-cases (p lo)) (firstFrom-some p (suc 
         let r = ih (sym (firstFrom-no p lo k q) ∙ e) in
         (omega arith, omega arith, r .2, λ b h g. low b h g r (ℕ-discrete b lo))
       where
-        low : (b : ℕ) → lo ≤ b → b < s → (suc lo ≤ s) × (s < suc lo + k) × (p s ≡ true) × ((b : ℕ) → suc lo ≤ b → b < s → p b ≡ false) → Dec (b ≡ lo) → p b ≡ false
+        low : (b : ℕ) → lo ≤ b → b < s → (suc lo ≤ s) × (s < suc lo + k) × (p s ≡ true) × ((b : ℕ) → suc lo ≤ b → b < s → p b ≡ false)
+            → Dec (b ≡ lo) → p b ≡ false
         low b h g r (yes u) = ap p u ∙ q
         low b h g r (no u) = r .3 b (omega arith) g
 

@@ -1,32 +1,89 @@
 -- Samples 1 to 5 over the definitions, on bytes: whatever disk GUID and whatever head and tail held before.
 -- A list of edits is computed on the table alone, with no CRC; `answers-table` carries the answers over to head and tail.
-use mathlib.Core.Path.{_≡_, refl, sym, ap, ap₂, subst, _∙_}
-use mathlib.Core.Bool.{Bool, true, false, not}
+use mathlib.Core.Path.{_≡_, refl, ap, ap₂, _∙_}
+use mathlib.Core.Bool.{Bool, true, not}
 use mathlib.Core.List.{List, [], _∷_, _++_, map}
 use mathlib.Core.Option.{Option, none, some}
 use Prim.Native.Nat.{ℕ, suc, _+_, _-_, _^_, _≤_, _<_}
 use native.Mathlib.Omega.{arith}
-use lib.Dec.{leb, eqb}
+use lib.Dec.{eqb}
 use lib.ListN.{length, getD, take, drop, replicate}
 use borrow.Author.Tests.{eq-eqb}
 use Rattle.octets.specs.Tests.{_and_, _or_, all}
-use Rattle.octets.specs.Rows.{Row, row, pickRow, refusal}
+use Rattle.octets.specs.Rows.{pickRow, refusal}
 use Rattle.octets.specs.Bytes.{le, unle, part, field, put, zeros, same, chunks, putChunk}
 use Rattle.octets.proofs.Bools.{and-l, and-r, and-i}
 use Rattle.octets.proofs.Numbers.{length-le, unle-le}
 use Rattle.octets.proofs.Parts.{length-zeros}
-use Rattle.octets.proofs.Rows.{pick-true, pick-false, refusal-append}
-use Rattle.gpt_model.specs.Ranges.{Slot, vacant, spans, inside, allFrom, roomAt, firstFrom, place, countFrom, taken, freeCount}
-use Rattle.gpt_model.specs.Table.{unused, slotOf, slots}
-use Rattle.gpt_model.specs.Disk.{Shape, disk512, lastUsable, inRange, Side, primary, backup, lentBytes, headerBlock, other, entriesBlock, block0, headerFields, headerIn, headerCrc, header, tableOf}
-use Rattle.gpt_model.specs.Calls.{Edit, add, delete, resize, Call, read, freeCounts, repair, edit, Answer, refused, accepted, Out, out, tableRows, change, edited, lengthsOf, lengthsOk, openRows, rowsOf, made, step, format}
+use Rattle.octets.proofs.Rows.{pick-true, pick-false}
+use Rattle.gpt_model.specs.Table.{Slot, vacant, spans, unused, slotOf, slots}
+use Rattle.gpt_model.specs.Disk.{Shape, disk512, lastUsable, inRange, Side, primary, backup, block0, headerFields, headerIn, headerCrc, header, tableOf, headerBlock, entriesBlock, lentBytes}
+use Rattle.gpt_model.specs.Ranges.{inside, allFrom, roomAt, firstFrom, place, countFrom, taken, freeCount}
+use Rattle.gpt_model.specs.Calls.{Edit, resize, Call, read, freeCounts, repair, edit, Answer, refused, accepted, Out, tableRows, change, lengthsOf, lengthsOk, rowsOf, step, format, add, delete}
 use Rattle.gpt_model.specs.Lists.{Ledger, book, Run, next, run, answers, tableNext, applied, begun, slotsOf}
-use Rattle.gpt_model.specs.Samples.{After, adding, edits4, lengthsIn, Sample1, Sample2, Sample3, Sample4, Sample5}
 use Rattle.gpt_model.specs.Claims.{Formats}
 use Rattle.gpt_model.proofs.Fields.{length-writeAll, behind}
 use Rattle.gpt_model.proofs.Copies.{header-reads, written-header}
-use Rattle.gpt_model.proofs.Steps.{step-refused, step-made, open-none, Kept, keeps, keeps-all}
+use Rattle.gpt_model.proofs.Ways.{step-refused, step-made, edit-decides, open-none}
+use Rattle.gpt_model.proofs.Steps.{Kept, keeps}
 use Rattle.gpt_model.proofs.Demand3.{format-refused, formatted, format-starts, starts-kept, notEmpty}
+
+-- ---- the statements
+
+-- what holds of the answers to a list of edits, and of what it leaves, on every freshly formatted disk of n blocks
+abbrev pub After : ℕ → List Edit → (List Answer → Run → Type 0) → Type 0
+After n ds P =
+    (guid h t : List ℕ) → Formats disk512 n guid h t
+    → let r = begun (format disk512 n guid h t) in P (answers disk512 n (map edit ds) r) (run disk512 n (map edit ds) r)
+
+-- add, with some type, unique GUID and name
+abbrev pub adding : ℕ → ℕ → Edit
+adding id size = add (replicate 16 7) (replicate 16 id) size 0 (replicate 36 0)
+
+abbrev pub lengthsIn : Call → Bool
+lengthsIn read = true
+lengthsIn freeCounts = true
+lengthsIn repair = true
+lengthsIn (edit d) = lengthsOf d
+
+-- S1: (1*) N 67: 2.
+abbrev pub Sample1 : Type 0
+Sample1 =
+    (guid h t : List ℕ) → length guid ≡ 16 → length h ≡ lentBytes disk512 primary → length t ≡ lentBytes disk512 backup
+    → (format disk512 67 guid h t .answer ≡ refused 2) × ((c : Call) → lengthsIn c ≡ true → step disk512 67 h t c .answer ≡ refused 2)
+
+-- S2: (2*) N 68: usable 34 to 34; add 1 gives 34 to 34, next add 25.
+abbrev pub Sample2 : Type 0
+Sample2 =
+    (disk512 .first ≡ 34) × (lastUsable disk512 68 ≡ 34)
+    × After 68 (adding 1 1 ∷ adding 2 1 ∷ []) (λ a r. (a ≡ accepted (1 ∷ 34 ∷ []) ∷ refused 25 ∷ []) × (take 1 (slotsOf disk512 68 r) ≡ spans 34 34 ∷ []))
+
+-- S3: (3*) N 100: last usable 66, backup header 99, entries from 67.
+abbrev pub Sample3 : Type 0
+Sample3 =
+    (lastUsable disk512 100 ≡ 66) × (headerBlock backup 100 ≡ 99) × (entriesBlock disk512 backup 100 ≡ 67)
+    × After 100 [] (λ a r.
+    (field 48 8 (headerIn disk512 primary (r .head)) ≡ 66) × (field 32 8 (headerIn disk512 primary (r .head)) ≡ 99)
+    × (field 48 8 (headerIn disk512 backup (r .tail)) ≡ 66) × (field 24 8 (headerIn disk512 backup (r .tail)) ≡ 99)
+    × (field 72 8 (headerIn disk512 backup (r .tail)) ≡ 67))
+
+-- S4: (4*) There: add 10 (34–43), add 5 (44–48), delete 1, add 11 (49–59, slot 1), add 10 (34–43, slot 3): 26 in partitions, 36 granted, 10 back, 7 free.
+abbrev pub edits4 : List Edit
+edits4 = adding 1 10 ∷ adding 2 5 ∷ delete 1 ∷ adding 3 11 ∷ adding 4 10 ∷ []
+
+abbrev pub Sample4 : Type 0
+Sample4 =
+    After 100 (take 2 edits4) (λ a r. take 2 (slotsOf disk512 100 r) ≡ spans 34 43 ∷ spans 44 48 ∷ [])
+    × After 100 edits4 (λ a r.
+    (a ≡ accepted (1 ∷ 34 ∷ []) ∷ accepted (2 ∷ 44 ∷ []) ∷ accepted [] ∷ accepted (1 ∷ 49 ∷ []) ∷ accepted (3 ∷ 34 ∷ []) ∷ [])
+    × (take 3 (slotsOf disk512 100 r) ≡ spans 49 59 ∷ spans 44 48 ∷ spans 34 43 ∷ [])
+    × (taken (slotsOf disk512 100 r) 34 66 ≡ 26) × (r .ledger .granted ≡ 36) × (r .ledger .back ≡ 10) × (freeCount (slotsOf disk512 100 r) 34 66 ≡ 7))
+
+-- S5: (5*) Then resizing slot 1 to 19 is 25, to 18 accepted, free 0.
+abbrev pub Sample5 : Type 0
+Sample5 =
+    After 100 (edits4 ++ (resize 1 19 ∷ resize 1 18 ∷ []))
+    (λ a r. (drop 5 a ≡ refused 25 ∷ accepted [] ∷ []) × (freeCount (slotsOf disk512 100 r) 34 66 ≡ 0))
 
 -- ---- answers on the table alone
 
@@ -48,7 +105,7 @@ module _ (g : Shape) (wide : 92 ≤ g .block) (n : ℕ) (range : inRange g n ≡
   answer-table r d v l = go (refusal (tableRows (g .first) (lastUsable g n) (tableOf g n (r .head) (r .tail)) d)) refl
     where
       rows : refusal (rowsOf g n (r .head) (r .tail) (edit d)) ≡ refusal (tableRows (g .first) (lastUsable g n) (tableOf g n (r .head) (r .tail)) d)
-      rows = refusal-append (openRows g n (r .head) (r .tail) d) (tableRows (g .first) (lastUsable g n) (tableOf g n (r .head) (r .tail)) d) (open-none g n (r .head) (r .tail) d (v .len-head) (v .len-tail) l range (v .reads))
+      rows = edit-decides g n (r .head) (r .tail) d (open-none g n (r .head) (r .tail) d (v .len-head) (v .len-tail) l range (v .reads))
 
       go : (q : Option ℕ) → refusal (tableRows (g .first) (lastUsable g n) (tableOf g n (r .head) (r .tail)) d) ≡ q
           → step g n (r .head) (r .tail) (edit d) .answer ≡ answerT (g .first) (lastUsable g n) (tableOf g n (r .head) (r .tail)) d
@@ -91,7 +148,7 @@ computed n ds replies l q guid h t f =
     record {
       replied = a;
       table = ap slots (notEmpty disk512 n guid h t f (map edit ds) .table ∙ ap (applied 34 (n - 34) (zeros 16384) (map edit ds)) a);
-      ledger = ledger-run disk512 n (map edit ds) r ∙ ap (bookAll (r .ledger) (map edit ds)) a
+      ledger = ledger-run disk512 n (map edit ds) r ∙ ap (bookAll (r .ledger) (map edit ds)) a;
     }
 
 -- ---- the samples
@@ -102,12 +159,13 @@ small = refl
 
 pub sample1 : Sample1
 sample1 guid h t lg lh lt = (
-    ap (λ (o : Out). o .answer) (format-refused disk512 67 guid h t 2 (rows (eqb (length guid) 16) _ (eq-eqb _ _ lg))),
-    λ c l. ap (λ (o : Out). o .answer) (step-refused disk512 67 h t c 2 (calls c l)),
-  )
+  ap (λ (o : Out). o .answer) (format-refused disk512 67 guid h t 2 (rows (eqb (length guid) 16) _ (eq-eqb _ _ lg))),
+  λ c l. ap (λ (o : Out). o .answer) (step-refused disk512 67 h t c 2 (calls c l)),
+)
   where
     rows : (b : Bool) (o : Option ℕ) → b ≡ true → pickRow (not (lengthsOk disk512 h t and b)) 1 (pickRow (not (inRange disk512 67)) 2 o) ≡ some 2
     rows b o l = pick-false _ _ _ (ap not (and-i _ _ (and-i _ _ (eq-eqb _ _ lh) (eq-eqb _ _ lt)) l)) ∙ pick-true _ _ _ small
+
     calls : (c : Call) → lengthsIn c ≡ true → refusal (rowsOf disk512 67 h t c) ≡ some 2
     calls read l = rows true _ refl
     calls freeCounts l = rows true _ refl
@@ -151,13 +209,18 @@ number side guid i at x h e b l s = ap unle (header-reads disk512 100 side guid 
 
 pub sample3 : Sample3
 unfolding _and_
-sample3 = (refl, refl, refl, λ guid h t f. (
+sample3 = (
+  refl,
+  refl,
+  refl,
+  λ guid h t f. (
     ap (field 48 8) (head-header 100 guid h t f) ∙ number primary guid 8 48 66 (omega arith) refl refl (omega arith) (omega arith),
     ap (field 32 8) (head-header 100 guid h t f) ∙ number primary guid 6 32 99 (omega arith) refl refl (omega arith) (omega arith),
     ap (field 48 8) (tail-header 100 guid h t f) ∙ number backup guid 8 48 66 (omega arith) refl refl (omega arith) (omega arith),
     ap (field 24 8) (tail-header 100 guid h t f) ∙ number backup guid 5 24 99 (omega arith) refl refl (omega arith) (omega arith),
     ap (field 72 8) (tail-header 100 guid h t f) ∙ number backup guid 10 72 67 (omega arith) refl refl (omega arith) (omega arith),
-  ))
+  ),
+)
 
 -- the replies to the first edits of sample 4, to all of them, and to those of sample 5 after them
 abbrev replies2 : List Answer
@@ -194,13 +257,18 @@ countsAre = (refl, refl, refl)
 
 pub sample4 : Sample4
 sample4 = (
-    λ guid h t f. let w = computed 100 (take 2 edits4) replies2 (lengthsAre .0) (answersAre .0) guid h t f in ap (take 2) (w .table ∙ slotsAre .0),
-    λ guid h t f.
+  λ guid h t f. let w = computed 100 (take 2 edits4) replies2 (lengthsAre .0) (answersAre .0) guid h t f in ap (take 2) (w .table ∙ slotsAre .0),
+  λ guid h t f.
       let w = computed 100 edits4 replies4 (lengthsAre .1) (answersAre .1) guid h t f in
-      let s = w .table ∙ slotsAre .1 in
-      (w .replied, ap (take 3) s, ap (λ (x : List Slot). taken x 34 66) s ∙ countsAre .0, ap (λ (l : Ledger). l .granted) (w .ledger), ap (λ (l : Ledger). l .back) (w .ledger),
-        ap (λ (x : List Slot). freeCount x 34 66) s ∙ countsAre .1),
-  )
+      let s = w .table ∙ slotsAre .1 in (
+        w .replied,
+        ap (take 3) s,
+        ap (λ (x : List Slot). taken x 34 66) s ∙ countsAre .0,
+        ap (λ (l : Ledger). l .granted) (w .ledger),
+        ap (λ (l : Ledger). l .back) (w .ledger),
+        ap (λ (x : List Slot). freeCount x 34 66) s ∙ countsAre .1,
+      ),
+)
 
 pub sample5 : Sample5
 sample5 guid h t f =

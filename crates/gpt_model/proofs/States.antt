@@ -1,25 +1,23 @@
 -- What each state says of head and tail, and what a write of both copies, a formatting and a repair leave: state 1 with the table that was written.
-use mathlib.Core.Path.{_≡_, refl, sym, ap, ap₂, subst, _∙_}
+use mathlib.Core.Path.{_≡_, refl, sym, subst, _∙_}
 use mathlib.Core.Logic.{_≢_}
 use mathlib.Core.Bool.{Bool, true, false}
 use mathlib.Core.List.{List}
-use Prim.Native.Nat.{ℕ, _+_, _≤_}
+use Prim.Native.Nat.{ℕ, _≤_}
 use native.Mathlib.Decide.{ℕ-discrete}
 use native.Mathlib.Omega.{arith}
 use lib.ListN.{length}
 use borrow.Author.Tests.{eq-eqb, ne-eqb}
-use Rattle.octets.specs.Tests.{_and_}
-use Rattle.octets.specs.Bytes.{part, put, zeros, same}
+use Rattle.octets.specs.Bytes.{put, zeros, same}
 use Rattle.octets.proofs.Bools.{and-l, and-r, and-i}
-use Rattle.octets.proofs.Parts.{length-part, length-zeros}
+use Rattle.octets.proofs.Parts.{length-zeros}
 use Rattle.octets.proofs.Puts.{length-put}
 use Rattle.octets.proofs.Equal.{same-true, same-refl}
-use Rattle.gpt_model.specs.Table.{writeAll, goodTable}
+use Rattle.gpt_model.specs.Table.{goodTable}
 use Rattle.gpt_model.specs.Disk.{Shape, lastUsable, Side, primary, backup, lentBytes, headerAt, headerIn, guidIn, entriesIn, header, goodCopy, stateOf, sameCopies, state, tableOf, withTable, withCopy, block0, freshHead, freshTail}
 use Rattle.gpt_model.specs.Calls.{repaired}
 use Rattle.gpt_model.proofs.Fields.{length-writeAll}
-use Rattle.gpt_model.proofs.Entries.{empty-good}
-use Rattle.gpt_model.proofs.Copies.{header-inside, entries-inside, length-withTable, written-entries, written-guid, written-good}
+use Rattle.gpt_model.proofs.Copies.{length-guid, length-entries, length-withTable, written-entries, written-guid, written-good}
 
 -- head and tail read as state 1 with the table es
 pub record Holds (g : Shape) (n : ℕ) (h t es : List ℕ) : Type 0 where
@@ -56,6 +54,18 @@ good-table g n side b k = and-r _ _ k
 pub good-header : (g : Shape) (n : ℕ) (side : Side) (b : List ℕ) → goodCopy g n side b ≡ true → headerIn g side b ≡ header g n side (guidIn g side b) (entriesIn g side b)
 unfolding goodCopy
 good-header g n side b k = same-true _ _ (and-l _ _ k)
+
+-- D9: Not judged on reading: .. block 0, bytes 92 to 511 of a header block. A copy is judged by its header's 92 bytes and its entries alone.
+pub good-by-parts : (g : Shape) (n : ℕ) (side : Side) (b b′ : List ℕ) → headerIn g side b ≡ headerIn g side b′ → entriesIn g side b ≡ entriesIn g side b′
+    → goodCopy g n side b ≡ goodCopy g n side b′
+unfolding goodCopy
+good-by-parts g n side b b′ p q = rw (p, q)
+
+pub state-by-parts : (g : Shape) (n : ℕ) (h t h′ t′ : List ℕ)
+    → headerIn g primary h ≡ headerIn g primary h′ → entriesIn g primary h ≡ entriesIn g primary h′
+    → headerIn g backup t ≡ headerIn g backup t′ → entriesIn g backup t ≡ entriesIn g backup t′ → state g n h t ≡ state g n h′ t′
+unfolding state
+state-by-parts g n h t h′ t′ p q r s = rw (good-by-parts g n primary h h′ p q, good-by-parts g n backup t t′ r s, p, q, r, s)
 
 module _ (g : Shape) (n : ℕ) (h t : List ℕ) where
   pub four : state g n h t ≡ 4 → goodCopy g n backup t ≡ true
@@ -95,10 +105,16 @@ module _ (g : Shape) (n : ℕ) (h t : List ℕ) where
       go (yes q) = rw (table-four q) (good-table g n backup t (four q))
       go (no q) = rw (table-primary q) (good-table g n primary h (not-four q e))
 
-  both-one : goodCopy g n primary h ≡ true → goodCopy g n backup t ≡ true → guidIn g primary h ≡ guidIn g backup t → entriesIn g primary h ≡ entriesIn g backup t → state g n h t ≡ 1
+  both-one : goodCopy g n primary h ≡ true → goodCopy g n backup t ≡ true → guidIn g primary h ≡ guidIn g backup t
+      → entriesIn g primary h ≡ entriesIn g backup t → state g n h t ≡ 1
   unfolding state
   both-one p q e f =
-      rw (p, q, and-i _ _ (subst (λ (x : List ℕ). same (guidIn g primary h) x ≡ true) e (same-refl _)) (subst (λ (x : List ℕ). same (entriesIn g primary h) x ≡ true) f (same-refl _)))
+      rw (
+        p,
+        q,
+        and-i _ _ (subst (λ (x : List ℕ). same (guidIn g primary h) x ≡ true) e (same-refl _))
+            (subst (λ (x : List ℕ). same (entriesIn g primary h) x ≡ true) f (same-refl _)),
+      )
 
 -- two good copies that say the same
 pub holds : (g : Shape) (n : ℕ) (h t guid es : List ℕ) → length h ≡ lentBytes g primary → length t ≡ lentBytes g backup
@@ -111,13 +127,6 @@ holds g n h t guid es lh lt p q a b c d =
 -- ---- writes
 
 module _ (g : Shape) (wide : 92 ≤ g .block) (n : ℕ) where
-  pub length-guid : (side : Side) (b : List ℕ) → length b ≡ lentBytes g side → length (guidIn g side b) ≡ 16
-  length-guid side b l =
-      let i = header-inside g wide side in length-part _ 56 16 (omega (arith, length-part b (headerAt g side) 92 (omega arith)))
-
-  pub length-entries : (side : Side) (b : List ℕ) → length b ≡ lentBytes g side → length (entriesIn g side b) ≡ 16384
-  length-entries side b l = let i = entries-inside g wide side in length-part b _ 16384 (omega arith)
-
   -- a table that keeps the rules, written into both copies under one disk GUID
   pub write-both : (guid es h t : List ℕ) → length guid ≡ 16 → length es ≡ 16384 → goodTable (g .first) (lastUsable g n) es ≡ true
       → length h ≡ lentBytes g primary → length t ≡ lentBytes g backup → Holds g n (withTable g n primary guid es h) (withTable g n backup guid es t) es
@@ -138,7 +147,7 @@ module _ (g : Shape) (wide : 92 ≤ g .block) (n : ℕ) where
         → Holds g n (withTable g n primary (guidIn g primary h) es h) (withTable g n backup (guidIn g backup t) es t) es
     edit-holds es le′ k e =
         subst (λ (x : List ℕ). Holds g n (withTable g n primary (guidIn g primary h) es h) (withTable g n backup x es t) es) (one-guid g n h t e)
-        (write-both (guidIn g primary h) es h t (length-guid primary h lh) le′ k lh lt)
+        (write-both (guidIn g primary h) es h t (length-guid g wide primary h lh) le′ k lh lt)
 
     length-cleared : (side : Side) (b : List ℕ) → length b ≡ lentBytes g side → length (put (headerAt g side) (zeros (g .block)) b) ≡ lentBytes g side
     length-cleared side b l = length-put _ _ _ ∙ l
@@ -146,16 +155,16 @@ module _ (g : Shape) (wide : 92 ≤ g .block) (n : ℕ) where
     -- one good copy, and the other written from it
     pub from-backup : goodCopy g n backup t ≡ true → Holds g n (withCopy g n primary (guidIn g backup t) (entriesIn g backup t) h) t (entriesIn g backup t)
     from-backup k =
-        let lg = length-guid backup t lt in
-        let le′ = length-entries backup t lt in
+        let lg = length-guid g wide backup t lt in
+        let le′ = length-entries g wide backup t lt in
         let lc = length-cleared primary h lh in
         holds g n _ t (guidIn g backup t) _ (length-withTable g wide n primary _ _ _ le′ lc) lt (written-good g wide n primary _ _ _ le′ lc lg (good-table g n backup t k)) k
         (written-guid g wide n primary _ _ _ le′ lc lg) refl (written-entries g wide n primary _ _ _ le′ lc) refl
 
     pub from-primary : goodCopy g n primary h ≡ true → Holds g n h (withCopy g n backup (guidIn g primary h) (entriesIn g primary h) t) (entriesIn g primary h)
     from-primary k =
-        let lg = length-guid primary h lh in
-        let le′ = length-entries primary h lh in
+        let lg = length-guid g wide primary h lh in
+        let le′ = length-entries g wide primary h lh in
         let lc = length-cleared backup t lt in
         holds g n h _ (guidIn g primary h) _ lh (length-withTable g wide n backup _ _ _ le′ lc) k (written-good g wide n backup _ _ _ le′ lc lg (good-table g n primary h k))
         refl (written-guid g wide n backup _ _ _ le′ lc lg) refl (written-entries g wide n backup _ _ _ le′ lc)

@@ -7,22 +7,23 @@ use Prim.Native.Nat.{ℕ, _+_, _*_, _≤_, _<_}
 use native.Mathlib.Omega.{arith}
 use lib.ListN.{length, getD, take, drop}
 use Rattle.octets.specs.Tests.{_and_}
-use Rattle.octets.specs.Rows.{refusal}
 use Rattle.octets.specs.Bytes.{le, part, put, zeros, putChunk}
 use Rattle.octets.proofs.Numbers.{length-le}
 use Rattle.octets.proofs.Parts.{length-part}
 use Rattle.octets.proofs.Puts.{length-put, put-over, put-inside, part-put-in, part-put-out, getD-put-out}
-use Rattle.octets.proofs.Chunks.{length-putChunk, putChunk-put}
+use Rattle.octets.proofs.Chunks.{length-putChunk}
 use Rattle.crc_lanes.specs.Crc.{crc32}
 use Rattle.gpt_model.specs.Table.{writeAll}
-use Rattle.gpt_model.specs.Disk.{Shape, lastUsable, Side, primary, backup, other, headerBlock, entriesBlock, lentBytes, headerAt, entriesAt, headerIn, guidIn, entriesIn, headerFields, headerWith, headerCrc, header, goodCopy, lent, state, tableOf, withTable}
-use Rattle.gpt_model.specs.Calls.{Edit, edit, Out, change, edited, lengthsOf, rowsOf, made, step}
+use Rattle.gpt_model.specs.Disk.{Shape, lastUsable, Side, primary, backup, lentBytes, headerAt, entriesAt, guidIn, entriesIn, headerFields, headerWith, headerCrc, header, goodCopy, lent, state, tableOf, withTable}
+use Rattle.gpt_model.specs.Calls.{edit, Out, change, lengthsOf, made}
 use Rattle.gpt_model.specs.Claims.{Outside, EditTouches}
 use Rattle.gpt_model.proofs.Fields.{put-before}
 use Rattle.gpt_model.proofs.Edits.{FitsEdit}
-use Rattle.gpt_model.proofs.Copies.{length-header, header-inside, entries-inside, places-apart, length-withTable}
-use Rattle.gpt_model.proofs.States.{good-header, one-good, one-primary, one-backup, length-entries}
-use Rattle.gpt_model.proofs.Steps.{step-made, row1, row11, open-read, edit-open, edit-made, length-edited}
+use Rattle.gpt_model.proofs.Copies.{header-inside, places-apart, length-entries, length-withTable}
+use Rattle.gpt_model.proofs.States.{good-header, one-good, one-primary, one-backup}
+use Rattle.gpt_model.proofs.Writes.{entry-written}
+use Rattle.gpt_model.proofs.Ways.{step-made, row1, row11, open-read, edit-open}
+use Rattle.gpt_model.proofs.Steps.{edit-fits}
 
 -- ---- the header of another table under the same disk GUID: fields 16 and 88 differ
 
@@ -54,15 +55,10 @@ two-fields u v b a k i j h p q =
     ∙ ap (put a (put i u (part a k c))) (put-inside v b a k j h q)
     ∙ put-inside u c a k i lc p
 
-module _ (g : Shape) (wide : 92 ≤ g .block) (n : ℕ) (side : Side) (b : List ℕ) (lb : length b ≡ lentBytes g side) (good : goodCopy g n side b ≡ true) (i : ℕ) (hi : i < 128) (e : List ℕ) (le′ : length e ≡ 128) where
+module _ (g : Shape) (wide : 92 ≤ g .block) (n : ℕ) (side : Side) (b : List ℕ) (lb : length b ≡ lentBytes g side) (good : goodCopy g n side b ≡ true)
+    (i : ℕ) (hi : i < 128) (e : List ℕ) (le′ : length e ≡ 128) where
   abbrev es′ : List ℕ
   es′ = putChunk 128 i e (entriesIn g side b)
-
-  entry-written : put (entriesAt g side) es′ b ≡ put (entriesAt g side + i * 128) e b
-  entry-written =
-      let h = entries-inside g wide side in
-      ap (λ (x : List ℕ). put (entriesAt g side) x b) (putChunk-put 128 128 i e (entriesIn g side b) le′ hi (length-entries g wide n side b lb))
-      ∙ put-inside e b (entriesAt g side) 16384 (i * 128) (omega arith) (omega arith)
 
   header-stays : part (headerAt g side) 92 (put (entriesAt g side + i * 128) e b) ≡ header g n side (guidIn g side b) (entriesIn g side b)
   header-stays = part-put-out e b (headerAt g side) 92 (entriesAt g side + i * 128) (clear (places-apart g wide side)) ∙ good-header g n side b good
@@ -79,7 +75,10 @@ module _ (g : Shape) (wide : 92 ≤ g .block) (n : ℕ) (side : Side) (b : List 
   unfolding withTable
   three-writes =
       let c = put (entriesAt g side + i * 128) e b in
-      ap₂ (put (headerAt g side)) (header-changes g n side (guidIn g side b) (entriesIn g side b) es′ ∙ ap (λ (x : List ℕ). put 16 (le 4 (headerCrc g n side (guidIn g side b) es′)) (put 88 (le 4 (crc32 es′)) x)) (sym header-stays)) entry-written
+      let crc = le 4 (headerCrc g n side (guidIn g side b) es′) in
+      let new : header g n side (guidIn g side b) es′ ≡ put 16 crc (put 88 (le 4 (crc32 es′)) (part (headerAt g side) 92 c)) =
+      header-changes g n side (guidIn g side b) (entriesIn g side b) es′ ∙ ap (λ (x : List ℕ). put 16 crc (put 88 (le 4 (crc32 es′)) x)) (sym header-stays) in
+      ap₂ (put (headerAt g side)) new (entry-written g wide side b lb i hi e le′)
       ∙ two-fields (le 4 (headerCrc g n side (guidIn g side b) es′)) (le 4 (crc32 es′)) c (headerAt g side) 92 16 88
       (let h = header-inside g wide side in omega (arith, length-put (entriesAt g side + i * 128) e b))
       (omega (arith, length-le 4 (headerCrc g n side (guidIn g side b) es′))) (omega (arith, length-le 4 (crc32 es′)))
@@ -104,7 +103,7 @@ stays : (g : Shape) → 92 ≤ g .block → (n : ℕ) (side : Side) (b es : List
     → es ≡ entriesIn g side b → i < 128 → length e ≡ 128 → Stays g side i b (withTable g n side (guidIn g side b) (putChunk 128 i e es) b)
 stays g wide n side b es i e lb good q hi le′ =
     subst (λ (x : List ℕ). Stays g side i b (withTable g n side (guidIn g side b) (putChunk 128 i e x) b)) (sym q) (
-      length-withTable g wide n side _ _ b (length-putChunk 128 128 i e _ le′ hi (length-entries g wide n side b lb)) lb ∙ sym lb,
+      length-withTable g wide n side _ _ b (length-putChunk 128 128 i e _ le′ hi (length-entries g wide side b lb)) lb ∙ sym lb,
       others-stay g wide n side b lb good i hi e le′,
     )
 
@@ -120,7 +119,7 @@ editTouches g n h t d wide e =
     one = row11 g n h t d (edit-open g n h t d e)
 
     f : FitsEdit (g .first) (lastUsable g n) (tableOf g n h t) d
-    f = edit-made g n h t d wide e .0
+    f = edit-fits g wide n h t d e
 
     both : (side : Side) → Stays g side (change (g .first) (lastUsable g n) (tableOf g n h t) d .index) (lent side h t) (lent side (made g n h t (edit d) .head) (made g n h t (edit d) .tail))
     both primary = stays g wide n primary h _ _ _ (l .0) (one-good g n h t one .0) (one-primary g n h t one) (f .index) (f .len)

@@ -11,8 +11,8 @@ use native.Mathlib.Omega.{arith}
 use lib.ListN.{length, getD}
 use Rattle.octets.proofs.Bools.{bool-cases, clash}
 use Rattle.octets.proofs.Tests.{any-get, any-make}
-use Rattle.gpt_model.specs.Ranges.{Slot, vacant, spans, inside, lies, free, place, countFrom, freeCount, longest, longestFree}
-use Rattle.gpt_model.specs.Table.{slotCount}
+use Rattle.gpt_model.specs.Table.{Slot, vacant, spans}
+use Rattle.gpt_model.specs.Ranges.{inside, lies, free, place, countFrom, freeCount, longest, longestFree}
 use Rattle.gpt_model.proofs.Room.{Room, place-is, place-is-none, inside-make, inside-get, inside-vacant}
 use Rattle.gpt_model.proofs.Counts.{count-false, count-true, count-add}
 use Rattle.gpt_model.proofs.Longest.{longest-skip, longest-gap}
@@ -119,7 +119,8 @@ module _ (s : List Slot) (first last size : ℕ) (pos : 0 < size) where
       go (yes w) = low c p w r
       go (no w) = let k = r .0 in clash (stop (omega arith)) (r .1 g (omega arith) (omega arith))
 
-  pub low-found : (a g : ℕ) → Low a → first ≤ a → a ≤ g → size ≤ g - a → g ≤ last + 1 → ((c : ℕ) → a ≤ c → c < g → lies s c ≡ false) → place s first last size ≡ some a
+  pub low-found : (a g : ℕ) → Low a → first ≤ a → a ≤ g → size ≤ g - a → g ≤ last + 1
+      → ((c : ℕ) → a ≤ c → c < g → lies s c ≡ false) → place s first last size ≡ some a
   low-found a g low fa ag fits end clear = place-is s first last size a pos fa (omega arith, λ b p q. clear b p (omega arith)) low
 
   pub low-none : (a : ℕ) → Low a → last < a → place s first last size ≡ none
@@ -177,7 +178,8 @@ module _ (s : List Slot) (first last : ℕ) where
       let w = ap (λ (y : ℕ). longest (free s) y (suc last - (x + 1))) e in
       ap (max m) (sym (p ∙ q ∙ w)) ∙ h
 
-  pub longest-step : (m a g : ℕ) → a ≤ g → g ≤ last + 1 → Longest m a → ((c : ℕ) → a ≤ c → c < g → lies s c ≡ false) → (g ≤ last → lies s g ≡ true) → Longest (max m (g - a)) g
+  pub longest-step : (m a g : ℕ) → a ≤ g → g ≤ last + 1 → Longest m a → ((c : ℕ) → a ≤ c → c < g → lies s c ≡ false)
+      → (g ≤ last → lies s g ≡ true) → Longest (max m (g - a)) g
   longest-step m a g ag gl h f stop =
       let k : suc last - a ≡ (g - a) + (suc last - g) = omega arith in
       let e : a + (g - a) ≡ g = omega arith in

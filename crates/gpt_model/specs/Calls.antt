@@ -8,9 +8,9 @@ use lib.ListN.{length, getD, set}
 use Rattle.octets.specs.Tests.{_and_, _or_, any, findIx}
 use Rattle.octets.specs.Rows.{Row, row, refusal}
 use Rattle.octets.specs.Bytes.{le, put, zeros, isZero, same, putChunk}
-use Rattle.gpt_model.specs.Ranges.{vacant, roomAt, place, freeCount, longestFree}
-use Rattle.gpt_model.specs.Table.{entryBytes, slotCount, tableBytes, uniqueOf, firstOf, nameBytes, entryWith, unused, entries, slots}
+use Rattle.gpt_model.specs.Table.{vacant, entryBytes, slotCount, tableBytes, uniqueOf, firstOf, nameBytes, entryWith, unused, entries, slots}
 use Rattle.gpt_model.specs.Disk.{Shape, lastUsable, inRange, primary, backup, lentBytes, guidIn, entriesIn, state, tableOf, withTable, withCopy, freshHead, freshTail}
+use Rattle.gpt_model.specs.Ranges.{roomAt, place, freeCount, longestFree}
 
 -- D15: Add is given type, unique GUID (16 stored bytes each), size in blocks, attributes and name (36 units). A slot is named by its number, from 1 on.
 pub data Edit : Type 0 where
@@ -24,8 +24,8 @@ pub data Call : Type 0 where
   read freeCounts repair : Call
   edit : Edit → Call
 
--- R1: A refusal returns its number alone
--- R3: Accepted, add answers slot and first block, repair the state found [..]; other writers only that they accepted. D10, D12: reading answers the state, free counts two numbers.
+-- R1: A refusal returns its number alone. What else is answered is a list of values; reading answers the state, free counts two numbers.
+-- R3: Accepted, add answers slot and first block, repair the state found, .. other writers only that they accepted.
 pub data Answer : Type 0 where
   refused : ℕ → Answer
   accepted : List ℕ → Answer
@@ -38,7 +38,7 @@ pub record Out : Type 0 where
 abbrev pub out : Answer → List ℕ → List ℕ → Out
 out a h t = record { answer = a; head = h; tail = t }
 
--- R1: and changes no lent byte. R2: a call for which none holds is accepted: its outcome is o
+-- R1: and changes no lent byte. R2: a call for which none holds is accepted. Its outcome is o.
 abbrev pub decided : Option ℕ → List ℕ → List ℕ → Out → Out
 decided none h t o = o
 decided (some k) h t o = out (refused k) h t
@@ -74,7 +74,7 @@ module _ (first last : ℕ) (es : List ℕ) where
   abbrev pub slotRows : ℕ → List Row
   slotRows k = row (not (leb 1 k and leb k slotCount)) 12 ∷ row (unused (entryOf es k)) 13 ∷ []
 
-  -- R27: Add: 1, 2, 10, 11, 20, 21, 22, 23, 24, 25: those from 20 to 24
+  -- R10: 20: size zero. R11: 21 / 22: type GUID zero / unique GUID zero or already in a used slot. R13: 24 / 25: no unused slot / no room
   abbrev pub addRows : List ℕ → List ℕ → ℕ → List ℕ → List Row
   addRows type unique size name =
       row (eqb size 0) 20
@@ -88,7 +88,7 @@ module _ (first last : ℕ) (es : List ℕ) where
   abbrev pub fitsAt : ℕ → ℕ → Bool
   fitsAt k size = roomAt (set (slots es) (k - 1) vacant) last size (firstOf (entryOf es k))
 
-  -- R27. R28: Delete: 1, 2, 10, 11, 12, 13. R30: Resize as delete, then 20, 25. R29: Rename the same, then 23.
+  -- R27: Add: 1, 2, 10, 11, 20, 21, 22, 23, 24, 25. R28: Delete: 1, 2, 10, 11, 12, 13. R29: Rename the same, then 23. R30: Resize as delete, then 20, 25.
   abbrev pub tableRows : Edit → List Row
   tableRows (add type unique size attributes name) = addRows type unique size name ++ (row (isNone (place (slots es) first last size)) 25 ∷ [])
   tableRows (delete k) = slotRows k
@@ -106,10 +106,10 @@ module _ (first last : ℕ) (es : List ℕ) where
   -- D16: Delete zeroes the slot. D18: Resize sets the last block alone, to the size asked. D17: Rename sets the entry's 72 name bytes alone, to 36 given units.
   abbrev pub change : Edit → Change
   change (add type unique size attributes name) = record {
-      values = suc lowestUnused ∷ startOf size ∷ [];
-      index = lowestUnused;
-      entry = entryWith type unique (startOf size) (startOf size + size - 1) attributes name
-    }
+    values = suc lowestUnused ∷ startOf size ∷ [];
+    index = lowestUnused;
+    entry = entryWith type unique (startOf size) (startOf size + size - 1) attributes name;
+  }
   change (delete k) = record { values = []; index = k - 1; entry = zeros entryBytes }
   change (resize k size) = record { values = []; index = k - 1; entry = put 40 (le 8 (firstOf (entryOf es k) + size - 1)) (entryOf es k) }
   change (rename k name) = record { values = []; index = k - 1; entry = put 56 (nameBytes name) (entryOf es k) }
@@ -120,7 +120,7 @@ module _ (first last : ℕ) (es : List ℕ) where
 
 -- ---- the calls on head and tail
 
--- R4: a lent buffer has a wrong length: of what an edit is lent besides head and tail
+-- R4: a lent buffer has a wrong length. Right ones: of what an edit is lent besides head and tail; of head and tail.
 abbrev pub lengthsOf : Edit → Bool
 lengthsOf (add type unique size attributes name) = eqb (length type) 16 and eqb (length unique) 16 and eqb (length name) 36
 lengthsOf (delete k) = true
@@ -131,7 +131,7 @@ abbrev pub lengthsOk : Shape → List ℕ → List ℕ → Bool
 lengthsOk g h t = eqb (length h) (lentBytes g primary) and eqb (length t) (lentBytes g backup)
 
 module _ (g : Shape) (n : ℕ) (h t : List ℕ) where
-  -- R26: Read, repair, free counts: 1, 2, 10.
+  -- R26: Read, repair, free counts: 1, 2, 10. R5: 2: N outside its range. R7: 10: neither GPT copy is good
   abbrev pub readRows : Bool → List Row
   readRows lengths = row (not (lengthsOk g h t and lengths)) 1 ∷ row (not (inRange g n)) 2 ∷ row (eqb (state g n h t) 0) 10 ∷ []
 
@@ -145,7 +145,7 @@ module _ (g : Shape) (n : ℕ) (h t : List ℕ) where
   rowsOf repair = readRows true
   rowsOf (edit d) = openRows d ++ tableRows (g .first) (lastUsable g n) (tableOf g n h t) d
 
-  -- D11: it hands back the entry bytes; R1: an empty part where a part is returned
+  -- D11: It hands back the 16,384 entry bytes. R1: an empty part where a part is returned
   abbrev pub handed : Option ℕ → List ℕ
   handed none = tableOf g n h t
   handed (some k) = []
@@ -171,7 +171,7 @@ module _ (g : Shape) (n : ℕ) (h t : List ℕ) where
   unfoldable pub step : Call → Out
   step c = decided (refusal (rowsOf c)) h t (made c)
 
--- R25: Order: format 1, 2, 3.
+-- R25: Order: format 1, 2, 3. R6: 3: disk GUID all zero (formatting)
 abbrev pub formatRows : Shape → ℕ → List ℕ → List ℕ → List ℕ → List Row
 formatRows g n guid h t = row (not (lengthsOk g h t and eqb (length guid) 16)) 1 ∷ row (not (inRange g n)) 2 ∷ row (isZero guid) 3 ∷ []
 

@@ -8,11 +8,11 @@ use Prim.Native.Nat.{ℕ, _+_, _*_, _≤_, _<_}
 use lib.ListN.{length, getD}
 use Rattle.octets.specs.Rows.{refusal}
 use Rattle.octets.specs.Bytes.{isZero, zeros}
-use Rattle.gpt_model.specs.Ranges.{vacant, inside, roomAt, taken, freeCount, longestFree}
-use Rattle.gpt_model.specs.Table.{slotCount, tableBytes, entryBytes}
+use Rattle.gpt_model.specs.Table.{vacant, slotCount, tableBytes, entryBytes}
 use Rattle.gpt_model.specs.Disk.{Shape, lastUsable, usable, inRange, Side, primary, backup, headerBytes, lentBytes, headerAt, entriesAt, lent, state, tableOf}
+use Rattle.gpt_model.specs.Ranges.{inside, roomAt, taken, freeCount, longestFree}
 use Rattle.gpt_model.specs.Calls.{Edit, add, Call, repair, edit, refused, accepted, addRows, change, edited, openRows, rowsOf, step, format}
-use Rattle.gpt_model.specs.Lists.{Run, run, answers, applied, begun, slotsOf}
+use Rattle.gpt_model.specs.Lists.{Run, run, answers, applied, begun, slotsOf, StartsAfresh}
 
 -- ---- demand 3
 
@@ -42,13 +42,18 @@ pub record Formats (g : Shape) (n : ℕ) (guid h t : List ℕ) : Type 0 where
   pub len-head : length h ≡ lentBytes g primary
   pub len-tail : length t ≡ lentBytes g backup
 
+-- from every start afresh
+abbrev pub Demand3From : Type 0
+Demand3From =
+    (g : Shape) → headerBytes ≤ g .block → (n : ℕ) (es : List ℕ) (r : Run) → StartsAfresh g n es r → (cs : List Call) → Sound g n (run g n cs r)
+
 -- D19: Demand 3 is one claim about the whole list, not one for each call.
 abbrev pub Demand3 : Type 0
 Demand3 =
     (g : Shape) (n : ℕ) (guid h t : List ℕ) → Formats g n guid h t
     → (cs : List Call) → (format g n guid h t .answer ≡ accepted []) × Sound g n (run g n cs (begun (format g n guid h t)))
 
--- ---- P2: it is not empty
+-- ---- demand 3 is not empty. P2: These imposters are shut out: refusing all calls, a constant reply or no writes, doing only the first add, made-up free counts.
 
 pub record Serves (g : Shape) (n : ℕ) (es : List ℕ) (r : Run) : Type 0 where
   -- the disk reads as state 1, with the table es, and rows 10 and 11 do not hold

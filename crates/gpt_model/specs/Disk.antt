@@ -3,7 +3,6 @@ use mathlib.Core.Bool.{Bool, true, false, cond}
 use mathlib.Core.List.{List, [], _∷_, _++_}
 use Prim.Native.Nat.{ℕ, suc, _+_, _-_, _*_}
 use lib.Dec.{leb, eqb}
-use lib.ListN.{length}
 use Rattle.octets.specs.Tests.{_and_}
 use Rattle.octets.specs.Bytes.{le, part, put, zeros, same}
 use Rattle.crc_lanes.specs.Crc.{crc32}
@@ -11,12 +10,12 @@ use Rattle.gpt_model.specs.Table.{writeAll, entryBytes, slotCount, table
 
 -- ---- quantities
 
--- the bytes of a block, and the first usable block
+-- the bytes of a block, and the first usable block; all definitions and theorems are over these two
 pub record Shape : Type 0 where
   pub block : ℕ
   pub first : ℕ
 
--- Q1: A disk has 512-byte blocks. D1: first usable 34. No other line knows these two numbers.
+-- Q1: A disk has 512-byte blocks. D1: first usable 34. These two numbers stand nowhere else.
 abbrev pub disk512 : Shape
 disk512 = record { block = 512; first = 34 }
 
@@ -24,7 +23,7 @@ disk512 = record { block = 512; first = 34 }
 abbrev pub lastUsable : Shape → ℕ → ℕ
 lastUsable g n = n - g .first
 
--- D21: usable blocks (34 to N−34), as many
+-- how many blocks are usable: those from 34 to N−34
 abbrev pub usable : Shape → ℕ → ℕ
 usable g n = suc (lastUsable g n) - g .first
 
@@ -63,7 +62,7 @@ abbrev pub entriesAt : Shape → Side → ℕ
 entriesAt g primary = 2 * g .block
 entriesAt g backup = 0
 
--- ---- a copy: what the head holds of the primary, the tail of the backup
+-- ---- a copy: its header and its entries, the primary's in the head, the backup's in the tail
 
 abbrev pub headerBytes : ℕ
 headerBytes = 92
@@ -139,7 +138,7 @@ abbrev pub lent : Side → List ℕ → List ℕ → List ℕ
 lent primary h t = h
 lent backup h t = t
 
--- D11: the 16,384 entry bytes inside whichever of the two lent buffers was used: they lie in `lent side h t`, from `entriesAt g side` on
+-- D11: the 16,384 entry bytes inside whichever of the two lent buffers was used. They lie in `lent side h t`, from `entriesAt g side` on.
 unfoldable pub tableOf : Shape → ℕ → List ℕ → List ℕ → List ℕ
 tableOf g n h t = entriesIn g (usedSide (state g n h t)) (lent (usedSide (state g n h t)) h t)
 
@@ -157,7 +156,7 @@ withCopy g n side guid es b = withTable g n side guid es (put (headerAt g side) 
 abbrev pub block0 : ℕ → List (ℕ × List ℕ)
 block0 n = (446, (0 ∷ 0 ∷ 2 ∷ 0 ∷ 0xEE ∷ 0xFF ∷ 0xFF ∷ 0xFF ∷ []) ++ (le 4 1 ++ le 4 (n - 1))) ∷ (510, 0x55 ∷ 0xAA ∷ []) ∷ []
 
--- D13, D14: head and tail of a disk with the table es and nothing else. All header tails are zero.
+-- head and tail of a disk with the table es and nothing else. D14: All header tails are zero.
 abbrev pub freshHead : Shape → ℕ → List ℕ → List ℕ → List ℕ
 freshHead g n guid es = withTable g n primary guid es (writeAll (block0 n) (zeros (lentBytes g primary)))
 

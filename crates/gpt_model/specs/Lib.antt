@@ -1,7 +1,7 @@
-pub mod Ranges
+-- Read in this order.
 pub mod Table
 pub mod Disk
+pub mod Ranges
 pub mod Calls
 pub mod Lists
 pub mod Claims
-pub mod Samples

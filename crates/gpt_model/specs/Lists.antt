@@ -3,8 +3,7 @@ use mathlib.Core.Path.{_≡_}
 use mathlib.Core.List.{List, [], _∷_, map}
 use Prim.Native.Nat.{ℕ, _+_, _-_}
 use lib.ListN.{length, getD, set, replicate}
-use Rattle.gpt_model.specs.Ranges.{Slot, sizeOf}
-use Rattle.gpt_model.specs.Table.{slotCount, slots}
+use Rattle.gpt_model.specs.Table.{Slot, sizeOf, slotCount, slots}
 use Rattle.gpt_model.specs.Disk.{Shape, primary, backup, lentBytes, state, tableOf}
 use Rattle.gpt_model.specs.Calls.{Edit, add, delete, resize, rename, Call, read, freeCounts, repair, edit, Answer, refused, accepted, Out, edited, step}
 

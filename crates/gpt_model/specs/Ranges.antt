@@ -1,32 +1,11 @@
--- Ranges of blocks: which blocks lie in partitions, where there is room, how many blocks are free. Definitions only.
--- `first` and `last` are the first and the last usable block.
+-- Blocks: which lie in partitions, where there is room, how many are free. Definitions only; `first` and `last` are the first and the last usable block.
 use mathlib.Core.Bool.{Bool, true, false, not}
-use mathlib.Core.List.{List, [], _∷_}
+use mathlib.Core.List.{List}
 use mathlib.Core.Option.{Option, none, some}
 use Prim.Native.Nat.{ℕ, zero, suc, _+_, _-_, max}
-use lib.Dec.{leb, ltb}
-use Rattle.octets.specs.Tests.{_and_, _or_, any}
-
--- what an entry takes: nothing where it is unused, else the blocks from its first to its last
-pub data Slot : Type 0 where
-  vacant : Slot
-  spans : ℕ → ℕ → Slot
-
--- D5: last block (inclusive)
-abbrev pub sizeOf : Slot → ℕ
-sizeOf vacant = 0
-sizeOf (spans f l) = suc l - f
-
--- D7: 34 ≤ first ≤ last ≤ N−34
-unfoldable pub bounded : ℕ → ℕ → Slot → Bool
-bounded first last vacant = true
-bounded first last (spans f l) = leb first f and leb f l and leb l last
-
--- D7: ranges share no block
-unfoldable pub apart : Slot → Slot → Bool
-apart vacant t = true
-apart (spans f l) vacant = true
-apart (spans f l) (spans g m) = ltb l g or ltb m f
+use lib.Dec.{leb}
+use Rattle.octets.specs.Tests.{_and_, any}
+use Rattle.gpt_model.specs.Table.{Slot, vacant, spans}
 
 -- D21: A block lies in a partition when it is one of first to last of a used entry
 unfoldable pub inside : ℕ → Slot → Bool
@@ -36,11 +15,11 @@ inside b (spans f l) = leb f b and leb b l
 abbrev pub lies : List Slot → ℕ → Bool
 lies t b = any (inside b) t
 
--- D21: usable blocks in none are free
+-- D21: usable blocks (34 to N−34) in none are free, consecutive ones a run.
 abbrev pub free : List Slot → ℕ → Bool
 free t b = not (lies t b)
 
--- ---- D21: consecutive ones [are] a run. Room for `size` blocks at s is a run of that many, from s on; no other definition of room is used
+-- ---- room: a run of enough free blocks; placing, row 25 and demand 3 go by this one definition
 
 -- p holds of the k numbers from lo on
 unfoldable pub allFrom : (ℕ → Bool) → ℕ → ℕ → Bool
@@ -71,7 +50,7 @@ unfoldable pub countFrom : (ℕ → Bool) → ℕ → ℕ → ℕ
 countFrom p lo zero = 0
 countFrom p lo (suc k) = bit (p lo) + countFrom p (suc lo) k
 
--- demand 3: the blocks lying in partitions, counted one by one
+-- the blocks lying in partitions, counted one by one
 unfoldable pub taken : List Slot → ℕ → ℕ → ℕ
 taken t first last = countFrom (lies t) first (suc last - first)
 

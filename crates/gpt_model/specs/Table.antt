@@ -1,10 +1,10 @@
 -- An entry, and the table of 128 entries. Definitions only.
 use mathlib.Core.Bool.{Bool, true, false, not}
 use mathlib.Core.List.{List, [], _∷_, map}
-use Prim.Native.Nat.{ℕ}
+use Prim.Native.Nat.{ℕ, suc, _-_}
+use lib.Dec.{leb, ltb}
 use Rattle.octets.specs.Tests.{_and_, _or_, all, pairs}
 use Rattle.octets.specs.Bytes.{le, part, field, put, zeros, isZero, same, chunks, flat}
-use Rattle.gpt_model.specs.Ranges.{Slot, vacant, spans, bounded, apart}
 
 -- fields written at their byte positions, one after the other
 abbrev pub writeAll : List (ℕ × List ℕ) → List ℕ → List ℕ
@@ -38,8 +38,29 @@ entryWith type unique f l attributes name =
 unfoldable pub unused : List ℕ → Bool
 unused e = isZero e
 
+-- what an entry takes: nothing where it is unused, else the blocks from its first to its last
+pub data Slot : Type 0 where
+  vacant : Slot
+  spans : ℕ → ℕ → Slot
+
+-- D5: last block (inclusive)
+abbrev pub sizeOf : Slot → ℕ
+sizeOf vacant = 0
+sizeOf (spans f l) = suc l - f
+
 unfoldable pub slotOf : List ℕ → Slot
 slotOf e = elim (unused e) [ true ↦ vacant | false ↦ spans (firstOf e) (lastOf e) ]
+
+-- D7: 34 ≤ first ≤ last ≤ N−34
+unfoldable pub bounded : ℕ → ℕ → Slot → Bool
+bounded first last vacant = true
+bounded first last (spans f l) = leb first f and leb f l and leb l last
+
+-- D7: ranges share no block
+unfoldable pub apart : Slot → Slot → Bool
+apart vacant t = true
+apart (spans f l) vacant = true
+apart (spans f l) (spans g m) = ltb l g or ltb m f
 
 -- D7: A used entry has nonzero type and unique GUID and 34 ≤ first ≤ last ≤ N−34
 unfoldable pub entryOk : ℕ → ℕ → List ℕ → Bool
@@ -49,7 +70,7 @@ entryOk first last e = unused e or (not (isZero (typeOf e)) and not (isZero (uni
 unfoldable pub beside : List ℕ → List ℕ → Bool
 beside e d = unused e or unused d or (not (same (uniqueOf e) (uniqueOf d)) and apart (slotOf e) (slotOf d))
 
--- D1: count 128, entry size 128, [..] all 16,384 entry bytes
+-- D1: 80 count 128, 84 entry size 128, 88 CRC of all 16,384 entry bytes.
 abbrev pub slotCount : ℕ
 slotCount = 128
 
@@ -62,6 +83,6 @@ entries es = chunks entryBytes slotCount es
 abbrev pub slots : List ℕ → List Slot
 slots es = map slotOf (entries es)
 
--- D8: all entry rules hold
+-- D8: all entry rules hold.
 unfoldable pub goodTable : ℕ → ℕ → List ℕ → Bool
 goodTable first last es = all (entryOk first last) (entries es) and pairs beside (entries es)

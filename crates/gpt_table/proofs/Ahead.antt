@@ -14,7 +14,8 @@ use borrow.Author.Tests.{lt-leb, le-leb}
 use Rattle.octets.specs.Tests.{_and_}
 use Rattle.octets.proofs.Bools.{bool-cases, clash}
 use Rattle.octets.proofs.Tests.{any-make, any-false}
-use Rattle.gpt_model.specs.Ranges.{Slot, vacant, spans, inside, lies, free, allFrom, roomAt}
+use Rattle.gpt_model.specs.Ranges.{inside, lies, free, allFrom, roomAt}
+use Rattle.gpt_model.specs.Table.{Slot, vacant, spans}
 use Rattle.gpt_model.proofs.Room.{Room, inside-make, inside-get, room-get, room-make}
 use Rattle.gpt_table.specs.Gaps.{Lower, Full, Clear, Stands}
 use Rattle.gpt_table.specs.declared.room.Ahead.{Ahead}

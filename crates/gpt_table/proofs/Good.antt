@@ -15,8 +15,7 @@ use Rattle.octets.proofs.Bools.{and-l, and-r, and-i, bool-cases, clash}
 use Rattle.octets.proofs.Parts.{getD-part, part-part}
 use Rattle.octets.proofs.Equal.{same-true, same-refl, field-same}
 use Rattle.octets.proofs.Chunks.{chunk-part, length-chunk}
-use Rattle.gpt_model.specs.Ranges.{Slot, spans, bounded, apart}
-use Rattle.gpt_model.specs.Table.{typeOf, uniqueOf, firstOf, lastOf, unused, slotOf, entryOk, beside, entries, goodTable}
+use Rattle.gpt_model.specs.Table.{Slot, spans, bounded, apart, typeOf, uniqueOf, firstOf, lastOf, unused, slotOf, entryOk, beside, entries, goodTable}
 use Rattle.gpt_model.proofs.Entries.{slot-used, beside-make}
 use Rattle.gpt_table.specs.Decoded.{used, Decoded, Used}
 use Rattle.gpt_table.proofs.Entries.{unused-is, length-entries}
@@ -114,10 +113,11 @@ module _ (e d : List ℕ) (le : length e ≡ 128) (ld : length d ≡ 128)
     where
       forth : same (uniqueOf e) (uniqueOf d) ≡ true → (eqb (field 16 8 e) (field 16 8 d) and eqb (field 24 8 e) (field 24 8 d)) ≡ true
       forth h = let q = same-true _ _ h in and-i _ _ (half-same 0 (omega arith) q) (half-same 8 (omega arith) q)
+
       back : (eqb (field 16 8 e) (field 16 8 d) and eqb (field 24 8 e) (field 24 8 d)) ≡ true → same (uniqueOf e) (uniqueOf d) ≡ true
       back h =
           let q : part 16 16 e ≡ part 16 16 d =
-              halves e ∙ ap₂ _++_ (same-half 16 (omega arith) (and-l _ _ h)) (same-half 24 (omega arith) (and-r _ _ h)) ∙ sym (halves d) in
+          halves e ∙ ap₂ _++_ (same-half 16 (omega arith) (and-l _ _ h)) (same-half 24 (omega arith) (and-r _ _ h)) ∙ sym (halves d) in
           subst (λ (r : List ℕ). same (part 16 16 e) r ≡ true) q (same-refl (part 16 16 e))
 
 -- ---- used entry i and used entry j, from the numbers
@@ -130,9 +130,17 @@ module _ {es : List (List ℕ)} {f l u v : List ℕ} {n : ℕ} (w : Used es f l 
       let d : List ℕ = getD es j [] in
       beside-used e d (w .each i p) (w .each j q)
       ∙ ap (λ (b : Bool). not b and apart (spans (firstOf e) (lastOf e)) (spans (firstOf d) (lastOf d)))
-          (same-numbers e d (w .long i p) (w .long j q) (λ k h. w .bytes i k p h) (λ k h. w .bytes j k q h))
-      ∙ sym (rw (low-at (w .blocks) i p, high-at (w .blocks) i p, low-at (w .blocks) j q, high-at (w .blocks) j q,
-            low-at (w .guids) i p, high-at (w .guids) i p, low-at (w .guids) j q, high-at (w .guids) j q))
+      (same-numbers e d (w .long i p) (w .long j q) (λ k h. w .bytes i k p h) (λ k h. w .bytes j k q h))
+      ∙ sym (rw (
+        low-at (w .blocks) i p,
+        high-at (w .blocks) i p,
+        low-at (w .blocks) j q,
+        high-at (w .blocks) j q,
+        low-at (w .guids) i p,
+        high-at (w .guids) i p,
+        low-at (w .guids) j q,
+        high-at (w .guids) j q,
+      ))
 
 -- ---- the whole table
 
@@ -194,7 +202,7 @@ module _ (t : List ℕ) (size : length t ≡ 16384) (bytes : (j : ℕ) → getD 
       let c = d .count in
       let c' = g .count in
       let both = used-each (λ e. (length e ≡ 128) × ((j : ℕ) → j < 128 → getD e j 0 < 256)) (entries t)
-          (λ i h. (entry-long i (omega (arith, length-entries t)), λ j k. entry-bytes i j (omega (arith, length-entries t)) k)) in
+      (λ i h. (entry-long i (omega (arith, length-entries t)), λ j k. entry-bytes i j (omega (arith, length-entries t)) k)) in
       record {
         blocks = d;
         guids = subst (λ (k : ℕ). Decoded (used (entries t)) 16 u v k) (omega arith) g;

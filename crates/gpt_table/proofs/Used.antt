@@ -12,8 +12,8 @@ use lib.Seq.{take-suc, take-suc-set, take-all, getD-take, ext-getD, set-out}
 use Rattle.octets.specs.Tests.{_or_, any}
 use Rattle.octets.specs.Bytes.{field}
 use Rattle.octets.proofs.Bools.{bool-cases}
-use Rattle.gpt_model.specs.Ranges.{Slot, vacant, spans, inside, lies, free}
-use Rattle.gpt_model.specs.Table.{unused, slotOf, entries, slots}
+use Rattle.gpt_model.specs.Ranges.{inside, lies, free}
+use Rattle.gpt_model.specs.Table.{Slot, vacant, spans, unused, slotOf, entries, slots}
 use Rattle.gpt_model.proofs.Walk.{getD-map}
 use Rattle.gpt_model.proofs.Entries.{map-set, zero-unused, slot-unused, slot-used, length-slots}
 use Rattle.gpt_table.specs.Decoded.{used, Decoded, ranges}
@@ -43,9 +43,11 @@ used-each P (e ∷ es) f i h = go (bool-cases (unused e)) (used-each P es (λ j 
   where
     Q : List (List ℕ) → ℕ → Type 0
     Q l j = j < length l → (unused (getD l j []) ≡ false) × P (getD l j [])
+
     more : unused e ≡ false → ((j : ℕ) → Q (used es) j) → (j : ℕ) → Q (e ∷ used es) j
     more q ih zero k = (q, f zero (suc-le-suc (omega arith)))
     more q ih (suc j) k = ih j (le-of-suc-le-suc k)
+
     go : (unused e ≡ true) ⊎ (unused e ≡ false) → ((j : ℕ) → Q (used es) j) → (unused (getD (used (e ∷ es)) i []) ≡ false) × P (getD (used (e ∷ es)) i [])
     go (inl q) ih = subst (λ (l : List (List ℕ)). Q l i) (sym (used-no e es q)) (ih i) h
     go (inr q) ih = subst (λ (l : List (List ℕ)). Q l i) (sym (used-yes e es q)) (more q ih i) h

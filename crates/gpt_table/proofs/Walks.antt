@@ -8,7 +8,8 @@ use native.Mathlib.Nat.{le-refl}
 use native.Mathlib.Omega.{arith}
 use lib.Dec.{leb}
 use Rattle.octets.specs.Tests.{_and_}
-use Rattle.gpt_model.specs.Ranges.{Slot, lies, free, allFrom, firstFrom, roomAt, place, countFrom, freeCount, longest as longestOf, longestFree}
+use Rattle.gpt_model.specs.Ranges.{lies, free, allFrom, firstFrom, roomAt, place, countFrom, freeCount, longest as longestOf, longestFree}
+use Rattle.gpt_model.specs.Table.{Slot}
 use Rattle.gpt_model.proofs.Walk.{Low, low-start, low-over, low-gap, low-found, low-none, Counted, Longest, counted-start, longest-start, counted-over, longest-over, counted-gap, longest-step, counted-end, longest-end}
 use Rattle.gpt_table.specs.Answers.{freeOf}
 use Rattle.gpt_table.specs.Gaps.{Full, Clear}

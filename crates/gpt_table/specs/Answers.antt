@@ -2,7 +2,8 @@
 use mathlib.Core.List.{List}
 use mathlib.Core.Option.{Option, none, some}
 use Prim.Native.Nat.{ℕ}
-use Rattle.gpt_model.specs.Ranges.{Slot, freeCount, longestFree}
+use Rattle.gpt_model.specs.Ranges.{freeCount, longestFree}
+use Rattle.gpt_model.specs.Table.{Slot}
 use Rattle.gpt_table.specs.declared.room.Free.{Free}
 use Rattle.gpt_table.specs.declared.room.Place.{Place}
 use Rattle.gpt_table.specs.declared.room.Place.the-variants.{At, None}

@@ -5,8 +5,7 @@ use mathlib.Core.List.{List, [], _∷_, map}
 use Prim.Native.Nat.{ℕ, zero, suc, _+_, _≤_, _<_}
 use lib.ListN.{length, getD, take, drop}
 use Rattle.octets.specs.Bytes.{field}
-use Rattle.gpt_model.specs.Ranges.{Slot, spans}
-use Rattle.gpt_model.specs.Table.{unused}
+use Rattle.gpt_model.specs.Table.{Slot, spans, unused}
 
 -- the used ones of a list of entries, in their order
 abbrev pub used : List (List ℕ) → List (List ℕ)

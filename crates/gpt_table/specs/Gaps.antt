@@ -4,7 +4,8 @@ use mathlib.Core.Logic.{_⊎_}
 use mathlib.Core.Bool.{true, false}
 use mathlib.Core.List.{List}
 use Prim.Native.Nat.{ℕ, _+_, _≤_, _<_}
-use Rattle.gpt_model.specs.Ranges.{Slot, inside, lies}
+use Rattle.gpt_model.specs.Ranges.{inside, lies}
+use Rattle.gpt_model.specs.Table.{Slot}
 use Rattle.gpt_table.specs.declared.room.Ahead.{Ahead}
 use Rattle.gpt_table.specs.declared.room.Ahead.the-variants.{Taken, Gap}
 

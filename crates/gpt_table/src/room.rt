@@ -1,12 +1,11 @@
 // Room for partitions: one walk from gap to gap over the ranges decoded once. No sum of a block and a size is formed, so no size is too large.
 use crate::Block;
-
 ghost use mathlib.Core.Path.{_≡_};
 ghost use mathlib.Core.Bool.{true, false};
 ghost use Prim.Native.Nat.{ℕ, _+_, _-_, _≤_, _<_, max};
 ghost use lib.ListN.{length};
-ghost use Rattle.gpt_model.specs.Ranges.{spans, inside as insideOf, roomAt, place};
-ghost use Rattle.gpt_model.specs.Table.{slots};
+ghost use Rattle.gpt_model.specs.Ranges.{inside as insideOf, roomAt, place};
+ghost use Rattle.gpt_model.specs.Table.{spans, slots};
 ghost use Rattle.gpt_model.specs.Calls.{fitsAt};
 ghost use Rattle.gpt_table.specs.Decoded.{ranges};
 ghost use Rattle.gpt_table.specs.Answers.{placed, freeOf};

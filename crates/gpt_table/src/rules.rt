@@ -1,6 +1,5 @@
 // The rules of a table: of each entry by itself, then of each two used entries, on numbers decoded once.
 use crate::Block;
-
 ghost use mathlib.Core.Path.{_≡_};
 ghost use mathlib.Core.Bool.{not};
 ghost use mathlib.Core.List.{List, []};
@@ -8,8 +7,7 @@ ghost use Prim.Native.Nat.{ℕ, _+_, _≤_, _<_};
 ghost use lib.Dec.{eqb};
 ghost use lib.ListN.{length, getD, drop};
 ghost use Rattle.octets.specs.Tests.{_and_, all, pairs};
-ghost use Rattle.gpt_model.specs.Ranges.{spans, bounded as boundedIn, apart as apartOf};
-ghost use Rattle.gpt_model.specs.Table.{entries, entryOk, beside as besideOf, goodTable};
+ghost use Rattle.gpt_model.specs.Table.{spans, bounded as boundedIn, apart as apartOf, entries, entryOk, beside as besideOf, goodTable};
 ghost use Rattle.gpt_table.specs.Decoded.{Used};
 
 fn bounded(f: u64, l: u64, first: u64, last: u64) -> bool
@@ -85,7 +83,14 @@ fn beside(a: u64, b: u64, x: u64, y: u64, f: u64, l: u64, u: u64, v: u64) -> boo
 }
 
 // The used entry i keeps the rules with each used entry behind it.
-fn beside_rest(f: &[u64; 128], l: &[u64; 128], u: &[u64; 128], v: &[u64; 128], n: usize, i: usize) -> bool
+fn beside_rest(
+    f: &[u64; 128],
+    l: &[u64; 128],
+    u: &[u64; 128],
+    v: &[u64; 128],
+    n: usize,
+    i: usize,
+) -> bool
     requires { ⌜ (i < n) × (n ≤ 128) ⌝ }
     ensures { λ r. ⌜ ((es : List (List ℕ)) → Used es (now (f .entry)) (now (l .entry)) (now (u .entry)) (now (v .entry)) n
         → r ≡ all (besideOf (getD es i [])) (drop (i + 1) es)) ⌝ }

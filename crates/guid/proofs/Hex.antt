@@ -12,6 +12,7 @@ use Rattle.octets.specs.Tests.{_and_, all}
 use Rattle.octets.proofs.Bools.{and-l, and-r, and-i, and-false-l, bool-cases}
 use Rattle.octets.proofs.Tests.{all-get}
 use Rattle.octets.proofs.Filled.{Filled, filled-on}
+use Rattle.guid.specs.Promises.{areBytes}
 use Rattle.guid.specs.Hex.{valueOf, isDigit, bytesOf, digitOf, digitsOf, upper}
 
 -- ---- ranges
@@ -89,10 +90,6 @@ digit-value b d = go (bool-cases (leb 48 b and leb b 57)) (bool-cases (leb 65 b 
 
 -- ---- along lists
 
--- every byte is below 256
-abbrev pub areBytes : List ℕ → Bool
-areBytes xs = all (λ b. ltb b 256) xs
-
 pub length-digits : (bs : List ℕ) → length (digitsOf bs) ≡ 2 * length bs
 unfolding digitsOf
 length-digits [] = refl
@@ -118,22 +115,22 @@ pub length-bytes : (k : ℕ) (ds : List ℕ) → length ds ≡ 2 * k → length 
 unfolding bytesOf
 length-bytes k [] l = omega arith
 length-bytes k (h ∷ []) l = absurd (omega arith)
-length-bytes zero (h ∷ (m ∷ ds)) l = absurd (omega arith)
-length-bytes (suc k) (h ∷ (m ∷ ds)) l = ap suc (length-bytes k ds (omega arith))
+length-bytes zero (h ∷ m ∷ ds) l = absurd (omega arith)
+length-bytes (suc k) (h ∷ m ∷ ds) l = ap suc (length-bytes k ds (omega arith))
 
 pub digits-bytes : (k : ℕ) (ds : List ℕ) → length ds ≡ 2 * k → all isDigit ds ≡ true → digitsOf (bytesOf ds) ≡ map upper ds
 unfolding bytesOf digitsOf
 digits-bytes k [] l e = refl
 digits-bytes k (h ∷ []) l e = absurd (omega arith)
-digits-bytes zero (h ∷ (m ∷ ds)) l e = absurd (omega arith)
-digits-bytes (suc k) (h ∷ (m ∷ ds)) l e =
+digits-bytes zero (h ∷ m ∷ ds) l e = absurd (omega arith)
+digits-bytes (suc k) (h ∷ m ∷ ds) l e =
     let a = and-l _ _ e in
     let b = and-l _ _ (and-r _ _ e) in
     let x : valueOf h < 16 = ltb-true (valueOf h) 16 a in
     let y : valueOf m < 16 = ltb-true (valueOf m) 16 b in
     let p : (16 * valueOf h + valueOf m) / 16 ≡ valueOf h = omega arith in
     let q : (16 * valueOf h + valueOf m) % 16 ≡ valueOf m = omega arith in
-    rw (p, q, digit-value h a, digit-value m b) (ap (λ (r : List ℕ). upper h ∷ (upper m ∷ r)) (digits-bytes k ds (omega arith) (and-r _ _ (and-r _ _ e))))
+    rw (p, q, digit-value h a, digit-value m b) (ap (λ (r : List ℕ). upper h ∷ upper m ∷ r) (digits-bytes k ds (omega arith) (and-r _ _ (and-r _ _ e))))
 
 -- ---- element by element
 
@@ -145,8 +142,8 @@ pub bytes-at : (i : ℕ) (ds : List ℕ) → 2 * i + 1 < length ds
 unfolding bytesOf
 bytes-at i [] h = absurd (omega arith)
 bytes-at i (d ∷ []) h = absurd (omega arith)
-bytes-at zero (d ∷ (e ∷ ds)) h = refl
-bytes-at (suc i) (d ∷ (e ∷ ds)) h =
+bytes-at zero (d ∷ e ∷ ds) h = refl
+bytes-at (suc i) (d ∷ e ∷ ds) h =
     let a : 2 * suc i ≡ suc (suc (2 * i)) = omega arith in
     let b : 2 * suc i + 1 ≡ suc (suc (2 * i + 1)) = omega arith in
     rw (b, a) (bytes-at i ds (omega arith))

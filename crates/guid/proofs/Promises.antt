@@ -1,7 +1,7 @@
 -- The promises of specs/Promises.antt, proved.
 use mathlib.Core.Path.{_≡_, refl, sym, ap, _∙_}
 use mathlib.Core.Bool.{true}
-use mathlib.Core.List.{List, map, reverse}
+use mathlib.Core.List.{List, _++_, map, reverse}
 use mathlib.Core.Option.{Option, none, some}
 use Prim.Native.Nat.{ℕ}
 use native.Mathlib.Omega.{arith}
@@ -19,8 +19,8 @@ use Rattle.octets.proofs.Tests.{all-append, all-take, all-drop, all-reverse}
 use Rattle.guid.specs.Hex.{isDigit, bytesOf, digitsOf, upper}
 use Rattle.guid.specs.Text.{digitsIn, isGuidText, grouped, reordered, storedOf, textOf}
 use Rattle.guid.specs.Calls.{outcome, readRows, readOf, writeRows, writeOf}
-use Rattle.guid.specs.Promises.{WrittenReadsBack, ReadWritesUpper}
-use Rattle.guid.proofs.Hex.{areBytes, length-digits, digits-are, bytes-digits, length-bytes, digits-bytes}
+use Rattle.guid.specs.Promises.{areBytes, WrittenReadsBack, ReadWritesUpper}
+use Rattle.guid.proofs.Hex.{length-digits, digits-are, bytes-digits, length-bytes, digits-bytes}
 use Rattle.guid.proofs.Text.{length-reordered, reordered-twice, digits-grouped, dashes-grouped, length-grouped, upper-grouped, length-digitsIn, grouped-digits}
 use Rattle.guid.proofs.Calls.{text-length, text-dashes, text-all, length-stored, length-text, read-done, write-done}
 
@@ -33,8 +33,12 @@ bytes-group g e at k = all-reverse _ (part at k g) (all-take _ k (drop at g) (al
 bytes-reordered : (g : List ℕ) → areBytes g ≡ true → areBytes (reordered g) ≡ true
 unfolding reordered part rest
 bytes-reordered g e =
-    all-append _ (reverse (part 0 4 g)) _ (bytes-group g e 0 4)
-    (all-append _ (reverse (part 4 2 g)) _ (bytes-group g e 4 2) (all-append _ (reverse (part 6 2 g)) _ (bytes-group g e 6 2) (all-drop _ 8 g e)))
+    let a = reverse (part 0 4 g) in
+    let b = reverse (part 4 2 g) in
+    let c = reverse (part 6 2 g) in
+    all-append _ (a ++ b ++ c) (rest 8 g)
+    (all-append _ (a ++ b) c (all-append _ a b (bytes-group g e 0 4) (bytes-group g e 4 2)) (bytes-group g e 6 2))
+    (all-drop _ 8 g e)
 
 module _ (g : List ℕ) (l : length g ≡ 16) (e : areBytes g ≡ true) where
   digits-32 : length (digitsOf (reordered g)) ≡ 32
@@ -109,7 +113,9 @@ pub written-reads-back : WrittenReadsBack
 written-reads-back guid text buffer b e n =
     let l = write-length guid text e in
     ap (λ (t : List ℕ). readOf t buffer) (write-buffer guid text e)
-    ∙ sym (read-done (textOf guid) buffer guid n (text-is guid l b) (sym (put-all guid buffer (l ∙ sym n)) ∙ ap (λ (v : List ℕ). put 0 v buffer) (sym (stored-text guid l b))))
+    ∙ sym
+    (read-done (textOf guid) buffer guid n (text-is guid l b)
+    (sym (put-all guid buffer (l ∙ sym n)) ∙ ap (λ (v : List ℕ). put 0 v buffer) (sym (stored-text guid l b))))
 
 pub read-writes-upper : ReadWritesUpper
 read-writes-upper text guid buffer e n =

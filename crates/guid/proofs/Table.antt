@@ -15,21 +15,21 @@ use Rattle.octets.proofs.Bools.{and-l, and-r}
 use Rattle.octets.proofs.Equal.{same-true}
 use Rattle.octets.proofs.Tests.{findIx-on, findIx-stop, findIx-done}
 use Rattle.guid.specs.Text.{isGuidText, storedOf}
-use Rattle.guid.specs.Types.{Short, shorts, isNamed, shortAt, expand}
-use Rattle.guid.specs.Table.{agrees, eachAgrees, agree}
+use Rattle.guid.specs.Types.{ShortName, shortNames, isNamed, shortAt, expand}
+use Rattle.guid.specs.Table.{entryAgrees, entriesAgree, tableAgrees}
 use Rattle.guid.specs.Calls.{readTypeOf}
 use Rattle.guid.specs.declared.ShortType.{ShortType}
 use Rattle.guid.proofs.Calls.{length-stored, read-done}
 
 -- what the test of one entry says
-pub record Entry (c : ShortType) (s : Short) : Type 0 where
+pub record Entry (c : ShortType) (s : ShortName) : Type 0 where
   pub width : length (c .name) ≡ 6
   pub within : c .length ≤ 6
   pub name : take (c .length) (c .name) ≡ s .name
   pub text : isGuidText (s .text) ≡ true
   pub guid : c .guid ≡ storedOf (s .text)
 
-entry : (c : ShortType) (s : Short) → agrees c s ≡ true → Entry c s
+entry : (c : ShortType) (s : ShortName) → entryAgrees c s ≡ true → Entry c s
 entry c s e =
     let a = and-l _ _ e in
     let b = and-r _ _ e in
@@ -41,7 +41,7 @@ entry c s e =
       guid = same-true _ _ (and-r _ _ (and-r _ _ b));
     }
 
-entries : (cs : List ShortType) (ss : List Short) (c : ShortType) (s : Short) → eachAgrees cs ss ≡ true
+entries : (cs : List ShortType) (ss : List ShortName) (c : ShortType) (s : ShortName) → entriesAgree cs ss ≡ true
     → (i : ℕ) → i < length ss → Entry (getD cs i c) (getD ss i s)
 entries cs [] c s e i h = absurd (not-suc-le-zero h)
 entries [] (y ∷ ss) c s e i h = absurd (false≢true e)
@@ -52,15 +52,15 @@ entries (x ∷ cs) (y ∷ ss) c s e (suc i) h = entries cs ss c s (and-r _ _ e) 
 abbrev pub noType : ShortType
 noType = record { name = []; length = 0; guid = [] }
 
-abbrev pub noShort : Short
-noShort = record { name = []; text = [] }
+abbrev pub noName : ShortName
+noName = record { name = []; text = [] }
 
-pub entry-at : (cs : List ShortType) → agree cs ≡ true → (i : ℕ) → i < 5 → Entry (getD cs i noType) (getD shorts i noShort)
-unfolding agree
-entry-at cs e i h = entries cs shorts noType noShort e i h
+pub entry-at : (cs : List ShortType) → tableAgrees cs ≡ true → (i : ℕ) → i < 5 → Entry (getD cs i noType) (getD shortNames i noName)
+unfolding tableAgrees
+entry-at cs e i h = entries cs shortNames noType noName e i h
 
 -- the lengths of an entry's name and GUID
-module _ (cs : List ShortType) (a : agree cs ≡ true) (i : ℕ) (h : i < 5) where
+module _ (cs : List ShortType) (a : tableAgrees cs ≡ true) (i : ℕ) (h : i < 5) where
   pub name-fits : getD cs i noType .length ≤ length (getD cs i noType .name)
   name-fits = let n = entry-at cs a i h in omega arith
 
@@ -68,52 +68,52 @@ module _ (cs : List ShortType) (a : agree cs ≡ true) (i : ℕ) (h : i < 5) whe
   length-name = length-take-le (getD cs i noType .length) (getD cs i noType .name) name-fits
 
   pub length-guid : length (getD cs i noType .guid) ≡ 16
-  length-guid = let n = entry-at cs a i h in ap length (n .guid) ∙ length-stored (getD shorts i noShort .text) (n .text)
+  length-guid = let n = entry-at cs a i h in ap length (n .guid) ∙ length-stored (getD shortNames i noName .text) (n .text)
 
 -- ---- the search
 
 -- i names are passed over
 pub record Passed (t : List ℕ) (i : ℕ) : Type 0 where
   pub below : i ≤ 5
-  pub rest : shortAt t ≡ i + findIx (isNamed t) (drop i shorts)
+  pub rest : shortAt t ≡ i + findIx (isNamed t) (drop i shortNames)
 
 module _ (t : List ℕ) where
   pub passed-none : Passed t 0
   unfolding shortAt
   passed-none = record { below = omega arith; rest = sym (zero-add _) }
 
-  module _ (cs : List ShortType) (a : agree cs ≡ true) (i : ℕ) (h : i < 5) where
-    named : isNamed t (getD shorts i noShort) ≡ same t (take (getD cs i noType .length) (getD cs i noType .name))
+  module _ (cs : List ShortType) (a : tableAgrees cs ≡ true) (i : ℕ) (h : i < 5) where
+    named : isNamed t (getD shortNames i noName) ≡ same t (take (getD cs i noType .length) (getD cs i noType .name))
     named = ap (same t) (sym (entry-at cs a i h .name))
 
     pub passed-on : same t (take (getD cs i noType .length) (getD cs i noType .name)) ≡ false → Passed t i → Passed t (i + 1)
     unfolding shortAt
-    passed-on e p = record { below = omega arith; rest = findIx-on (isNamed t) shorts noShort i h (named ∙ e) (p .rest) }
+    passed-on e p = record { below = omega arith; rest = findIx-on (isNamed t) shortNames noName i h (named ∙ e) (p .rest) }
 
     pub found : same t (take (getD cs i noType .length) (getD cs i noType .name)) ≡ true → Passed t i → i ≡ shortAt t
     unfolding shortAt
-    found e p = sym (findIx-stop (isNamed t) shorts noShort i h (named ∙ e) (p .rest))
+    found e p = sym (findIx-stop (isNamed t) shortNames noName i h (named ∙ e) (p .rest))
 
   pub passed-all : (i : ℕ) → 5 ≤ i → Passed t i → 5 ≡ shortAt t
   unfolding shortAt
-  passed-all i h p = let b = p .below in sym (findIx-done (isNamed t) shorts i h (p .rest) ∙ omega arith)
+  passed-all i h p = let b = p .below in sym (findIx-done (isNamed t) shortNames i h (p .rest) ∙ omega arith)
 
 -- ---- short names in reading
 
-getD-map : (ss : List Short) (i : ℕ) (t : List ℕ) → i < length ss → getD (map (λ s. s .text) ss) i t ≡ getD ss i noShort .text
+getD-map : (ss : List ShortName) (i : ℕ) (t : List ℕ) → i < length ss → getD (map (λ s. s .text) ss) i t ≡ getD ss i noName .text
 getD-map [] i t h = absurd (not-suc-le-zero h)
 getD-map (s ∷ ss) zero t h = refl
 getD-map (s ∷ ss) (suc i) t h = getD-map ss i t (le-of-suc-le-suc h)
 
-pub expand-short : (t : List ℕ) (i : ℕ) → i ≡ shortAt t → i < 5 → expand t ≡ getD shorts i noShort .text
+pub expand-short : (t : List ℕ) (i : ℕ) → i ≡ shortAt t → i < 5 → expand t ≡ getD shortNames i noName .text
 unfolding expand
-expand-short t i e h = ap (λ (k : ℕ). getD (map (λ s. s .text) shorts) k t) (sym e) ∙ getD-map shorts i t h
+expand-short t i e h = ap (λ (k : ℕ). getD (map (λ s. s .text) shortNames) k t) (sym e) ∙ getD-map shortNames i t h
 
 pub expand-other : (t : List ℕ) (i : ℕ) → i ≡ shortAt t → 5 ≤ i → expand t ≡ t
 unfolding expand
-expand-other t i e h = ap (λ (k : ℕ). getD (map (λ s. s .text) shorts) k t) (sym e) ∙ List·getD-eq-default (map (λ s. s .text) shorts) t {n = i} h
+expand-other t i e h = ap (λ (k : ℕ). getD (map (λ s. s .text) shortNames) k t) (sym e) ∙ List·getD-eq-default (map (λ s. s .text) shortNames) t {n = i} h
 
-pub type-short : (t g r : List ℕ) (cs : List ShortType) (i : ℕ) → length g ≡ 16 → agree cs ≡ true → i ≡ shortAt t → i < 5
+pub type-short : (t g r : List ℕ) (cs : List ShortType) (i : ℕ) → length g ≡ 16 → tableAgrees cs ≡ true → i ≡ shortAt t → i < 5
     → r ≡ put 0 (getD cs i noType .guid) g → record { number = none; buffer = r } ≡ readTypeOf t g
 type-short t g r cs i l a e h p =
     let n = entry-at cs a i h in

@@ -10,7 +10,7 @@ use Rattle.octets.proofs.Filled.{each, each-is}
 use Rattle.guid.specs.Hex.{upper}
 use Rattle.guid.specs.Text.{digitsIn, dashesIn, grouped, reordered}
 
--- ---- G2: the byte order
+-- ---- the byte order
 
 module _ (bs : List ℕ) (l : length bs ≡ 16) where
   pub reordered-each : reordered (each 16 0 bs) ≡ reordered bs
@@ -24,7 +24,7 @@ module _ (bs : List ℕ) (l : length bs ≡ 16) where
   unfolding reordered part rest
   length-reordered = ap (λ (xs : List ℕ). length (reordered xs)) (each-is 16 bs l)
 
--- ---- G1: groups and dashes
+-- ---- groups and dashes
 
 module _ (ds : List ℕ) (l : length ds ≡ 32) where
   pub digits-grouped : digitsIn (grouped ds) ≡ ds

@@ -12,7 +12,7 @@ use Rattle.guid.specs.Types.{expand}
 use Rattle.guid.specs.declared.Answer.{Answer}
 use Rattle.guid.specs.declared.Answer.the-variants.{Done, WrongLength, NotGuidText}
 
--- W15: the number of each answer; none is an accepted call
+-- W15: When an answer is an enum, a definition states this paper's number and values for each enum case. `none`: accepted.
 abbrev pub numberOf : Answer → Option ℕ
 numberOf Done = none
 numberOf WrongLength = some 1
@@ -33,9 +33,9 @@ isNot k xs = not (eqb (length xs) k)
 
 -- ---- reading a GUID text into 16 bytes
 
--- R4, then R14
+-- R4, then R14, as docs/DECISIONS.md orders them
 abbrev pub readRows : List ℕ → List ℕ → List Row
-readRows text guid = row (isNot 16 guid) 1 ∷ (row (not (isGuidText text)) 30 ∷ [])
+readRows text guid = row (isNot 16 guid) 1 ∷ row (not (isGuidText text)) 30 ∷ []
 
 unfoldable pub readOf : List ℕ → List ℕ → Outcome
 readOf text guid = outcome (refusal (readRows text guid)) (storedOf text) guid

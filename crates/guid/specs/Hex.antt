@@ -27,7 +27,7 @@ isDigit b = ltb (valueOf b) 16
 unfoldable pub bytesOf : List ℕ → List ℕ
 bytesOf [] = []
 bytesOf (h ∷ []) = []
-bytesOf (h ∷ (l ∷ ds)) = (16 * valueOf h + valueOf l) ∷ bytesOf ds
+bytesOf (h ∷ l ∷ ds) = (16 * valueOf h + valueOf l) ∷ bytesOf ds
 
 -- ---- G1: upper case written
 
@@ -38,7 +38,7 @@ digitOf n = cond (ltb n 10) (code "0" + n) (code "A" + (n - 10))
 -- the digits of bytes
 unfoldable pub digitsOf : List ℕ → List ℕ
 digitsOf [] = []
-digitsOf (b ∷ bs) = digitOf (b / 16) ∷ (digitOf (b % 16) ∷ digitsOf bs)
+digitsOf (b ∷ bs) = digitOf (b / 16) ∷ digitOf (b % 16) ∷ digitsOf bs
 
 -- a byte in upper case
 unfoldable pub upper : ℕ → ℕ

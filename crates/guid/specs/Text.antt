@@ -13,11 +13,11 @@ use Rattle.guid.specs.Hex.{isDigit, bytesOf, digitsOf}
 
 -- the digits of the five groups of a text
 unfoldable pub digitsIn : List ℕ → List ℕ
-digitsIn t = part 0 8 t ++ (part 9 4 t ++ (part 14 4 t ++ (part 19 4 t ++ part 24 12 t)))
+digitsIn t = part 0 8 t ++ part 9 4 t ++ part 14 4 t ++ part 19 4 t ++ part 24 12 t
 
 -- the bytes between its groups
 unfoldable pub dashesIn : List ℕ → List ℕ
-dashesIn t = getD t 8 0 ∷ (getD t 13 0 ∷ (getD t 18 0 ∷ (getD t 23 0 ∷ [])))
+dashesIn t = getD t 8 0 ∷ getD t 13 0 ∷ getD t 18 0 ∷ getD t 23 0 ∷ []
 
 unfoldable pub isGuidText : List ℕ → Bool
 isGuidText t = eqb (length t) 36 and (same (dashesIn t) (ascii "----") and all isDigit (digitsIn t))
@@ -25,13 +25,13 @@ isGuidText t = eqb (length t) 36 and (same (dashesIn t) (ascii "----") and all i
 -- 32 digits as a text: five groups with dashes between them
 unfoldable pub grouped : List ℕ → List ℕ
 grouped ds =
-    part 0 8 ds ++ (ascii "-" ++ (part 8 4 ds ++ (ascii "-" ++ (part 12 4 ds ++ (ascii "-" ++ (part 16 4 ds ++ (ascii "-" ++ part 20 12 ds)))))))
+    part 0 8 ds ++ ascii "-" ++ part 8 4 ds ++ ascii "-" ++ part 12 4 ds ++ ascii "-" ++ part 16 4 ds ++ ascii "-" ++ part 20 12 ds
 
 -- ---- G2: The first three groups are stored reversed.
 
 -- bytes in the text's order as they are stored, and stored bytes in the text's order: it is its own inverse
 unfoldable pub reordered : List ℕ → List ℕ
-reordered bs = reverse (part 0 4 bs) ++ (reverse (part 4 2 bs) ++ (reverse (part 6 2 bs) ++ rest 8 bs))
+reordered bs = reverse (part 0 4 bs) ++ reverse (part 4 2 bs) ++ reverse (part 6 2 bs) ++ rest 8 bs
 
 -- the stored bytes of a GUID text
 unfoldable pub storedOf : List ℕ → List ℕ

@@ -5,9 +5,9 @@ ghost use Prim.Native.Nat.{_<_};
 ghost use lib.ListN.{length};
 ghost use Rattle.octets.specs.Tests.{all};
 ghost use Rattle.guid.specs.Hex.{valueOf, isDigit, bytesOf, digitOf, digitsOf};
-ghost use Rattle.guid.specs.Text.{digitsIn, isGuidText, grouped as inGroups, reordered as inOrder};
+ghost use Rattle.guid.specs.Text.{digitsIn, isGuidText, grouped as groupedOf, reordered as reorderedOf};
 ghost use Rattle.guid.specs.Types.{shortAt};
-ghost use Rattle.guid.specs.Table.{agree};
+ghost use Rattle.guid.specs.Table.{tableAgrees};
 ghost use Rattle.guid.specs.Calls.{numberOf, readOf, readTypeOf, writeOf};
 
 pub enum Answer {
@@ -17,122 +17,37 @@ pub enum Answer {
 }
 
 // A short name, in the first `length` bytes of `name`, and the stored bytes of the type that it stands for.
-pub struct ShortType {
-    pub name: [u8; 6],
-    pub length: usize,
-    pub guid: [u8; 16],
+struct ShortType {
+    name: [u8; 6],
+    length: usize,
+    guid: [u8; 16],
 }
 
 const SHORT_TYPES: [ShortType; 5] = [
     ShortType {
         name: *b"system",
         length: 6,
-        guid: [
-            0x28,
-            0x73,
-            0x2A,
-            0xC1,
-            0x1F,
-            0xF8,
-            0xD2,
-            0x11,
-            0xBA,
-            0x4B,
-            0x00,
-            0xA0,
-            0xC9,
-            0x3E,
-            0xC9,
-            0x3B,
-        ],
+        guid: *b"\x28\x73\x2A\xC1\x1F\xF8\xD2\x11\xBA\x4B\x00\xA0\xC9\x3E\xC9\x3B",
     },
     ShortType {
         name: *b"msft\0\0",
         length: 4,
-        guid: [
-            0x16,
-            0xE3,
-            0xC9,
-            0xE3,
-            0x5C,
-            0x0B,
-            0xB8,
-            0x4D,
-            0x81,
-            0x7D,
-            0xF9,
-            0x2D,
-            0xF0,
-            0x02,
-            0x15,
-            0xAE,
-        ],
+        guid: *b"\x16\xE3\xC9\xE3\x5C\x0B\xB8\x4D\x81\x7D\xF9\x2D\xF0\x02\x15\xAE",
     },
     ShortType {
         name: *b"data\0\0",
         length: 4,
-        guid: [
-            0xA2,
-            0xA0,
-            0xD0,
-            0xEB,
-            0xE5,
-            0xB9,
-            0x33,
-            0x44,
-            0x87,
-            0xC0,
-            0x68,
-            0xB6,
-            0xB7,
-            0x26,
-            0x99,
-            0xC7,
-        ],
+        guid: *b"\xA2\xA0\xD0\xEB\xE5\xB9\x33\x44\x87\xC0\x68\xB6\xB7\x26\x99\xC7",
     },
     ShortType {
         name: *b"linux\0",
         length: 5,
-        guid: [
-            0xAF,
-            0x3D,
-            0xC6,
-            0x0F,
-            0x83,
-            0x84,
-            0x72,
-            0x47,
-            0x8E,
-            0x79,
-            0x3D,
-            0x69,
-            0xD8,
-            0x47,
-            0x7D,
-            0xE4,
-        ],
+        guid: *b"\xAF\x3D\xC6\x0F\x83\x84\x72\x47\x8E\x79\x3D\x69\xD8\x47\x7D\xE4",
     },
     ShortType {
         name: *b"swap\0\0",
         length: 4,
-        guid: [
-            0x6D,
-            0xFD,
-            0x57,
-            0x06,
-            0xAB,
-            0xA4,
-            0xC4,
-            0x43,
-            0x84,
-            0xE5,
-            0x09,
-            0x33,
-            0xC8,
-            0x4B,
-            0x4F,
-            0x4F,
-        ],
+        guid: *b"\x6D\xFD\x57\x06\xAB\xA4\xC4\x43\x84\xE5\x09\x33\xC8\x4B\x4F\x4F",
     },
 ];
 
@@ -242,7 +157,7 @@ fn digits_of(bytes: &[u8]) -> [u8; 32]
 // Bytes in the text's order as they are stored, and back.
 fn reordered(b: &[u8]) -> [u8; 16]
     requires { ⌜ length (now b) ≡ 16 ⌝ }
-    ensures { λ r. ⌜ r ≡ inOrder (now (b .entry)) ⌝ }
+    ensures { λ r. ⌜ r ≡ reorderedOf (now (b .entry)) ⌝ }
 {
     [
         b[3],
@@ -267,7 +182,7 @@ fn reordered(b: &[u8]) -> [u8; 16]
 // 32 digits as a text; the dashes are those that no group is copied over.
 fn grouped(digits: &[u8]) -> [u8; 36]
     requires { ⌜ length (now digits) ≡ 32 ⌝ }
-    ensures { λ r. ⌜ r ≡ inGroups (now (digits .entry)) ⌝ }
+    ensures { λ r. ⌜ r ≡ groupedOf (now (digits .entry)) ⌝ }
 {
     let mut text = [45u8; 36];
     octets::copy(&mut text, 0, &digits[0..8]);
@@ -297,7 +212,7 @@ pub fn read(text: &[u8], guid: &mut [u8]) -> Answer
 
 // The short names with their GUIDs; they agree with the rules' texts.
 fn short_types() -> [ShortType; 5]
-    ensures { λ r. ⌜ agree r ≡ true ⌝ }
+    ensures { λ r. ⌜ tableAgrees r ≡ true ⌝ }
 {
     SHORT_TYPES
 }

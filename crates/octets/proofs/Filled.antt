@@ -27,7 +27,8 @@ pub record Filled (m : ℕ) (xs a : List ℕ) (i : ℕ) : Type 0 where
   pub width : length a ≡ m
   pub same : take i a ≡ take i xs
 
-pub filled-on : {m : ℕ} {xs a : List ℕ} {i : ℕ} (v : ℕ) → length xs ≡ m → i < m → getD xs i 0 ≡ v → Filled m xs a i → Filled m xs (set a i v) (i + 1)
+pub filled-on : {m : ℕ} {xs a : List ℕ} {i : ℕ} (v : ℕ) → length xs ≡ m → i < m → getD xs i 0 ≡ v
+    → Filled m xs a i → Filled m xs (set a i v) (i + 1)
 filled-on {m} {xs} {a} {i} v l h e p =
     let w = p .width in
     let hx : i < length xs = omega arith in

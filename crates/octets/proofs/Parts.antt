@@ -4,7 +4,7 @@ use mathlib.Core.List.{List, [], _∷_, _++_}
 use Prim.Native.Nat.{ℕ, zero, suc, _+_, _-_, _≤_, _<_}
 use native.Mathlib.Nat.{zero-add, suc-add, add-zero}
 use native.Mathlib.Omega.{arith}
-use lib.ListN.{length, getD, take, drop, replicate, length-drop, length-replicate, replicate-append-replicate, take-append-drop}
+use lib.ListN.{length, getD, take, drop, length-take, length-drop, length-replicate, take-append-drop}
 use lib.Seq.{take-at, drop-at, drop-append-add, drop-append-le, take-append-le, length-take-le, take-all, take-nil, take-take, drop-drop, getD-take, getD-drop}
 use Rattle.octets.specs.Bytes.{part, rest, field, zeros}
 
@@ -53,6 +53,14 @@ pub length-zeros : (k : ℕ) → length (zeros k) ≡ k
 unfolding zeros
 length-zeros k = length-replicate k 0
 
+pub part-zeros : (at k m : ℕ) → at + k ≤ m → part at k (zeros m) ≡ zeros k
+unfolding part zeros
+part-zeros zero zero m h = refl
+part-zeros zero (suc k) zero h = absurd (omega arith)
+part-zeros zero (suc k) (suc m) h = ap (λ (l : List ℕ). 0 ∷ l) (part-zeros zero k m (omega arith))
+part-zeros (suc at) k zero h = absurd (omega arith)
+part-zeros (suc at) k (suc m) h = part-zeros at k m (omega arith)
+
 pub getD-part : (xs : List ℕ) (at k i : ℕ) → i < k → getD (part at k xs) i 0 ≡ getD xs (at + i) 0
 unfolding part
 getD-part xs at k i h = getD-take k (drop at xs) i 0 h ∙ getD-drop at xs i 0
@@ -85,11 +93,3 @@ unfolding part
 part-part i m a k xs h =
     let e : k ≡ i + (k - i) = omega arith in
     rw e (ap (take m) (drop-take i (k - i) (drop a xs)) ∙ take-take m (k - i) (drop i (drop a xs)) (omega arith) ∙ ap (take m) (drop-drop i a xs))
-
--- a part of zeros
-pub part-zeros : (at k n : ℕ) → at + k ≤ n → part at k (zeros n) ≡ zeros k
-unfolding zeros
-part-zeros at k n h =
-    let w : n ≡ at + (k + (n - (at + k))) = omega arith in
-    rw (w, ← replicate-append-replicate at, ← replicate-append-replicate k)
-    (part-from (replicate at 0) _ at k (length-replicate at 0) ∙ part-here (replicate k 0) _ k (length-replicate k 0))

@@ -158,6 +158,11 @@ pub put-inside : (vs xs : List ℕ) (a k i : ℕ) → a + k ≤ length xs → i 
 put-inside vs xs a k i h g =
     sym (put-back xs (put i vs (part a k xs)) a k h (length-put i vs (part a k xs) ∙ length-part xs a k h)) ∙ put-part vs xs a k i g
 
+-- what stands there already
+pub put-self : (xs : List ℕ) (a k : ℕ) → a + k ≤ length xs → put a (part a k xs) xs ≡ xs
+unfolding put
+put-self xs a k h = put-inside [] xs a k 0 h (omega arith)
+
 -- a byte outside a write
 pub getD-put-out : (vs xs : List ℕ) (at k : ℕ) → (k < at) ⊎ (at + length vs ≤ k) → getD (put at vs xs) k 0 ≡ getD xs k 0
 unfolding put
@@ -171,8 +176,3 @@ getD-put-out (v ∷ vs) xs at k h = getD-put-out vs (set xs at v) (suc at) k (on
     ne : (k < at) ⊎ (at + suc (length vs) ≤ k) → k ≢ at
     ne (inl w) e = omega arith
     ne (inr w) e = omega arith
-
--- a part written back as it was
-pub put-own : (xs : List ℕ) (a k : ℕ) → a + k ≤ length xs → put a (part a k xs) xs ≡ xs
-unfolding put
-put-own xs a k h = put-inside [] xs a k 0 h (omega arith)

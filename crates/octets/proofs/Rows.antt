@@ -46,6 +46,14 @@ refusal-append [] qs e = refl
 refusal-append (r ∷ rs) qs e =
     let w = pick-none (r .holds) (r .number) (refusal rs) e in pick-false (r .holds) (r .number) (refusal (rs ++ qs)) (w .0) ∙ refusal-append rs qs (w .1)
 
+pub refusal-first : (rs qs : List Row) (k : ℕ) → refusal rs ≡ some k → refusal (rs ++ qs) ≡ some k
+refusal-first [] qs k e = absurd (some-none (sym e))
+refusal-first (r ∷ rs) qs k e = go (bool-cases (r .holds)) (refusal-first rs qs k)
+  where
+    go : (r .holds ≡ true) ⊎ (r .holds ≡ false) → (refusal rs ≡ some k → refusal (rs ++ qs) ≡ some k) → refusal (r ∷ rs ++ qs) ≡ some k
+    go (inl q) ih = pick-true _ _ _ q ∙ sym (pick-true _ _ _ q) ∙ e
+    go (inr q) ih = pick-false _ _ _ q ∙ ih (sym (pick-false _ _ _ q) ∙ e)
+
 pub refusal-before : (rs qs : List Row) → refusal (rs ++ qs) ≡ none → (refusal rs ≡ none) × (refusal qs ≡ none)
 refusal-before [] qs e = (refl, e)
 refusal-before (r ∷ rs) qs e =

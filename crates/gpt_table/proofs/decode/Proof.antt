@@ -91,14 +91,14 @@ loop-again c =
     let s = length-entries t in
     ⊎-elim
     (λ w.
-      let u = not-true _ (sym (c .before .wanted .ensures) ∙ w .0 .taken) in
-      let e = used-in (entries t) (a .but) (l .i) (omega arith) u in
-      decoding-as (w .5) (w .6) (w .7)
-      (decoding-more (length-but t (a .but)) (omega arith) (l .inv) u
-      (w .2 .ensures ∙ ap (field (a .at) 8) (w .1 .ensures .0 ∙ sym e)) (w .4 .ensures ∙ ap (field (a .at + 8) 8) (w .3 .ensures .0 ∙ sym e))))
+    let u = not-true _ (sym (c .before .wanted .ensures) ∙ w .0 .taken) in
+    let e = used-in (entries t) (a .but) (l .i) (omega arith) u in
+    decoding-as (w .5) (w .6) (w .7)
+    (decoding-more (length-but t (a .but)) (omega arith) (l .inv) u
+    (w .2 .ensures ∙ ap (field (a .at) 8) (w .1 .ensures .0 ∙ sym e)) (w .4 .ensures ∙ ap (field (a .at + 8) 8) (w .3 .ensures .0 ∙ sym e))))
     (λ w.
-      decoding-as (w .1) (w .2) (w .3)
-      (decoding-skip (length-but t (a .but)) (omega arith) (l .inv) (not-false _ (sym (c .before .wanted .ensures) ∙ w .0 .left))))
+    decoding-as (w .1) (w .2) (w .3)
+    (decoding-skip (length-but t (a .but)) (omega arith) (l .inv) (not-false _ (sym (c .before .wanted .ensures) ∙ w .0 .left))))
     (c .if1 .came)
 
 -- src/lib.rt:105:1

@@ -1,11 +1,11 @@
-use borrow.Author.Needs.{needs}
-use Rattle.guid.proofs.Hex.{length-bytes, bytes-at, digit-below}
-use Rattle.guid.specs.Hex.{bytesOf}
-use Rattle.octets.proofs.Filled.{Filled, filled-on, filled-all}
-use denote.Ref.{now}
-use native.Mathlib.Omega.{arith}
-use Prim.Native.Nat.{_+_, _*_, _-_}
 use mathlib.Core.Path.{refl}
+use Prim.Native.Nat.{_+_, _*_, _-_}
+use native.Mathlib.Omega.{arith}
+use denote.Ref.{now}
+use borrow.Author.Needs.{needs}
+use Rattle.octets.proofs.Filled.{Filled, filled-on, filled-all}
+use Rattle.guid.specs.Hex.{bytesOf}
+use Rattle.guid.proofs.Hex.{length-bytes, bytes-at, digit-below}
 use Rattle.guid.proofs.bytes_of.Statement.{statement}
 use Rattle.guid.proofs.bytes_of.Tie as tie
 
@@ -28,7 +28,10 @@ value-requires : tie.Need-value-requires Inv-loop μ-loop
 value-requires c κs = search needs
 
 mul-bytes : tie.Need-mul-bytes Inv-loop μ-loop
-mul-bytes c = let ds = now (c .before .before .before .before .before .args .digits) in let i = c .before .before .before .loop .i in omega (arith, c .value .ensures, digit-below ds (c .before .before .before .before .before .pre .1) (2 * i) (omega arith))
+mul-bytes c =
+    let s = c .before .before .before .before .before in
+    let i = c .before .before .before .loop .i in
+    omega (arith, c .value .ensures, digit-below (now (s .args .digits)) (s .pre .1) (2 * i) (omega arith))
 
 mul-value-2 : tie.Need-mul-value-2 Inv-loop μ-loop
 mul-value-2 c = search needs
@@ -43,7 +46,11 @@ value-requires-2 : tie.Need-value-requires-2 Inv-loop μ-loop
 value-requires-2 c κs = search needs
 
 add-bytes : tie.Need-add-bytes Inv-loop μ-loop
-add-bytes c = let ds = now (c .before .before .before .before .before .before .before .args .digits) in let i = c .before .before .before .before .before .loop .i in omega (arith, c .before .before .value .ensures, c .value2 .ensures, digit-below ds (c .before .before .before .before .before .before .before .pre .1) (2 * i) (omega arith), digit-below ds (c .before .before .before .before .before .before .before .pre .1) (2 * i + 1) (omega arith))
+add-bytes c =
+    let s = c .before .before .before .before .before .before .before in
+    let i = c .before .before .before .before .before .loop .i in
+    let below = digit-below (now (s .args .digits)) (s .pre .1) in
+    omega (arith, c .before .before .value .ensures, c .value2 .ensures, below (2 * i) (omega arith), below (2 * i + 1) (omega arith))
 
 array-write-bytes : tie.Need-array-write-bytes Inv-loop μ-loop
 array-write-bytes c = let w = c .before .before .before .before .before .loop .inv .width in search needs
@@ -55,10 +62,17 @@ loop-less : tie.Need-loop-less Inv-loop μ-loop
 loop-less c = search needs
 
 loop-again : tie.Need-loop-again Inv-loop μ-loop
-loop-again c = let ds = now (c .before .before .before .before .before .before .before .args .digits) in let l = c .before .before .before .before .before .loop in filled-on _ (length-bytes 16 ds (c .before .before .before .before .before .before .before .pre .0)) (c .before .before .before .before .loop-test .taken) (omega (arith, bytes-at (l .i) ds (omega arith), c .before .before .value .ensures, c .value2 .ensures)) (l .inv)
+loop-again c =
+    let s = c .before .before .before .before .before .before .before in
+    let ds = now (s .args .digits) in
+    let l = c .before .before .before .before .before .loop in
+    filled-on _ (length-bytes 16 ds (s .pre .0)) (c .before .before .before .before .loop-test .taken)
+    (omega (arith, bytes-at (l .i) ds (omega arith), c .before .before .value .ensures, c .value2 .ensures))
+    (l .inv)
 
 returns : tie.Need-returns Inv-loop μ-loop
-returns c = filled-all (length-bytes 16 (now (c .before .before .before .args .digits)) (c .before .before .before .pre .0)) (c .loop-test .left) (c .before .loop .inv)
+returns c =
+    let s = c .before .before .before in filled-all (length-bytes 16 (now (s .args .digits)) (s .pre .0)) (c .loop-test .left) (c .before .loop .inv)
 
 pub bytes-of-spec : {M : Type 1} → statement M
 bytes-of-spec =

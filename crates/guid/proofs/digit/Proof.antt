@@ -1,7 +1,7 @@
-use Rattle.guid.specs.Hex.{digitOf}
-use borrow.Author.Tests.{lt-ltb, le-ltb}
 use native.Mathlib.Omega.{arith}
+use borrow.Author.Tests.{lt-ltb, le-ltb}
 use borrow.Author.Needs.{needs}
+use Rattle.guid.specs.Hex.{digitOf}
 use Rattle.guid.proofs.digit.Statement.{statement}
 use Rattle.guid.proofs.digit.Tie as tie
 

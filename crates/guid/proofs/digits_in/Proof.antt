@@ -1,7 +1,7 @@
-use Rattle.guid.proofs.Text.{digits-copied}
-use Rattle.octets.specs.Bytes.{part}
 use denote.Ref.{now}
 use borrow.Author.Needs.{needs}
+use Rattle.octets.specs.Bytes.{part}
+use Rattle.guid.proofs.Text.{digits-copied}
 use Rattle.guid.proofs.digits_in.Statement.{statement}
 use Rattle.guid.proofs.digits_in.Tie as tie
 
@@ -82,7 +82,14 @@ copy-requires-5 c κs = search needs
 
 returns : tie.Need-returns
 unfolding part
-returns c = digits-copied (now (c .before .before .before .before .before .before .before .before .before .before .before .before .before .before .before .before .before .before .before .before .before .args .text)) (c .before .before .before .before .before .before .before .before .before .before .before .before .before .before .before .before .before .before .before .before .before .pre) _ _ _ _ _ (c .before .before .before .before .before .before .before .before .before .before .before .before .before .before .before .before .before .copy .ensures) (c .before .before .before .before .before .before .before .before .before .before .before .before .before .copy2 .ensures) (c .before .before .before .before .before .before .before .before .before .copy3 .ensures) (c .before .before .before .before .before .copy4 .ensures) (c .before .copy5 .ensures)
+returns c =
+    let s = c .before .before .before .before .before .before .before .before .before .before .before .before .before .before .before .before .before .before .before .before .before in
+    digits-copied (now (s .args .text)) (s .pre) _ _ _ _ _
+    (c .before .before .before .before .before .before .before .before .before .before .before .before .before .before .before .before .before .copy .ensures)
+    (c .before .before .before .before .before .before .before .before .before .before .before .before .before .copy2 .ensures)
+    (c .before .before .before .before .before .before .before .before .before .copy3 .ensures)
+    (c .before .before .before .before .before .copy4 .ensures)
+    (c .before .copy5 .ensures)
 
 pub digits-in-spec : {M : Type 1} → statement M
 digits-in-spec =

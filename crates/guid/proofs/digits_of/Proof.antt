@@ -1,12 +1,11 @@
-use mathlib.Core.Path.{_∙_}
-use borrow.Author.Needs.{needs}
-use Rattle.guid.proofs.Hex.{length-digits, digits-on}
-use Rattle.guid.specs.Hex.{digitsOf}
-use Rattle.octets.proofs.Filled.{Filled, filled-all}
-use denote.Ref.{now}
-use native.Mathlib.Omega.{arith}
+use mathlib.Core.Path.{refl, _∙_}
 use Prim.Native.Nat.{_*_, _-_}
-use mathlib.Core.Path.{refl}
+use native.Mathlib.Omega.{arith}
+use denote.Ref.{now}
+use borrow.Author.Needs.{needs}
+use Rattle.octets.proofs.Filled.{Filled, filled-all}
+use Rattle.guid.specs.Hex.{digitsOf}
+use Rattle.guid.proofs.Hex.{length-digits, digits-on}
 use Rattle.guid.proofs.digits_of.Statement.{statement}
 use Rattle.guid.proofs.digits_of.Tie as tie
 
@@ -53,7 +52,11 @@ loop-less : tie.Need-loop-less Inv-loop μ-loop
 loop-less c = search needs
 
 loop-again : tie.Need-loop-again Inv-loop μ-loop
-loop-again c = let l = c .before .before .before .before .before .loop in digits-on (now (c .before .before .before .before .before .before .before .args .bytes)) (l .digits) (l .i) _ _ (c .before .before .before .before .before .before .before .pre) (c .before .before .before .before .loop-test .taken) (c .before .before .digit .ensures) (c .digit2 .ensures) (l .inv)
+loop-again c =
+    let s = c .before .before .before .before .before .before .before in
+    let l = c .before .before .before .before .before .loop in
+    digits-on (now (s .args .bytes)) (l .digits) (l .i) _ _ (s .pre) (c .before .before .before .before .loop-test .taken)
+    (c .before .before .digit .ensures) (c .digit2 .ensures) (l .inv)
 
 returns : tie.Need-returns Inv-loop μ-loop
 returns c = let bs = now (c .before .before .before .args .bytes) in filled-all (length-digits bs ∙ omega arith) (omega arith) (c .before .loop .inv)

@@ -1,11 +1,11 @@
-use Rattle.guid.proofs.Calls.{text-short, text-other, text-digits}
+use mathlib.Core.Path.{sym, ap, _∙_}
+use denote.Ref.{now}
+use borrow.Author.Tests.{not-true, not-false}
+use borrow.Author.Needs.{needs}
+use Rattle.octets.specs.Tests.{all}
 use Rattle.guid.specs.Text.{dashesIn}
 use Rattle.guid.specs.Hex.{isDigit}
-use Rattle.octets.specs.Tests.{all}
-use borrow.Author.Tests.{not-true, not-false}
-use denote.Ref.{now}
-use mathlib.Core.Path.{sym, ap, _∙_}
-use borrow.Author.Needs.{needs}
+use Rattle.guid.proofs.Calls.{text-short, text-other, text-digits}
 use Rattle.guid.proofs.is_text.Statement.{statement}
 use Rattle.guid.proofs.is_text.Tie as tie
 
@@ -35,7 +35,10 @@ same-requires c κs = search needs
 
 returns-2 : tie.Need-returns-2
 unfolding dashesIn
-returns-2 c = text-other (now (c .before .before .before .before .before .before .before .before .before .before .args .text)) (c .before .before .before .before .before .before .before .before .if1 .left) (sym (c .before .same .ensures) ∙ not-true _ (c .if2 .taken))
+returns-2 c =
+    let a = c .before .before .before .before .before .before .before .before .before .before .args in
+    text-other (now (a .text)) (c .before .before .before .before .before .before .before .before .if1 .left)
+    (sym (c .before .same .ensures) ∙ not-true _ (c .if2 .taken))
 
 digits-in-requires : tie.Need-digits-in-requires
 digits-in-requires c κs = search needs
@@ -48,7 +51,12 @@ all-digits-requires c κs = search needs
 
 returns-3 : tie.Need-returns-3
 unfolding dashesIn
-returns-3 c = c .all-digits .ensures ∙ ap (all isDigit) (c .before .before .digits-in .ensures) ∙ text-digits (now (c .before .before .before .before .before .before .before .before .before .before .before .before .before .args .text)) (c .before .before .before .before .before .before .before .before .before .before .before .if1 .left) (sym (c .before .before .before .before .same .ensures) ∙ not-false _ (c .before .before .before .if2 .left))
+returns-3 c =
+    let a = c .before .before .before .before .before .before .before .before .before .before .before .before .before .args in
+    c .all-digits .ensures
+    ∙ ap (all isDigit) (c .before .before .digits-in .ensures)
+    ∙ text-digits (now (a .text)) (c .before .before .before .before .before .before .before .before .before .before .before .if1 .left)
+    (sym (c .before .before .before .before .same .ensures) ∙ not-false _ (c .before .before .before .if2 .left))
 
 pub is-text-spec : {M : Type 1} → statement M
 is-text-spec =

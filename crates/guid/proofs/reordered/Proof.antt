@@ -1,8 +1,8 @@
-use Rattle.guid.proofs.Text.{reordered-each}
-use Rattle.guid.specs.Text.{reordered}
-use Rattle.octets.specs.Bytes.{part, rest}
 use denote.Ref.{now}
 use borrow.Author.Needs.{needs}
+use Rattle.octets.specs.Bytes.{part, rest}
+use Rattle.guid.specs.Text.{reordered}
+use Rattle.guid.proofs.Text.{reordered-each}
 use Rattle.guid.proofs.reordered.Statement.{statement}
 use Rattle.guid.proofs.reordered.Tie as tie
 
@@ -56,7 +56,9 @@ shared-slice-read-t33 c = search needs
 
 returns : tie.Need-returns
 unfolding reordered part rest
-returns c = reordered-each (now (c .before .before .before .before .before .before .before .before .before .before .before .before .before .before .before .before .args .b)) (c .before .before .before .before .before .before .before .before .before .before .before .before .before .before .before .before .pre)
+returns c =
+    let s = c .before .before .before .before .before .before .before .before .before .before .before .before .before .before .before .before in
+    reordered-each (now (s .args .b)) (s .pre)
 
 pub reordered-spec : {M : Type 1} → statement M
 reordered-spec =

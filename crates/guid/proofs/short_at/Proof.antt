@@ -1,8 +1,8 @@
+use mathlib.Core.Path.{sym, _∙_}
+use Prim.Native.Nat.{_-_}
+use denote.Ref.{now}
 use borrow.Author.Needs.{needs}
 use Rattle.guid.proofs.Table.{name-fits, length-name, Passed, passed-none, passed-on, found, passed-all}
-use denote.Ref.{now}
-use Prim.Native.Nat.{_-_}
-use mathlib.Core.Path.{sym, _∙_}
 use Rattle.guid.proofs.short_at.Statement.{statement}
 use Rattle.guid.proofs.short_at.Tie as tie
 
@@ -25,16 +25,24 @@ array-copy-out-short : tie.Need-array-copy-out-short Inv-loop μ-loop
 array-copy-out-short c = search needs
 
 array-share-prefix-name : tie.Need-array-share-prefix-name Inv-loop μ-loop
-array-share-prefix-name c = name-fits (c .before .before .before .before .short-types .result) (c .before .before .before .before .short-types .ensures) (c .before .before .before .loop .i) (c .before .before .loop-test .taken)
+array-share-prefix-name c =
+    let t = c .before .before .before .before .short-types in name-fits (t .result) (t .ensures) (c .before .before .before .loop .i) (c .before .before .loop-test .taken)
 
 slice-aggregate-same : tie.Need-slice-aggregate-same Inv-loop μ-loop
-slice-aggregate-same c = sym (length-name (c .before .before .before .before .before .short-types .result) (c .before .before .before .before .before .short-types .ensures) (c .before .before .before .before .loop .i) (c .before .before .before .loop-test .taken))
+slice-aggregate-same c =
+    let t = c .before .before .before .before .before .short-types in
+    sym (length-name (t .result) (t .ensures) (c .before .before .before .before .loop .i) (c .before .before .before .loop-test .taken))
 
 same-requires : tie.Need-same-requires Inv-loop μ-loop
 same-requires c κs = search needs
 
 returns : tie.Need-returns Inv-loop μ-loop
-returns c = found (now (c .before .before .before .before .before .before .before .before .before .args .text)) (c .before .before .before .before .before .before .before .short-types .result) (c .before .before .before .before .before .before .before .short-types .ensures) (c .before .before .before .before .before .before .loop .i) (c .before .before .before .before .before .loop-test .taken) (sym (c .before .same .ensures) ∙ c .if1 .taken) (c .before .before .before .before .before .before .loop .inv)
+returns c =
+    let a = c .before .before .before .before .before .before .before .before .before .args in
+    let t = c .before .before .before .before .before .before .before .short-types in
+    let l = c .before .before .before .before .before .before .loop in
+    found (now (a .text)) (t .result) (t .ensures) (l .i) (c .before .before .before .before .before .loop-test .taken)
+    (sym (c .before .same .ensures) ∙ c .if1 .taken) (l .inv)
 
 add-i : tie.Need-add-i Inv-loop μ-loop
 add-i c = search needs
@@ -43,10 +51,15 @@ loop-less : tie.Need-loop-less Inv-loop μ-loop
 loop-less c = search needs
 
 loop-again : tie.Need-loop-again Inv-loop μ-loop
-loop-again c = passed-on (now (c .before .before .before .before .before .before .before .before .before .args .text)) (c .before .before .before .before .before .before .before .short-types .result) (c .before .before .before .before .before .before .before .short-types .ensures) (c .before .before .before .before .before .before .loop .i) (c .before .before .before .before .before .loop-test .taken) (sym (c .before .same .ensures) ∙ c .if1 .left) (c .before .before .before .before .before .before .loop .inv)
+loop-again c =
+    let a = c .before .before .before .before .before .before .before .before .before .args in
+    let t = c .before .before .before .before .before .before .before .short-types in
+    let l = c .before .before .before .before .before .before .loop in
+    passed-on (now (a .text)) (t .result) (t .ensures) (l .i) (c .before .before .before .before .before .loop-test .taken)
+    (sym (c .before .same .ensures) ∙ c .if1 .left) (l .inv)
 
 returns-2 : tie.Need-returns-2 Inv-loop μ-loop
-returns-2 c = passed-all (now (c .before .before .before .before .args .text)) (c .before .loop .i) (c .loop-test .left) (c .before .loop .inv)
+returns-2 c = let a = c .before .before .before .before .args in passed-all (now (a .text)) (c .before .loop .i) (c .loop-test .left) (c .before .loop .inv)
 
 pub short-at-spec : {M : Type 1} → statement M
 short-at-spec =

@@ -1,20 +1,21 @@
-use Rattle.guid.proofs.Calls.{write-guid, write-text, write-done}
-use Rattle.guid.specs.Text.{grouped, textOf}
-use Rattle.guid.specs.Hex.{digitsOf}
-use Rattle.octets.specs.Bytes.{put}
-use denote.Ref.{now}
-use Prim.Native.Nat.{ℕ}
 use mathlib.Core.List.{List}
 use mathlib.Core.Path.{ap, _∙_}
+use Prim.Native.Nat.{ℕ}
+use denote.Ref.{now}
 use borrow.Author.Needs.{needs}
+use Rattle.octets.specs.Bytes.{put}
+use Rattle.guid.specs.Text.{grouped, textOf}
+use Rattle.guid.specs.Hex.{digitsOf}
+use Rattle.guid.proofs.Calls.{write-guid, write-text, write-done}
 use Rattle.guid.proofs.write.Statement.{statement}
 use Rattle.guid.proofs.write.Tie as tie
 
 returns : tie.Need-returns
-returns c = write-guid (now (c .before .before .before .args .guid)) (now (c .before .before .before .args .text)) (c .if1 .taken)
+returns c = let a = c .before .before .before .args in write-guid (now (a .guid)) (now (a .text)) (c .if1 .taken)
 
 returns-2 : tie.Need-returns-2
-returns-2 c = write-text (now (c .before .before .before .before .args .guid)) (now (c .before .before .before .before .args .text)) (c .before .if1 .left) (c .if2 .taken)
+returns-2 c =
+    let a = c .before .before .before .before .args in write-text (now (a .guid)) (now (a .text)) (c .before .if1 .left) (c .if2 .taken)
 
 reordered-requires : tie.Need-reordered-requires
 reordered-requires c κs = search needs
@@ -42,7 +43,18 @@ same-length c = search needs
 
 returns-3 : tie.Need-returns-3
 unfolding textOf
-returns-3 c = let s = c .before .before .before .before .before .grouped .ensures ∙ ap grouped (c .before .before .before .before .before .before .before .digits-of .ensures ∙ ap digitsOf (c .before .before .before .before .before .before .before .before .before .reordered .ensures)) in write-done (now (c .before .before .before .before .before .before .before .before .before .before .before .before .before .before .args .guid)) (now (c .before .before .before .before .before .before .before .before .before .before .before .before .before .before .args .text)) _ (c .before .before .before .before .before .before .before .before .before .before .before .if1 .left) (c .before .before .before .before .before .before .before .before .before .before .if2 .left) (c .before .before .copy .ensures ∙ ap (λ (l : List ℕ). put 0 l (now (c .before .before .before .before .before .before .before .before .before .before .before .before .before .before .args .text))) s)
+returns-3 c =
+    let a = c .before .before .before .before .before .before .before .before .before .before .before .before .before .before .args in
+    let s =
+    c .before .before .before .before .before .grouped .ensures
+    ∙ ap grouped
+    (c .before .before .before .before .before .before .before .digits-of .ensures
+    ∙ ap digitsOf (c .before .before .before .before .before .before .before .before .before .reordered .ensures))
+    in
+    write-done (now (a .guid)) (now (a .text)) _
+    (c .before .before .before .before .before .before .before .before .before .before .before .if1 .left)
+    (c .before .before .before .before .before .before .before .before .before .before .if2 .left)
+    (c .before .before .copy .ensures ∙ ap (λ (l : List ℕ). put 0 l (now (a .text))) s)
 
 pub write-spec : {M : Type 1} → statement M
 write-spec =

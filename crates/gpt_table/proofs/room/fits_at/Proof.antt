@@ -1,7 +1,6 @@
 use Rattle.gpt_table.proofs.Walks.{room-same}
 use Rattle.gpt_table.proofs.Used.{free-but}
-use Rattle.gpt_model.specs.Table.{slots}
-use Rattle.gpt_model.specs.Ranges.{vacant}
+use Rattle.gpt_model.specs.Table.{slots, vacant}
 use Rattle.octets.specs.Bytes.{field}
 use denote.Ref.{now}
 use lib.ListN.{set}
@@ -43,7 +42,7 @@ returns c = λ first.
     let a = c .before .before .before .before .before .before .before .before .before .args in
     c .room-at .ensures
     ∙ room-same _ (set (slots (now (a .t))) (a .k - 1) vacant) (free-but (now (a .t)) (a .k - 1) (c .before .before .before .decode .ensures)) (a .last .0) (a .size)
-        (c .before .before .before .before .before .before .load64 .ensures ∙ ap (field 32 8) (c .before .before .before .before .before .before .before .entry .ensures .0))
+    (c .before .before .before .before .before .before .load64 .ensures ∙ ap (field 32 8) (c .before .before .before .before .before .before .before .entry .ensures .0))
 
 pub fits-at-spec : {M : Type 1} → statement M
 fits-at-spec =

@@ -117,11 +117,15 @@ loop-less c = search needs
 
 -- src/rules.rt:98:5
 loop-again : tie.Need-loop-again Inv-loop μ-loop
-loop-again c = (omega arith, omega arith, λ es w.
-    let i = c .before .before .before .before .before .before .before .before .before .before .before .before .args .i in
-    let l = c .before .before .before .before .before .before .before .loop in
-    let k = w .blocks .count in
-    sym (all-on (beside (getD es i [])) es [] (l .j) (omega arith) (beside-at w i (l .j) (omega arith) (omega arith) ∙ sym (c .before .beside .ensures) ∙ not-false _ (c .if1 .left))) ∙ l .inv .2 es w)
+loop-again c = (
+  omega arith,
+  omega arith,
+  λ es w.
+      let i = c .before .before .before .before .before .before .before .before .before .before .before .before .args .i in
+      let l = c .before .before .before .before .before .before .before .loop in
+      let k = w .blocks .count in
+      sym (all-on (beside (getD es i [])) es [] (l .j) (omega arith) (beside-at w i (l .j) (omega arith) (omega arith) ∙ sym (c .before .beside .ensures) ∙ not-false _ (c .if1 .left))) ∙ l .inv .2 es w,
+)
 
 -- src/rules.rt:88:1
 returns-2 : tie.Need-returns-2 Inv-loop μ-loop

@@ -1,5 +1,5 @@
 use Rattle.gpt_table.proofs.Good.{ok-unused, ok-type, ok-unique, ok-range}
-use Rattle.gpt_model.specs.Ranges.{bounded, spans}
+use Rattle.gpt_model.specs.Table.{bounded, spans}
 use Rattle.octets.specs.Bytes.{part}
 use denote.Ref.{now}
 use Prim.Native.Nat.{ℕ}

@@ -46,10 +46,13 @@ loop-less c = search needs
 
 -- src/rules.rt:112:5
 loop-again : tie.Need-loop-again Inv-loop μ-loop
-loop-again c = (omega arith, λ es w.
-    let l = c .before .before .before .loop in
-    let k = w .blocks .count in
-    sym (pairs-on beside es [] (l .i) (omega arith) (sym (c .before .beside-rest .ensures es w) ∙ not-false _ (c .if1 .left))) ∙ l .inv .1 es w)
+loop-again c = (
+  omega arith,
+  λ es w.
+      let l = c .before .before .before .loop in
+      let k = w .blocks .count in
+      sym (pairs-on beside es [] (l .i) (omega arith) (sym (c .before .beside-rest .ensures es w) ∙ not-false _ (c .if1 .left))) ∙ l .inv .1 es w,
+)
 
 -- src/rules.rt:107:1
 returns-2 : tie.Need-returns-2 Inv-loop μ-loop
