@@ -2,12 +2,12 @@
 use mathlib.Core.Path.{_≡_, refl, sym, ap, ap₂, _∙_}
 use mathlib.Core.Bool.{Bool, true, false}
 use mathlib.Core.List.{List}
-use Prim.Native.Nat.{ℕ, _-_}
+use Prim.Native.Nat.{ℕ}
 use Rattle.octets.specs.Tests.{_and_}
 use Rattle.octets.specs.Bytes.{same}
 use Rattle.octets.proofs.Equal.{same-refl}
 use Rattle.gpt_model.specs.Table.{goodTable}
-use Rattle.gpt_model.specs.Disk.{disk512, Side, primary, backup, guidIn, entriesIn, goodCopy, stateOf, state}
+use Rattle.gpt_model.specs.Disk.{disk512, lastUsable, Side, primary, backup, guidIn, entriesIn, goodCopy, stateOf, state}
 use Rattle.gpt_copies.specs.Sides.{goodHeader}
 
 and-true : (a : Bool) → (a and true) ≡ a
@@ -21,10 +21,10 @@ and-false true = refl
 and-false false = refl
 
 module _ (n : ℕ) (side : Side) (b es : List ℕ) (header table : Bool) (e : es ≡ entriesIn disk512 side b) (p : header ≡ goodHeader n side b)
-    (q : table ≡ goodTable 34 (n - 34) es) where
+    (q : table ≡ goodTable (disk512 .first) (lastUsable disk512 n) es) where
   copy-judged : (header and table) ≡ goodCopy disk512 n side b
   unfolding goodCopy
-  copy-judged = ap₂ _and_ p (q ∙ ap (goodTable 34 (n - 34)) e)
+  copy-judged = ap₂ _and_ p (q ∙ ap (goodTable (disk512 .first) (lastUsable disk512 n)) e)
 
   pub copy-table : header ≡ true → table ≡ goodCopy disk512 n side b
   unfolding _and_
@@ -38,7 +38,7 @@ module _ (n : ℕ) (side : Side) (b es : List ℕ) (header table : Bool) (e : es
 
 pub bad-header : (n : ℕ) (side : Side) (b : List ℕ) (header : Bool) → header ≡ goodHeader n side b → header ≡ false → false ≡ goodCopy disk512 n side b
 unfolding goodCopy _and_
-bad-header n side b header p h = ap (λ (a : Bool). a and goodTable 34 (n - 34) (entriesIn disk512 side b)) (sym h ∙ p)
+bad-header n side b header p h = ap (λ (a : Bool). a and goodTable (disk512 .first) (lastUsable disk512 n) (entriesIn disk512 side b)) (sym h ∙ p)
 
 module _ (n : ℕ) (h t : List ℕ) where
   pub state-apart : (first second : Bool) → first ≡ goodCopy disk512 n primary h → second ≡ goodCopy disk512 n backup t
@@ -48,7 +48,7 @@ module _ (n : ℕ) (h t : List ℕ) where
       rw (← p, ← q, e, and-false (same (guidIn disk512 primary h) (guidIn disk512 backup t)))
 
   -- the tables hold the same bytes es, which are judged once
-  module _ (es : List ℕ) (table : Bool) (p : es ≡ entriesIn disk512 primary h) (q : es ≡ entriesIn disk512 backup t) (w : table ≡ goodTable 34 (n - 34) es) where
+  module _ (es : List ℕ) (table : Bool) (p : es ≡ entriesIn disk512 primary h) (q : es ≡ entriesIn disk512 backup t) (w : table ≡ goodTable (disk512 .first) (lastUsable disk512 n) es) where
     pub state-bad : table ≡ false → 0 ≡ state disk512 n h t
     unfolding state
     state-bad e =

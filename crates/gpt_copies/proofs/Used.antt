@@ -1,5 +1,5 @@
 -- For the callers of `part`: where there is a good copy, the part is the model's table and lies in the copy that the model's reading uses.
-use mathlib.Core.Path.{_≡_, refl, sym, ap}
+use mathlib.Core.Path.{_≡_, refl, sym}
 use mathlib.Core.Logic.{_≢_}
 use mathlib.Core.List.{List}
 use Prim.Native.Nat.{ℕ}

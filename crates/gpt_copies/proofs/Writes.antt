@@ -5,21 +5,20 @@ use mathlib.Core.List.{List, [], _∷_, _++_, append-assoc}
 use Prim.Native.Nat.{ℕ, _+_, _-_, _*_, _≤_, _<_}
 use native.Mathlib.Omega.{arith}
 use lib.Bits.{bitXor}
-use lib.ListN.{length, take, drop, replicate, length-drop, length-append}
+use lib.ListN.{length, take, drop, replicate, length-drop}
 use lib.Seq.{take-all}
 use Rattle.octets.specs.Bytes.{le, part, put, zeros, putChunk}
 use Rattle.octets.proofs.Numbers.{length-le}
-use Rattle.octets.proofs.Parts.{length-part, length-zeros, part-zeros}
-use Rattle.octets.proofs.Puts.{then, put-all, put-eq, put-back, put-inside, put-self, part-put-out, part-put-below}
+use Rattle.octets.proofs.Parts.{length-zeros, part-zeros}
+use Rattle.octets.proofs.Puts.{then, put-all, put-eq, put-back, part-put-out}
 use Rattle.octets.proofs.Chunks.{length-putChunk, putChunk-put}
 use Rattle.crc_lanes.specs.Crc.{crcUpdate, crc32}
 use Rattle.crc_lanes.proofs.Parts.{crc-parts}
 use Rattle.gpt_model.specs.Table.{writeAll}
 use Rattle.gpt_model.specs.Disk.{disk512, Side, primary, backup, lentBytes, headerAt, entriesAt, guidIn, entriesIn, header, withTable, withCopy, block0, freshHead, freshTail}
-use Rattle.gpt_model.proofs.Fields.{length-writeAll}
-use Rattle.gpt_model.proofs.Copies.{length-header, places-apart}
-use Rattle.gpt_model.proofs.Copies.{length-guid}
-use Rattle.gpt_copies.proofs.Places.{header-end, block-end, entries-end, length-cut}
+use Rattle.gpt_model.proofs.Copies.{length-header, places-apart, length-guid, length-entries}
+use Rattle.gpt_model.proofs.Writes.{entry-written, fresh-head, fresh-tail}
+use Rattle.gpt_copies.proofs.Places.{header-end, block-end, length-cut}
 use Rattle.gpt_copies.proofs.Headers.{filled}
 
 -- what is written into a part that was cut out by a start and an end
@@ -56,17 +55,9 @@ module _ (side : Side) (b : List ℕ) (lb : length b ≡ lentBytes disk512 side)
 
   -- ---- the table
 
-  length-entries : length (entriesIn disk512 side b) ≡ 16384
-  length-entries = length-part b _ 16384 (let h = entries-end side in omega arith)
-
   pub entry-put : (i at : ℕ) (e : List ℕ) → i < 128 → length e ≡ 128 → at ≡ entriesAt disk512 side
-      → put (at + 128 * i) e b ≡ put (entriesAt disk512 side) (putChunk 128 i e (entriesIn disk512 side b)) b
-  entry-put i at e hi le′ p =
-      let h = entries-end side in
-      let swap : 128 * i ≡ i * 128 = omega arith in
-      ap₂ (λ (a m : ℕ). put (a + m) e b) p swap
-      ∙ sym (ap (λ (es : List ℕ). put (entriesAt disk512 side) es b) (putChunk-put 128 128 i e (entriesIn disk512 side b) le′ hi (length-entries ∙ omega arith))
-      ∙ put-inside e b (entriesAt disk512 side) 16384 (i * 128) (omega arith) (omega arith))
+      → put (at + i * 128) e b ≡ put (entriesAt disk512 side) (putChunk 128 i e (entriesIn disk512 side b)) b
+  entry-put i at e hi le′ p = ap (λ (a : ℕ). put (a + i * 128) e b) p ∙ sym (entry-written disk512 (omega arith) side b lb i hi e le′)
 
   pub guid-kept : (es : List ℕ) → length es ≡ 16384 → guidIn disk512 side (put (entriesAt disk512 side) es b) ≡ guidIn disk512 side b
   guid-kept es l = ap (part 56 16) (part-put-out es b (headerAt disk512 side) 92 (entriesAt disk512 side) (clear (places-apart disk512 (omega arith) side)))
@@ -77,7 +68,7 @@ module _ (side : Side) (b : List ℕ) (lb : length b ≡ lentBytes disk512 side)
       clear (inr h) = inl (omega arith)
 
   pub length-changed : (i : ℕ) (e : List ℕ) → i < 128 → length e ≡ 128 → length (putChunk 128 i e (entriesIn disk512 side b)) ≡ 16384
-  length-changed i e hi le′ = length-putChunk 128 128 i e (entriesIn disk512 side b) le′ hi (length-entries ∙ omega arith) ∙ omega arith
+  length-changed i e hi le′ = length-putChunk 128 128 i e (entriesIn disk512 side b) le′ hi (length-entries disk512 (omega arith) side b lb)
 
   -- a table set, and the header anew
   pub table-put : (n : ℕ) (es b1 b2 : List ℕ) → length es ≡ 16384 → b1 ≡ put (entriesAt disk512 side) es b
@@ -97,36 +88,20 @@ module _ (side : Side) (b : List ℕ) (lb : length b ≡ lentBytes disk512 side)
 -- ---- the CRC of a table with one entry replaced
 
 pub crc-changed : (t e : List ℕ) (i x y z : ℕ) → length t ≡ 16384 → i < 128 → length e ≡ 128
-    → x ≡ crcUpdate 0xFFFF_FFFF (take (128 * i - 0) t) → y ≡ crcUpdate x e → z ≡ crcUpdate y (take (length t - (128 * i + 128)) (drop (128 * i + 128) t))
+    → x ≡ crcUpdate 0xFFFF_FFFF (take (i * 128 - 0) t) → y ≡ crcUpdate x e → z ≡ crcUpdate y (take (length t - (i * 128 + 128)) (drop (i * 128 + 128) t))
     → bitXor z 0xFFFF_FFFF ≡ crc32 (putChunk 128 i e t)
 crc-changed t e i x y z lt hi le′ p q r =
-    let swap : i * 128 ≡ 128 * i = omega arith in
-    let whole : take (length t - (128 * i + 128)) (drop (128 * i + 128) t) ≡ drop (128 * i + 128) t =
-    take-all (length t - (128 * i + 128)) (drop (128 * i + 128) t) (omega (arith, length-drop (128 * i + 128) t)) in
-    let whole0 : 128 * i - 0 ≡ 128 * i = omega arith in
-    crc-parts (take (128 * i) t) e (drop (128 * i + 128) t) (p ∙ ap (λ (k : ℕ). crcUpdate 0xFFFF_FFFF (take k t)) whole0) q (r ∙ ap (crcUpdate y) whole)
+    let whole : take (length t - (i * 128 + 128)) (drop (i * 128 + 128) t) ≡ drop (i * 128 + 128) t =
+    take-all (length t - (i * 128 + 128)) (drop (i * 128 + 128) t) (omega (arith, length-drop (i * 128 + 128) t)) in
+    let whole0 : i * 128 - 0 ≡ i * 128 = omega arith in
+    crc-parts (take (i * 128) t) e (drop (i * 128 + 128) t) (p ∙ ap (λ (k : ℕ). crcUpdate 0xFFFF_FFFF (take k t)) whole0) q (r ∙ ap (crcUpdate y) whole)
     ∙ ap crc32
     (sym (putChunk-put 128 128 i e t le′ hi (lt ∙ omega arith)
-    ∙ ap (λ (k : ℕ). put k e t) swap
-    ∙ put-eq (128 * i) e t (omega arith)
-    ∙ append-assoc (take (128 * i) t) e (drop (128 * i + length e) t)
-    ∙ ap (λ (k : ℕ). take (128 * i) t ++ (e ++ drop (128 * i + k) t)) le′))
+    ∙ put-eq (i * 128) e t (omega arith)
+    ∙ append-assoc (take (i * 128) t) e (drop (i * 128 + length e) t)
+    ∙ ap (λ (k : ℕ). take (i * 128) t ++ (e ++ drop (i * 128 + k) t)) le′))
 
 -- ---- a fresh disk
-
--- the table of a fresh head or tail is zeros already
-fresh-put : (n : ℕ) (side : Side) (guid b : List ℕ) → length b ≡ lentBytes disk512 side → entriesIn disk512 side b ≡ zeros 16384
-    → put (headerAt disk512 side) (header disk512 n side guid (zeros 16384)) b ≡ withTable disk512 n side guid (zeros 16384) b
-unfolding withTable
-fresh-put n side guid b l e =
-    ap (put (headerAt disk512 side) (header disk512 n side guid (zeros 16384)))
-    (sym (ap (λ (es : List ℕ). put (entriesAt disk512 side) es b) (sym e) ∙ put-self b (entriesAt disk512 side) 16384 (let h = entries-end side in omega arith)))
-
-abbrev record0 : ℕ → List ℕ
-record0 n = (0 ∷ 0 ∷ 2 ∷ 0 ∷ 0xEE ∷ 0xFF ∷ 0xFF ∷ 0xFF ∷ []) ++ (le 4 1 ++ le 4 (n - 1))
-
-length-record0 : (n : ℕ) → length (record0 n) ≡ 16
-length-record0 n = omega (arith, length-append (le 4 1) (le 4 (n - 1)), length-le 4 1, length-le 4 (n - 1))
 
 -- the record in one write, as its three parts are written one after the other
 pub block0-put : (n : ℕ) (h h1 h2 h3 h4 : List ℕ) → h1 ≡ put 446 (0 ∷ 0 ∷ 2 ∷ 0 ∷ 0xEE ∷ 0xFF ∷ 0xFF ∷ 0xFF ∷ []) h → h2 ≡ put 454 (le 4 1) h1
@@ -137,36 +112,22 @@ block0-put n h h1 h2 h3 h4 p q r s =
     then h (head ++ le 4 1) h2 (le 4 (n - 1)) h3 446 458 (then h head h1 (le 4 1) h2 446 454 p q refl) r (omega (arith, length-le 4 1)) in
     s ∙ ap (put 510 (0x55 ∷ 0xAA ∷ [])) (w ∙ ap (λ (v : List ℕ). put 446 v h) (append-assoc head (le 4 1) (le 4 (n - 1))))
 
-abbrev blank : ℕ → List ℕ
-blank n = writeAll (block0 n) (zeros 17408)
-
-length-blank : (n : ℕ) → length (blank n) ≡ 17408
-length-blank n = length-writeAll (block0 n) (zeros 17408) ∙ length-zeros 17408
-
-blank-entries : (n : ℕ) → entriesIn disk512 primary (blank n) ≡ zeros 16384
-blank-entries n =
-    part-put-below (0x55 ∷ 0xAA ∷ []) (put 446 (record0 n) (zeros 17408)) 1024 16384 510 (omega arith)
-    ∙ part-put-below (record0 n) (zeros 17408) 1024 16384 446 (omega (arith, length-record0 n))
-    ∙ part-zeros 1024 16384 17408 (omega arith)
-
 -- zeros, block 0, the header
-pub head-fresh : (n : ℕ) (guid h1 h2 h3 es : List ℕ) (crc : ℕ) → h1 ≡ zeros 17408 → h2 ≡ writeAll (block0 n) h1 → es ≡ entriesIn disk512 primary h2 → crc ≡ crc32 es
+pub head-fresh : (n : ℕ) (guid h1 h2 h3 es : List ℕ) (crc : ℕ) → h1 ≡ zeros 17408 → es ≡ entriesIn disk512 primary h1 → crc ≡ crc32 es → h2 ≡ writeAll (block0 n) h1
     → ((es : List ℕ) → crc ≡ crc32 es → h3 ≡ put (headerAt disk512 primary) (header disk512 n primary guid es) h2)
     → h3 ≡ freshHead disk512 n guid (zeros 16384)
-head-fresh n guid h1 h2 h3 es crc p q r c f =
-    let w : h2 ≡ blank n = q ∙ ap (writeAll (block0 n)) p in
-    let z : es ≡ zeros 16384 = r ∙ ap (entriesIn disk512 primary) w ∙ blank-entries n in
+head-fresh n guid h1 h2 h3 es crc p r c q f =
+    let z : es ≡ zeros 16384 = r ∙ ap (entriesIn disk512 primary) p ∙ part-zeros 1024 16384 17408 (omega arith) in
     f (zeros 16384) (c ∙ ap crc32 z)
-    ∙ ap (put (headerAt disk512 primary) (header disk512 n primary guid (zeros 16384))) w
-    ∙ fresh-put n primary guid (blank n) (length-blank n) (blank-entries n)
+    ∙ ap (put (headerAt disk512 primary) (header disk512 n primary guid (zeros 16384))) (q ∙ ap (writeAll (block0 n)) p)
+    ∙ sym (fresh-head disk512 (omega arith) n guid (omega arith))
 
 -- zeros, the header
 pub tail-fresh : (n : ℕ) (guid t1 t2 es : List ℕ) (crc : ℕ) → t1 ≡ zeros 16896 → es ≡ entriesIn disk512 backup t1 → crc ≡ crc32 es
     → ((es : List ℕ) → crc ≡ crc32 es → t2 ≡ put (headerAt disk512 backup) (header disk512 n backup guid es) t1)
     → t2 ≡ freshTail disk512 n guid (zeros 16384)
 tail-fresh n guid t1 t2 es crc p r c f =
-    let e : entriesIn disk512 backup (zeros 16896) ≡ zeros 16384 = part-zeros 0 16384 16896 (omega arith) in
-    let z : es ≡ zeros 16384 = r ∙ ap (entriesIn disk512 backup) p ∙ e in
+    let z : es ≡ zeros 16384 = r ∙ ap (entriesIn disk512 backup) p ∙ part-zeros 0 16384 16896 (omega arith) in
     f (zeros 16384) (c ∙ ap crc32 z)
     ∙ ap (put (headerAt disk512 backup) (header disk512 n backup guid (zeros 16384))) p
-    ∙ fresh-put n backup guid (zeros 16896) (length-zeros 16896) e
+    ∙ sym (fresh-tail disk512 (omega arith) n guid)

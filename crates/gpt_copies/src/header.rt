@@ -3,7 +3,6 @@ ghost use mathlib.Core.Path.{_≡_};
 ghost use mathlib.Core.List.{List, []};
 ghost use Prim.Native.Nat.{ℕ, _*_, _≤_};
 ghost use lib.ListN.{length, take, drop};
-ghost use Rattle.octets.specs.Bytes.{zeros};
 ghost use Rattle.crc_lanes.specs.Crc.{crc32 as crcOf};
 ghost use Rattle.gpt_model.specs.Table.{writeAll};
 ghost use Rattle.gpt_model.specs.Disk.{disk512, primary, headerBytes, lentBytes, entriesIn, headerFields, header};
@@ -16,9 +15,8 @@ use super::Side;
 // The fields are those of `headerFields`, in its order. The first five: signature, revision, header size, the CRC as zero, reserved zero.
 fn start(out: &mut [u8])
     requires { ⌜ length (now out) ≡ headerBytes ⌝ }
-    ensures { λ _. ⌜ now (out .exit) ≡ writeAll (take 5 (headerFields disk512 0 primary [] [] 0)) (zeros headerBytes) ⌝ }
+    ensures { λ _. ⌜ now (out .exit) ≡ writeAll (take 5 (headerFields disk512 0 primary [] [] 0)) (now (out .entry)) ⌝ }
 {
-    octets::fill(out, 0);
     octets::copy(out, 0, b"EFI PART");
     octets::store32(out, 8, 0x10000);
     octets::store32(out, 12, HEADER as u32);

@@ -6,7 +6,7 @@ pub mod reading;
 pub mod writing;
 
 ghost use mathlib.Core.Path.{_≡_};
-ghost use Prim.Native.Nat.{_*_, _≤_};
+ghost use Prim.Native.Nat.{_≤_};
 ghost use lib.ListN.{length};
 ghost use Rattle.gpt_model.specs.Table.{tableBytes};
 ghost use Rattle.gpt_model.specs.Disk.{disk512, lastUsable, other as otherSide, headerBlock, entriesBlock, lentBytes, headerAt, entriesAt, headerIn, guidIn, entriesIn};
@@ -57,7 +57,7 @@ pub fn other(side: Side) -> Side
 
 // D2: The primary header is block 1 with entries from 2; the backup header is block N−1 with entries from N−33.
 pub fn header_block(side: Side, n: u64) -> Block
-    requires { ⌜ 1 ≤ n ⌝ }
+    requires { ⌜ disk512 .first ≤ n ⌝ }
     ensures { λ r. ⌜ r .0 ≡ headerBlock (sideOf side) n ⌝ }
 {
     match side {

@@ -40,7 +40,7 @@ fn set_entry(b: &mut [u8], side: Side, i: usize, e: &[u8])
     ensures { λ _. ⌜ now (b .exit)
         ≡ put (entriesAt disk512 (sideOf side)) (putChunk entryBytes i (now (e .entry)) (entriesIn disk512 (sideOf side) (now (b .entry)))) (now (b .entry)) ⌝ }
 {
-    let at = super::entries_at(side) + ENTRY * i;
+    let at = super::entries_at(side) + i * ENTRY;
     octets::copy(b, at, e);
 }
 
@@ -60,7 +60,7 @@ pub fn crc_with(table: &[u8], i: usize, e: &[u8]) -> u32
     requires { ⌜ (length (now table) ≡ tableBytes) × (i < slotCount) × (length (now e) ≡ entryBytes) ⌝ }
     ensures { λ r. ⌜ r ≡ crcOf (putChunk entryBytes i (now (e .entry)) (now (table .entry))) ⌝ }
 {
-    let at = ENTRY * i;
+    let at = i * ENTRY;
     let end = at + ENTRY;
     let before = crc32::update(0xffff_ffff, &table[0..at]);
     let with = crc32::update(before, e);
@@ -117,8 +117,8 @@ pub fn fresh_head(head: &mut [u8], n: u64, guid: &[u8])
     ensures { λ _. ⌜ now (head .exit) ≡ freshHead disk512 n (now (guid .entry)) (zeros tableBytes) ⌝ }
 {
     octets::fill(head, 0);
-    put_block0(head, n);
     let crc = crc32::crc32(super::entries_in(&head[..], Side::Primary));
+    put_block0(head, n);
     put_header(head, Side::Primary, n, guid, crc);
 }
 

@@ -1,13 +1,8 @@
 use mathlib.Core.Path.{ap, _∙_}
-use denote.Ref.{now}
 use borrow.Author.Needs.{needs}
 use Rattle.octets.specs.Bytes.{le, put}
-use Rattle.gpt_copies.proofs.Headers.{filled}
 use Rattle.gpt_copies.proofs.header.start.Statement.{statement}
 use Rattle.gpt_copies.proofs.header.start.Tie as tie
-
-fill-requires : tie.Need-fill-requires
-fill-requires c κs = search needs
 
 slice-aggregate-copy : tie.Need-slice-aggregate-copy
 slice-aggregate-copy c = search needs
@@ -41,15 +36,12 @@ returns c =
     let s3 = s2 .before .before .before .before in
     let s4 = s3 .before .before .before .before in
     let s5 = s4 .before .before .before .before in
-    let s6 = s5 .before .before .before .before .before in
-    let top = s6 .before .before .before in
-    s1 .store324 .ensures ∙ ap (put 20 _) (s2 .store323 .ensures ∙ ap (put 16 _) (s3 .store322 .ensures ∙ ap (put 12 _) (s4 .store32 .ensures ∙ ap (put 8 _) (s5 .copy .ensures ∙ ap (put 0 _) (s6 .fill .ensures ∙ filled (now (top .args .out)) 92 (top .pre))))))
+    s1 .store324 .ensures ∙ ap (put 20 _) (s2 .store323 .ensures ∙ ap (put 16 _) (s3 .store322 .ensures ∙ ap (put 12 _) (s4 .store32 .ensures ∙ ap (put 8 _) (s5 .copy .ensures))))
 
 pub start-spec : {M : Type 1} → statement M
 start-spec =
     tie.close
     (tie.spec
-    fill-requires
     slice-aggregate-copy
     copy-requires
     store32-requires

@@ -1,0 +1,53 @@
+use mathlib.Core.Path.{refl}
+use Rattle.gpt.proofs.Outcomes.{edit-not-open}
+use Rattle.gpt.proofs.Opened.{passed, stopped}
+use Rattle.gpt_model.specs.Calls.{delete}
+use denote.Ref.{now}
+use borrow.Author.Needs.{needs}
+use Rattle.gpt.proofs.delete.Statement.{statement}
+use Rattle.gpt.proofs.delete.Tie as tie
+
+opened-requires : tie.Need-opened-requires
+opened-requires c κs = search needs
+
+enum-known-r : tie.Need-enum-known-r
+enum-known-r c = search needs
+
+enum-told : tie.Need-enum-told
+enum-told c = search needs
+
+delete-requires : tie.Need-delete-requires
+delete-requires c κs = passed _ (c .before .before .enum-told .given .1) (c .before .before .before .before .opened .ensures)
+
+same-length : tie.Need-same-length
+same-length c = search needs
+
+same-length-2 : tie.Need-same-length-2
+same-length-2 c = search needs
+
+returns : tie.Need-returns
+returns c = let a = c .before .before .before .before .before .before .before .before .args in edit-not-open (a .n) (now (a .head)) (now (a .tail)) (delete (a .slot)) refl _ (stopped _ _ (c .before .r .given .1) (c .before .before .before .opened .ensures))
+
+same-length-3 : tie.Need-same-length-3
+same-length-3 c = search needs
+
+same-length-4 : tie.Need-same-length-4
+same-length-4 c = search needs
+
+returns-2 : tie.Need-returns-2
+returns-2 c = search needs
+
+pub delete-spec : {M : Type 1} → statement M
+delete-spec =
+    tie.close
+    (tie.spec
+    opened-requires
+    enum-known-r
+    enum-told
+    delete-requires
+    same-length
+    same-length-2
+    returns
+    same-length-3
+    same-length-4
+    returns-2)

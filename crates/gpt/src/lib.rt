@@ -1,0 +1,237 @@
+// The GPT calls on a disk of 512-byte blocks. The caller lends the head (blocks 0 to 33) and the tail (the last 33 blocks) and says N, the number of blocks.
+// Every call takes any buffers and any numbers; its contract is one equation with `format` or `step` of gpt_model for its answer and both buffers afterwards.
+mod checks;
+mod edits;
+mod entry;
+
+use checks::Check;
+use gpt_copies::Side;
+use gpt_copies::State;
+use gpt_table::Block;
+ghost use mathlib.Core.Path.{_≡_};
+ghost use mathlib.Core.List.{[], _∷_};
+ghost use mathlib.Core.Option.{none};
+ghost use Prim.Native.Nat.{_-_, _≤_};
+ghost use lib.ListN.{length};
+ghost use Rattle.octets.specs.Rows.{refusal};
+ghost use Rattle.gpt_model.specs.Ranges.{freeCount, longestFree};
+ghost use Rattle.gpt_model.specs.Table.{slots};
+ghost use Rattle.gpt_model.specs.Disk.{disk512, primary, backup, guidIn, entriesIn, state, withCopy};
+ghost use Rattle.gpt_model.specs.Calls.{accepted, out, step, format as formatOn, read as readCall, freeCounts, repair as repairCall, edit, add as addCall, delete as deleteCall, resize as resizeCall, rename as renameCall, rowsOf, handed};
+ghost use Rattle.gpt.specs.Answers.{doneOf, readingOf, addedOf, countedOf, handedAt};
+ghost use Rattle.gpt.specs.Checks.{lentRows};
+
+// Why a call is refused; specs/Answers gives each its number.
+pub enum Refusal {
+    WrongLength,
+    BlockCount,
+    NoDiskGuid,
+    NeitherGood,
+    NotTheSame,
+    NoSuchSlot,
+    SlotUnused,
+    NoSize,
+    NoType,
+    NoUniqueGuid,
+    BadName,
+    NoUnusedSlot,
+    NoRoom,
+}
+
+pub enum Done {
+    Accepted,
+    Refused(Refusal),
+}
+
+// Both copies good and the same; both good but different (the primary is used); one of them alone.
+pub enum Reading {
+    Same,
+    Different,
+    PrimaryOnly,
+    BackupOnly,
+    Refused(Refusal),
+}
+
+pub enum Added {
+    At { slot: u64, first: Block },
+    Refused(Refusal),
+}
+
+pub enum Counted {
+    Free { blocks: u64, longest: u64 },
+    Refused(Refusal),
+}
+
+// Writes both copies with no entries, and block 0.
+pub fn format(head: &mut [u8], tail: &mut [u8], n: u64, guid: [u8; 16]) -> Done
+    ensures { λ r. ⌜ out (doneOf r) (now (head .exit)) (now (tail .exit)) ≡ formatOn disk512 n guid (now (head .entry)) (now (tail .entry)) ⌝ }
+{
+    match checks::format(&head[..], &tail[..], n, &guid) {
+        Check::Stop(r) => Done::Refused(r),
+        Check::Pass => {
+            gpt_copies::writing::fresh_head(head, n, &guid);
+            gpt_copies::writing::fresh_tail(tail, n, &guid);
+            Done::Accepted
+        }
+    }
+}
+
+// The state of the two copies, where lengths and N are right.
+fn found(head: &[u8], tail: &[u8], n: u64) -> Reading
+    requires { ⌜ refusal (lentRows n (now head) (now tail)) ≡ none ⌝ }
+    ensures { λ r. ⌜ out (readingOf r) (now (head .entry)) (now (tail .entry)) ≡ step disk512 n (now (head .entry)) (now (tail .entry)) readCall ⌝ }
+{
+    match gpt_copies::reading::state(head, tail, n) {
+        State::Both => Reading::Same,
+        State::Differ => Reading::Different,
+        State::PrimaryOnly => Reading::PrimaryOnly,
+        State::BackupOnly => Reading::BackupOnly,
+        State::Neither => Reading::Refused(Refusal::NeitherGood),
+    }
+}
+
+// The state of the two copies.
+pub fn read(head: &[u8], tail: &[u8], n: u64) -> Reading
+    ensures { λ r. ⌜ out (readingOf r) (now (head .entry)) (now (tail .entry)) ≡ step disk512 n (now (head .entry)) (now (tail .entry)) readCall ⌝ }
+{
+    match checks::lent(head, tail, n) {
+        Check::Stop(r) => Reading::Refused(r),
+        Check::Pass => found(head, tail, n),
+    }
+}
+
+// Gives a partition's slot back.
+pub fn delete(head: &mut [u8], tail: &mut [u8], n: u64, slot: u64) -> Done
+    ensures { λ r. ⌜ out (doneOf r) (now (head .exit)) (now (tail .exit)) ≡ step disk512 n (now (head .entry)) (now (tail .entry)) (edit (deleteCall slot)) ⌝ }
+{
+    match checks::opened(&head[..], &tail[..], n) {
+        Check::Stop(r) => Done::Refused(r),
+        Check::Pass => edits::delete(head, tail, n, slot),
+    }
+}
+
+// Takes the lowest unused slot and the lowest start with enough free blocks.
+pub fn add(
+    head: &mut [u8],
+    tail: &mut [u8],
+    n: u64,
+    kind: [u8; 16],
+    unique: [u8; 16],
+    size: u64,
+    attributes: u64,
+    name: [u16; 36],
+) -> Added
+    ensures { λ r. ⌜ out (addedOf r) (now (head .exit)) (now (tail .exit))
+        ≡ step disk512 n (now (head .entry)) (now (tail .entry)) (edit (addCall kind unique size attributes name)) ⌝ }
+{
+    match checks::opened(&head[..], &tail[..], n) {
+        Check::Stop(r) => Added::Refused(r),
+        Check::Pass => edits::add(head, tail, n, &kind, &unique, size, attributes, &name),
+    }
+}
+
+// Sets a partition's last block, for the size asked.
+pub fn resize(head: &mut [u8], tail: &mut [u8], n: u64, slot: u64, size: u64) -> Done
+    ensures { λ r. ⌜ out (doneOf r) (now (head .exit)) (now (tail .exit)) ≡ step disk512 n (now (head .entry)) (now (tail .entry)) (edit (resizeCall slot size)) ⌝ }
+{
+    match checks::opened(&head[..], &tail[..], n) {
+        Check::Stop(r) => Done::Refused(r),
+        Check::Pass => edits::resize(head, tail, n, slot, size),
+    }
+}
+
+// Sets a partition's name.
+pub fn rename(head: &mut [u8], tail: &mut [u8], n: u64, slot: u64, name: [u16; 36]) -> Done
+    ensures { λ r. ⌜ out (doneOf r) (now (head .exit)) (now (tail .exit)) ≡ step disk512 n (now (head .entry)) (now (tail .entry)) (edit (renameCall slot name)) ⌝ }
+{
+    match checks::opened(&head[..], &tail[..], n) {
+        Check::Stop(r) => Done::Refused(r),
+        Check::Pass => edits::rename(head, tail, n, slot, &name),
+    }
+}
+
+// Writes the other copy from the good one, and answers the state found.
+pub fn repair(head: &mut [u8], tail: &mut [u8], n: u64) -> Reading
+    ensures { λ r. ⌜ out (readingOf r) (now (head .exit)) (now (tail .exit)) ≡ step disk512 n (now (head .entry)) (now (tail .entry)) repairCall ⌝ }
+{
+    match read(&head[..], &tail[..], n) {
+        Reading::Same => Reading::Same,
+        Reading::Different => {
+            repair_tail(&head[..], tail, n);
+            Reading::Different
+        }
+        Reading::PrimaryOnly => {
+            repair_tail(&head[..], tail, n);
+            Reading::PrimaryOnly
+        }
+        Reading::BackupOnly => {
+            repair_head(head, &tail[..], n);
+            Reading::BackupOnly
+        }
+        Reading::Refused(r) => Reading::Refused(r),
+    }
+}
+
+fn repair_tail(head: &[u8], tail: &mut [u8], n: u64)
+    requires { ⌜ (length (now head) ≡ 17408) × (length (now tail) ≡ 16896) × (68 ≤ n) ⌝ }
+    ensures { λ _. ⌜ now (tail .exit) ≡ withCopy disk512 n backup (guidIn disk512 primary (now (head .entry))) (entriesIn disk512 primary (now (head .entry))) (now (tail .entry)) ⌝ }
+{
+    gpt_copies::writing::put_copy(
+        tail,
+        Side::Backup,
+        n,
+        gpt_copies::guid_in(head, Side::Primary),
+        gpt_copies::entries_in(head, Side::Primary),
+    );
+}
+
+fn repair_head(head: &mut [u8], tail: &[u8], n: u64)
+    requires { ⌜ (length (now head) ≡ 17408) × (length (now tail) ≡ 16896) × (68 ≤ n) ⌝ }
+    ensures { λ _. ⌜ now (head .exit) ≡ withCopy disk512 n primary (guidIn disk512 backup (now (tail .entry))) (entriesIn disk512 backup (now (tail .entry))) (now (head .entry)) ⌝ }
+{
+    gpt_copies::writing::put_copy(
+        head,
+        Side::Primary,
+        n,
+        gpt_copies::guid_in(tail, Side::Backup),
+        gpt_copies::entries_in(tail, Side::Backup),
+    );
+}
+
+// The 16,384 entry bytes inside the buffer whose copy is used; empty on a refusal.
+pub fn table<'a>(head: &'a [u8], tail: &'a [u8], n: u64) -> &'a [u8]
+    ensures { λ r. ⌜ (now r ≡ handed disk512 n (now (head .entry)) (now (tail .entry)) (refusal (rowsOf disk512 n (now (head .entry)) (now (tail .entry)) readCall)))
+        × (r .ptr ≡ handedAt (refusal (rowsOf disk512 n (now (head .entry)) (now (tail .entry)) readCall)) (state disk512 n (now (head .entry)) (now (tail .entry))) (head .entry .ptr) (tail .entry .ptr)) ⌝ }
+{
+    match read(head, tail, n) {
+        Reading::Same => gpt_copies::entries_in(head, Side::Primary),
+        Reading::Different => gpt_copies::entries_in(head, Side::Primary),
+        Reading::PrimaryOnly => gpt_copies::entries_in(head, Side::Primary),
+        Reading::BackupOnly => gpt_copies::entries_in(tail, Side::Backup),
+        Reading::Refused(_) => &head[0..0],
+    }
+}
+
+fn count_in(table: &[u8], n: u64) -> Counted
+    requires { ⌜ (length (now table) ≡ 16384) × (68 ≤ n) × (n ≤ 4294967296) ⌝ }
+    ensures { λ r. ⌜ countedOf r ≡ accepted (freeCount (slots (now (table .entry))) 34 (n - 34) ∷ longestFree (slots (now (table .entry))) 34 (n - 34) ∷ []) ⌝ }
+{
+    let free = gpt_table::room::free_counts(table, Block(34), Block(n - 34));
+    Counted::Free {
+        blocks: free.blocks,
+        longest: free.longest,
+    }
+}
+
+// Usable blocks in no partition, and the longest run of such.
+pub fn free_counts(head: &[u8], tail: &[u8], n: u64) -> Counted
+    ensures { λ r. ⌜ out (countedOf r) (now (head .entry)) (now (tail .entry)) ≡ step disk512 n (now (head .entry)) (now (tail .entry)) freeCounts ⌝ }
+{
+    match read(head, tail, n) {
+        Reading::Same => count_in(gpt_copies::entries_in(head, Side::Primary), n),
+        Reading::Different => count_in(gpt_copies::entries_in(head, Side::Primary), n),
+        Reading::PrimaryOnly => count_in(gpt_copies::entries_in(head, Side::Primary), n),
+        Reading::BackupOnly => count_in(gpt_copies::entries_in(tail, Side::Backup), n),
+        Reading::Refused(r) => Counted::Refused(r),
+    }
+}
