@@ -1,10 +1,10 @@
 -- Laws of tests over lists: at an index, from every index, and along a loop.
-use mathlib.Core.Path.{_≡_, refl, ap, _∙_}
+use mathlib.Core.Path.{_≡_, refl, sym, ap, _∙_}
 use mathlib.Core.Logic.{_⊎_, inl, inr}
 use mathlib.Core.Bool.{Bool, true, false, true≢false, false≢true}
-use mathlib.Core.List.{List, [], _∷_}
+use mathlib.Core.List.{List, [], _∷_, map}
 use Prim.Native.Nat.{ℕ, zero, suc, _+_, _≤_, _<_, zero-le, suc-le-suc}
-use native.Mathlib.Nat.{le-of-suc-le-suc, not-suc-le-zero, zero-lt-suc}
+use native.Mathlib.Nat.{le-of-suc-le-suc, not-suc-le-zero, zero-lt-suc, add-zero, add-suc, suc-add}
 use native.Mathlib.Numerals.{add-one}
 use lib.ListN.{length, getD, drop, drop-of-length-le}
 use lib.Seq.{drop-cons}
@@ -103,3 +103,40 @@ module _ {A : Type 0} where
 
   pub pairs-done : (r : A → A → Bool) (xs : List A) (i : ℕ) → length xs ≤ i → pairs r (drop i xs) ≡ true
   pairs-done r xs i h = rw (drop-of-length-le xs {i = i} h)
+
+  -- and against `findIx`: what a loop has counted and what the rest finds make the whole
+
+  pub findIx-on : (p : A → Bool) (xs : List A) (d : A) (i : ℕ) → i < length xs → p (getD xs i d) ≡ false
+      → i + findIx p (drop i xs) ≡ i + 1 + findIx p (drop (i + 1) xs)
+  findIx-on p xs d i h e = rw (drop-cons xs i d, findIx, e, add-one) (add-suc i _ ∙ sym (suc-add i _))
+
+  pub findIx-stop : (p : A → Bool) (xs : List A) (d : A) (i : ℕ) → i < length xs → p (getD xs i d) ≡ true → i + findIx p (drop i xs) ≡ i
+  findIx-stop p xs d i h e = rw (drop-cons xs i d, findIx, e) (add-zero i)
+
+  pub findIx-done : (p : A → Bool) (xs : List A) (i : ℕ) → length xs ≤ i → i + findIx p (drop i xs) ≡ i
+  findIx-done p xs i h = rw (drop-of-length-le xs {i = i} h) (add-zero i)
+
+  pub findIx-bound : (p : A → Bool) (xs : List A) → findIx p xs ≤ length xs
+  findIx-bound p [] = zero-le
+  findIx-bound p (x ∷ xs) = go (bool-cases (p x)) (findIx-bound p xs)
+    where
+      go : (p x ≡ true) ⊎ (p x ≡ false) → findIx p xs ≤ length xs → findIx p (x ∷ xs) ≤ suc (length xs)
+      go (inl q) ih = rw (q, findIx) (zero-le)
+      go (inr q) ih = rw (q, findIx) (suc-le-suc ih)
+
+  -- none before it passes
+  pub findIx-before : (p : A → Bool) (xs : List A) (d : A) (j : ℕ) → j < findIx p xs → p (getD xs j d) ≡ false
+  findIx-before p [] d j h = absurd (not-suc-le-zero h)
+  findIx-before p (x ∷ xs) d j h = go (bool-cases (p x)) j h (findIx-before p xs d)
+    where
+      go : (p x ≡ true) ⊎ (p x ≡ false) → (j : ℕ) → j < findIx p (x ∷ xs) → ((j : ℕ) → j < findIx p xs → p (getD xs j d) ≡ false)
+          → p (getD (x ∷ xs) j d) ≡ false
+      go (inl q) j h ih = absurd (not-suc-le-zero (rw (q, findIx) at h))
+      go (inr q) zero h ih = q
+      go (inr q) (suc j) h ih = ih j (le-of-suc-le-suc (rw (q, findIx) at h))
+
+module _ {A B : Type 0} where
+  pub getD-map : (f : A → B) (xs : List A) (i : ℕ) (y : B) (d : A) → i < length xs → getD (map f xs) i y ≡ f (getD xs i d)
+  getD-map f [] i y d h = absurd (not-suc-le-zero h)
+  getD-map f (x ∷ xs) zero y d h = refl
+  getD-map f (x ∷ xs) (suc i) y d h = getD-map f xs i y d (le-of-suc-le-suc h)

@@ -1,0 +1,5 @@
+-- Laws of good maps.
+pub mod Names
+pub mod Areas
+pub mod Header
+pub mod Good

@@ -1,0 +1,80 @@
+use mathlib.Core.Bool.{not}
+use mathlib.Core.Path.{_≡_, refl, sym, ap, _∙_}
+use Rattle.octets.proofs.Bools.{and-t, and-f}
+use Rattle.octets.specs.Bytes.{part}
+use Rattle.fmap_rules.specs.Map.{goodPair, sameName, areaOf, disjointOrNested}
+use borrow.Author.Needs.{needs}
+use Rattle.fmap_rules.proofs.is_good_pair.Statement.{statement}
+use Rattle.fmap_rules.proofs.is_good_pair.Tie as tie
+use Rattle.fmap_rules.proofs.is_good_pair.Reads as reads
+use Rattle.fmap_rules.proofs.is_good_pair.Lts as lts
+use Rattle.fmap_rules.proofs.extent_of.Reads as extent-of-reads
+use Rattle.fmap_rules.proofs.is_disjoint_or_nested.Reads as is-disjoint-or-nested-reads
+use Rattle.octets.proofs.same.Reads as same-reads
+
+-- src/lib.rt:145:21
+sub-same : tie.Need-sub-same
+sub-same c = search needs
+
+-- src/lib.rt:145:21
+part-same-start : tie.Need-part-same-start
+part-same-start c = search needs
+
+-- src/lib.rt:145:21
+part-same-end : tie.Need-part-same-end
+part-same-end c = search needs
+
+-- src/lib.rt:145:32
+sub-same-2 : tie.Need-sub-same-2
+sub-same-2 c = search needs
+
+-- src/lib.rt:145:32
+part-same-start-2 : tie.Need-part-same-start-2
+part-same-start-2 c = search needs
+
+-- src/lib.rt:145:32
+part-same-end-2 : tie.Need-part-same-end-2
+part-same-end-2 c = search needs
+
+-- src/lib.rt:145:8
+same-requires : tie.Need-same-requires
+same-requires c κs = search needs
+
+-- src/lib.rt:146:9
+returns : tie.Need-returns
+unfolding goodPair sameName areaOf part
+returns c = and-f _ (ap not (sym (c .before .same .ensures) ∙ (c .if1 .taken)))
+
+-- src/lib.rt:148:27
+extent-of-requires : tie.Need-extent-of-requires
+extent-of-requires c κs = search needs
+
+-- src/lib.rt:148:41
+extent-of-requires-2 : tie.Need-extent-of-requires-2
+extent-of-requires-2 c κs = search needs
+
+-- src/lib.rt:148:5
+is-disjoint-or-nested-requires : tie.Need-is-disjoint-or-nested-requires
+is-disjoint-or-nested-requires c κs = search needs
+
+-- src/lib.rt:141:1
+returns-2 : tie.Need-returns-2
+unfolding goodPair sameName areaOf part
+returns-2 c = and-t (ap not (sym (c .before .before .before .before .same .ensures) ∙ (c .before .before .before .if1 .left))) (rw (← (c .before .before .extent-of .ensures), ← (c .before .extent-of2 .ensures)) (c .is-disjoint-or-nested .ensures))
+
+pub is-good-pair-spec : {M : Type 1} → statement M
+is-good-pair-spec =
+    tie.close
+    (tie.spec
+    sub-same
+    part-same-start
+    part-same-end
+    sub-same-2
+    part-same-start-2
+    part-same-end-2
+    same-requires
+    returns
+    extent-of-requires
+    extent-of-requires-2
+    is-disjoint-or-nested-requires
+    returns-2)

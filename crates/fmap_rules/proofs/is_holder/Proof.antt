@@ -1,0 +1,91 @@
+use Rattle.fmap_rules.specs.Map.{mapSize}
+use Rattle.fmap_rules.specs.declared.Extent.{Extent}
+use lib.Dec.{eqb, leb}
+use mathlib.Core.Path.{_≡_, refl, sym, ap, _∙_}
+use borrow.Author.Tests.{le-leb, lt-leb, eq-eqb, ne-eqb, not-true, not-false}
+use Rattle.octets.proofs.Bools.{and-t, and-f}
+use Rattle.octets.specs.Bytes.{part, zeros}
+use Rattle.fmap_rules.specs.Map.{holdsMap, areaOf}
+use borrow.Author.Needs.{needs}
+use Rattle.fmap_rules.proofs.is_holder.Statement.{statement}
+use Rattle.fmap_rules.proofs.is_holder.Tie as tie
+use Rattle.fmap_rules.proofs.is_holder.Reads as reads
+use Rattle.fmap_rules.proofs.is_holder.Lts as lts
+use Rattle.fmap_rules.proofs.extent_of.Reads as extent-of-reads
+use Rattle.octets.proofs.same.Reads as same-reads
+
+-- src/lib.rt:185:22
+sub-same : tie.Need-sub-same
+sub-same c = search needs
+
+-- src/lib.rt:185:22
+part-same-start : tie.Need-part-same-start
+part-same-start c = search needs
+
+-- src/lib.rt:185:22
+part-same-end : tie.Need-part-same-end
+part-same-end c = search needs
+
+-- src/lib.rt:185:33
+slice-aggregate-same : tie.Need-slice-aggregate-same
+slice-aggregate-same c = search needs
+
+-- src/lib.rt:185:9
+same-requires : tie.Need-same-requires
+same-requires c κs = search needs
+
+-- src/lib.rt:186:9
+returns : tie.Need-returns
+unfolding holdsMap areaOf part zeros
+returns c = and-f _ (sym (c .before .same .ensures) ∙ not-true _ (c .if1 .taken))
+
+-- src/lib.rt:188:9
+extent-of-requires : tie.Need-extent-of-requires
+extent-of-requires c κs = search needs
+
+-- src/lib.rt:189:8
+cast-if2 : tie.Need-cast-if2
+cast-if2 c = search needs
+
+-- src/lib.rt:190:9
+returns-2 : tie.Need-returns-2
+unfolding holdsMap areaOf part zeros
+returns-2 c = and-t (sym (c .before .before .before .before .same .ensures) ∙ not-false _ (c .before .before .before .if1 .left)) (and-f _ (sym (ap (λ (x : Extent). eqb (x .start .0) (c .before .before .before .before .before .before .before .before .args .at)) (c .before .before .extent-of .ensures)) ∙ ne-eqb _ _ (c .if2 .taken)))
+
+-- src/lib.rt:192:10
+mul-result : tie.Need-mul-result
+mul-result c = search needs
+
+-- src/lib.rt:192:5
+add-result : tie.Need-add-result
+add-result c = search needs
+
+-- src/lib.rt:192:33
+cast-result : tie.Need-cast-result
+cast-result c = search needs
+
+-- src/lib.rt:181:1
+returns-3 : tie.Need-returns-3
+unfolding holdsMap areaOf part zeros
+returns-3 c =
+    and-t (sym (c .before .before .before .before .before .same .ensures) ∙ not-false _ (c .before .before .before .before .if1 .left))
+    (and-t (sym (ap (λ (x : Extent). eqb (x .start .0) (c .before .before .before .before .before .before .before .before .before .args .at)) (c .before .before .before .extent-of .ensures)) ∙ eq-eqb _ _ (c .before .if2 .left))
+    (ap (λ (x : Extent). leb (mapSize (c .before .before .before .before .before .before .before .before .before .args .count)) (x .size)) (c .before .before .before .extent-of .ensures)))
+
+pub is-holder-spec : {M : Type 1} → statement M
+is-holder-spec =
+    tie.close
+    (tie.spec
+    sub-same
+    part-same-start
+    part-same-end
+    slice-aggregate-same
+    same-requires
+    returns
+    extent-of-requires
+    cast-if2
+    returns-2
+    mul-result
+    add-result
+    cast-result
+    returns-3)
