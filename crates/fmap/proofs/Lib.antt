@@ -1,0 +1,4 @@
+-- Laws of finding and of the areas found.
+pub mod Lowest
+pub mod Finding
+pub mod Reading

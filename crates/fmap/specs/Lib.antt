@@ -1,0 +1,4 @@
+-- What finding a map, reading its areas and carrying preserved areas answer.
+pub mod Lowest
+pub mod Find
+pub mod Areas

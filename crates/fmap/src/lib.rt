@@ -1,0 +1,232 @@
+// The flash map of an image: finding it and reading its areas.
+ghost use mathlib.Core.Path.{_≡_};
+ghost use mathlib.Core.Bool.{true};
+ghost use Prim.Native.Nat.{_+_, _-_, _*_, _/_, _≤_, _<_};
+ghost use lib.ListN.{length, getD};
+ghost use lib.Dec.{eqb, ltb};
+ghost use Rattle.octets.specs.Tests.{any, findIx};
+ghost use Rattle.octets.specs.Bytes.{rest};
+ghost use Rattle.fmap_rules.specs.Map.{signature, areaOf, areasIn, areasOf, blank, goodMap};
+ghost use Rattle.fmap.specs.Lowest.{firstFrom};
+ghost use Rattle.fmap.specs.Find.{Reply, foundReply, signedAt, findMap};
+ghost use Rattle.fmap.specs.Areas.{countReply, lookupReply, looked, countAreas, areaIn, areaNumbered, areaNamed, called};
+
+use fmap_rules::Area;
+use fmap_rules::Extent;
+use fmap_rules::ImagePosition;
+
+// What finding a map answers.
+pub enum Found {
+    At(ImagePosition),
+    WrongLength,
+    NoSignature,
+    NoGoodMap,
+}
+
+pub enum AreaCount {
+    Count(u32),
+    WrongLength,
+    NoSignature,
+    NoGoodMap,
+}
+
+pub enum Lookup {
+    There,
+    Nothing,
+    WrongLength,
+    NoSignature,
+    NoGoodMap,
+}
+
+// An answer with its area, which is blank unless the answer is There.
+pub struct AreaFound {
+    pub answer: Lookup,
+    pub area: Area,
+}
+
+// One of the signature's bytes.
+fn is_letter(b: u8) -> bool
+    ensures { λ r. ⌜ r ≡ any (eqb b) signature ⌝ }
+{
+    if b == 95 {
+        return true;
+    }
+    if b == 70 {
+        return true;
+    }
+    if b == 77 {
+        return true;
+    }
+    if b == 65 {
+        return true;
+    }
+    b == 80
+}
+
+fn is_signed(image: &[u8], at: usize) -> bool
+    requires { ⌜ at + 8 ≤ length (now image) ⌝ }
+    ensures { λ r. ⌜ r ≡ signedAt (now (image .entry)) at ⌝ }
+{
+    let end = at + 8;
+    octets::same(&image[at..end], b"__FMAP__")
+}
+
+// The lowest position from `from` on where the signature stands, or the length. Eight bytes whose last is no byte of the
+// signature hold no start of one.
+fn next_signed(image: &[u8], from: usize) -> usize
+    requires { ⌜ from ≤ length (now image) ⌝ }
+    ensures { λ r. ⌜ (r ≡ firstFrom (length (now (image .entry)) - from) from (signedAt (now (image .entry)))) × (r ≤ length (now (image .entry))) ⌝ }
+{
+    let mut i = from;
+    while i + 8 <= image.len() {
+        if is_letter(image[i + 7]) {
+            if is_signed(image, i) {
+                return i;
+            }
+            i += 1;
+        } else {
+            i += 8;
+        }
+    }
+    image.len()
+}
+
+// Finds the lowest good map.
+pub fn find(image: &[u8]) -> Found
+    ensures { λ r. ⌜ foundReply r ≡ findMap (now (image .entry)) ⌝ }
+{
+    if image.len() < 98 {
+        return Found::WrongLength;
+    }
+    if 16777216 < image.len() {
+        return Found::WrongLength;
+    }
+    let mut at = next_signed(image, 0);
+    if image.len() <= at {
+        return Found::NoSignature;
+    }
+    while at < image.len() {
+        if fmap_rules::good_at(image, at) {
+            return Found::At(ImagePosition(at as u32));
+        }
+        at = next_signed(image, at + 1);
+    }
+    Found::NoGoodMap
+}
+
+// The bytes of the areas of a good map.
+fn areas_at<'a>(image: &'a [u8], at: ImagePosition) -> &'a [u8]
+    requires { ⌜ goodMap (now image) (at .0) ≡ true ⌝ }
+    ensures { λ r. ⌜ (areasIn (now r) ≡ areasOf (rest (at .0) (now (image .entry)))) × (length (now r) / 42 ≤ 128) ⌝ }
+{
+    let a = at.0 as usize;
+    fmap_rules::areas_of(&image[a..])
+}
+
+// How many areas the map has.
+pub fn area_count(image: &[u8]) -> AreaCount
+    ensures { λ r. ⌜ countReply r ≡ countAreas (now (image .entry)) ⌝ }
+{
+    match find(image) {
+        Found::WrongLength => AreaCount::WrongLength,
+        Found::NoSignature => AreaCount::NoSignature,
+        Found::NoGoodMap => AreaCount::NoGoodMap,
+        Found::At(p) => AreaCount::Count((areas_at(image, p).len() / 42) as u32),
+    }
+}
+
+fn no_area(answer: Lookup) -> AreaFound
+    ensures { λ r. ⌜ looked r ≡ record { answer = lookupReply answer; area = blank } ⌝ }
+{
+    AreaFound {
+        answer,
+        area: Area {
+            place: Extent {
+                start: ImagePosition(0),
+                size: 0,
+            },
+            name: [0u8; 32],
+            flags: 0,
+        },
+    }
+}
+
+// An area's 42 bytes as a value.
+fn read_area(a: &[u8]) -> Area
+    requires { ⌜ length (now a) ≡ 42 ⌝ }
+    ensures { λ r. ⌜ r ≡ areaOf (now (a .entry)) ⌝ }
+{
+    let mut name = [0u8; 32];
+    octets::copy(&mut name, 0, &a[8..40]);
+    Area {
+        place: fmap_rules::extent_of(a),
+        name,
+        flags: octets::load16(a, 40),
+    }
+}
+
+// Area k of the areas that bytes hold.
+fn area_in(areas: &[u8], k: usize) -> AreaFound
+    ensures { λ r. ⌜ looked r ≡ areaIn (areasIn (now (areas .entry))) k ⌝ }
+{
+    if areas.len() / 42 <= k {
+        return no_area(Lookup::Nothing);
+    }
+    AreaFound {
+        answer: Lookup::There,
+        area: read_area(fmap_rules::area_at(areas, k)),
+    }
+}
+
+// Area k of the map, from 0.
+pub fn area(image: &[u8], k: u32) -> AreaFound
+    ensures { λ r. ⌜ looked r ≡ areaNumbered (now (image .entry)) k ⌝ }
+{
+    match find(image) {
+        Found::WrongLength => no_area(Lookup::WrongLength),
+        Found::NoSignature => no_area(Lookup::NoSignature),
+        Found::NoGoodMap => no_area(Lookup::NoGoodMap),
+        Found::At(p) => area_in(areas_at(image, p), k as usize),
+    }
+}
+
+fn is_called(a: &[u8], name: &[u8]) -> bool
+    requires { ⌜ length (now a) ≡ 42 ⌝ }
+    ensures { λ r. ⌜ r ≡ called (now (name .entry)) (areaOf (now (a .entry))) ⌝ }
+{
+    let end = 8 + fmap_rules::name_length(&a[8..40]);
+    octets::same(&a[8..end], name)
+}
+
+// The number of the first area with a name, or their count.
+fn find_called(areas: &[u8], name: &[u8]) -> usize
+    ensures { λ r. ⌜ r ≡ findIx (called (now (name .entry))) (areasIn (now (areas .entry))) ⌝ }
+{
+    let n = areas.len() / 42;
+    let mut i = 0;
+    while i < n {
+        if is_called(fmap_rules::area_at(areas, i), name) {
+            return i;
+        }
+        i += 1;
+    }
+    i
+}
+
+fn area_called(areas: &[u8], name: &[u8]) -> AreaFound
+    ensures { λ r. ⌜ looked r ≡ areaIn (areasIn (now (areas .entry))) (findIx (called (now (name .entry))) (areasIn (now (areas .entry)))) ⌝ }
+{
+    area_in(areas, find_called(areas, name))
+}
+
+// The area of the map with a name, given without the zeros that follow it there.
+pub fn area_named(image: &[u8], name: &[u8]) -> AreaFound
+    ensures { λ r. ⌜ looked r ≡ areaNamed (now (image .entry)) (now (name .entry)) ⌝ }
+{
+    match find(image) {
+        Found::WrongLength => no_area(Lookup::WrongLength),
+        Found::NoSignature => no_area(Lookup::NoSignature),
+        Found::NoGoodMap => no_area(Lookup::NoGoodMap),
+        Found::At(p) => area_called(areas_at(image, p), name),
+    }
+}
