@@ -34,7 +34,7 @@ next-signed-requires c κs = search needs
 
 -- src/lib.rt:106:9
 returns-3 : tie.Need-returns-3 Inv-loop μ-loop
-returns-3 c = find-41 _ (in-range _ (c .before .before .before .if1 .left) (c .before .before .if2 .left)) (none-below _ _ _ (c .before .next-signed .ensures .0) (c .if3 .taken))
+returns-3 c = let s = now (c .before .before .before .before .before .args .image) in find-41 s (in-range _ (c .before .before .before .if1 .left) (c .before .before .if2 .left)) (none-below s (signedAt s) _ (c .before .next-signed .ensures .0) (c .if3 .taken))
 
 -- src/lib.rt:108:5
 loop-holds : tie.Need-loop-holds Inv-loop μ-loop
@@ -51,8 +51,9 @@ cast-t8 c = search needs
 -- src/lib.rt:110:13
 returns-4 : tie.Need-returns-4 Inv-loop μ-loop
 returns-4 c =
-    finds _ _ (c .before .before .before .before .before .before .before .if1 .left) (c .before .before .before .before .before .before .if2 .left) (some-below _ _ _ (c .before .before .before .before .before .next-signed .ensures .0) (c .before .before .before .before .if3 .left)) (c .before .before .loop-test .taken)
-    (looking-hits _ _ (c .before .before .before .loop .inv) (c .before .before .loop-test .taken) (sym (c .before .good-at .ensures) ∙ (c .if4 .taken)))
+    let s = now (c .before .before .before .before .before .before .before .before .before .args .image) in
+    finds s _ (c .before .before .before .before .before .before .before .if1 .left) (c .before .before .before .before .before .before .if2 .left) (some-below s (signedAt s) _ (c .before .before .before .before .before .next-signed .ensures .0) (c .before .before .before .before .if3 .left)) (c .before .before .loop-test .taken)
+    (looking-hits s _ (c .before .before .before .loop .inv) (c .before .before .loop-test .taken) (sym (c .before .good-at .ensures) ∙ (c .if4 .taken)))
 
 -- src/lib.rt:112:33
 add-next-signed : tie.Need-add-next-signed Inv-loop μ-loop
@@ -75,7 +76,8 @@ loop-again c = looking-goes _ _ (c .before .before .before .before .loop .inv) _
 -- src/lib.rt:95:1
 returns-5 : tie.Need-returns-5 Inv-loop μ-loop
 returns-5 c =
-    find-42 _ (in-range _ (c .before .before .before .before .before .if1 .left) (c .before .before .before .before .if2 .left)) (some-below _ _ _ (c .before .before .before .next-signed .ensures .0) (c .before .before .if3 .left)) (looking-ends _ _ (c .before .loop .inv) (c .loop-test .left))
+    let s = now (c .before .before .before .before .before .before .before .args .image) in
+    find-42 s (in-range _ (c .before .before .before .before .before .if1 .left) (c .before .before .before .before .if2 .left)) (some-below s (signedAt s) _ (c .before .before .before .next-signed .ensures .0) (c .before .before .if3 .left)) (looking-ends s _ (c .before .loop .inv) (c .loop-test .left))
 
 pub find-spec : {M : Type 1} → statement M
 find-spec =
