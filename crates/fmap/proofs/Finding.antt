@@ -9,7 +9,7 @@ use native.Mathlib.Nat.{sub-zero, zero-add, add-zero}
 use native.Mathlib.Omega.{arith}
 use lib.ListN.{length, getD, drop, length-take, length-drop}
 use lib.Dec.{eqb, ltb}
-use borrow.Author.Tests.{lt-ltb, le-ltb, ltb-true, ltb-false, eqb-false, ne-eqb}
+use borrow.Author.Tests.{lt-ltb, le-ltb, ltb-true, ltb-false, eqb-false}
 use Rattle.octets.specs.Tests.{_or_, any}
 use Rattle.octets.specs.Rows.{row, refusal, pickRow}
 use Rattle.octets.specs.Bytes.{part, rest, same}
@@ -21,33 +21,22 @@ use Rattle.octets.proofs.Bools.{or-il, or-ir, or-false-i, not-f}
 use Rattle.fmap_rules.specs.declared.ImagePosition.{ImagePosition}
 use Rattle.fmap_rules.specs.Map.{position, signature, signed, goodMap}
 use Rattle.fmap_rules.proofs.Good.{unsigned-bad}
+use Rattle.fmap_rules.proofs.Signature.{signed-part}
 use Rattle.fmap.specs.Lowest.{firstFrom, lowest, someBelow}
 use Rattle.fmap.specs.Find.{Reply, accepted, refused, reply, outOfRange, signedAt, findRows, findMap}
 use Rattle.fmap.proofs.Lowest.{first-skip, first-before, first-least, first-hit, first-bound, first-step, first-stop, first-end}
 
 -- ---- the signature
 
-pub signed-part : (image : List ℕ) (at : ℕ) → signedAt image at ≡ same (part at 8 image) signature
-unfolding signedAt signed
-signed-part image at = ap (λ (l : List ℕ). same l signature) (part-of-rest 0 8 at image ∙ ap (λ (k : ℕ). part k 8 image) (add-zero at))
-
--- the last test of a byte against the signature's bytes
-pub last-letter : (b : ℕ) → (b ≡ 95 → ⊥) → eqb b 80 ≡ (eqb b 80 or (eqb b 95 or (eqb b 95 or false)))
-unfolding _or_
-last-letter b f = go (eqb b 80)
-  where
-    go : (t : Bool) → t ≡ (t or (eqb b 95 or (eqb b 95 or false)))
-    go true = refl
-    go false = rw (ne-eqb b 95 f)
-
 pub signed-short : (image : List ℕ) (at : ℕ) → length image < at + 8 → signedAt image at ≡ false
-unfolding part
+unfolding signedAt part
 signed-short image at h =
     signed-part image at
     ∙ same-length (part at 8 image) signature (λ e. let l = length-take 8 (drop at image) in let d = length-drop at image in omega (arith, e, l, d))
 
 -- eight bytes whose last is no byte of the signature hold no start of one
 pub unsigned : (image : List ℕ) (i j : ℕ) → any (eqb (getD image (i + 7) 0)) signature ≡ false → i ≤ j → j < i + 8 → signedAt image j ≡ false
+unfolding signedAt
 unsigned image i j h a b = signed-part image j ∙ go (same (part j 8 image) signature) refl
   where
     go : (t : Bool) → same (part j 8 image) signature ≡ t → t ≡ false

@@ -2,3 +2,4 @@
 pub mod Lowest
 pub mod Finding
 pub mod Reading
+pub mod Letters

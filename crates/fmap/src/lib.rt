@@ -44,31 +44,14 @@ pub struct AreaFound {
     pub area: Area,
 }
 
-// One of the signature's bytes.
+// One of the signature's bytes 41, 46, 4D, 50, 5F hex: bits 1, 6, 13, 16 and 31 of the number, for the bytes 40 to 7F hex.
+// One number is compared, since a branch that depends on the image's bytes is often predicted wrongly.
 fn is_letter(b: u8) -> bool
     ensures { λ r. ⌜ r ≡ any (eqb b) signature ⌝ }
 {
-    if b == 95 {
-        return true;
-    }
-    if b == 70 {
-        return true;
-    }
-    if b == 77 {
-        return true;
-    }
-    if b == 65 {
-        return true;
-    }
-    b == 80
-}
-
-fn is_signed(image: &[u8], at: usize) -> bool
-    requires { ⌜ at + 8 ≤ length (now image) ⌝ }
-    ensures { λ r. ⌜ r ≡ signedAt (now (image .entry)) at ⌝ }
-{
-    let end = at + 8;
-    octets::same(&image[at..end], b"__FMAP__")
+    let low = (b % 64) as u64;
+    let high = (b / 64) as u64;
+    (0x80012042u64 >> low) % 2 + (2u64 >> high) % 2 == 2
 }
 
 // The lowest position from `from` on where the signature stands, or the length. Eight bytes whose last is no byte of the
@@ -80,7 +63,7 @@ fn next_signed(image: &[u8], from: usize) -> usize
     let mut i = from;
     while i + 8 <= image.len() {
         if is_letter(image[i + 7]) {
-            if is_signed(image, i) {
+            if fmap_rules::is_signed(image, i) {
                 return i;
             }
             i += 1;

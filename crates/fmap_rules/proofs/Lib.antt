@@ -3,3 +3,4 @@ pub mod Names
 pub mod Areas
 pub mod Header
 pub mod Good
+pub mod Signature

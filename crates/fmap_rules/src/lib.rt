@@ -4,8 +4,8 @@ ghost use mathlib.Core.Path.{_≡_};
 ghost use Prim.Native.Nat.{_+_, _*_, _/_, _≤_, _<_};
 ghost use lib.ListN.{length, getD, drop};
 ghost use Rattle.octets.specs.Tests.{all, any, pairs};
-ghost use Rattle.octets.specs.Bytes.{field, part};
-ghost use Rattle.fmap_rules.specs.Map.{nameLength, legalName, areaOf, areasIn, blank, endOf, disjoint, inside, disjointOrNested, mapSize, countOf, goodHeader, goodArea, goodPair, holdsMap, goodAreas, goodMap};
+ghost use Rattle.octets.specs.Bytes.{part, rest};
+ghost use Rattle.fmap_rules.specs.Map.{signed, nameLength, legalName, areaOf, areasIn, blank, endOf, disjoint, inside, disjointOrNested, mapSize, countOf, goodHeader, goodArea, goodPair, holdsMap, goodAreas, goodMap};
 
 // A byte's position in a flash image.
 pub struct ImagePosition(pub u32);
@@ -237,6 +237,14 @@ pub fn areas_of<'a>(m: &'a [u8]) -> &'a [u8]
     &m[56..e]
 }
 
+// The signature stands at a position: its eight bytes as one number.
+pub fn is_signed(image: &[u8], at: usize) -> bool
+    requires { ⌜ at + 8 ≤ length (now image) ⌝ }
+    ensures { λ r. ⌜ r ≡ signed (rest at (now (image .entry))) ⌝ }
+{
+    octets::load64(image, at) == 0x5f5f50414d465f5f
+}
+
 // The fields that are compared with a number come before the name.
 fn good_header(m: &[u8], len: usize) -> bool
     ensures { λ r. ⌜ r ≡ goodHeader len (now (m .entry)) ⌝ }
@@ -244,7 +252,7 @@ fn good_header(m: &[u8], len: usize) -> bool
     if m.len() < 56 {
         return false;
     }
-    if !octets::same(&m[0..8], b"__FMAP__") {
+    if !is_signed(m, 0) {
         return false;
     }
     if m[8] != 1 {
