@@ -8,8 +8,8 @@ use Prim.Native.Nat.{ℕ, _+_, _-_, _≤_, _<_}
 use native.Mathlib.Nat.{sub-zero, zero-add, add-zero}
 use native.Mathlib.Omega.{arith}
 use lib.ListN.{length, getD, drop, length-take, length-drop}
-use lib.Dec.{eqb, ltb}
-use borrow.Author.Tests.{lt-ltb, le-ltb, ltb-true, ltb-false, eqb-false}
+use lib.Dec.{eqb, leb, ltb}
+use borrow.Author.Tests.{lt-ltb, le-ltb, ltb-true, ltb-false, leb-true, leb-false, eqb-true, eqb-false}
 use Rattle.octets.specs.Tests.{_or_, any}
 use Rattle.octets.specs.Rows.{row, refusal, pickRow}
 use Rattle.octets.specs.Bytes.{part, rest, same}
@@ -48,19 +48,70 @@ unsigned image i j h a b = signed-part image j ∙ go (same (part j 8 image) sig
             ap (λ (x : ℕ). getD image x 0) (sym e) ∙ sym (getD-part image j 8 k (omega arith)) ∙ ap (λ (l : List ℕ). getD l k 0) (same-true _ _ w) in
         absurd (eqb-false _ _ (any-none (eqb (getD image (i + 7) 0)) signature 0 h k (omega arith)) g)
 
+-- from its third byte to its sixth the signature has no underscore
+underscore : ℕ → Bool
+underscore k = eqb 95 (getD signature k 0)
+
+none-between : firstFrom 4 2 underscore ≡ 6
+unfolding firstFrom underscore
+none-between = refl
+
+first-letter : (k : ℕ) → 2 ≤ k → k < 6 → eqb 95 (getD signature k 0) ≡ false
+unfolding underscore
+first-letter k a b = first-before 4 2 underscore k a (omega (arith, none-between))
+
+-- a byte of a signature
+letter-at : (image : List ℕ) (at k : ℕ) → signedAt image at ≡ true → k < 8 → getD image (at + k) 0 ≡ getD signature k 0
+unfolding signedAt
+letter-at image at k e h =
+    sym (getD-part image at 8 k h) ∙ ap (λ (l : List ℕ). getD l k 0) (same-true (part at 8 image) signature (sym (signed-part image at) ∙ e))
+
+-- two signatures share two bytes at most
+pub apart : (image : List ℕ) (at j : ℕ) → signedAt image at ≡ true → at < j → j < at + 6 → signedAt image j ≡ false
+apart image at j e h k = go (signedAt image j) refl
+  where
+    clash : (a b : ℕ) → signedAt image j ≡ true → a < 8 → b < 8 → j + a ≡ at + b → eqb (getD signature a 0) (getD signature b 0) ≡ false → ⊥
+    clash a b w la lb q d =
+        eqb-false _ _ d (sym (letter-at image j a w la) ∙ ap (λ (x : ℕ). getD image x 0) q ∙ letter-at image at b e lb)
+
+    go : (t : Bool) → signedAt image j ≡ t → t ≡ false
+    go false w = refl
+    go true w = near (eqb j (at + 1)) refl
+      where
+        near : (u : Bool) → eqb j (at + 1) ≡ u → true ≡ false
+        near true v = let q : j ≡ at + 1 = eqb-true _ _ v in absurd (clash 1 2 w (omega arith) (omega arith) (omega arith) refl)
+        near false v =
+            let q : j ≡ at + 1 → ⊥ = eqb-false _ _ v in
+            let b = j - at in
+            let d : eqb 95 (getD signature b 0) ≡ false = first-letter b (omega arith) (omega arith) in
+            absurd (clash 0 b w (omega arith) (omega arith) (omega arith) d)
+
 -- ---- from one signature to the next
+
+unsigned-none : (image : List ℕ) (at : ℕ) → signedAt image at ≡ false → goodMap image at ≡ false
+unfolding signedAt
+unsigned-none image at e = unsigned-bad image at e
+
+pub signed-whole : (image : List ℕ) (at : ℕ) → signedAt image at ≡ true → at + 8 ≤ length image
+signed-whole image at e = go (leb (at + 8) (length image)) refl
+  where
+    go : (t : Bool) → leb (at + 8) (length image) ≡ t → at + 8 ≤ length image
+    go true w = leb-true _ _ w
+    go false w = absurd (true≢false (sym e ∙ signed-short image at (leb-false _ _ w)))
 
 module _ (image : List ℕ) (from r : ℕ) (h : from ≤ length image) (e : r ≡ firstFrom (length image - from) from (signedAt image)) where
   -- no good map before the next signature
   pub next-good : firstFrom (length image - from) from (goodMap image) ≡ firstFrom (length image - r) r (goodMap image)
-  unfolding signedAt
   next-good =
       let l : from ≤ r = omega (arith, first-least (length image - from) from (signedAt image)) in
       let u : r ≤ length image = omega (arith, first-bound (length image - from) from (signedAt image)) in
       let q : from + (r - from) ≡ r = omega arith in
       first-skip (r - from) (length image) from (goodMap image) (omega arith)
-      (λ j a b. unsigned-bad image j (first-before (length image - from) from (signedAt image) j a (omega arith)))
+      (λ j a b. unsigned-none image j (first-before (length image - from) from (signedAt image) j a (omega arith)))
       ∙ ap (λ (k : ℕ). firstFrom (length image - k) k (goodMap image)) q
+
+  pub next-signed : r < length image → signedAt image r ≡ true
+  next-signed l = ap (signedAt image) e ∙ first-hit (length image - from) from (signedAt image) (omega arith)
 
 -- ---- the rows of finding
 
@@ -114,23 +165,37 @@ module _ (image : List ℕ) (p : ℕ → Bool) (r : ℕ) (e : r ≡ firstFrom (l
 pub record Looking (image : List ℕ) (at : ℕ) : Type 0 where
   pub bound : at ≤ length image
   pub rest-decides : lowest (length image) (goodMap image) ≡ firstFrom (length image - at) at (goodMap image)
+  pub at-signed : at < length image → signedAt image at ≡ true
 
 pub looking-starts : (image : List ℕ) (r : ℕ) → r ≡ firstFrom (length image - 0) 0 (signedAt image) → r ≤ length image → Looking image r
 unfolding lowest
 looking-starts image r e b =
     record {
       bound = b;
-      rest-decides = ap (λ (k : ℕ). firstFrom k 0 (goodMap image)) (sym (sub-zero (length image))) ∙ next-good image 0 r (omega arith) e
+      rest-decides = ap (λ (k : ℕ). firstFrom k 0 (goodMap image)) (sym (sub-zero (length image))) ∙ next-good image 0 r (omega arith) e;
+      at-signed = next-signed image 0 r (omega arith) e
     }
 
 module _ (image : List ℕ) (at : ℕ) (l : Looking image at) where
-  pub looking-goes : (r : ℕ) → at < length image → goodMap image at ≡ false → r ≡ firstFrom (length image - (at + 1)) (at + 1) (signedAt image) → r ≤ length image
+  pub room : at < length image → at + 8 ≤ length image
+  room h = signed-whole image at (l .at-signed h)
+
+  pub looking-goes : (r : ℕ) → at < length image → goodMap image at ≡ false → r ≡ firstFrom (length image - (at + 6)) (at + 6) (signedAt image) → r ≤ length image
       → Looking image r
   looking-goes r h g e b =
+      let w = room h in
       record {
         bound = b;
-        rest-decides = l .rest-decides ∙ first-step (length image) at (goodMap image) h g ∙ next-good image (at + 1) r (omega arith) e
+        rest-decides = l .rest-decides ∙ first-skip 6 (length image) at (goodMap image) (omega arith) none ∙ next-good image (at + 6) r (omega arith) e;
+        at-signed = next-signed image (at + 6) r (omega arith) e
       }
+    where
+      none : (j : ℕ) → at ≤ j → j < at + 6 → goodMap image j ≡ false
+      none j a b = here (eqb j at) refl
+        where
+          here : (t : Bool) → eqb j at ≡ t → goodMap image j ≡ false
+          here true w = ap (goodMap image) (eqb-true _ _ w) ∙ g
+          here false w = let q : j ≡ at → ⊥ = eqb-false _ _ w in unsigned-none image j (apart image at j (l .at-signed h) (omega arith) b)
 
   pub looking-hits : at < length image → goodMap image at ≡ true → lowest (length image) (goodMap image) ≡ at
   looking-hits h g = l .rest-decides ∙ first-stop (length image) at (goodMap image) h g

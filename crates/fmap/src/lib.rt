@@ -74,7 +74,7 @@ fn next_signed(image: &[u8], from: usize) -> usize
     image.len()
 }
 
-// Finds the lowest good map.
+// Finds the lowest good map. Two signatures share two bytes at most, so the next one starts six bytes on or later.
 pub fn find(image: &[u8]) -> Found
     ensures { λ r. ⌜ foundReply r ≡ findMap (now (image .entry)) ⌝ }
 {
@@ -92,7 +92,7 @@ pub fn find(image: &[u8]) -> Found
         if fmap_rules::good_at(image, at) {
             return Found::At(ImagePosition(at as u32));
         }
-        at = next_signed(image, at + 1);
+        at = next_signed(image, at + 6);
     }
     Found::NoGoodMap
 }

@@ -6,7 +6,7 @@ use Prim.Native.Nat.{_-_, _+_}
 use mathlib.Core.Path.{_≡_, sym, _∙_}
 use Rattle.fmap.specs.Find.{signedAt}
 use Rattle.fmap.proofs.Lowest.{first-least}
-use Rattle.fmap.proofs.Finding.{Looking, looking-starts, looking-goes, looking-hits, looking-ends, find-40, find-41, find-42, finds, too-short, too-long, in-range, some-below, none-below}
+use Rattle.fmap.proofs.Finding.{Looking, room, looking-starts, looking-goes, looking-hits, looking-ends, find-40, find-41, find-42, finds, too-short, too-long, in-range, some-below, none-below}
 use Rattle.fmap.proofs.find.Statement.{statement}
 use Rattle.fmap.proofs.find.Tie as tie
 use Rattle.fmap.proofs.find.Reads as reads
@@ -57,17 +57,17 @@ returns-4 c =
 
 -- src/lib.rt:112:33
 add-next-signed : tie.Need-add-next-signed Inv-loop μ-loop
-add-next-signed c = search needs
+add-next-signed c = omega (arith, room _ _ (c .before .before .before .loop .inv) (c .before .before .loop-test .taken))
 
 -- src/lib.rt:112:9
 next-signed-requires-2 : tie.Need-next-signed-requires-2 Inv-loop μ-loop
-next-signed-requires-2 c κs = search needs
+next-signed-requires-2 c κs = omega (arith, room _ _ (c .before .before .before .loop .inv) (c .before .before .loop-test .taken))
 
 -- src/lib.rt:108:5
 loop-less : tie.Need-loop-less Inv-loop μ-loop
 loop-less c =
     let s = now (c .before .before .before .before .before .before .before .before .before .before .args .image) in
-    omega (arith, (c .next-signed2 .ensures .0), first-least (length s - ((c .before .before .before .before .loop .at) + 1)) ((c .before .before .before .before .loop .at) + 1) (signedAt s))
+    omega (arith, (c .next-signed2 .ensures .0), first-least (length s - ((c .before .before .before .before .loop .at) + 6)) ((c .before .before .before .before .loop .at) + 6) (signedAt s), room s _ (c .before .before .before .before .loop .inv) (c .before .before .before .loop-test .taken))
 
 -- src/lib.rt:108:5
 loop-again : tie.Need-loop-again Inv-loop μ-loop
