@@ -7,14 +7,13 @@ use native.Mathlib.Omega.{arith}
 use lib.ListN.{length, getD, take, drop, length-take, length-drop, List·getD-eq-default}
 use lib.Dec.{ltb}
 use borrow.Author.Tests.{lt-ltb, le-ltb}
-use Rattle.octets.specs.Bytes.{part, rest, field, put, same}
-use Rattle.octets.proofs.Parts.{length-part, part-part, rest-slice}
+use Rattle.octets.specs.Bytes.{part, field, put, same}
+use Rattle.octets.proofs.Parts.{length-part, part-part}
 use Rattle.octets.proofs.Puts.{put-all}
 use Rattle.fmap_rules.specs.declared.Extent.{Extent}
 use Rattle.fmap_rules.specs.declared.Area.{Area}
-use Rattle.fmap_rules.specs.Map.{areaOf, areasIn, areasOf, blank, countOf, nameLength, goodMap}
+use Rattle.fmap_rules.specs.Map.{areaOf, areasIn, blank, nameLength}
 use Rattle.fmap_rules.proofs.Areas.{length-areas}
-use Rattle.fmap_rules.proofs.Good.{Fits}
 use Rattle.fmap.specs.Find.{Reply, accepted, refused}
 use Rattle.fmap.specs.Areas.{Looked, areaIn, called}
 
@@ -37,12 +36,6 @@ name-slice a n h = let e : 8 + n - 8 ≡ n = omega arith in rw e (sym (part-part
 pub called-by : (a name : List ℕ) (n : ℕ) → n ≡ nameLength (part 8 32 a) → n ≤ 32 → same (take (8 + n - 8) (drop 8 a)) name ≡ called name (areaOf a)
 unfolding called areaOf
 called-by a name n e h = ap (λ (l : List ℕ). same l name) (name-slice a n h ∙ ap (λ (k : ℕ). part 0 k (part 8 32 a)) e)
-
--- the bytes of all areas, as a lent part
-pub areas-are : (image xs : List ℕ) (at : ℕ) → xs ≡ part 56 (42 * countOf (take (length image - at) (drop at image))) (take (length image - at) (drop at image))
-    → areasIn xs ≡ areasOf (rest at image)
-unfolding areasOf
-areas-are image xs at e = ap areasIn e ∙ ap (λ (l : List ℕ). areasIn (part 56 (42 * countOf l) l)) (rest-slice at image)
 
 -- an area's value, field by field; its name was copied over zs
 pub area-read : (a zs n : List ℕ) (x : Extent) (f : ℕ) → length a ≡ 42 → length zs ≡ 32 → x ≡ areaOf a .place → n ≡ put 0 (part 8 32 a) zs → f ≡ field 40 2 a

@@ -97,15 +97,6 @@ pub fn find(image: &[u8]) -> Found
     Found::NoGoodMap
 }
 
-// The bytes of the areas of a good map.
-fn areas_at<'a>(image: &'a [u8], at: ImagePosition) -> &'a [u8]
-    requires { ⌜ goodMap (now image) (at .0) ≡ true ⌝ }
-    ensures { λ r. ⌜ (areasIn (now r) ≡ areasOf (rest (at .0) (now (image .entry)))) × (length (now r) / 42 ≤ 128) ⌝ }
-{
-    let a = at.0 as usize;
-    fmap_rules::areas_of(&image[a..])
-}
-
 // How many areas the map has.
 pub fn area_count(image: &[u8]) -> AreaCount
     ensures { λ r. ⌜ countReply r ≡ countAreas (now (image .entry)) ⌝ }
@@ -114,7 +105,7 @@ pub fn area_count(image: &[u8]) -> AreaCount
         Found::WrongLength => AreaCount::WrongLength,
         Found::NoSignature => AreaCount::NoSignature,
         Found::NoGoodMap => AreaCount::NoGoodMap,
-        Found::At(p) => AreaCount::Count((areas_at(image, p).len() / 42) as u32),
+        Found::At(p) => AreaCount::Count((fmap_rules::areas_at(image, p).len() / 42) as u32),
     }
 }
 
@@ -169,7 +160,7 @@ pub fn area(image: &[u8], k: u32) -> AreaFound
         Found::WrongLength => no_area(Lookup::WrongLength),
         Found::NoSignature => no_area(Lookup::NoSignature),
         Found::NoGoodMap => no_area(Lookup::NoGoodMap),
-        Found::At(p) => area_in(areas_at(image, p), k as usize),
+        Found::At(p) => area_in(fmap_rules::areas_at(image, p), k as usize),
     }
 }
 
@@ -210,6 +201,6 @@ pub fn area_named(image: &[u8], name: &[u8]) -> AreaFound
         Found::WrongLength => no_area(Lookup::WrongLength),
         Found::NoSignature => no_area(Lookup::NoSignature),
         Found::NoGoodMap => no_area(Lookup::NoGoodMap),
-        Found::At(p) => area_called(areas_at(image, p), name),
+        Found::At(p) => area_called(fmap_rules::areas_at(image, p), name),
     }
 }

@@ -2,15 +2,15 @@
 use mathlib.Core.Path.{_≡_, refl, sym, ap, _∙_}
 use mathlib.Core.Bool.{Bool, true, false}
 use mathlib.Core.List.{List}
-use Prim.Native.Nat.{ℕ, _+_, _*_, _/_, _≤_, _<_}
+use Prim.Native.Nat.{ℕ, _+_, _-_, _*_, _/_, _≤_, _<_}
 use native.Mathlib.Omega.{arith}
-use lib.ListN.{length, getD}
+use lib.ListN.{length, getD, take, drop}
 use borrow.Author.Tests.{leb-true, eqb-true}
 use Rattle.octets.specs.Tests.{all, any, pairs}
 use Rattle.octets.specs.Bytes.{part, rest}
 use Rattle.octets.proofs.Bools.{and-l, and-r, and-t, and-f, and-false-l}
 use Rattle.octets.proofs.Tests.{all-get, any-get}
-use Rattle.octets.proofs.Parts.{length-part, length-rest}
+use Rattle.octets.proofs.Parts.{length-part, length-rest, rest-slice}
 use Rattle.fmap_rules.specs.declared.Area.{Area}
 use Rattle.fmap_rules.specs.Map.{signed, signature, countOf, sizeOf, nameOf, mapSize, areaOf, areasIn, areasOf, blank, endOf, legalName, goodHeader, goodArea, goodPair, goodAreas, goodMap, holdsMap}
 use Rattle.fmap_rules.proofs.Areas.{length-areas}
@@ -96,3 +96,9 @@ module _ (len at : ℕ) (areas : List Area) (g : goodAreas len at areas ≡ true
   pub ends-in : (i : ℕ) → i < length areas → endOf (getD areas i blank .place) ≤ len
   unfolding goodArea
   ends-in i h = leb-true _ _ (and-l _ _ (and-r _ _ (all-get (goodArea len) areas blank each i h)))
+
+-- the bytes of all areas, as a lent part
+pub areas-are : (image xs : List ℕ) (at : ℕ) → xs ≡ part 56 (42 * countOf (take (length image - at) (drop at image))) (take (length image - at) (drop at image))
+    → areasIn xs ≡ areasOf (rest at image)
+unfolding areasOf
+areas-are image xs at e = ap areasIn e ∙ ap (λ (l : List ℕ). areasIn (part 56 (42 * countOf l) l)) (rest-slice at image)

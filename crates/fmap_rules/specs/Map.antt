@@ -112,16 +112,17 @@ goodHeader len m =
 unfoldable pub goodArea : ℕ → Area → Bool
 goodArea len a = leb 1 (a .place .size) and (leb (endOf (a .place)) len and legalName (a .name))
 
-unfoldable pub sameName : Area → Area → Bool
-sameName a b = same (a .name) (b .name)
+-- the area has these 32 bytes as its name
+unfoldable pub named : List ℕ → Area → Bool
+named n a = same n (a .name)
 
 -- M5: Area names differ.
 unfoldable pub goodPair : Area → Area → Bool
-goodPair a b = not (sameName a b) and disjointOrNested (a .place) (b .place)
+goodPair a b = not (named (a .name) b) and disjointOrNested (a .place) (b .place)
 
 -- M8: The area FMAP starts at that position and holds the whole map.
 unfoldable pub holdsMap : ℕ → ℕ → Area → Bool
-holdsMap at count a = same (a .name) fmapName and (eqb (a .place .start .0) at and leb (mapSize count) (a .place .size))
+holdsMap at count a = named fmapName a and (eqb (a .place .start .0) at and leb (mapSize count) (a .place .size))
 
 -- M9: Flags are not judged.
 unfoldable pub goodAreas : ℕ → ℕ → List Area → Bool

@@ -1,11 +1,12 @@
 // What a good flash map at a position of an image is.
 // An inner crate: no user calls it, so its functions may have a `requires`, which each caller meets.
 ghost use mathlib.Core.Path.{_≡_};
+ghost use mathlib.Core.Bool.{true};
 ghost use Prim.Native.Nat.{_+_, _*_, _/_, _≤_, _<_};
 ghost use lib.ListN.{length, getD, drop};
-ghost use Rattle.octets.specs.Tests.{all, any, pairs};
+ghost use Rattle.octets.specs.Tests.{all, any, pairs, findIx};
 ghost use Rattle.octets.specs.Bytes.{part, rest};
-ghost use Rattle.fmap_rules.specs.Map.{signed, nameLength, legalName, areaOf, areasIn, blank, endOf, disjoint, inside, disjointOrNested, mapSize, countOf, goodHeader, goodArea, goodPair, holdsMap, goodAreas, goodMap};
+ghost use Rattle.fmap_rules.specs.Map.{signed, nameLength, legalName, areaOf, areasIn, areasOf, blank, named, endOf, disjoint, inside, disjointOrNested, mapSize, countOf, goodHeader, goodArea, goodPair, holdsMap, goodAreas, goodMap};
 
 // A byte's position in a flash image.
 pub struct ImagePosition(pub u32);
@@ -182,7 +183,7 @@ fn is_holder(a: &[u8], at: usize, count: usize) -> bool
     requires { ⌜ (length (now a) ≡ 42) × (count ≤ 128) ⌝ }
     ensures { λ r. ⌜ r ≡ holdsMap at count (areaOf (now (a .entry))) ⌝ }
 {
-    if !octets::same(&a[8..40], b"FMAP\0\0\0\0\0\0\0\0\0\0\0\0\0\0\0\0\0\0\0\0\0\0\0\0\0\0\0\0") {
+    if !octets::same(b"FMAP\0\0\0\0\0\0\0\0\0\0\0\0\0\0\0\0\0\0\0\0\0\0\0\0\0\0\0\0", &a[8..40]) {
         return false;
     }
     let x = extent_of(a);
@@ -221,7 +222,23 @@ pub fn good_areas(areas: &[u8], len: usize, at: usize) -> bool
     pairs_good(areas)
 }
 
-pub fn count_of(m: &[u8]) -> usize
+// The number of the first area with a name, or their count.
+pub fn find_named(areas: &[u8], name: &[u8]) -> usize
+    ensures { λ r. ⌜ (r ≡ findIx (named (now (name .entry))) (areasIn (now (areas .entry)))) × (r ≤ length (now (areas .entry)) / 42) ⌝ }
+{
+    let n = areas.len() / 42;
+    let mut i = 0;
+    while i < n {
+        let a = area_at(areas, i);
+        if octets::same(name, &a[8..40]) {
+            return i;
+        }
+        i += 1;
+    }
+    i
+}
+
+fn count_of(m: &[u8]) -> usize
     requires { ⌜ 56 ≤ length (now m) ⌝ }
     ensures { λ r. ⌜ r ≡ countOf (now (m .entry)) ⌝ }
 {
@@ -229,7 +246,7 @@ pub fn count_of(m: &[u8]) -> usize
 }
 
 // The bytes of all areas.
-pub fn areas_of<'a>(m: &'a [u8]) -> &'a [u8]
+fn areas_of<'a>(m: &'a [u8]) -> &'a [u8]
     requires { ⌜ mapSize (countOf (now m)) ≤ length (now m) ⌝ }
     ensures { λ r. ⌜ (now r ≡ part 56 (42 * countOf (now (m .entry))) (now (m .entry))) × (length (now r) ≡ 42 * countOf (now (m .entry))) ⌝ }
 {
@@ -287,4 +304,13 @@ pub fn good_at(image: &[u8], at: usize) -> bool
         return false;
     }
     good_areas(areas_of(m), image.len(), at)
+}
+
+// The bytes of the areas of a good map.
+pub fn areas_at<'a>(image: &'a [u8], at: ImagePosition) -> &'a [u8]
+    requires { ⌜ goodMap (now image) (at .0) ≡ true ⌝ }
+    ensures { λ r. ⌜ (areasIn (now r) ≡ areasOf (rest (at .0) (now (image .entry)))) × (length (now r) ≤ 5376) ⌝ }
+{
+    let a = at.0 as usize;
+    areas_of(&image[a..])
 }

@@ -11,7 +11,7 @@ use Rattle.fmap.proofs.area.Tie as tie
 use Rattle.fmap.proofs.area.Reads as reads
 use Rattle.fmap.proofs.area.Lts as lts
 use Rattle.fmap.proofs.area_in.Reads as area-in-reads
-use Rattle.fmap.proofs.areas_at.Reads as areas-at-reads
+use Rattle.fmap_rules.proofs.areas_at.Reads as areas-at-reads
 use Rattle.fmap.proofs.find.Reads as find-reads
 use Rattle.fmap.proofs.no_area.Reads as no-area-reads
 

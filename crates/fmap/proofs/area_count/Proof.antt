@@ -13,7 +13,7 @@ use Rattle.fmap.proofs.area_count.Statement.{statement}
 use Rattle.fmap.proofs.area_count.Tie as tie
 use Rattle.fmap.proofs.area_count.Reads as reads
 use Rattle.fmap.proofs.area_count.Lts as lts
-use Rattle.fmap.proofs.areas_at.Reads as areas-at-reads
+use Rattle.fmap_rules.proofs.areas_at.Reads as areas-at-reads
 use Rattle.fmap.proofs.find.Reads as find-reads
 
 -- src/lib.rt:130:11

@@ -12,7 +12,7 @@ use Rattle.fmap.proofs.area_named.Tie as tie
 use Rattle.fmap.proofs.area_named.Reads as reads
 use Rattle.fmap.proofs.area_named.Lts as lts
 use Rattle.fmap.proofs.area_called.Reads as area-called-reads
-use Rattle.fmap.proofs.areas_at.Reads as areas-at-reads
+use Rattle.fmap_rules.proofs.areas_at.Reads as areas-at-reads
 use Rattle.fmap.proofs.find.Reads as find-reads
 use Rattle.fmap.proofs.no_area.Reads as no-area-reads
 

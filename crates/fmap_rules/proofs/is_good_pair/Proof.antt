@@ -2,7 +2,7 @@ use mathlib.Core.Bool.{not}
 use mathlib.Core.Path.{_≡_, refl, sym, ap, _∙_}
 use Rattle.octets.proofs.Bools.{and-t, and-f}
 use Rattle.octets.specs.Bytes.{part}
-use Rattle.fmap_rules.specs.Map.{goodPair, sameName, areaOf, disjointOrNested}
+use Rattle.fmap_rules.specs.Map.{goodPair, named, areaOf, disjointOrNested}
 use borrow.Author.Needs.{needs}
 use Rattle.fmap_rules.proofs.is_good_pair.Statement.{statement}
 use Rattle.fmap_rules.proofs.is_good_pair.Tie as tie
@@ -42,7 +42,7 @@ same-requires c κs = search needs
 
 -- src/lib.rt:146:9
 returns : tie.Need-returns
-unfolding goodPair sameName areaOf part
+unfolding goodPair named areaOf part
 returns c = and-f _ (ap not (sym (c .before .same .ensures) ∙ (c .if1 .taken)))
 
 -- src/lib.rt:148:27
@@ -59,7 +59,7 @@ is-disjoint-or-nested-requires c κs = search needs
 
 -- src/lib.rt:141:1
 returns-2 : tie.Need-returns-2
-unfolding goodPair sameName areaOf part
+unfolding goodPair named areaOf part
 returns-2 c = and-t (ap not (sym (c .before .before .before .before .same .ensures) ∙ (c .before .before .before .if1 .left))) (rw (← (c .before .before .extent-of .ensures), ← (c .before .extent-of2 .ensures)) (c .is-disjoint-or-nested .ensures))
 
 pub is-good-pair-spec : {M : Type 1} → statement M

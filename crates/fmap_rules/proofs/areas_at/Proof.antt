@@ -1,14 +1,14 @@
 use native.Mathlib.Omega.{arith}
 use mathlib.Core.Path.{_≡_, refl, sym, ap, _∙_}
 use Rattle.octets.proofs.Parts.{rest-slice}
-use Rattle.fmap.proofs.Reading.{areas-are}
+use Rattle.fmap_rules.proofs.Good.{areas-are}
 use Rattle.fmap_rules.proofs.Good.{good-fits, good-within}
 use borrow.Author.Needs.{needs}
-use Rattle.fmap.proofs.areas_at.Statement.{statement}
-use Rattle.fmap.proofs.areas_at.Tie as tie
-use Rattle.fmap.proofs.areas_at.Reads as reads
-use Rattle.fmap.proofs.areas_at.Lts as lts
+use Rattle.fmap_rules.proofs.areas_at.Statement.{statement}
+use Rattle.fmap_rules.proofs.areas_at.Tie as tie
+use Rattle.fmap_rules.proofs.areas_at.Reads as reads
+use Rattle.fmap_rules.proofs.areas_at.Lts as lts
 use Rattle.fmap_rules.proofs.areas_of.Reads as areas-of-reads
 
 -- src/lib.rt:122:13
 cast-a : tie.Need-cast-a
