@@ -1,0 +1,4 @@
+-- Laws of carrying.
+pub mod Match
+pub mod Passed
+pub mod Carrying
