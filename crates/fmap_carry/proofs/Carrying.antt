@@ -8,7 +8,7 @@ use native.Mathlib.Nat.{not-suc-le-zero, le-of-suc-le-suc, zero-lt-suc}
 use native.Mathlib.Numerals.{add-one}
 use native.Mathlib.Omega.{arith}
 use lib.ListN.{length, getD, take, drop, drop-of-length-le}
-use lib.Seq.{drop-cons}
+use lib.Seq.{drop-cons, length-take-le}
 use lib.Dec.{leb}
 use borrow.Author.Tests.{leb-true}
 use Rattle.octets.specs.Tests.{all, pairs}
@@ -156,3 +156,6 @@ fit-at xs lo ln m news i b f h e l p =
 pub kept-are : (vs xs ys : List ℕ) (areas : List Area) → length vs ≤ length xs → ys ≡ put 0 vs xs → areasIn vs ≡ areas → areasIn (take (length vs) ys) ≡ areas
 unfolding part
 kept-are vs xs ys areas h e f = ap (λ (l : List ℕ). areasIn (take (length vs) l)) e ∙ ap areasIn (part-put-same vs xs 0 (omega arith)) ∙ f
+
+pub kept-length : (vs xs ys : List ℕ) → length vs ≤ length xs → ys ≡ put 0 vs xs → length (take (length vs) ys) ≡ length vs
+kept-length vs xs ys h e = length-take-le (length vs) ys (omega (arith, ap length e, length-put 0 vs xs))

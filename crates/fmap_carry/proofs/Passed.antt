@@ -5,15 +5,17 @@ use mathlib.Core.List.{List}
 use mathlib.Core.Option.{Option, none, some}
 use Prim.Native.Nat.{ℕ, _≤_, _<_}
 use lib.ListN.{length, getD}
-use borrow.Author.Tests.{leb-true, eqb-true, not-false}
+use borrow.Author.Tests.{le-leb, leb-true, eqb-true, not-false}
 use Rattle.octets.specs.Tests.{any, all, pairs, findIx}
 use Rattle.octets.specs.Rows.{refusal}
+use Rattle.octets.specs.Bytes.{rest}
 use Rattle.octets.proofs.Bools.{and-skip, not-f}
-use Rattle.octets.proofs.Tests.{all-get, any-none, findIx-get}
+use Rattle.octets.proofs.Tests.{all-get, all-make, any-none, findIx-get}
 use Rattle.octets.proofs.Rows.{passes, pick-true, pick-false}
 use Rattle.fmap_rules.specs.declared.Area.{Area}
-use Rattle.fmap_rules.specs.Map.{blank, named}
-use Rattle.fmap_carry.specs.Carry.{preserved, withName, target, missing, otherSize, clear, onMap, carryRows, Fit, Fitting, endsIn}
+use Rattle.fmap_rules.specs.Map.{areasIn, areasOf, blank, named, goodMap}
+use Rattle.fmap_rules.proofs.Good.{good-areas, ends-in}
+use Rattle.fmap_carry.specs.Carry.{preserved, withName, target, missing, otherSize, clear, onMap, carryRows, carried, outcome, carryAreas, Fitting, endsIn}
 
 module _ (olds news : List Area) (e : refusal (carryRows olds news) ≡ none) where
   pub present : (i : ℕ) → i < length olds → preserved (getD olds i blank) ≡ true → any (named (getD olds i blank .name)) news ≡ true
@@ -57,3 +59,23 @@ module _ (olds news : List Area) where
 
         pub judge-free : any (onMap news) olds ≡ false → none ≡ refusal (carryRows olds news)
         judge-free f = sym (pick-false _ 60 _ a ∙ pick-false _ 61 _ b ∙ pick-false _ 62 _ (ap not d) ∙ pick-false _ 63 _ f)
+
+-- ---- the outcome
+
+module _ (old : List ℕ) (olds : List Area) (new : List ℕ) (news : List Area) where
+  pub refuses : (k : ℕ) → some k ≡ refusal (carryRows olds news) → record { answer = some k; image = new } ≡ carryAreas old olds new news
+  unfolding carryAreas
+  refuses k e = ap (λ (o : Option ℕ). outcome o (carried old news olds new) new) e
+
+  pub accepts : (image : List ℕ) → none ≡ refusal (carryRows olds news) → image ≡ carried old news olds new
+      → record { answer = none; image = image } ≡ carryAreas old olds new news
+  unfolding carryAreas
+  accepts image e f =
+      ap (λ (l : List ℕ). record { answer = none; image = l }) f ∙ ap (λ (o : Option ℕ). outcome o (carried old news olds new) new) e
+
+-- the areas of a good map end in the image
+pub good-ends : (image xs : List ℕ) (at : ℕ) → goodMap image at ≡ true → areasIn xs ≡ areasOf (rest at image) → all (endsIn (length image)) (areasIn xs) ≡ true
+unfolding endsIn
+good-ends image xs at g e =
+    ap (all (endsIn (length image))) e
+    ∙ all-make (endsIn (length image)) (areasOf (rest at image)) blank (λ i h. le-leb _ _ (ends-in (length image) at (areasOf (rest at image)) (good-areas image at g) i h))

@@ -271,7 +271,7 @@ pub fn carry_areas(old: &[u8], olds: &[u8], new: &mut [u8], news: &[u8]) -> Judg
 // Copies the bytes of the areas of a good map; answers how many.
 fn keep_areas(image: &[u8], at: ImagePosition, kept: &mut [u8]) -> usize
     requires { ⌜ (goodMap (now image) (at .0) ≡ true) × (length (now kept) ≡ 5376) ⌝ }
-    ensures { λ r. ⌜ (areasIn (take r (now (kept .exit))) ≡ areasOf (rest (at .0) (now (image .entry)))) × (r ≤ 5376) ⌝ }
+    ensures { λ r. ⌜ (areasIn (take r (now (kept .exit))) ≡ areasOf (rest (at .0) (now (image .entry)))) × (r ≤ 5376) × (length (take r (now (kept .exit))) ≡ r) ⌝ }
 {
     let areas = fmap_rules::areas_at(image, at);
     octets::copy(kept, 0, areas);

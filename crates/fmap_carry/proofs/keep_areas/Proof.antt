@@ -1,5 +1,5 @@
+use Rattle.fmap_carry.proofs.Carrying.{kept-are, kept-length}
 use native.Mathlib.Omega.{arith}
-use Rattle.fmap_carry.proofs.Carrying.{kept-are}
 use borrow.Author.Needs.{needs}
 use Rattle.fmap_carry.proofs.keep_areas.Statement.{statement}
 use Rattle.fmap_carry.proofs.keep_areas.Tie as tie
@@ -22,7 +22,7 @@ same-length c = search needs
 
 -- src/lib.rt:272:1
 returns : tie.Need-returns
-returns c = (kept-are _ _ _ _ (omega arith) (c .before .before .copy .ensures) (c .before .before .before .before .areas-at .ensures .0), (c .before .before .before .before .areas-at .ensures .1))
+returns c = (kept-are _ _ _ _ (omega arith) (c .before .before .copy .ensures) (c .before .before .before .before .areas-at .ensures .0), (c .before .before .before .before .areas-at .ensures .1), kept-length _ _ _ (omega arith) (c .before .before .copy .ensures))
 
 pub keep-areas-spec : {M : Type 1} → statement M
 keep-areas-spec = tie.close (tie.spec areas-at-requires copy-requires same-length returns)
