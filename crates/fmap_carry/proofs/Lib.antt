@@ -2,3 +2,4 @@
 pub mod Match
 pub mod Passed
 pub mod Carrying
+pub mod Accepted
