@@ -2,3 +2,5 @@
 pub mod Lowest
 pub mod Find
 pub mod Areas
+pub mod Carry
+pub mod Promises

@@ -1,4 +1,4 @@
-// The flash map of an image: finding it and reading its areas.
+// The flash map of an image: finding it, reading its areas, carrying preserved areas to another image.
 ghost use mathlib.Core.Path.{_≡_};
 ghost use mathlib.Core.Bool.{true};
 ghost use Prim.Native.Nat.{_+_, _-_, _*_, _/_, _≤_, _<_};
@@ -9,8 +9,11 @@ ghost use Rattle.octets.specs.Bytes.{rest};
 ghost use Rattle.fmap_rules.specs.Map.{signature, areaOf, areasIn, areasOf, blank, goodMap};
 ghost use Rattle.fmap.specs.Lowest.{firstFrom};
 ghost use Rattle.fmap.specs.Find.{Reply, foundReply, signedAt, findMap};
+ghost use Rattle.fmap_carry.specs.Carry.{judgedNumber};
+ghost use Rattle.fmap.specs.Carry.{carriedNumber, carryTo, carryImages};
 ghost use Rattle.fmap.specs.Areas.{countReply, lookupReply, looked, countAreas, areaIn, areaNumbered, areaNamed, called};
 
+use fmap_carry::Judged;
 use fmap_rules::Area;
 use fmap_rules::Extent;
 use fmap_rules::ImagePosition;
@@ -42,6 +45,18 @@ pub enum Lookup {
 pub struct AreaFound {
     pub answer: Lookup,
     pub area: Area,
+}
+
+// What a carry answers. The first three refusals are of the old image, or else of the new one.
+pub enum Carried {
+    Done,
+    WrongLength,
+    NoSignature,
+    NoGoodMap,
+    Missing,
+    OtherSize,
+    Shared,
+    OnMap,
 }
 
 // One of the signature's bytes 41, 46, 4D, 50, 5F hex: bits 1, 6, 13, 16 and 31 of the number, for the bytes 40 to 7F hex.
@@ -202,5 +217,42 @@ pub fn area_named(image: &[u8], name: &[u8]) -> AreaFound
         Found::NoSignature => no_area(Lookup::NoSignature),
         Found::NoGoodMap => no_area(Lookup::NoGoodMap),
         Found::At(p) => area_called(fmap_rules::areas_at(image, p), name),
+    }
+}
+
+fn carried_of(j: Judged) -> Carried
+    ensures { λ r. ⌜ carriedNumber r ≡ judgedNumber j ⌝ }
+{
+    match j {
+        Judged::Free => Carried::Done,
+        Judged::Missing => Carried::Missing,
+        Judged::OtherSize => Carried::OtherSize,
+        Judged::Shared => Carried::Shared,
+        Judged::OnMap => Carried::OnMap,
+    }
+}
+
+// Carries by the good map of the old image at a position.
+fn carry_from(old: &[u8], at: ImagePosition, new: &mut [u8]) -> Carried
+    requires { ⌜ goodMap (now old) (at .0) ≡ true ⌝ }
+    ensures { λ r. ⌜ record { answer = carriedNumber r; image = now (new .exit) } ≡ carryTo (now (old .entry)) at (now (new .entry)) (findMap (now (new .entry))) ⌝ }
+{
+    match find(&new[..]) {
+        Found::WrongLength => Carried::WrongLength,
+        Found::NoSignature => Carried::NoSignature,
+        Found::NoGoodMap => Carried::NoGoodMap,
+        Found::At(bt) => carried_of(fmap_carry::carry_by(old, at, new, bt)),
+    }
+}
+
+// Carries the preserved areas of the old image to the new one.
+pub fn carry(old: &[u8], new: &mut [u8]) -> Carried
+    ensures { λ r. ⌜ record { answer = carriedNumber r; image = now (new .exit) } ≡ carryImages (now (old .entry)) (now (new .entry)) ⌝ }
+{
+    match find(old) {
+        Found::WrongLength => Carried::WrongLength,
+        Found::NoSignature => Carried::NoSignature,
+        Found::NoGoodMap => Carried::NoGoodMap,
+        Found::At(at) => carry_from(old, at, new),
     }
 }
