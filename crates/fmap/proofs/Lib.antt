@@ -3,3 +3,4 @@ pub mod Lowest
 pub mod Finding
 pub mod Reading
 pub mod Letters
+pub mod Promises

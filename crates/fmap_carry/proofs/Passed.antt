@@ -74,8 +74,10 @@ module _ (old : List ℕ) (olds : List Area) (new : List ℕ) (news : List Area)
       ap (λ (l : List ℕ). record { answer = none; image = l }) f ∙ ap (λ (o : Option ℕ). outcome o (carried old news olds new) new) e
 
 -- the areas of a good map end in the image
-pub good-ends : (image xs : List ℕ) (at : ℕ) → goodMap image at ≡ true → areasIn xs ≡ areasOf (rest at image) → all (endsIn (length image)) (areasIn xs) ≡ true
+pub good-ends-of : (image : List ℕ) (at : ℕ) → goodMap image at ≡ true → all (endsIn (length image)) (areasOf (rest at image)) ≡ true
 unfolding endsIn
-good-ends image xs at g e =
-    ap (all (endsIn (length image))) e
-    ∙ all-make (endsIn (length image)) (areasOf (rest at image)) blank (λ i h. le-leb _ _ (ends-in (length image) at (areasOf (rest at image)) (good-areas image at g) i h))
+good-ends-of image at g =
+    all-make (endsIn (length image)) (areasOf (rest at image)) blank (λ i h. le-leb _ _ (ends-in (length image) at (areasOf (rest at image)) (good-areas image at g) i h))
+
+pub good-ends : (image xs : List ℕ) (at : ℕ) → goodMap image at ≡ true → areasIn xs ≡ areasOf (rest at image) → all (endsIn (length image)) (areasIn xs) ≡ true
+good-ends image xs at g e = ap (all (endsIn (length image))) e ∙ good-ends-of image at g

@@ -4,3 +4,4 @@ pub mod Areas
 pub mod Header
 pub mod Good
 pub mod Signature
+pub mod Written

@@ -4,7 +4,7 @@ use mathlib.Core.Bool.{true}
 use mathlib.Core.List.{List, [], _∷_, _++_, map}
 use Prim.Native.Nat.{ℕ, _≤_, _<_, _^_}
 use lib.ListN.{length, getD}
-use Rattle.octets.specs.Bytes.{le, put, flat}
+use Rattle.octets.specs.Bytes.{le, rest, put, flat}
 use Rattle.fmap_rules.specs.declared.Area.{Area}
 use Rattle.fmap_rules.specs.Map.{signature, legalName, blank, goodAreas, goodMap, areasOf}
 
@@ -35,8 +35,12 @@ pub record Writable (len at : ℕ) (name : List ℕ) (minor : ℕ) (areas : List
   pub stored : (i : ℕ) → i < length areas → Stored (getD areas i blank)
   pub good : goodAreas len at areas ≡ true
 
--- L18, L19: a map written at the start of its area FMAP is good there, and its areas are those written
+-- L18: a map written at the start of its area FMAP is good there, and its areas are those written
+pub record WrittenThere (image : List ℕ) (at : ℕ) (areas : List Area) : Type 0 where
+  pub good : goodMap image at ≡ true
+  pub same-areas : areasOf (rest at image) ≡ areas
+
 abbrev pub WrittenIsGood : Type 0
 WrittenIsGood =
     (image : List ℕ) (at : ℕ) (name : List ℕ) (base minor : ℕ) (areas : List Area) → Writable (length image) at name minor areas
-    → goodMap (put at (mapBytes (length image) name base minor areas) image) at ≡ true
+    → WrittenThere (put at (mapBytes (length image) name base minor areas) image) at areas
