@@ -1,30 +1,29 @@
 -- From one signature to the next, and what is found.
-use mathlib.Core.Path.{_≡_, refl, sym, ap, _∙_, subst}
-use mathlib.Core.Logic.{_⊎_, inl, inr}
-use mathlib.Core.Bool.{Bool, true, false, not, true≢false, false≢true}
-use mathlib.Core.List.{List, [], _∷_}
+use mathlib.Core.Path.{_≡_, refl, sym, ap, _∙_}
+use mathlib.Core.Bool.{Bool, true, false, not, true≢false}
+use mathlib.Core.List.{List}
 use mathlib.Core.Option.{Option, none, some}
 use Prim.Native.Nat.{ℕ, _+_, _-_, _≤_, _<_}
-use native.Mathlib.Nat.{sub-zero, zero-add, add-zero}
+use native.Mathlib.Nat.{sub-zero}
 use native.Mathlib.Omega.{arith}
 use lib.ListN.{length, getD, drop, length-take, length-drop}
-use lib.Dec.{eqb, leb, ltb}
-use borrow.Author.Tests.{lt-ltb, le-ltb, ltb-true, ltb-false, leb-true, leb-false, eqb-true, eqb-false}
-use Rattle.octets.specs.Tests.{_or_, any}
-use Rattle.octets.specs.Rows.{row, refusal, pickRow}
-use Rattle.octets.specs.Bytes.{part, rest, same}
+use lib.Dec.{eqb, leb}
+use borrow.Author.Tests.{lt-ltb, le-ltb, ltb-true, leb-true, leb-false, eqb-true, eqb-false}
+use Rattle.octets.specs.Tests.{any}
+use Rattle.octets.specs.Rows.{refusal}
+use Rattle.octets.specs.Bytes.{part, same}
 use Rattle.octets.proofs.Tests.{any-none}
-use Rattle.octets.proofs.Parts.{length-rest, getD-part, part-of-rest}
+use Rattle.octets.proofs.Parts.{getD-part}
 use Rattle.octets.proofs.Equal.{same-true, same-length}
 use Rattle.octets.proofs.Rows.{pick-true, pick-false, passes}
 use Rattle.octets.proofs.Bools.{or-il, or-ir, or-false-i, not-f}
 use Rattle.fmap_rules.specs.declared.ImagePosition.{ImagePosition}
-use Rattle.fmap_rules.specs.Map.{position, signature, signed, goodMap}
+use Rattle.fmap_rules.specs.Map.{position, signature, goodMap}
 use Rattle.fmap_rules.proofs.Good.{unsigned-bad}
 use Rattle.fmap_rules.proofs.Signature.{signed-part}
 use Rattle.fmap.specs.Lowest.{firstFrom, lowest, someBelow}
-use Rattle.fmap.specs.Find.{Reply, accepted, refused, reply, outOfRange, signedAt, findRows, findMap}
-use Rattle.fmap.proofs.Lowest.{first-skip, first-before, first-least, first-hit, first-bound, first-step, first-stop, first-end}
+use Rattle.fmap.specs.Find.{accepted, refused, reply, outOfRange, signedAt, findRows, findMap}
+use Rattle.fmap.proofs.Lowest.{first-skip, first-before, first-least, first-hit, first-bound, first-stop, first-end}
 
 -- ---- the signature
 
@@ -45,7 +44,7 @@ unsigned image i j h a b = signed-part image j ∙ go (same (part j 8 image) sig
         let k = i + 7 - j in
         let e : j + k ≡ i + 7 = omega arith in
         let g : getD image (i + 7) 0 ≡ getD signature k 0 =
-            ap (λ (x : ℕ). getD image x 0) (sym e) ∙ sym (getD-part image j 8 k (omega arith)) ∙ ap (λ (l : List ℕ). getD l k 0) (same-true _ _ w) in
+        ap (λ (x : ℕ). getD image x 0) (sym e) ∙ sym (getD-part image j 8 k (omega arith)) ∙ ap (λ (l : List ℕ). getD l k 0) (same-true _ _ w) in
         absurd (eqb-false _ _ (any-none (eqb (getD image (i + 7) 0)) signature 0 h k (omega arith)) g)
 
 -- from its third byte to its sixth the signature has no underscore
@@ -173,7 +172,7 @@ looking-starts image r e b =
     record {
       bound = b;
       rest-decides = ap (λ (k : ℕ). firstFrom k 0 (goodMap image)) (sym (sub-zero (length image))) ∙ next-good image 0 r (omega arith) e;
-      at-signed = next-signed image 0 r (omega arith) e
+      at-signed = next-signed image 0 r (omega arith) e;
     }
 
 module _ (image : List ℕ) (at : ℕ) (l : Looking image at) where
@@ -187,7 +186,7 @@ module _ (image : List ℕ) (at : ℕ) (l : Looking image at) where
       record {
         bound = b;
         rest-decides = l .rest-decides ∙ first-skip 6 (length image) at (goodMap image) (omega arith) none ∙ next-good image (at + 6) r (omega arith) e;
-        at-signed = next-signed image (at + 6) r (omega arith) e
+        at-signed = next-signed image (at + 6) r (omega arith) e;
       }
     where
       none : (j : ℕ) → at ≤ j → j < at + 6 → goodMap image j ≡ false

@@ -2,29 +2,27 @@
 use mathlib.Core.Path.{_≡_, refl, sym, ap, _∙_}
 use mathlib.Core.Bool.{Bool, true, false, true≢false}
 use mathlib.Core.List.{List}
-use mathlib.Core.Option.{Option, none}
-use Prim.Native.Nat.{ℕ, _+_, _-_, _≤_, _<_}
+use mathlib.Core.Option.{none}
+use Prim.Native.Nat.{ℕ, _-_, _≤_, _<_}
 use native.Mathlib.Nat.{sub-zero, zero-add}
 use native.Mathlib.Omega.{arith}
 use lib.ListN.{length}
 use lib.Dec.{ltb}
-use borrow.Author.Tests.{lt-ltb, ltb-true, ltb-false}
-use Rattle.octets.specs.Bytes.{rest, put}
-use Rattle.octets.proofs.Parts.{length-rest}
+use borrow.Author.Tests.{ltb-false}
+use Rattle.octets.specs.Bytes.{rest}
 use Rattle.octets.proofs.Puts.{length-put}
 use Rattle.fmap_rules.specs.declared.ImagePosition.{ImagePosition}
-use Rattle.fmap_rules.specs.declared.Area.{Area}
-use Rattle.fmap_rules.specs.Map.{position, areasOf, goodMap, signed}
-use Rattle.fmap_rules.specs.Written.{mapBytes, Writable}
+use Rattle.fmap_rules.specs.Map.{position, areasOf, goodMap}
+use Rattle.fmap_rules.specs.Written.{mapBytes}
 use Rattle.fmap_rules.proofs.Good.{good-within, good-header, header-signed}
 use Rattle.fmap_rules.proofs.Written.{written-is-good}
-use Rattle.fmap_carry.specs.Carry.{Outcome, carryAreas, endsIn}
+use Rattle.fmap_carry.specs.Carry.{Outcome, carryAreas}
 use Rattle.fmap_carry.proofs.Passed.{good-ends-of}
 use Rattle.fmap_carry.proofs.Accepted.{accepted as accepted-areas}
 use Rattle.fmap.specs.Lowest.{firstFrom, lowest, someBelow}
 use Rattle.fmap.specs.Find.{Reply, accepted, refused, signedAt, findMap}
 use Rattle.fmap.specs.Carry.{carryTo, carryFrom, carryImages}
-use Rattle.fmap.specs.Promises.{Lowest, FindsLowest, CarriedOver, CarryArrives, WrittenIsFound}
+use Rattle.fmap.specs.Promises.{FindsLowest, CarriedOver, CarryArrives, WrittenIsFound}
 use Rattle.fmap.proofs.Lowest.{first-skip, first-stop, first-before}
 use Rattle.fmap.proofs.Finding.{found-good, found-lowest, finds}
 
@@ -38,9 +36,12 @@ module _ (old new image : List ℕ) where
       → carryAreas old (areasOf (rest (p .0) old)) new (areasOf (rest (q .0) new)) ≡ record { answer = none; image = image } → CarriedOver old new image
   two p q a b e =
       record {
-        from = p; to = q; old-found = a; new-found = b;
+        from = p;
+        to = q;
+        old-found = a;
+        new-found = b;
         arrived = accepted-areas old (areasOf (rest (p .0) old)) new (areasOf (rest (q .0) new)) image
-          (good-ends-of old (p .0) (found-good old p a)) (good-ends-of new (q .0) (found-good new q b)) e
+            (good-ends-of old (p .0) (found-good old p a)) (good-ends-of new (q .0) (found-good new q b)) e;
       }
 
   one : (p : ImagePosition) → findMap old ≡ accepted p → (g : Reply ImagePosition) → findMap new ≡ g → carryTo old p new g ≡ record { answer = none; image = image }

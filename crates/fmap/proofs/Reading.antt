@@ -1,11 +1,10 @@
 -- What the areas of a good map give: as bytes, as values, by number and by name.
-use mathlib.Core.Path.{_≡_, refl, sym, ap, ap₂, _∙_}
-use mathlib.Core.Bool.{Bool, true, false}
+use mathlib.Core.Path.{_≡_, sym, ap, _∙_}
+use mathlib.Core.Bool.{true, false}
 use mathlib.Core.List.{List}
-use Prim.Native.Nat.{ℕ, _+_, _-_, _*_, _/_, _≤_, _<_}
+use Prim.Native.Nat.{ℕ, _+_, _-_, _/_, _≤_, _<_}
 use native.Mathlib.Omega.{arith}
-use lib.ListN.{length, getD, take, drop, length-take, length-drop, List·getD-eq-default}
-use lib.Dec.{ltb}
+use lib.ListN.{length, getD, take, drop, List·getD-eq-default}
 use borrow.Author.Tests.{lt-ltb, le-ltb}
 use Rattle.octets.specs.Bytes.{part, field, put, same}
 use Rattle.octets.proofs.Parts.{length-part, part-part}
@@ -14,8 +13,8 @@ use Rattle.fmap_rules.specs.declared.Extent.{Extent}
 use Rattle.fmap_rules.specs.declared.Area.{Area}
 use Rattle.fmap_rules.specs.Map.{areaOf, areasIn, blank, nameLength}
 use Rattle.fmap_rules.proofs.Areas.{length-areas}
-use Rattle.fmap.specs.Find.{Reply, accepted, refused}
-use Rattle.fmap.specs.Areas.{Looked, areaIn, called}
+use Rattle.fmap.specs.Find.{accepted}
+use Rattle.fmap.specs.Areas.{areaIn, called}
 
 pub area-none : (xs : List ℕ) (k : ℕ) → length xs / 42 ≤ k → record { answer = accepted false; area = blank } ≡ areaIn (areasIn xs) k
 area-none xs k h =

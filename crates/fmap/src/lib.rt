@@ -1,18 +1,16 @@
 // The flash map of an image: finding it, reading its areas, carrying preserved areas to another image.
 ghost use mathlib.Core.Path.{_≡_};
 ghost use mathlib.Core.Bool.{true};
-ghost use Prim.Native.Nat.{_+_, _-_, _*_, _/_, _≤_, _<_};
-ghost use lib.ListN.{length, getD};
-ghost use lib.Dec.{eqb, ltb};
+ghost use Prim.Native.Nat.{_-_, _≤_};
+ghost use lib.ListN.{length};
+ghost use lib.Dec.{eqb};
 ghost use Rattle.octets.specs.Tests.{any, findIx};
-ghost use Rattle.octets.specs.Bytes.{rest};
-ghost use Rattle.fmap_rules.specs.Map.{signature, areaOf, areasIn, areasOf, blank, goodMap};
+ghost use Rattle.fmap_rules.specs.Map.{signature, areaOf, areasIn, blank, goodMap};
 ghost use Rattle.fmap.specs.Lowest.{firstFrom};
-ghost use Rattle.fmap.specs.Find.{Reply, foundReply, signedAt, findMap};
+ghost use Rattle.fmap.specs.Find.{foundReply, signedAt, findMap};
 ghost use Rattle.fmap_carry.specs.Carry.{judgedNumber};
 ghost use Rattle.fmap.specs.Carry.{carriedNumber, carryTo, carryImages};
 ghost use Rattle.fmap.specs.Areas.{countReply, lookupReply, looked, countAreas, areaIn, areaNumbered, areaNamed, called};
-
 use fmap_carry::Judged;
 use fmap_rules::Area;
 use fmap_rules::Extent;

@@ -1,7 +1,7 @@
 -- What an accepted carry leaves.
 use mathlib.Core.Path.{_≡_, refl, sym, ap, subst, _∙_}
 use mathlib.Core.Logic.{_⊎_, inl, inr}
-use mathlib.Core.Bool.{Bool, true}
+use mathlib.Core.Bool.{true}
 use mathlib.Core.List.{List}
 use mathlib.Core.Option.{Option, none, some}
 use Prim.Native.Nat.{ℕ, _+_, _≤_, _<_}
@@ -14,7 +14,7 @@ use Rattle.octets.specs.Bytes.{part}
 use Rattle.octets.proofs.Parts.{getD-part}
 use Rattle.fmap_rules.specs.declared.Area.{Area}
 use Rattle.fmap_rules.specs.Map.{blank, endOf}
-use Rattle.fmap_carry.specs.Carry.{preserved, target, carryRows, carried, Outcome, outcome, carryAreas, endsIn}
+use Rattle.fmap_carry.specs.Carry.{target, carryRows, carried, Outcome, outcome, carryAreas, endsIn}
 use Rattle.fmap_carry.specs.Arrived.{Arrived}
 use Rattle.fmap_carry.proofs.Passed.{all-apart, fitting}
 use Rattle.fmap_carry.proofs.Carrying.{length-carried, part-carried, arrives}
@@ -38,7 +38,7 @@ module _ (old : List ℕ) (olds : List Area) (new : List ℕ) (news : List Area)
       record {
         same-length = length-carried old news olds new;
         arrive = λ i h p. arrives old news (length new) olds new refl (all-apart olds news e) f i h p;
-        stay = λ p c. byte (carried old news olds new) new p (part-carried old news (length new) olds new p 1 f (λ i h q. side (getD olds i blank) p (c i h q)))
+        stay = λ p c. byte (carried old news olds new) new p (part-carried old news (length new) olds new p 1 f (λ i h q. side (getD olds i blank) p (c i h q)));
       }
     where
       side : (x : Area) (p : ℕ) → (p < target news x .start .0) ⊎ (endOf (target news x) ≤ p) → (endOf (target news x) ≤ p) ⊎ (p + 1 ≤ target news x .start .0)

@@ -1,7 +1,7 @@
 -- Laws of the image after a carry: one area more, and what arrives and stays.
 use mathlib.Core.Path.{_≡_, refl, sym, ap, subst, _∙_}
 use mathlib.Core.Logic.{_⊎_, inl, inr}
-use mathlib.Core.Bool.{Bool, true, false, not, cond}
+use mathlib.Core.Bool.{true, false, not}
 use mathlib.Core.List.{List, [], _∷_}
 use Prim.Native.Nat.{ℕ, zero, suc, _+_, _/_, _≤_, _<_, suc-le-suc}
 use native.Mathlib.Nat.{not-suc-le-zero, le-of-suc-le-suc, zero-lt-suc}
@@ -11,11 +11,11 @@ use lib.ListN.{length, getD, take, drop, drop-of-length-le}
 use lib.Seq.{drop-cons, length-take-le}
 use lib.Dec.{leb}
 use borrow.Author.Tests.{leb-true}
-use Rattle.octets.specs.Tests.{all, pairs}
+use Rattle.octets.specs.Tests.{pairs}
 use Rattle.octets.specs.Bytes.{part, put}
 use Rattle.octets.proofs.Bools.{and-l, and-r, or-cases, or-skip, bool-cases}
 use Rattle.octets.proofs.Tests.{all-get}
-use Rattle.octets.proofs.Parts.{length-part, getD-part}
+use Rattle.octets.proofs.Parts.{length-part}
 use Rattle.octets.proofs.Puts.{length-put, part-put-out, part-put-same}
 use Rattle.fmap_rules.specs.declared.Extent.{Extent}
 use Rattle.fmap_rules.specs.declared.Area.{Area}

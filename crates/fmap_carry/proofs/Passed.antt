@@ -1,9 +1,9 @@
 -- What holds where no row refuses.
-use mathlib.Core.Path.{_≡_, refl, sym, ap, _∙_}
-use mathlib.Core.Bool.{Bool, true, false, not}
+use mathlib.Core.Path.{_≡_, sym, ap, _∙_}
+use mathlib.Core.Bool.{true, false, not}
 use mathlib.Core.List.{List}
 use mathlib.Core.Option.{Option, none, some}
-use Prim.Native.Nat.{ℕ, _≤_, _<_}
+use Prim.Native.Nat.{ℕ, _<_}
 use lib.ListN.{length, getD}
 use borrow.Author.Tests.{le-leb, leb-true, eqb-true, not-false}
 use Rattle.octets.specs.Tests.{any, all, pairs, findIx}
@@ -36,7 +36,7 @@ module _ (olds news : List Area) (e : refusal (carryRows olds news) ≡ none) wh
       record {
         from = leb-true _ _ (all-get (endsIn oldLength) olds blank a i h);
         to = leb-true _ _ (all-get (endsIn newLength) news blank b (findIx (named (getD olds i blank .name)) news) k);
-        size = size-same i h p
+        size = size-same i h p;
       }
 
 -- ---- the rows in their order

@@ -2,15 +2,13 @@
 // An inner crate: no user calls it, so its functions may have a `requires`, which each caller meets.
 ghost use mathlib.Core.Path.{_≡_};
 ghost use mathlib.Core.Bool.{true};
-ghost use mathlib.Core.Option.{none};
-ghost use Prim.Native.Nat.{_+_, _-_, _*_, _/_, _≤_, _<_};
+ghost use Prim.Native.Nat.{_+_, _/_, _≤_, _<_};
 ghost use lib.ListN.{length, getD, take, drop};
 ghost use Rattle.octets.specs.Tests.{all, any, pairs, findIx};
 ghost use Rattle.octets.specs.Rows.{refusal};
 ghost use Rattle.octets.specs.Bytes.{part, rest, put};
 ghost use Rattle.fmap_rules.specs.Map.{areaOf, areasIn, areasOf, blank, named, fmapName, endOf, goodMap};
-ghost use Rattle.fmap_carry.specs.Carry.{preserved, withName, target, missing, otherSize, clearBy, clear, onMap, carryRows, judgedNumber, carryArea, carried, carryAreas, Matched, Fit, Fitting, endsIn};
-
+ghost use Rattle.fmap_carry.specs.Carry.{preserved, withName, missing, otherSize, clearBy, clear, onMap, carryRows, judgedNumber, carryArea, carried, carryAreas, Matched, Fit, Fitting, endsIn};
 use fmap_rules::Extent;
 use fmap_rules::ImagePosition;
 
@@ -135,7 +133,12 @@ fn clear_of_later(olds: &[u8], news: &[u8], twins: &[u8], i: usize) -> bool
     let mut j = i + 1;
     while j < n {
         let y = place_of(news, twins[j] as usize);
-        if !is_clear(fmap_rules::area_at(olds, i), x, fmap_rules::area_at(olds, j), y) {
+        if !is_clear(
+            fmap_rules::area_at(olds, i),
+            x,
+            fmap_rules::area_at(olds, j),
+            y,
+        ) {
             return false;
         }
         j += 1;
@@ -162,7 +165,13 @@ fn all_clear(olds: &[u8], news: &[u8], twins: &[u8]) -> bool
 fn map_place(news: &[u8]) -> Extent
     ensures { λ r. ⌜ r ≡ withName (areasIn (now (news .entry))) fmapName .place ⌝ }
 {
-    place_of(news, fmap_rules::find_named(news, b"FMAP\0\0\0\0\0\0\0\0\0\0\0\0\0\0\0\0\0\0\0\0\0\0\0\0\0\0\0\0"))
+    place_of(
+        news,
+        fmap_rules::find_named(
+            news,
+            b"FMAP\0\0\0\0\0\0\0\0\0\0\0\0\0\0\0\0\0\0\0\0\0\0\0\0\0\0\0\0",
+        ),
+    )
 }
 
 fn is_on_map(a: &[u8], news: &[u8], k: usize, f: Extent) -> bool
@@ -242,7 +251,13 @@ pub fn write_areas(old: &[u8], olds: &[u8], new: &mut [u8], news: &[u8], twins: 
     let n = olds.len() / 42;
     let mut i = 0;
     while i < n {
-        carry_area(old, fmap_rules::area_at(olds, i), news, twins[i] as usize, new);
+        carry_area(
+            old,
+            fmap_rules::area_at(olds, i),
+            news,
+            twins[i] as usize,
+            new,
+        );
         i += 1;
     }
 }

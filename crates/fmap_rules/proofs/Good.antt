@@ -2,17 +2,17 @@
 use mathlib.Core.Path.{_≡_, refl, sym, ap, _∙_}
 use mathlib.Core.Bool.{Bool, true, false}
 use mathlib.Core.List.{List}
-use Prim.Native.Nat.{ℕ, _+_, _-_, _*_, _/_, _≤_, _<_}
+use Prim.Native.Nat.{ℕ, _+_, _-_, _*_, _≤_, _<_}
 use native.Mathlib.Omega.{arith}
 use lib.ListN.{length, getD, take, drop}
-use borrow.Author.Tests.{leb-true, eqb-true}
+use borrow.Author.Tests.{leb-true}
 use Rattle.octets.specs.Tests.{all, any, pairs}
 use Rattle.octets.specs.Bytes.{part, rest}
-use Rattle.octets.proofs.Bools.{and-l, and-r, and-t, and-f, and-false-l}
-use Rattle.octets.proofs.Tests.{all-get, any-get}
+use Rattle.octets.proofs.Bools.{and-l, and-r, and-t, and-f}
+use Rattle.octets.proofs.Tests.{all-get}
 use Rattle.octets.proofs.Parts.{length-part, length-rest, rest-slice}
 use Rattle.fmap_rules.specs.declared.Area.{Area}
-use Rattle.fmap_rules.specs.Map.{signed, signature, countOf, sizeOf, nameOf, mapSize, areaOf, areasIn, areasOf, blank, endOf, legalName, goodHeader, goodArea, goodPair, goodAreas, goodMap, holdsMap}
+use Rattle.fmap_rules.specs.Map.{signed, countOf, mapSize, areasIn, areasOf, blank, endOf, goodHeader, goodArea, goodPair, goodAreas, goodMap, holdsMap}
 use Rattle.fmap_rules.proofs.Areas.{length-areas}
 
 -- what lets a map's bytes be read; m is the bytes from its position on

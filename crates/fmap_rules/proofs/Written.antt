@@ -1,15 +1,14 @@
 -- A map that is written at the start of its area FMAP is good there.
 use mathlib.Core.Path.{_≡_, refl, sym, ap, ap₂, _∙_}
-use mathlib.Core.Bool.{Bool, true}
+use mathlib.Core.Bool.{true}
 use mathlib.Core.List.{List, [], _∷_, _++_, map, append-assoc}
-use Prim.Native.Nat.{ℕ, zero, suc, _+_, _-_, _*_, _/_, _^_, _≤_, _<_, suc-le-suc}
+use Prim.Native.Nat.{ℕ, zero, suc, _+_, _-_, _*_, _/_, _≤_, _<_, suc-le-suc}
 use native.Mathlib.Nat.{zero-lt-suc}
 use native.Mathlib.Omega.{arith}
-use lib.ListN.{length, getD, take, drop, length-append, length-take, length-drop}
+use lib.ListN.{length, getD, take, drop, length-append}
 use lib.Seq.{take-at, drop-at, length-take-le}
-use lib.Dec.{eqb, leb}
 use borrow.Author.Tests.{eq-eqb, le-leb, leb-true, eqb-true}
-use Rattle.octets.specs.Tests.{_and_, any}
+use Rattle.octets.specs.Tests.{_and_}
 use Rattle.octets.specs.Bytes.{le, unle, part, rest, field, put, same, chunks, flat}
 use Rattle.octets.proofs.Bools.{and-i, and-l, and-r}
 use Rattle.octets.proofs.Tests.{any-get}
@@ -18,8 +17,8 @@ use Rattle.octets.proofs.Parts.{part-here, part-skip, part-from, part-in, part-
 use Rattle.octets.proofs.Puts.{put-eq, length-put}
 use Rattle.octets.proofs.Equal.{same-refl}
 use Rattle.fmap_rules.specs.declared.Area.{Area}
-use Rattle.fmap_rules.specs.Map.{signature, signed, majorOf, minorOf, sizeOf, nameOf, countOf, mapSize, areaOf, areasIn, areasOf, blank, endOf, legalName, named, goodHeader, goodArea, goodAreas, goodMap, holdsMap}
-use Rattle.fmap_rules.specs.Written.{areaBytes, mapBytes, Stored, Writable, WrittenThere, WrittenIsGood}
+use Rattle.fmap_rules.specs.Map.{signature, signed, majorOf, minorOf, sizeOf, nameOf, countOf, mapSize, areaOf, areasIn, areasOf, blank, legalName, goodHeader, goodAreas, goodMap, holdsMap}
+use Rattle.fmap_rules.specs.Written.{areaBytes, mapBytes, Stored, Writable, WrittenIsGood}
 use Rattle.fmap_rules.proofs.Good.{ends-in, holder}
 
 -- ---- one area
@@ -228,7 +227,7 @@ module _ (image : List ℕ) (at : ℕ) (name : List ℕ) (base minor : ℕ) (are
       let major : majorOf (rest at written) ≡ 1 = ap unle (look 8 1 (omega arith) ∙ major-at (length image) name base minor areas p s) in
       let minor-is : minorOf (rest at written) ≡ minor + 256 * 0 = ap unle (look 9 1 (omega arith) ∙ minor-at (length image) name base minor areas p s) in
       let size : sizeOf (rest at written) ≡ length written =
-          ap unle (look 18 4 (omega arith) ∙ size-at (length image) name base minor areas p s) ∙ unle-le 4 (length image) (w .len-fits) ∙ sym length-written in
+      ap unle (look 18 4 (omega arith) ∙ size-at (length image) name base minor areas p s) ∙ unle-le 4 (length image) (w .len-fits) ∙ sym length-written in
       let name-same : nameOf (rest at written) ≡ name = look 22 32 (omega arith) ∙ name-at (length image) name base minor areas p s in
       let h1 : 56 ≤ length (rest at written) = omega arith in
       let h2 : minorOf (rest at written) ≤ 1 = omega (arith, w .version) in

@@ -183,7 +183,10 @@ fn is_holder(a: &[u8], at: usize, count: usize) -> bool
     requires { ⌜ (length (now a) ≡ 42) × (count ≤ 128) ⌝ }
     ensures { λ r. ⌜ r ≡ holdsMap at count (areaOf (now (a .entry))) ⌝ }
 {
-    if !octets::same(b"FMAP\0\0\0\0\0\0\0\0\0\0\0\0\0\0\0\0\0\0\0\0\0\0\0\0\0\0\0\0", &a[8..40]) {
+    if !octets::same(
+        b"FMAP\0\0\0\0\0\0\0\0\0\0\0\0\0\0\0\0\0\0\0\0\0\0\0\0\0\0\0\0",
+        &a[8..40],
+    ) {
         return false;
     }
     let x = extent_of(a);

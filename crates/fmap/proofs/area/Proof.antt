@@ -1,76 +1,56 @@
-use denote.Ref.{now}
 use mathlib.Core.List.{List}
-use mathlib.Core.Path.{_≡_, sym, ap, _∙_}
+use mathlib.Core.Path.{sym, ap, _∙_}
+use borrow.Author.Needs.{needs}
+use denote.Ref.{now}
+use Rattle.fmap_rules.specs.declared.Area.{Area}
 use Rattle.fmap.proofs.Finding.{found-good}
 use Rattle.fmap.specs.Areas.{areaNumbered, areaBy, areaIn}
 use Rattle.fmap.specs.Find.{foundReply}
-use Rattle.fmap_rules.specs.declared.Area.{Area}
-use borrow.Author.Needs.{needs}
 use Rattle.fmap.proofs.area.Statement.{statement}
 use Rattle.fmap.proofs.area.Tie as tie
-use Rattle.fmap.proofs.area.Reads as reads
-use Rattle.fmap.proofs.area.Lts as lts
-use Rattle.fmap.proofs.area_in.Reads as area-in-reads
-use Rattle.fmap_rules.proofs.areas_at.Reads as areas-at-reads
-use Rattle.fmap.proofs.find.Reads as find-reads
-use Rattle.fmap.proofs.no_area.Reads as no-area-reads
 
--- src/lib.rt:185:11
 find-requires : tie.Need-find-requires
 find-requires c κs = search needs
 
--- src/lib.rt:186:39
 enum-told : tie.Need-enum-told
 enum-told c = search needs
 
--- src/lib.rt:186:31
 no-area-requires : tie.Need-no-area-requires
 no-area-requires c κs = search needs
 
--- src/lib.rt:187:39
 enum-told-2 : tie.Need-enum-told-2
 enum-told-2 c = search needs
 
--- src/lib.rt:187:31
 no-area-requires-2 : tie.Need-no-area-requires-2
 no-area-requires-2 c κs = search needs
 
--- src/lib.rt:188:37
 enum-told-3 : tie.Need-enum-told-3
 enum-told-3 c = search needs
 
--- src/lib.rt:188:29
 no-area-requires-3 : tie.Need-no-area-requires-3
 no-area-requires-3 c κs = search needs
 
--- src/lib.rt:189:19
 enum-known-p : tie.Need-enum-known-p
 enum-known-p c = search needs
 
--- src/lib.rt:189:33
 areas-at-requires : tie.Need-areas-at-requires
 areas-at-requires c κs = found-good _ _ (sym (c .before .before .before .find .ensures) ∙ ap foundReply (c .before .p .given .1))
 
--- src/lib.rt:189:25
 area-in-requires : tie.Need-area-in-requires
 area-in-requires c κs = search needs
 
--- src/lib.rt:182:1
 returns : tie.Need-returns
 unfolding areaNumbered
 returns c = (c .no-area .ensures) ∙ ap (areaBy (now (c .before .before .before .before .before .args .image)) (λ areas. (c .before .before .before .before .before .args .k))) (sym (ap foundReply (c .before .enum-told .given .1)) ∙ (c .before .before .before .find .ensures))
 
--- src/lib.rt:182:1
 returns-2 : tie.Need-returns-2
 unfolding areaNumbered
 returns-2 c = (c .no-area2 .ensures) ∙ ap (areaBy (now (c .before .before .before .before .before .args .image)) (λ areas. (c .before .before .before .before .before .args .k))) (sym (ap foundReply (c .before .enum-told2 .given .1)) ∙ (c .before .before .before .find .ensures))
 
--- src/lib.rt:182:1
 returns-3 : tie.Need-returns-3
 unfolding areaNumbered
 returns-3 c = (c .no-area3 .ensures) ∙ ap (areaBy (now (c .before .before .before .before .before .args .image)) (λ areas. (c .before .before .before .before .before .args .k))) (sym (ap foundReply (c .before .enum-told3 .given .1)) ∙ (c .before .before .before .find .ensures))
 
--- src/lib.rt:182:1
 returns-4 : tie.Need-returns-4
 unfolding areaNumbered
 returns-4 c =

@@ -1,60 +1,45 @@
+use mathlib.Core.Path.{sym, ap, _∙_}
+use borrow.Author.Needs.{needs}
 use denote.Ref.{now}
-use mathlib.Core.Path.{_≡_, sym, ap, _∙_}
 use Rattle.fmap.proofs.Finding.{found-good}
 use Rattle.fmap.specs.Carry.{carryFrom, carryImages}
 use Rattle.fmap.specs.Find.{foundReply}
-use borrow.Author.Needs.{needs}
 use Rattle.fmap.proofs.carry.Statement.{statement}
 use Rattle.fmap.proofs.carry.Tie as tie
-use Rattle.fmap.proofs.carry.Reads as reads
-use Rattle.fmap.proofs.carry.Lts as lts
-use Rattle.fmap.proofs.carry_from.Reads as carry-from-reads
-use Rattle.fmap.proofs.find.Reads as find-reads
 
--- src/lib.rt:252:11
 find-requires : tie.Need-find-requires
 find-requires c κs = search needs
 
--- src/lib.rt:253:31
 enum-told : tie.Need-enum-told
 enum-told c = search needs
 
--- src/lib.rt:254:31
 enum-told-2 : tie.Need-enum-told-2
 enum-told-2 c = search needs
 
--- src/lib.rt:255:29
 enum-told-3 : tie.Need-enum-told-3
 enum-told-3 c = search needs
 
--- src/lib.rt:256:19
 enum-known-at : tie.Need-enum-known-at
 enum-known-at c = search needs
 
--- src/lib.rt:256:26
 carry-from-requires : tie.Need-carry-from-requires
 carry-from-requires c κs = found-good _ _ (sym (c .before .before .before .before .find .ensures) ∙ ap foundReply (c .before .before .at .given .1))
 
--- src/lib.rt:249:1
 returns : tie.Need-returns
 unfolding carryImages
 returns c = ap (carryFrom (now (c .before .before .before .before .before .args .old)) (now (c .before .before .before .before .before .args .new))) (sym (ap foundReply (c .enum-told .given .1)) ∙ (c .before .before .find .ensures))
 
--- src/lib.rt:249:1
 returns-2 : tie.Need-returns-2
 unfolding carryImages
 returns-2 c = ap (carryFrom (now (c .before .before .before .before .before .args .old)) (now (c .before .before .before .before .before .args .new))) (sym (ap foundReply (c .enum-told2 .given .1)) ∙ (c .before .before .find .ensures))
 
--- src/lib.rt:249:1
 returns-3 : tie.Need-returns-3
 unfolding carryImages
 returns-3 c = ap (carryFrom (now (c .before .before .before .before .before .args .old)) (now (c .before .before .before .before .before .args .new))) (sym (ap foundReply (c .enum-told3 .given .1)) ∙ (c .before .before .find .ensures))
 
--- src/lib.rt:249:1
 same-length : tie.Need-same-length
 same-length c = search needs
 
--- src/lib.rt:249:1
 returns-4 : tie.Need-returns-4
 unfolding carryImages
 returns-4 c = (c .before .before .carry-from .ensures) ∙ ap (carryFrom (now (c .before .before .before .before .before .before .before .before .before .before .args .old)) (now (c .before .before .before .before .before .before .before .before .before .before .args .new))) (sym (ap foundReply (c .before .before .before .before .before .at .given .1)) ∙ (c .before .before .before .before .before .before .before .find .ensures))

@@ -1,19 +1,15 @@
-use borrow.Author.Needs.{needs}
-use native.Mathlib.Omega.{arith}
-use lib.ListN.{length, drop}
+use mathlib.Core.Path.{_≡_, sym, _∙_}
 use Prim.Native.Nat.{_≤_, _-_, _+_}
+use native.Mathlib.Omega.{arith}
 use native.Mathlib.Nat.{zero-add}
-use mathlib.Core.Path.{_≡_, refl, sym, _∙_}
+use lib.ListN.{drop}
+use borrow.Author.Needs.{needs}
 use Rattle.octets.specs.Tests.{findIx}
-use Rattle.fmap.specs.Areas.{called}
 use Rattle.fmap_rules.proofs.Areas.{find-next, find-here, find-over}
 use Rattle.fmap_rules.specs.Map.{areasIn}
+use Rattle.fmap.specs.Areas.{called}
 use Rattle.fmap.proofs.find_called.Statement.{statement}
 use Rattle.fmap.proofs.find_called.Tie as tie
-use Rattle.fmap.proofs.find_called.Reads as reads
-use Rattle.fmap.proofs.find_called.Lts as lts
-use Rattle.fmap.proofs.is_called.Reads as is-called-reads
-use Rattle.fmap_rules.proofs.area_at.Reads as area-at-reads
 
 abbrev Inv-loop : tie.InvT-loop
 Inv-loop areas name n i₀ i = (i ≤ n) × (i + findIx (called name) (drop i (areasIn areas)) ≡ findIx (called name) (areasIn areas))
@@ -21,35 +17,27 @@ Inv-loop areas name n i₀ i = (i ≤ n) × (i + findIx (called name) (drop i (a
 abbrev μ-loop : tie.MeasureT-loop
 μ-loop areas name n i₀ i = n - i
 
--- src/lib.rt:207:5
 loop-holds : tie.Need-loop-holds Inv-loop μ-loop
 loop-holds c = (search needs, zero-add _)
 
--- src/lib.rt:208:22
 area-at-requires : tie.Need-area-at-requires Inv-loop μ-loop
 area-at-requires c κs = search needs
 
--- src/lib.rt:208:12
 is-called-requires : tie.Need-is-called-requires Inv-loop μ-loop
 is-called-requires c κs = search needs
 
--- src/lib.rt:209:13
 returns : tie.Need-returns Inv-loop μ-loop
 returns c = find-here _ (c .before .before .before .before .loop .i) (omega arith) _ (c .before .before .area-at .ensures .0) (called _) (sym (c .before .is-called .ensures) ∙ (c .if1 .taken)) (c .before .before .before .before .loop .inv .1)
 
--- src/lib.rt:211:9
 add-i : tie.Need-add-i Inv-loop μ-loop
 add-i c = search needs
 
--- src/lib.rt:207:5
 loop-less : tie.Need-loop-less Inv-loop μ-loop
 loop-less c = search needs
 
--- src/lib.rt:207:5
 loop-again : tie.Need-loop-again Inv-loop μ-loop
 loop-again c = (omega arith, find-next _ (c .before .before .before .before .loop .i) (omega arith) _ (c .before .before .area-at .ensures .0) (called _) (sym (c .before .is-called .ensures) ∙ (c .if1 .left)) (c .before .before .before .before .loop .inv .1))
 
--- src/lib.rt:202:1
 returns-2 : tie.Need-returns-2 Inv-loop μ-loop
 returns-2 c = find-over _ (c .before .loop .i) (omega arith) (called _) (c .before .loop .inv .1)
 

@@ -1,19 +1,15 @@
-use borrow.Author.Needs.{needs}
+use mathlib.Core.Path.{_≡_, sym, _∙_}
+use Prim.Native.Nat.{_≤_, _-_}
 use native.Mathlib.Omega.{arith}
-use denote.Ref.{now}
 use lib.ListN.{length}
-use Prim.Native.Nat.{_≤_, _-_, _+_}
-use mathlib.Core.Path.{_≡_, refl, sym, _∙_}
+use borrow.Author.Needs.{needs}
+use denote.Ref.{now}
 use Rattle.fmap.specs.Find.{signedAt}
 use Rattle.fmap.specs.Lowest.{firstFrom}
 use Rattle.fmap.proofs.Lowest.{first-step, first-skip, first-stop, first-none}
 use Rattle.fmap.proofs.Finding.{signed-short, unsigned}
 use Rattle.fmap.proofs.next_signed.Statement.{statement}
 use Rattle.fmap.proofs.next_signed.Tie as tie
-use Rattle.fmap.proofs.next_signed.Reads as reads
-use Rattle.fmap.proofs.next_signed.Lts as lts
-use Rattle.fmap.proofs.is_letter.Reads as is-letter-reads
-use Rattle.fmap_rules.proofs.is_signed.Reads as is-signed-reads
 
 abbrev Inv-loop : tie.InvT-loop
 Inv-loop image from i₀ i = (i ≤ length image) × (firstFrom (length image - from) from (signedAt image) ≡ firstFrom (length image - i) i (signedAt image))
@@ -21,63 +17,49 @@ Inv-loop image from i₀ i = (i ≤ length image) × (firstFrom (length image - 
 abbrev μ-loop : tie.MeasureT-loop
 μ-loop image from i₀ i = length image - i
 
--- src/lib.rt:64:5
 loop-holds : tie.Need-loop-holds Inv-loop μ-loop
 loop-holds c = search needs
 
--- src/lib.rt:64:11
 add-loop : tie.Need-add-loop Inv-loop μ-loop
 add-loop c = search needs
 
--- src/lib.rt:65:28
 add-is-letter : tie.Need-add-is-letter Inv-loop μ-loop
 add-is-letter c = search needs
 
--- src/lib.rt:65:22
 shared-slice-read-is-letter : tie.Need-shared-slice-read-is-letter Inv-loop μ-loop
 shared-slice-read-is-letter c = search needs
 
--- src/lib.rt:65:12
 is-letter-requires : tie.Need-is-letter-requires Inv-loop μ-loop
 is-letter-requires c κs = search needs
 
--- src/lib.rt:66:16
 is-signed-requires : tie.Need-is-signed-requires Inv-loop μ-loop
 is-signed-requires c κs = search needs
 
--- src/lib.rt:67:17
 returns : tie.Need-returns Inv-loop μ-loop
 unfolding signedAt
 returns c = let s = now (c .before .before .before .before .before .before .before .before .args .image) in (sym ((c .before .before .before .before .before .before .loop .inv .1) ∙ first-stop (length s) (c .before .before .before .before .before .before .loop .i) (signedAt s) (omega arith) (sym (c .before .is-signed .ensures) ∙ (c .if2 .taken))), omega arith)
 
--- src/lib.rt:69:13
 add-i : tie.Need-add-i Inv-loop μ-loop
 add-i c = search needs
 
--- src/lib.rt:64:5
 loop-less : tie.Need-loop-less Inv-loop μ-loop
 loop-less c = search needs
 
--- src/lib.rt:64:5
 loop-again : tie.Need-loop-again Inv-loop μ-loop
 unfolding signedAt
 loop-again c = let s = now (c .before .before .before .before .before .before .before .before .args .image) in (omega arith, (c .before .before .before .before .before .before .loop .inv .1) ∙ first-step (length s) (c .before .before .before .before .before .before .loop .i) (signedAt s) (omega arith) (sym (c .before .is-signed .ensures) ∙ (c .if2 .left)))
 
--- src/lib.rt:71:13
 add-i-2 : tie.Need-add-i-2 Inv-loop μ-loop
 add-i-2 c = search needs
 
--- src/lib.rt:64:5
 loop-less-2 : tie.Need-loop-less-2 Inv-loop μ-loop
 loop-less-2 c = search needs
 
--- src/lib.rt:64:5
 loop-again-2 : tie.Need-loop-again-2 Inv-loop μ-loop
 loop-again-2 c =
     let s = now (c .before .before .before .before .before .before .args .image) in
     (omega arith, (c .before .before .before .before .loop .inv .1) ∙ first-skip 8 (length s) (c .before .before .before .before .loop .i) (signedAt s) (omega arith) (λ j a b. unsigned s (c .before .before .before .before .loop .i) j (sym (c .before .is-letter .ensures) ∙ (c .if1 .left)) a b))
 
--- src/lib.rt:59:1
 returns-2 : tie.Need-returns-2 Inv-loop μ-loop
 returns-2 c =
     let s = now (c .before .before .before .args .image) in

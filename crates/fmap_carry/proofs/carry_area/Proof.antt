@@ -1,47 +1,34 @@
+use mathlib.Core.Path.{sym, _∙_}
+use borrow.Author.Tests.{not-true, not-false}
+use borrow.Author.Needs.{needs}
 use denote.Ref.{now}
 use Rattle.fmap_rules.specs.Map.{areaOf, areasIn}
-use mathlib.Core.Path.{_≡_, sym, _∙_}
-use borrow.Author.Tests.{not-true, not-false}
 use Rattle.fmap_carry.proofs.Match.{target-by}
 use Rattle.fmap_carry.proofs.Carrying.{carry-other, carry-by, can-copy}
-use borrow.Author.Needs.{needs}
 use Rattle.fmap_carry.proofs.carry_area.Statement.{statement}
 use Rattle.fmap_carry.proofs.carry_area.Tie as tie
-use Rattle.fmap_carry.proofs.carry_area.Reads as reads
-use Rattle.fmap_carry.proofs.carry_area.Lts as lts
-use Rattle.fmap_carry.proofs.copy_area.Reads as copy-area-reads
-use Rattle.fmap_carry.proofs.is_preserved.Reads as is-preserved-reads
-use Rattle.fmap_carry.proofs.place_of.Reads as place-of-reads
-use Rattle.fmap_rules.proofs.extent_of.Reads as extent-of-reads
 
--- src/lib.rt:230:9
 is-preserved-requires : tie.Need-is-preserved-requires
 is-preserved-requires c κs = search needs
 
--- src/lib.rt:231:9
 returns : tie.Need-returns
 returns c = sym (carry-other _ _ _ _ (sym (c .before .is-preserved .ensures) ∙ not-true _ (c .if1 .taken)))
 
--- src/lib.rt:233:20
 extent-of-requires : tie.Need-extent-of-requires
 extent-of-requires c κs = search needs
 
--- src/lib.rt:233:51
 place-of-requires : tie.Need-place-of-requires
 place-of-requires c κs = search needs
 
--- src/lib.rt:233:5
 copy-area-requires : tie.Need-copy-area-requires
 copy-area-requires c κs =
     let a = areaOf (now (c .before .before .before .before .before .before .before .before .before .args .a)) in
     let p = sym (c .before .before .before .before .is-preserved .ensures) ∙ not-false _ (c .before .before .before .if1 .left) in
     can-copy (now (c .before .before .before .before .before .before .before .before .before .args .old)) (areasIn (now (c .before .before .before .before .before .before .before .before .before .args .news))) a p _ _ (c .before .before .extent-of .ensures) (target-by (now (c .before .before .before .before .before .before .before .before .before .args .news)) a _ _ (c .before .before .before .before .before .before .before .before .before .pre .1) (c .place-of .ensures)) _ ((c .before .before .before .before .before .before .before .before .before .pre .2) p)
 
--- src/lib.rt:225:1
 same-length : tie.Need-same-length
 same-length c = search needs
 
--- src/lib.rt:225:1
 returns-2 : tie.Need-returns-2
 returns-2 c =
     let a = areaOf (now (c .before .before .before .before .before .before .before .before .before .before .before .before .args .a)) in

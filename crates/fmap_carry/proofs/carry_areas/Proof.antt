@@ -1,84 +1,63 @@
+use mathlib.Core.Path.{sym, ap, _∙_}
+use borrow.Author.Needs.{needs}
 use denote.Ref.{now}
-use mathlib.Core.Path.{_≡_, sym, ap, _∙_}
+use Rattle.fmap_rules.specs.Map.{areasIn}
 use Rattle.fmap_carry.proofs.Passed.{fitting, refuses, accepts}
 use Rattle.fmap_carry.specs.Carry.{judgedNumber}
-use Rattle.fmap_rules.specs.Map.{areasIn}
-use borrow.Author.Needs.{needs}
 use Rattle.fmap_carry.proofs.carry_areas.Statement.{statement}
 use Rattle.fmap_carry.proofs.carry_areas.Tie as tie
-use Rattle.fmap_carry.proofs.carry_areas.Reads as reads
-use Rattle.fmap_carry.proofs.carry_areas.Lts as lts
-use Rattle.fmap_carry.proofs.judge.Reads as judge-reads
-use Rattle.fmap_carry.proofs.match_areas.Reads as match-areas-reads
-use Rattle.fmap_carry.proofs.write_areas.Reads as write-areas-reads
 
--- src/lib.rt:258:29
 slice-aggregate-match-areas : tie.Need-slice-aggregate-match-areas
 slice-aggregate-match-areas c = search needs
 
--- src/lib.rt:258:5
 match-areas-requires : tie.Need-match-areas-requires
 match-areas-requires c κs = search needs
 
--- src/lib.rt:259:29
 slice-aggregate-judge : tie.Need-slice-aggregate-judge
 slice-aggregate-judge c = search needs
 
--- src/lib.rt:259:11
 judge-requires : tie.Need-judge-requires
 judge-requires c κs = search needs
 
--- src/lib.rt:260:28
 enum-told : tie.Need-enum-told
 enum-told c = search needs
 
--- src/lib.rt:261:30
 enum-told-2 : tie.Need-enum-told-2
 enum-told-2 c = search needs
 
--- src/lib.rt:262:27
 enum-told-3 : tie.Need-enum-told-3
 enum-told-3 c = search needs
 
--- src/lib.rt:263:26
 enum-told-4 : tie.Need-enum-told-4
 enum-told-4 c = search needs
 
--- src/lib.rt:265:36
 enum-told-5 : tie.Need-enum-told-5
 enum-told-5 c = search needs
 
--- src/lib.rt:265:47
 slice-aggregate-write-areas : tie.Need-slice-aggregate-write-areas
 slice-aggregate-write-areas c = search needs
 
--- src/lib.rt:265:13
 write-areas-requires : tie.Need-write-areas-requires
-write-areas-requires c κs =
-    ((c .before .before .before .before .before .before .before .match-areas .ensures),
-    fitting (areasIn (now (c .before .before .before .before .before .before .before .before .before .before .before .before .before .args .olds))) (areasIn (now (c .before .before .before .before .before .before .before .before .before .before .before .before .before .args .news))) (sym (c .before .before .before .before .judge .ensures) ∙ ap judgedNumber (c .before .before .enum-told5 .given .1)) _ _ (c .before .before .before .before .before .before .before .before .before .before .before .before .before .pre .2) (c .before .before .before .before .before .before .before .before .before .before .before .before .before .pre .3))
+write-areas-requires c κs = (
+  (c .before .before .before .before .before .before .before .match-areas .ensures),
+  fitting (areasIn (now (c .before .before .before .before .before .before .before .before .before .before .before .before .before .args .olds))) (areasIn (now (c .before .before .before .before .before .before .before .before .before .before .before .before .before .args .news))) (sym (c .before .before .before .before .judge .ensures) ∙ ap judgedNumber (c .before .before .enum-told5 .given .1)) _ _ (c .before .before .before .before .before .before .before .before .before .before .before .before .before .pre .2) (c .before .before .before .before .before .before .before .before .before .before .before .before .before .pre .3),
+)
 
--- src/lib.rt:251:1
 returns : tie.Need-returns
 returns c = refuses _ _ _ _ 60 (sym (ap judgedNumber (c .enum-told .given .1)) ∙ (c .before .before .judge .ensures))
 
--- src/lib.rt:251:1
 returns-2 : tie.Need-returns-2
 returns-2 c = refuses _ _ _ _ 61 (sym (ap judgedNumber (c .enum-told2 .given .1)) ∙ (c .before .before .judge .ensures))
 
--- src/lib.rt:251:1
 returns-3 : tie.Need-returns-3
 returns-3 c = refuses _ _ _ _ 62 (sym (ap judgedNumber (c .enum-told3 .given .1)) ∙ (c .before .before .judge .ensures))
 
--- src/lib.rt:251:1
 returns-4 : tie.Need-returns-4
 returns-4 c = refuses _ _ _ _ 63 (sym (ap judgedNumber (c .enum-told4 .given .1)) ∙ (c .before .before .judge .ensures))
 
--- src/lib.rt:251:1
 same-length : tie.Need-same-length
 same-length c = search needs
 
--- src/lib.rt:251:1
 returns-5 : tie.Need-returns-5
 returns-5 c = accepts _ _ _ _ _ (sym (ap judgedNumber (c .before .before .before .before .before .enum-told5 .given .1)) ∙ (c .before .before .before .before .before .before .before .judge .ensures)) (c .before .before .write-areas .ensures)
 

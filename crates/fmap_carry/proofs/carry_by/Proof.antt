@@ -1,50 +1,40 @@
-use native.Mathlib.Omega.{arith}
-use denote.Ref.{now}
 use mathlib.Core.List.{List}
-use mathlib.Core.Path.{_≡_, sym, ap₂, _∙_}
+use mathlib.Core.Path.{sym, ap₂, _∙_}
+use native.Mathlib.Omega.{arith}
+use borrow.Author.Needs.{needs}
+use denote.Ref.{now}
+use Rattle.fmap_rules.specs.declared.Area.{Area}
 use Rattle.fmap_carry.proofs.Passed.{good-ends}
 use Rattle.fmap_carry.specs.Carry.{carryAreas}
-use Rattle.fmap_rules.specs.declared.Area.{Area}
-use borrow.Author.Needs.{needs}
 use Rattle.fmap_carry.proofs.carry_by.Statement.{statement}
 use Rattle.fmap_carry.proofs.carry_by.Tie as tie
-use Rattle.fmap_carry.proofs.carry_by.Reads as reads
-use Rattle.fmap_carry.proofs.carry_by.Lts as lts
-use Rattle.fmap_carry.proofs.carry_areas.Reads as carry-areas-reads
-use Rattle.fmap_carry.proofs.keep_areas.Reads as keep-areas-reads
-use Rattle.fmap_rules.proofs.areas_at.Reads as areas-at-reads
 
--- src/lib.rt:288:38
 slice-aggregate-keep-areas : tie.Need-slice-aggregate-keep-areas
 slice-aggregate-keep-areas c = search needs
 
--- src/lib.rt:288:9
 keep-areas-requires : tie.Need-keep-areas-requires
 keep-areas-requires c κs = search needs
 
--- src/lib.rt:289:22
 areas-at-requires : tie.Need-areas-at-requires
 areas-at-requires c κs = search needs
 
--- src/lib.rt:289:58
 array-share-prefix-kept : tie.Need-array-share-prefix-kept
 array-share-prefix-kept c = search needs
 
--- src/lib.rt:289:58
 slice-aggregate-carry-areas : tie.Need-slice-aggregate-carry-areas
 slice-aggregate-carry-areas c = sym (c .before .before .before .before .keep-areas .ensures .2)
 
--- src/lib.rt:289:5
 carry-areas-requires : tie.Need-carry-areas-requires
-carry-areas-requires c κs =
-    ((c .before .before .areas-at .ensures .1), omega (arith, (c .before .before .before .before .keep-areas .ensures .1), (c .before .before .before .before .keep-areas .ensures .2)),
-    good-ends _ _ _ (c .before .before .before .before .before .before .before .before .before .pre .0) (c .before .before .areas-at .ensures .0), good-ends _ _ _ (c .before .before .before .before .before .before .before .before .before .pre .1) (c .before .before .before .before .keep-areas .ensures .0))
+carry-areas-requires c κs = (
+  (c .before .before .areas-at .ensures .1),
+  omega (arith, (c .before .before .before .before .keep-areas .ensures .1), (c .before .before .before .before .keep-areas .ensures .2)),
+  good-ends _ _ _ (c .before .before .before .before .before .before .before .before .before .pre .0) (c .before .before .areas-at .ensures .0),
+  good-ends _ _ _ (c .before .before .before .before .before .before .before .before .before .pre .1) (c .before .before .before .before .keep-areas .ensures .0),
+)
 
--- src/lib.rt:282:1
 same-length : tie.Need-same-length
 same-length c = search needs
 
--- src/lib.rt:282:1
 returns : tie.Need-returns
 returns c =
     (c .before .before .carry-areas .ensures)

@@ -1,22 +1,17 @@
-use Rattle.fmap_carry.proofs.Match.{matched-long, clear-at}
-use borrow.Author.Needs.{needs}
-use native.Mathlib.Omega.{arith}
-use denote.Ref.{now}
-use lib.ListN.{length, getD, drop}
+use mathlib.Core.Path.{_≡_, sym, _∙_}
 use Prim.Native.Nat.{_≤_, _-_, _+_}
-use mathlib.Core.Path.{_≡_, refl, sym, ap, _∙_}
+use native.Mathlib.Omega.{arith}
+use lib.ListN.{getD, drop}
+use borrow.Author.Needs.{needs}
 use borrow.Author.Tests.{not-true, not-false}
-use Rattle.fmap_carry.specs.Carry.{clear}
+use denote.Ref.{now}
+use Rattle.octets.specs.Tests.{all}
 use Rattle.fmap_rules.proofs.Areas.{all-next, all-fails, all-over}
 use Rattle.fmap_rules.specs.Map.{areasIn, blank}
-use Rattle.octets.specs.Tests.{all}
+use Rattle.fmap_carry.proofs.Match.{matched-long, clear-at}
+use Rattle.fmap_carry.specs.Carry.{clear}
 use Rattle.fmap_carry.proofs.clear_of_later.Statement.{statement}
 use Rattle.fmap_carry.proofs.clear_of_later.Tie as tie
-use Rattle.fmap_carry.proofs.clear_of_later.Reads as reads
-use Rattle.fmap_carry.proofs.clear_of_later.Lts as lts
-use Rattle.fmap_carry.proofs.is_clear.Reads as is-clear-reads
-use Rattle.fmap_carry.proofs.place_of.Reads as place-of-reads
-use Rattle.fmap_rules.proofs.area_at.Reads as area-at-reads
 
 abbrev Inv-loop : tie.InvT-loop
 Inv-loop olds news twins i x n j₀ j =
@@ -25,51 +20,39 @@ Inv-loop olds news twins i x n j₀ j =
 abbrev μ-loop : tie.MeasureT-loop
 μ-loop olds news twins i x n j₀ j = n - j
 
--- src/lib.rt:133:28
 shared-slice-read-place-of : tie.Need-shared-slice-read-place-of Inv-loop μ-loop
 shared-slice-read-place-of c = matched-long _ _ _ (c .before .before .before .before .pre .0) _ (c .before .before .before .before .pre .1)
 
--- src/lib.rt:133:28
 cast-place-of : tie.Need-cast-place-of Inv-loop μ-loop
 cast-place-of c = omega (arith, (c .before .shared-slice-known3 .given) (c .before .before .before .before .args .i))
 
--- src/lib.rt:133:9
 place-of-requires : tie.Need-place-of-requires Inv-loop μ-loop
 place-of-requires c κs = search needs
 
--- src/lib.rt:135:17
 add-j : tie.Need-add-j Inv-loop μ-loop
 add-j c = search needs
 
--- src/lib.rt:136:5
 loop-holds : tie.Need-loop-holds Inv-loop μ-loop
 loop-holds c = search needs
 
--- src/lib.rt:137:32
 shared-slice-read-place-of-2 : tie.Need-shared-slice-read-place-of-2 Inv-loop μ-loop
 shared-slice-read-place-of-2 c = matched-long _ _ _ (c .before .before .before .before .before .before .before .before .pre .0) (c .before .before .loop .j) (omega arith)
 
--- src/lib.rt:137:32
 cast-place-of-2 : tie.Need-cast-place-of-2 Inv-loop μ-loop
 cast-place-of-2 c = omega (arith, (c .shared-slice-known5 .given) (c .before .before .loop .j))
 
--- src/lib.rt:137:13
 place-of-requires-2 : tie.Need-place-of-requires-2 Inv-loop μ-loop
 place-of-requires-2 c κs = search needs
 
--- src/lib.rt:138:22
 area-at-requires : tie.Need-area-at-requires Inv-loop μ-loop
 area-at-requires c κs = search needs
 
--- src/lib.rt:138:55
 area-at-requires-2 : tie.Need-area-at-requires-2 Inv-loop μ-loop
 area-at-requires-2 c κs = search needs
 
--- src/lib.rt:138:13
 is-clear-requires : tie.Need-is-clear-requires Inv-loop μ-loop
 is-clear-requires c κs = search needs
 
--- src/lib.rt:139:13
 returns : tie.Need-returns Inv-loop μ-loop
 returns c =
     all-fails _ (c .before .before .before .before .before .before .before .loop .j) (omega arith) (now (c .before .before .area-at2 .result)) (c .before .before .area-at2 .ensures .0) (clear (areasIn (now (c .before .before .before .before .before .before .before .before .before .before .before .before .before .args .news))) (getD (areasIn (now (c .before .before .before .before .before .before .before .before .before .before .before .before .before .args .olds))) (c .before .before .before .before .before .before .before .before .before .before .before .before .before .args .i) blank))
@@ -77,24 +60,21 @@ returns c =
     ∙ sym (c .before .is-clear .ensures) ∙ not-true _ (c .if1 .taken))
     (c .before .before .before .before .before .before .before .loop .inv .1)
 
--- src/lib.rt:141:9
 add-j-2 : tie.Need-add-j-2 Inv-loop μ-loop
 add-j-2 c = search needs
 
--- src/lib.rt:136:5
 loop-less : tie.Need-loop-less Inv-loop μ-loop
 loop-less c = search needs
 
--- src/lib.rt:136:5
 loop-again : tie.Need-loop-again Inv-loop μ-loop
-loop-again c =
-    (omega arith,
-    all-next _ (c .before .before .before .before .before .before .before .loop .j) (omega arith) (now (c .before .before .area-at2 .result)) (c .before .before .area-at2 .ensures .0) (clear (areasIn (now (c .before .before .before .before .before .before .before .before .before .before .before .before .before .args .news))) (getD (areasIn (now (c .before .before .before .before .before .before .before .before .before .before .before .before .before .args .olds))) (c .before .before .before .before .before .before .before .before .before .before .before .before .before .args .i) blank))
-    (clear-at _ _ _ (c .before .before .before .before .before .before .before .before .before .before .before .before .before .pre .0) (c .before .before .before .before .before .before .before .before .before .before .before .before .before .args .i) (c .before .before .before .before .before .before .before .loop .j) (c .before .before .before .before .before .before .before .before .before .before .before .before .before .pre .1) (omega arith) _ _ _ _ (c .before .before .before .area-at .ensures .0) (c .before .before .area-at2 .ensures .0) (c .before .before .before .before .before .before .before .before .place-of .ensures) (c .before .before .before .before .place-of2 .ensures)
-    ∙ sym (c .before .is-clear .ensures) ∙ not-false _ (c .if1 .left))
-    (c .before .before .before .before .before .before .before .loop .inv .1))
+loop-again c = (
+  omega arith,
+  all-next _ (c .before .before .before .before .before .before .before .loop .j) (omega arith) (now (c .before .before .area-at2 .result)) (c .before .before .area-at2 .ensures .0) (clear (areasIn (now (c .before .before .before .before .before .before .before .before .before .before .before .before .before .args .news))) (getD (areasIn (now (c .before .before .before .before .before .before .before .before .before .before .before .before .before .args .olds))) (c .before .before .before .before .before .before .before .before .before .before .before .before .before .args .i) blank))
+      (clear-at _ _ _ (c .before .before .before .before .before .before .before .before .before .before .before .before .before .pre .0) (c .before .before .before .before .before .before .before .before .before .before .before .before .before .args .i) (c .before .before .before .before .before .before .before .loop .j) (c .before .before .before .before .before .before .before .before .before .before .before .before .before .pre .1) (omega arith) _ _ _ _ (c .before .before .before .area-at .ensures .0) (c .before .before .area-at2 .ensures .0) (c .before .before .before .before .before .before .before .before .place-of .ensures) (c .before .before .before .before .place-of2 .ensures)
+      ∙ sym (c .before .is-clear .ensures) ∙ not-false _ (c .if1 .left))
+      (c .before .before .before .before .before .before .before .loop .inv .1),
+)
 
--- src/lib.rt:129:1
 returns-2 : tie.Need-returns-2 Inv-loop μ-loop
 returns-2 c = all-over _ (c .before .loop .j) (omega arith) (clear _ _) (c .before .loop .inv .1)
 

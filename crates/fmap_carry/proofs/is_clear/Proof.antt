@@ -1,49 +1,36 @@
 use mathlib.Core.Bool.{not}
-use mathlib.Core.Path.{_≡_, sym, ap, ap₂, _∙_}
+use mathlib.Core.Path.{sym, ap, ap₂, _∙_}
 use borrow.Author.Tests.{not-true, not-false}
-use Rattle.fmap_carry.specs.Carry.{clearBy}
-use Rattle.fmap_rules.specs.Map.{disjoint}
-use Rattle.octets.proofs.Bools.{and-t, and-f, or-t, or-f}
 use borrow.Author.Needs.{needs}
+use Rattle.octets.proofs.Bools.{and-t, and-f, or-t, or-f}
+use Rattle.fmap_rules.specs.Map.{disjoint}
+use Rattle.fmap_carry.specs.Carry.{clearBy}
 use Rattle.fmap_carry.proofs.is_clear.Statement.{statement}
 use Rattle.fmap_carry.proofs.is_clear.Tie as tie
-use Rattle.fmap_carry.proofs.is_clear.Reads as reads
-use Rattle.fmap_carry.proofs.is_clear.Lts as lts
-use Rattle.fmap_carry.proofs.is_preserved.Reads as is-preserved-reads
-use Rattle.fmap_rules.proofs.extent_of.Reads as extent-of-reads
-use Rattle.fmap_rules.proofs.is_disjoint.Reads as is-disjoint-reads
 
--- src/lib.rt:116:9
 is-preserved-requires : tie.Need-is-preserved-requires
 is-preserved-requires c κs = search needs
 
--- src/lib.rt:117:9
 returns : tie.Need-returns
 unfolding clearBy
 returns c = or-t _ (ap not (sym (c .before .is-preserved .ensures)) ∙ (c .if1 .taken))
 
--- src/lib.rt:119:9
 is-preserved-requires-2 : tie.Need-is-preserved-requires-2
 is-preserved-requires-2 c κs = search needs
 
--- src/lib.rt:120:9
 returns-2 : tie.Need-returns-2
 unfolding clearBy
 returns-2 c = or-f (ap not (sym (c .before .before .before .is-preserved .ensures)) ∙ (c .before .before .if1 .left)) (or-t _ (ap not (sym (c .before .is-preserved2 .ensures)) ∙ (c .if2 .taken)))
 
--- src/lib.rt:122:33
 extent-of-requires : tie.Need-extent-of-requires
 extent-of-requires c κs = search needs
 
--- src/lib.rt:122:59
 extent-of-requires-2 : tie.Need-extent-of-requires-2
 extent-of-requires-2 c κs = search needs
 
--- src/lib.rt:122:9
 is-disjoint-requires : tie.Need-is-disjoint-requires
 is-disjoint-requires c κs = search needs
 
--- src/lib.rt:123:9
 returns-3 : tie.Need-returns-3
 unfolding clearBy
 returns-3 c =
@@ -51,11 +38,9 @@ returns-3 c =
     (or-f (ap not (sym (c .before .before .before .before .before .is-preserved2 .ensures)) ∙ (c .before .before .before .before .if2 .left))
     (and-f _ (sym ((c .before .is-disjoint .ensures) ∙ ap₂ disjoint (c .before .before .before .extent-of .ensures) (c .before .before .extent-of2 .ensures)) ∙ not-true _ (c .if3 .taken))))
 
--- src/lib.rt:125:5
 is-disjoint-requires-2 : tie.Need-is-disjoint-requires-2
 is-disjoint-requires-2 c κs = search needs
 
--- src/lib.rt:112:1
 returns-4 : tie.Need-returns-4
 unfolding clearBy
 returns-4 c =

@@ -1,35 +1,25 @@
-use mathlib.Core.Path.{_≡_, sym, _∙_}
+use mathlib.Core.Path.{sym, _∙_}
 use borrow.Author.Tests.{not-true, not-false}
+use borrow.Author.Needs.{needs}
+use Rattle.octets.proofs.Bools.{and-f}
 use Rattle.fmap_carry.proofs.Match.{on-map-by}
 use Rattle.fmap_carry.specs.Carry.{onMap}
-use Rattle.octets.proofs.Bools.{and-f}
-use borrow.Author.Needs.{needs}
 use Rattle.fmap_carry.proofs.is_on_map.Statement.{statement}
 use Rattle.fmap_carry.proofs.is_on_map.Tie as tie
-use Rattle.fmap_carry.proofs.is_on_map.Reads as reads
-use Rattle.fmap_carry.proofs.is_on_map.Lts as lts
-use Rattle.fmap_carry.proofs.is_preserved.Reads as is-preserved-reads
-use Rattle.fmap_carry.proofs.place_of.Reads as place-of-reads
-use Rattle.fmap_rules.proofs.is_disjoint.Reads as is-disjoint-reads
 
--- src/lib.rt:172:9
 is-preserved-requires : tie.Need-is-preserved-requires
 is-preserved-requires c κs = search needs
 
--- src/lib.rt:173:9
 returns : tie.Need-returns
 unfolding onMap
 returns c = and-f _ (sym (c .before .is-preserved .ensures) ∙ not-true _ (c .if1 .taken))
 
--- src/lib.rt:175:30
 place-of-requires : tie.Need-place-of-requires
 place-of-requires c κs = search needs
 
--- src/lib.rt:175:6
 is-disjoint-requires : tie.Need-is-disjoint-requires
 is-disjoint-requires c κs = search needs
 
--- src/lib.rt:168:1
 returns-2 : tie.Need-returns-2
 returns-2 c = on-map-by _ _ (sym (c .before .before .before .is-preserved .ensures) ∙ not-false _ (c .before .before .if1 .left)) _ (c .before .before .before .before .before .before .pre .1) _ _ (c .before .place-of .ensures) (c .before .before .before .before .before .before .pre .2) (c .is-disjoint .ensures)
 

@@ -1,35 +1,25 @@
-use mathlib.Core.Path.{_≡_, sym, _∙_}
+use mathlib.Core.Path.{sym, _∙_}
 use borrow.Author.Tests.{not-true, not-false}
+use borrow.Author.Needs.{needs}
+use Rattle.octets.proofs.Bools.{and-f}
 use Rattle.fmap_carry.proofs.Match.{other-size-by}
 use Rattle.fmap_carry.specs.Carry.{otherSize}
-use Rattle.octets.proofs.Bools.{and-f}
-use borrow.Author.Needs.{needs}
 use Rattle.fmap_carry.proofs.is_other_size.Statement.{statement}
 use Rattle.fmap_carry.proofs.is_other_size.Tie as tie
-use Rattle.fmap_carry.proofs.is_other_size.Reads as reads
-use Rattle.fmap_carry.proofs.is_other_size.Lts as lts
-use Rattle.fmap_carry.proofs.is_preserved.Reads as is-preserved-reads
-use Rattle.fmap_carry.proofs.place_of.Reads as place-of-reads
-use Rattle.fmap_rules.proofs.extent_of.Reads as extent-of-reads
 
--- src/lib.rt:90:9
 is-preserved-requires : tie.Need-is-preserved-requires
 is-preserved-requires c κs = search needs
 
--- src/lib.rt:91:9
 returns : tie.Need-returns
 unfolding otherSize
 returns c = and-f _ (sym (c .before .is-preserved .ensures) ∙ not-true _ (c .if1 .taken))
 
--- src/lib.rt:93:5
 extent-of-requires : tie.Need-extent-of-requires
 extent-of-requires c κs = search needs
 
--- src/lib.rt:93:38
 place-of-requires : tie.Need-place-of-requires
 place-of-requires c κs = search needs
 
--- src/lib.rt:86:1
 returns-2 : tie.Need-returns-2
 returns-2 c = other-size-by _ _ (sym (c .before .before .before .before .before .is-preserved .ensures) ∙ not-false _ (c .before .before .before .before .if1 .left)) _ (c .before .before .before .before .before .before .before .before .pre .1) _ _ (c .before .before .before .extent-of .ensures) (c .before .before .place-of .ensures)
 

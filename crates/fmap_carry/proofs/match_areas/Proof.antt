@@ -1,20 +1,16 @@
-use borrow.Author.Needs.{needs}
-use native.Mathlib.Omega.{arith}
-use denote.Ref.{now}
-use lib.ListN.{length, length-set}
+use mathlib.Core.Path.{_≡_, refl, ap, _∙_}
 use Prim.Native.Nat.{_≤_, _-_}
-use mathlib.Core.Path.{_≡_, refl, sym, ap, _∙_}
-use Rattle.fmap_carry.proofs.Match.{MatchedTo, matched-none, matched-more, matched-all}
-use Rattle.fmap_rules.specs.Map.{areaOf, areasIn, named}
-use Rattle.fmap_rules.specs.declared.Area.{Area}
+use native.Mathlib.Omega.{arith}
+use lib.ListN.{length, length-set}
+use borrow.Author.Needs.{needs}
+use denote.Ref.{now}
 use Rattle.octets.specs.Bytes.{part}
 use Rattle.octets.specs.Tests.{findIx}
+use Rattle.fmap_rules.specs.Map.{areaOf, areasIn, named}
+use Rattle.fmap_rules.specs.declared.Area.{Area}
+use Rattle.fmap_carry.proofs.Match.{MatchedTo, matched-none, matched-more, matched-all}
 use Rattle.fmap_carry.proofs.match_areas.Statement.{statement}
 use Rattle.fmap_carry.proofs.match_areas.Tie as tie
-use Rattle.fmap_carry.proofs.match_areas.Reads as reads
-use Rattle.fmap_carry.proofs.match_areas.Lts as lts
-use Rattle.fmap_rules.proofs.area_at.Reads as area-at-reads
-use Rattle.fmap_rules.proofs.find_named.Reads as find-named-reads
 
 abbrev Inv-loop : tie.InvT-loop
 Inv-loop olds news twins₀ n i₀ twins i = (i ≤ n) × MatchedTo (areasIn olds) (areasIn news) twins i × (length twins ≡ length twins₀)
@@ -22,60 +18,48 @@ Inv-loop olds news twins₀ n i₀ twins i = (i ≤ n) × MatchedTo (areasIn old
 abbrev μ-loop : tie.MeasureT-loop
 μ-loop olds news twins₀ n i₀ twins i = n - i
 
--- src/lib.rt:53:5
 loop-holds : tie.Need-loop-holds Inv-loop μ-loop
 loop-holds c = (search needs, matched-none _ _ _, refl)
 
--- src/lib.rt:54:13
 area-at-requires : tie.Need-area-at-requires Inv-loop μ-loop
 area-at-requires c κs = search needs
 
--- src/lib.rt:55:46
 sub-find-named : tie.Need-sub-find-named Inv-loop μ-loop
 sub-find-named c = search needs
 
--- src/lib.rt:55:46
 part-find-named-start : tie.Need-part-find-named-start Inv-loop μ-loop
 part-find-named-start c = search needs
 
--- src/lib.rt:55:46
 part-find-named-end : tie.Need-part-find-named-end Inv-loop μ-loop
 part-find-named-end c = search needs
 
--- src/lib.rt:55:13
 find-named-requires : tie.Need-find-named-requires Inv-loop μ-loop
 find-named-requires c κs = search needs
 
--- src/lib.rt:56:20
 cast-twins : tie.Need-cast-twins Inv-loop μ-loop
 cast-twins c = search needs
 
--- src/lib.rt:56:9
 slice-write-twins : tie.Need-slice-write-twins Inv-loop μ-loop
 slice-write-twins c = search needs
 
--- src/lib.rt:57:9
 add-i : tie.Need-add-i Inv-loop μ-loop
 add-i c = search needs
 
--- src/lib.rt:53:5
 loop-less : tie.Need-loop-less Inv-loop μ-loop
 loop-less c = search needs
 
--- src/lib.rt:53:5
 loop-again : tie.Need-loop-again Inv-loop μ-loop
 unfolding areaOf part
-loop-again c =
-    (omega arith,
-    matched-more _ _ (c .before .before .before .before .loop .twins) (c .before .before .before .before .loop .i) _ (omega arith) (c .before .before .before .before .loop .inv .1)
-    ((c .find-named .ensures .0) ∙ ap (λ (a : Area). findIx (named (a .name)) (areasIn (now (c .before .before .before .before .before .before .before .before .args .news)))) (c .before .before .area-at .ensures .0)),
-    length-set (c .before .before .before .before .loop .twins) (c .before .before .before .before .loop .i) _ ∙ (c .before .before .before .before .loop .inv .2))
+loop-again c = (
+  omega arith,
+  matched-more _ _ (c .before .before .before .before .loop .twins) (c .before .before .before .before .loop .i) _ (omega arith) (c .before .before .before .before .loop .inv .1)
+      ((c .find-named .ensures .0) ∙ ap (λ (a : Area). findIx (named (a .name)) (areasIn (now (c .before .before .before .before .before .before .before .before .args .news)))) (c .before .before .area-at .ensures .0)),
+  length-set (c .before .before .before .before .loop .twins) (c .before .before .before .before .loop .i) _ ∙ (c .before .before .before .before .loop .inv .2),
+)
 
--- src/lib.rt:47:1
 same-length : tie.Need-same-length Inv-loop μ-loop
 same-length c = search needs
 
--- src/lib.rt:47:1
 returns : tie.Need-returns Inv-loop μ-loop
 returns c = matched-all _ _ _ (c .before .loop .i) (omega arith) (omega arith) (c .before .loop .inv .1)
 

@@ -1,27 +1,19 @@
-use mathlib.Core.Path.{_≡_, ap, _∙_}
-use Rattle.fmap_carry.proofs.Match.{place-none}
-use Rattle.fmap_rules.specs.declared.Area.{Area}
+use mathlib.Core.Path.{ap, _∙_}
 use borrow.Author.Needs.{needs}
+use Rattle.fmap_rules.specs.declared.Area.{Area}
+use Rattle.fmap_carry.proofs.Match.{place-none}
 use Rattle.fmap_carry.proofs.place_of.Statement.{statement}
 use Rattle.fmap_carry.proofs.place_of.Tie as tie
-use Rattle.fmap_carry.proofs.place_of.Reads as reads
-use Rattle.fmap_carry.proofs.place_of.Lts as lts
-use Rattle.fmap_rules.proofs.area_at.Reads as area-at-reads
-use Rattle.fmap_rules.proofs.extent_of.Reads as extent-of-reads
 
--- src/lib.rt:38:9
 returns : tie.Need-returns
 returns c = place-none _ _ (c .if1 .taken)
 
--- src/lib.rt:43:27
 area-at-requires : tie.Need-area-at-requires
 area-at-requires c κs = search needs
 
--- src/lib.rt:43:5
 extent-of-requires : tie.Need-extent-of-requires
 extent-of-requires c κs = search needs
 
--- src/lib.rt:34:1
 returns-2 : tie.Need-returns-2
 returns-2 c = (c .extent-of .ensures) ∙ ap (λ (a : Area). a .place) (c .before .area-at .ensures .0)
 

@@ -1,19 +1,15 @@
-use borrow.Author.Needs.{needs}
-use native.Mathlib.Omega.{arith}
-use lib.ListN.{length, drop}
+use mathlib.Core.Path.{_≡_, sym, _∙_}
 use Prim.Native.Nat.{_≤_, _-_}
-use mathlib.Core.Path.{_≡_, refl, sym, _∙_}
-use Rattle.fmap_carry.proofs.Match.{matched-long, matched-at}
-use Rattle.fmap_carry.specs.Carry.{missing}
+use native.Mathlib.Omega.{arith}
+use lib.ListN.{drop}
+use borrow.Author.Needs.{needs}
+use Rattle.octets.specs.Tests.{any}
 use Rattle.fmap_rules.proofs.Areas.{any-next, any-holds, any-over}
 use Rattle.fmap_rules.specs.Map.{areasIn}
-use Rattle.octets.specs.Tests.{any}
+use Rattle.fmap_carry.proofs.Match.{matched-long, matched-at}
+use Rattle.fmap_carry.specs.Carry.{missing}
 use Rattle.fmap_carry.proofs.some_missing.Statement.{statement}
 use Rattle.fmap_carry.proofs.some_missing.Tie as tie
-use Rattle.fmap_carry.proofs.some_missing.Reads as reads
-use Rattle.fmap_carry.proofs.some_missing.Lts as lts
-use Rattle.fmap_carry.proofs.is_missing.Reads as is-missing-reads
-use Rattle.fmap_rules.proofs.area_at.Reads as area-at-reads
 
 abbrev Inv-loop : tie.InvT-loop
 Inv-loop olds news twins n i₀ i = (i ≤ n) × (any (missing (areasIn news)) (drop i (areasIn olds)) ≡ any (missing (areasIn news)) (areasIn olds))
@@ -21,43 +17,33 @@ Inv-loop olds news twins n i₀ i = (i ≤ n) × (any (missing (areasIn news)) (
 abbrev μ-loop : tie.MeasureT-loop
 μ-loop olds news twins n i₀ i = n - i
 
--- src/lib.rt:77:5
 loop-holds : tie.Need-loop-holds Inv-loop μ-loop
 loop-holds c = search needs
 
--- src/lib.rt:78:23
 area-at-requires : tie.Need-area-at-requires Inv-loop μ-loop
 area-at-requires c κs = search needs
 
--- src/lib.rt:78:59
 shared-slice-read-is-missing : tie.Need-shared-slice-read-is-missing Inv-loop μ-loop
 shared-slice-read-is-missing c = matched-long _ _ _ (c .before .before .before .before .before .before .before .pre) (c .before .before .before .loop .i) (omega arith)
 
--- src/lib.rt:78:59
 cast-is-missing : tie.Need-cast-is-missing Inv-loop μ-loop
 cast-is-missing c = omega (arith, (c .shared-slice-known4 .given) (c .before .before .before .loop .i))
 
--- src/lib.rt:78:12
 is-missing-requires : tie.Need-is-missing-requires Inv-loop μ-loop
 is-missing-requires c κs = ((c .before .area-at .ensures .1), matched-at _ _ _ (c .before .before .before .before .before .before .before .pre) (c .before .before .before .loop .i) _ (omega arith) (c .before .area-at .ensures .0))
 
--- src/lib.rt:79:13
 returns : tie.Need-returns Inv-loop μ-loop
 returns c = any-holds _ (c .before .before .before .before .before .loop .i) (omega arith) _ (c .before .before .before .area-at .ensures .0) (missing _) (sym (c .before .is-missing .ensures) ∙ (c .if1 .taken)) (c .before .before .before .before .before .loop .inv .1)
 
--- src/lib.rt:81:9
 add-i : tie.Need-add-i Inv-loop μ-loop
 add-i c = search needs
 
--- src/lib.rt:77:5
 loop-less : tie.Need-loop-less Inv-loop μ-loop
 loop-less c = search needs
 
--- src/lib.rt:77:5
 loop-again : tie.Need-loop-again Inv-loop μ-loop
 loop-again c = (omega arith, any-next _ (c .before .before .before .before .before .loop .i) (omega arith) _ (c .before .before .before .area-at .ensures .0) (missing _) (sym (c .before .is-missing .ensures) ∙ (c .if1 .left)) (c .before .before .before .before .before .loop .inv .1))
 
--- src/lib.rt:71:1
 returns-2 : tie.Need-returns-2 Inv-loop μ-loop
 returns-2 c = any-over _ (c .before .loop .i) (omega arith) (missing _) (c .before .loop .inv .1)
 

@@ -1,21 +1,17 @@
-use borrow.Author.Needs.{needs}
-use native.Mathlib.Omega.{arith}
-use denote.Ref.{now}
-use lib.ListN.{length, drop}
+use mathlib.Core.Path.{_≡_, refl, ap, _∙_}
 use Prim.Native.Nat.{_≤_, _-_}
-use mathlib.Core.Path.{_≡_, refl, sym, ap, _∙_}
-use Rattle.fmap_carry.proofs.Carrying.{length-area, carried-next, carried-over, fit-at}
-use Rattle.fmap_carry.proofs.Match.{matched-long, matched-at}
-use Rattle.fmap_carry.specs.Carry.{carried, carryArea}
+use native.Mathlib.Omega.{arith}
+use lib.ListN.{length, drop}
+use borrow.Author.Needs.{needs}
+use denote.Ref.{now}
 use Rattle.fmap_rules.proofs.Areas.{length-areas}
 use Rattle.fmap_rules.specs.Map.{areasIn}
 use Rattle.fmap_rules.specs.declared.Area.{Area}
+use Rattle.fmap_carry.proofs.Carrying.{length-area, carried-next, carried-over, fit-at}
+use Rattle.fmap_carry.proofs.Match.{matched-long, matched-at}
+use Rattle.fmap_carry.specs.Carry.{carried, carryArea}
 use Rattle.fmap_carry.proofs.write_areas.Statement.{statement}
 use Rattle.fmap_carry.proofs.write_areas.Tie as tie
-use Rattle.fmap_carry.proofs.write_areas.Reads as reads
-use Rattle.fmap_carry.proofs.write_areas.Lts as lts
-use Rattle.fmap_carry.proofs.carry_area.Reads as carry-area-reads
-use Rattle.fmap_rules.proofs.area_at.Reads as area-at-reads
 
 abbrev Inv-loop : tie.InvT-loop
 Inv-loop old olds new₀ news twins n i₀ new i =
@@ -24,48 +20,42 @@ Inv-loop old olds new₀ news twins n i₀ new i =
 abbrev μ-loop : tie.MeasureT-loop
 μ-loop old olds new₀ news twins n i₀ new i = n - i
 
--- src/lib.rt:244:5
 loop-holds : tie.Need-loop-holds Inv-loop μ-loop
 loop-holds c = (search needs, refl, refl)
 
--- src/lib.rt:245:25
 area-at-requires : tie.Need-area-at-requires Inv-loop μ-loop
 area-at-requires c κs = search needs
 
--- src/lib.rt:245:61
 shared-slice-read-carry-area : tie.Need-shared-slice-read-carry-area Inv-loop μ-loop
 shared-slice-read-carry-area c = matched-long _ _ _ (c .before .before .before .before .before .before .before .before .before .pre .0) (c .before .before .before .loop .i) (omega arith)
 
--- src/lib.rt:245:61
 cast-carry-area : tie.Need-cast-carry-area Inv-loop μ-loop
 cast-carry-area c = omega (arith, (c .shared-slice-known5 .given) (c .before .before .before .loop .i))
 
--- src/lib.rt:245:9
 carry-area-requires : tie.Need-carry-area-requires Inv-loop μ-loop
-carry-area-requires c κs =
-    ((c .before .before .area-at .ensures .1), matched-at _ _ _ (c .before .before .before .before .before .before .before .before .before .before .pre .0) (c .before .before .before .before .loop .i) _ (omega arith) (c .before .before .area-at .ensures .0),
-    λ p. fit-at _ _ _ _ _ (c .before .before .before .before .loop .i) _ (c .before .before .before .before .before .before .before .before .before .before .pre .1) (omega arith) (c .before .before .area-at .ensures .0) (c .before .before .before .before .loop .inv .1) p)
+carry-area-requires c κs = (
+  (c .before .before .area-at .ensures .1),
+  matched-at _ _ _ (c .before .before .before .before .before .before .before .before .before .before .pre .0) (c .before .before .before .before .loop .i) _ (omega arith) (c .before .before .area-at .ensures .0),
+  λ p. fit-at _ _ _ _ _ (c .before .before .before .before .loop .i) _ (c .before .before .before .before .before .before .before .before .before .before .pre .1) (omega arith) (c .before .before .area-at .ensures .0) (c .before .before .before .before .loop .inv .1) p,
+)
 
--- src/lib.rt:246:9
 add-i : tie.Need-add-i Inv-loop μ-loop
 add-i c = search needs
 
--- src/lib.rt:244:5
 loop-less : tie.Need-loop-less Inv-loop μ-loop
 loop-less c = search needs
 
--- src/lib.rt:244:5
 loop-again : tie.Need-loop-again Inv-loop μ-loop
-loop-again c =
-    (omega arith, ap length (c .before .before .carry-area .ensures) ∙ length-area _ _ _ _ ∙ (c .before .before .before .before .before .before .before .loop .inv .1),
-    carried-next _ _ (areasIn (now (c .before .before .before .before .before .before .before .before .before .before .before .before .before .args .olds))) (c .before .before .before .before .before .before .before .loop .i) (c .before .before .before .before .before .before .before .loop .new) _ _ (omega (arith, length-areas (now (c .before .before .before .before .before .before .before .before .before .before .before .before .before .args .olds))))
-    ((c .before .before .carry-area .ensures) ∙ ap (λ (a : Area). carryArea (now (c .before .before .before .before .before .before .before .before .before .before .before .before .before .args .old)) (areasIn (now (c .before .before .before .before .before .before .before .before .before .before .before .before .before .args .news))) a (c .before .before .before .before .before .before .before .loop .new)) (c .before .before .before .before .before .area-at .ensures .0)) (c .before .before .before .before .before .before .before .loop .inv .2))
+loop-again c = (
+  omega arith,
+  ap length (c .before .before .carry-area .ensures) ∙ length-area _ _ _ _ ∙ (c .before .before .before .before .before .before .before .loop .inv .1),
+  carried-next _ _ (areasIn (now (c .before .before .before .before .before .before .before .before .before .before .before .before .before .args .olds))) (c .before .before .before .before .before .before .before .loop .i) (c .before .before .before .before .before .before .before .loop .new) _ _ (omega (arith, length-areas (now (c .before .before .before .before .before .before .before .before .before .before .before .before .before .args .olds))))
+      ((c .before .before .carry-area .ensures) ∙ ap (λ (a : Area). carryArea (now (c .before .before .before .before .before .before .before .before .before .before .before .before .before .args .old)) (areasIn (now (c .before .before .before .before .before .before .before .before .before .before .before .before .before .args .news))) a (c .before .before .before .before .before .before .before .loop .new)) (c .before .before .before .before .before .area-at .ensures .0)) (c .before .before .before .before .before .before .before .loop .inv .2),
+)
 
--- src/lib.rt:237:1
 same-length : tie.Need-same-length Inv-loop μ-loop
 same-length c = search needs
 
--- src/lib.rt:237:1
 returns : tie.Need-returns Inv-loop μ-loop
 returns c = carried-over _ _ (areasIn (now (c .before .before .before .before .before .before .before .args .olds))) (c .before .loop .i) _ _ (omega (arith, length-areas (now (c .before .before .before .before .before .before .before .args .olds)))) (c .before .loop .inv .2)
 

@@ -1,32 +1,24 @@
 use native.Mathlib.Omega.{arith}
-use Rattle.fmap_rules.proofs.Areas.{area-slice}
 use borrow.Author.Needs.{needs}
+use Rattle.fmap_rules.proofs.Areas.{area-slice}
 use Rattle.fmap_rules.proofs.area_at.Statement.{statement}
 use Rattle.fmap_rules.proofs.area_at.Tie as tie
-use Rattle.fmap_rules.proofs.area_at.Reads as reads
-use Rattle.fmap_rules.proofs.area_at.Lts as lts
 
--- src/lib.rt:61:13
 mul-a : tie.Need-mul-a
 mul-a c = search needs
 
--- src/lib.rt:62:13
 add-e : tie.Need-add-e
 add-e c = search needs
 
--- src/lib.rt:63:5
 sub-result : tie.Need-sub-result
 sub-result c = search needs
 
--- src/lib.rt:63:5
 part-result-start : tie.Need-part-result-start
 part-result-start c = search needs
 
--- src/lib.rt:63:5
 part-result-end : tie.Need-part-result-end
 part-result-end c = search needs
 
--- src/lib.rt:57:1
 returns : tie.Need-returns
 returns c = area-slice _ _ (omega arith)
 

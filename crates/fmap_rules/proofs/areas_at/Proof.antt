@@ -1,36 +1,25 @@
 use native.Mathlib.Omega.{arith}
-use mathlib.Core.Path.{_≡_, refl, sym, ap, _∙_}
-use Rattle.octets.proofs.Parts.{rest-slice}
-use Rattle.fmap_rules.proofs.Good.{areas-are}
-use Rattle.fmap_rules.proofs.Good.{good-fits, good-within}
 use borrow.Author.Needs.{needs}
+use Rattle.octets.proofs.Parts.{rest-slice}
+use Rattle.fmap_rules.proofs.Good.{areas-are, good-fits, good-within}
 use Rattle.fmap_rules.proofs.areas_at.Statement.{statement}
 use Rattle.fmap_rules.proofs.areas_at.Tie as tie
-use Rattle.fmap_rules.proofs.areas_at.Reads as reads
-use Rattle.fmap_rules.proofs.areas_at.Lts as lts
-use Rattle.fmap_rules.proofs.areas_of.Reads as areas-of-reads
 
--- src/lib.rt:122:13
 cast-a : tie.Need-cast-a
 cast-a c = search needs
 
--- src/lib.rt:123:26
 sub-areas-of : tie.Need-sub-areas-of
 sub-areas-of c = omega (arith, good-within _ _ (c .before .before .pre))
 
--- src/lib.rt:123:26
 part-areas-of-start : tie.Need-part-areas-of-start
 part-areas-of-start c = omega (arith, good-within _ _ (c .before .before .pre))
 
--- src/lib.rt:123:26
 part-areas-of-end : tie.Need-part-areas-of-end
 part-areas-of-end c = search needs
 
--- src/lib.rt:123:5
 areas-of-requires : tie.Need-areas-of-requires
 areas-of-requires c κs = rw rest-slice (good-fits _ _ (c .before .before .before .pre) .whole)
 
--- src/lib.rt:118:1
 returns : tie.Need-returns
 returns c = (areas-are _ _ _ (c .areas-of .ensures .0), omega (arith, (c .areas-of .ensures .1), rw (← rest-slice _ _) at (good-fits _ _ (c .before .before .before .before .pre) .few)))
 

@@ -1,39 +1,28 @@
+use mathlib.Core.Path.{sym, _∙_}
 use borrow.Author.Tests.{not-true, not-false}
-use mathlib.Core.Path.{_≡_, sym, _∙_}
+use borrow.Author.Needs.{needs}
 use Rattle.octets.proofs.Bools.{and-t, and-f}
 use Rattle.fmap_rules.specs.Map.{goodAreas}
-use borrow.Author.Needs.{needs}
 use Rattle.fmap_rules.proofs.good_areas.Statement.{statement}
 use Rattle.fmap_rules.proofs.good_areas.Tie as tie
-use Rattle.fmap_rules.proofs.good_areas.Reads as reads
-use Rattle.fmap_rules.proofs.good_areas.Lts as lts
-use Rattle.fmap_rules.proofs.each_good.Reads as each-good-reads
-use Rattle.fmap_rules.proofs.pairs_good.Reads as pairs-good-reads
-use Rattle.fmap_rules.proofs.some_holder.Reads as some-holder-reads
 
--- src/lib.rt:215:9
 each-good-requires : tie.Need-each-good-requires
 each-good-requires c κs = search needs
 
--- src/lib.rt:216:9
 returns : tie.Need-returns
 unfolding goodAreas
 returns c = and-f _ (sym (c .before .each-good .ensures) ∙ not-true _ (c .if1 .taken))
 
--- src/lib.rt:218:9
 some-holder-requires : tie.Need-some-holder-requires
 some-holder-requires c κs = search needs
 
--- src/lib.rt:219:9
 returns-2 : tie.Need-returns-2
 unfolding goodAreas
 returns-2 c = and-t (sym (c .before .before .before .each-good .ensures) ∙ not-false _ (c .before .before .if1 .left)) (and-f _ (sym (c .before .some-holder .ensures) ∙ not-true _ (c .if2 .taken)))
 
--- src/lib.rt:221:5
 pairs-good-requires : tie.Need-pairs-good-requires
 pairs-good-requires c κs = search needs
 
--- src/lib.rt:211:1
 returns-3 : tie.Need-returns-3
 unfolding goodAreas
 returns-3 c = and-t (sym (c .before .before .before .before .each-good .ensures) ∙ not-false _ (c .before .before .before .if1 .left)) (and-t (sym (c .before .before .some-holder .ensures) ∙ not-false _ (c .before .if2 .left)) (c .pairs-good .ensures))

@@ -1,51 +1,38 @@
+use mathlib.Core.List.{List}
+use mathlib.Core.Path.{sym, ap, _∙_}
+use Prim.Native.Nat.{ℕ}
 use native.Mathlib.Omega.{arith}
-use denote.Ref.{now}
 use lib.ListN.{length}
 use borrow.Author.Tests.{not-true, not-false}
-use Prim.Native.Nat.{ℕ}
-use mathlib.Core.List.{List}
-use mathlib.Core.Path.{_≡_, sym, ap, _∙_}
+use borrow.Author.Needs.{needs}
+use denote.Ref.{now}
 use Rattle.octets.proofs.Parts.{rest-slice}
 use Rattle.fmap_rules.proofs.Good.{header-fits, bad-header, by-areas}
 use Rattle.fmap_rules.specs.Map.{goodAreas, areasIn}
-use borrow.Author.Needs.{needs}
 use Rattle.fmap_rules.proofs.good_at.Statement.{statement}
 use Rattle.fmap_rules.proofs.good_at.Tie as tie
-use Rattle.fmap_rules.proofs.good_at.Reads as reads
-use Rattle.fmap_rules.proofs.good_at.Lts as lts
-use Rattle.fmap_rules.proofs.areas_of.Reads as areas-of-reads
-use Rattle.fmap_rules.proofs.good_areas.Reads as good-areas-reads
-use Rattle.fmap_rules.proofs.good_header.Reads as good-header-reads
 
--- src/lib.rt:277:13
 sub-m : tie.Need-sub-m
 sub-m c = search needs
 
--- src/lib.rt:277:13
 part-m-start : tie.Need-part-m-start
 part-m-start c = search needs
 
--- src/lib.rt:277:13
 part-m-end : tie.Need-part-m-end
 part-m-end c = search needs
 
--- src/lib.rt:278:9
 good-header-requires : tie.Need-good-header-requires
 good-header-requires c κs = search needs
 
--- src/lib.rt:279:9
 returns : tie.Need-returns
 returns c = bad-header _ _ _ (rest-slice _ _) (sym (c .before .good-header .ensures) ∙ not-true _ (c .if1 .taken))
 
--- src/lib.rt:281:16
 areas-of-requires : tie.Need-areas-of-requires
 areas-of-requires c κs = header-fits _ _ (sym (c .before .good-header .ensures) ∙ not-false _ (c .if1 .left)) .whole
 
--- src/lib.rt:281:5
 good-areas-requires : tie.Need-good-areas-requires
 good-areas-requires c κs = let f = header-fits _ _ (sym (c .before .before .good-header .ensures) ∙ not-false _ (c .before .if1 .left)) in omega (arith, f .few, (c .areas-of .ensures .1))
 
--- src/lib.rt:273:1
 returns-2 : tie.Need-returns-2
 returns-2 c =
     by-areas _ _ _ (rest-slice _ _) (sym (c .before .before .before .good-header .ensures) ∙ not-false _ (c .before .before .if1 .left))

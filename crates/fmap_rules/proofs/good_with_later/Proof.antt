@@ -1,19 +1,14 @@
-use borrow.Author.Needs.{needs}
-use denote.Ref.{now}
-use lib.ListN.{length, getD, drop}
-use Prim.Native.Nat.{ℕ, _≤_, _-_, _+_}
-use borrow.Author.Tests.{not-true, not-false}
-use mathlib.Core.Path.{_≡_, refl, sym, ap, _∙_}
+use mathlib.Core.Path.{_≡_, sym, _∙_}
+use Prim.Native.Nat.{_≤_, _-_, _+_}
 use native.Mathlib.Omega.{arith}
+use lib.ListN.{getD, drop}
+use borrow.Author.Needs.{needs}
+use borrow.Author.Tests.{not-true, not-false}
 use Rattle.octets.specs.Tests.{all}
-use Rattle.fmap_rules.proofs.Areas.{length-areas, all-next, all-fails, all-over}
+use Rattle.fmap_rules.proofs.Areas.{all-next, all-fails, all-over}
 use Rattle.fmap_rules.specs.Map.{goodPair, areasIn, blank}
 use Rattle.fmap_rules.proofs.good_with_later.Statement.{statement}
 use Rattle.fmap_rules.proofs.good_with_later.Tie as tie
-use Rattle.fmap_rules.proofs.good_with_later.Reads as reads
-use Rattle.fmap_rules.proofs.good_with_later.Lts as lts
-use Rattle.fmap_rules.proofs.area_at.Reads as area-at-reads
-use Rattle.fmap_rules.proofs.is_good_pair.Reads as is-good-pair-reads
 
 abbrev Inv-loop : tie.InvT-loop
 Inv-loop areas i n j₀ j = (j ≤ n) × (all (goodPair (getD (areasIn areas) i blank)) (drop j (areasIn areas)) ≡ all (goodPair (getD (areasIn areas) i blank)) (drop (i + 1) (areasIn areas)))
@@ -21,43 +16,33 @@ Inv-loop areas i n j₀ j = (j ≤ n) × (all (goodPair (getD (areasIn areas) i 
 abbrev μ-loop : tie.MeasureT-loop
 μ-loop areas i n j₀ j = n - j
 
--- src/lib.rt:157:17
 add-j : tie.Need-add-j Inv-loop μ-loop
 add-j c = search needs
 
--- src/lib.rt:158:5
 loop-holds : tie.Need-loop-holds Inv-loop μ-loop
 loop-holds c = search needs
 
--- src/lib.rt:159:26
 area-at-requires : tie.Need-area-at-requires Inv-loop μ-loop
 area-at-requires c κs = search needs
 
--- src/lib.rt:159:45
 area-at-requires-2 : tie.Need-area-at-requires-2 Inv-loop μ-loop
 area-at-requires-2 c κs = search needs
 
--- src/lib.rt:159:13
 is-good-pair-requires : tie.Need-is-good-pair-requires Inv-loop μ-loop
 is-good-pair-requires c κs = search needs
 
--- src/lib.rt:160:13
 returns : tie.Need-returns Inv-loop μ-loop
 returns c = all-fails _ (c .before .before .before .before .before .loop .j) (omega arith) _ (c .before .before .area-at2 .ensures .0) (goodPair _) (rw (← (c .before .before .before .area-at .ensures .0)) (sym (c .before .is-good-pair .ensures) ∙ not-true _ (c .if1 .taken))) (c .before .before .before .before .before .loop .inv .1)
 
--- src/lib.rt:162:9
 add-j-2 : tie.Need-add-j-2 Inv-loop μ-loop
 add-j-2 c = search needs
 
--- src/lib.rt:158:5
 loop-less : tie.Need-loop-less Inv-loop μ-loop
 loop-less c = search needs
 
--- src/lib.rt:158:5
 loop-again : tie.Need-loop-again Inv-loop μ-loop
 loop-again c = (omega arith, all-next _ (c .before .before .before .before .before .loop .j) (omega arith) _ (c .before .before .area-at2 .ensures .0) (goodPair _) (rw (← (c .before .before .before .area-at .ensures .0)) (sym (c .before .is-good-pair .ensures) ∙ not-false _ (c .if1 .left))) (c .before .before .before .before .before .loop .inv .1))
 
--- src/lib.rt:152:1
 returns-2 : tie.Need-returns-2 Inv-loop μ-loop
 returns-2 c = all-over _ (c .before .loop .j) (omega arith) (goodPair _) (c .before .loop .inv .1)
 

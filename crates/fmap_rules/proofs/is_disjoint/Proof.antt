@@ -1,39 +1,26 @@
-use Rattle.fmap_rules.specs.Map.{disjoint, endOf}
-use lib.Dec.{leb}
-use mathlib.Core.Path.{_≡_, refl, sym, ap, _∙_}
-use native.Mathlib.Omega.{arith}
 use borrow.Author.Tests.{le-leb, lt-leb}
-use Rattle.octets.proofs.Bools.{or-t, or-f}
-use Rattle.fmap_rules.specs.Map.{disjoint}
 use borrow.Author.Needs.{needs}
+use Rattle.octets.proofs.Bools.{or-t, or-f}
+use Rattle.fmap_rules.specs.Map.{disjoint, endOf}
 use Rattle.fmap_rules.proofs.is_disjoint.Statement.{statement}
 use Rattle.fmap_rules.proofs.is_disjoint.Tie as tie
-use Rattle.fmap_rules.proofs.is_disjoint.Reads as reads
-use Rattle.fmap_rules.proofs.is_disjoint.Lts as lts
-use Rattle.fmap_rules.proofs.end_of.Reads as end-of-reads
 
--- src/lib.rt:86:8
 end-of-requires : tie.Need-end-of-requires
 end-of-requires c κs = search needs
 
--- src/lib.rt:86:21
 cast-if1 : tie.Need-cast-if1
 cast-if1 c = search needs
 
--- src/lib.rt:87:9
 returns : tie.Need-returns
 unfolding disjoint
 returns c = or-t _ (le-leb (endOf (c .before .before .before .args .x)) (c .before .before .before .args .y .start .0) (rw (← (c .before .before .end-of .ensures)) (c .if1 .taken)))
 
--- src/lib.rt:89:5
 end-of-requires-2 : tie.Need-end-of-requires-2
 end-of-requires-2 c κs = search needs
 
--- src/lib.rt:89:18
 cast-result : tie.Need-cast-result
 cast-result c = search needs
 
--- src/lib.rt:83:1
 returns-2 : tie.Need-returns-2
 unfolding disjoint
 returns-2 c = or-f (lt-leb (endOf (c .before .before .before .before .before .args .x)) (c .before .before .before .before .before .args .y .start .0) (rw (← (c .before .before .before .before .end-of .ensures)) (c .before .before .if1 .left))) (rw (c .before .end-of2 .ensures))

@@ -1,56 +1,42 @@
-use mathlib.Core.Path.{_≡_, refl, sym, ap, _∙_}
-use borrow.Author.Tests.{le-leb, lt-leb}
+use mathlib.Core.Path.{sym, ap, _∙_}
 use lib.Dec.{leb}
+use borrow.Author.Tests.{le-leb, lt-leb}
+use borrow.Author.Needs.{needs}
 use Rattle.octets.proofs.Bools.{and-t, and-f}
 use Rattle.octets.specs.Bytes.{part}
 use Rattle.fmap_rules.specs.declared.Extent.{Extent}
 use Rattle.fmap_rules.specs.Map.{goodArea, areaOf, endOf}
-use borrow.Author.Needs.{needs}
 use Rattle.fmap_rules.proofs.is_good_area.Statement.{statement}
 use Rattle.fmap_rules.proofs.is_good_area.Tie as tie
-use Rattle.fmap_rules.proofs.is_good_area.Reads as reads
-use Rattle.fmap_rules.proofs.is_good_area.Lts as lts
-use Rattle.fmap_rules.proofs.end_of.Reads as end-of-reads
-use Rattle.fmap_rules.proofs.extent_of.Reads as extent-of-reads
-use Rattle.fmap_rules.proofs.is_legal_name.Reads as is-legal-name-reads
 
--- src/lib.rt:117:9
 extent-of-requires : tie.Need-extent-of-requires
 extent-of-requires c κs = search needs
 
--- src/lib.rt:119:9
 returns : tie.Need-returns
 unfolding goodArea
 returns c = and-f _ (sym (ap (λ (x : Extent). leb 1 (x .size)) (c .before .before .extent-of .ensures)) ∙ lt-leb _ _ (c .if1 .taken))
 
--- src/lib.rt:121:23
 end-of-requires : tie.Need-end-of-requires
 end-of-requires c κs = search needs
 
--- src/lib.rt:122:9
 returns-2 : tie.Need-returns-2
 unfolding goodArea
 returns-2 c =
     and-t (sym (ap (λ (x : Extent). leb 1 (x .size)) (c .before .before .before .before .extent-of .ensures)) ∙ le-leb _ _ (c .before .before .if1 .left))
     (and-f _ (sym (ap (λ (x : Extent). leb (endOf x) (c .before .before .before .before .before .before .args .len)) (c .before .before .before .before .extent-of .ensures)) ∙ lt-leb (endOf (c .before .before .before .before .extent-of .result)) (c .before .before .before .before .before .before .args .len) (rw (← (c .before .end-of .ensures)) (c .if2 .taken))))
 
--- src/lib.rt:124:19
 sub-is-legal-name : tie.Need-sub-is-legal-name
 sub-is-legal-name c = search needs
 
--- src/lib.rt:124:19
 part-is-legal-name-start : tie.Need-part-is-legal-name-start
 part-is-legal-name-start c = search needs
 
--- src/lib.rt:124:19
 part-is-legal-name-end : tie.Need-part-is-legal-name-end
 part-is-legal-name-end c = search needs
 
--- src/lib.rt:124:5
 is-legal-name-requires : tie.Need-is-legal-name-requires
 is-legal-name-requires c κs = search needs
 
--- src/lib.rt:113:1
 returns-3 : tie.Need-returns-3
 unfolding goodArea areaOf part
 returns-3 c =

@@ -1,63 +1,46 @@
 use mathlib.Core.Bool.{not}
-use mathlib.Core.Path.{_≡_, refl, sym, ap, _∙_}
+use mathlib.Core.Path.{sym, ap, _∙_}
+use borrow.Author.Needs.{needs}
 use Rattle.octets.proofs.Bools.{and-t, and-f}
 use Rattle.octets.specs.Bytes.{part}
-use Rattle.fmap_rules.specs.Map.{goodPair, named, areaOf, disjointOrNested}
-use borrow.Author.Needs.{needs}
+use Rattle.fmap_rules.specs.Map.{goodPair, named, areaOf}
 use Rattle.fmap_rules.proofs.is_good_pair.Statement.{statement}
 use Rattle.fmap_rules.proofs.is_good_pair.Tie as tie
-use Rattle.fmap_rules.proofs.is_good_pair.Reads as reads
-use Rattle.fmap_rules.proofs.is_good_pair.Lts as lts
-use Rattle.fmap_rules.proofs.extent_of.Reads as extent-of-reads
-use Rattle.fmap_rules.proofs.is_disjoint_or_nested.Reads as is-disjoint-or-nested-reads
-use Rattle.octets.proofs.same.Reads as same-reads
 
--- src/lib.rt:145:21
 sub-same : tie.Need-sub-same
 sub-same c = search needs
 
--- src/lib.rt:145:21
 part-same-start : tie.Need-part-same-start
 part-same-start c = search needs
 
--- src/lib.rt:145:21
 part-same-end : tie.Need-part-same-end
 part-same-end c = search needs
 
--- src/lib.rt:145:32
 sub-same-2 : tie.Need-sub-same-2
 sub-same-2 c = search needs
 
--- src/lib.rt:145:32
 part-same-start-2 : tie.Need-part-same-start-2
 part-same-start-2 c = search needs
 
--- src/lib.rt:145:32
 part-same-end-2 : tie.Need-part-same-end-2
 part-same-end-2 c = search needs
 
--- src/lib.rt:145:8
 same-requires : tie.Need-same-requires
 same-requires c κs = search needs
 
--- src/lib.rt:146:9
 returns : tie.Need-returns
 unfolding goodPair named areaOf part
 returns c = and-f _ (ap not (sym (c .before .same .ensures) ∙ (c .if1 .taken)))
 
--- src/lib.rt:148:27
 extent-of-requires : tie.Need-extent-of-requires
 extent-of-requires c κs = search needs
 
--- src/lib.rt:148:41
 extent-of-requires-2 : tie.Need-extent-of-requires-2
 extent-of-requires-2 c κs = search needs
 
--- src/lib.rt:148:5
 is-disjoint-or-nested-requires : tie.Need-is-disjoint-or-nested-requires
 is-disjoint-or-nested-requires c κs = search needs
 
--- src/lib.rt:141:1
 returns-2 : tie.Need-returns-2
 unfolding goodPair named areaOf part
 returns-2 c = and-t (ap not (sym (c .before .before .before .before .same .ensures) ∙ (c .before .before .before .if1 .left))) (rw (← (c .before .before .extent-of .ensures), ← (c .before .extent-of2 .ensures)) (c .is-disjoint-or-nested .ensures))

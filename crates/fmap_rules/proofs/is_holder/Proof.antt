@@ -1,70 +1,52 @@
-use Rattle.fmap_rules.specs.Map.{mapSize}
-use Rattle.fmap_rules.specs.declared.Extent.{Extent}
+use mathlib.Core.Path.{sym, ap, _∙_}
 use lib.Dec.{eqb, leb}
-use mathlib.Core.Path.{_≡_, refl, sym, ap, _∙_}
-use borrow.Author.Tests.{le-leb, lt-leb, eq-eqb, ne-eqb, not-true, not-false}
+use borrow.Author.Tests.{eq-eqb, ne-eqb, not-true, not-false}
+use borrow.Author.Needs.{needs}
 use Rattle.octets.proofs.Bools.{and-t, and-f}
 use Rattle.octets.specs.Bytes.{part, zeros}
-use Rattle.fmap_rules.specs.Map.{holdsMap, named, areaOf}
-use borrow.Author.Needs.{needs}
+use Rattle.fmap_rules.specs.Map.{mapSize, holdsMap, named, areaOf}
+use Rattle.fmap_rules.specs.declared.Extent.{Extent}
 use Rattle.fmap_rules.proofs.is_holder.Statement.{statement}
 use Rattle.fmap_rules.proofs.is_holder.Tie as tie
-use Rattle.fmap_rules.proofs.is_holder.Reads as reads
-use Rattle.fmap_rules.proofs.is_holder.Lts as lts
-use Rattle.fmap_rules.proofs.extent_of.Reads as extent-of-reads
-use Rattle.octets.proofs.same.Reads as same-reads
 
--- src/lib.rt:186:22
 slice-aggregate-same : tie.Need-slice-aggregate-same
 slice-aggregate-same c = search needs
 
--- src/lib.rt:186:87
 sub-same : tie.Need-sub-same
 sub-same c = search needs
 
--- src/lib.rt:186:87
 part-same-start : tie.Need-part-same-start
 part-same-start c = search needs
 
--- src/lib.rt:186:87
 part-same-end : tie.Need-part-same-end
 part-same-end c = search needs
 
--- src/lib.rt:186:9
 same-requires : tie.Need-same-requires
 same-requires c κs = search needs
 
--- src/lib.rt:187:9
 returns : tie.Need-returns
 unfolding holdsMap named areaOf part zeros
 returns c = and-f _ (sym (c .before .same .ensures) ∙ not-true _ (c .if1 .taken))
 
--- src/lib.rt:189:9
 extent-of-requires : tie.Need-extent-of-requires
 extent-of-requires c κs = search needs
 
--- src/lib.rt:190:8
 cast-if2 : tie.Need-cast-if2
 cast-if2 c = search needs
 
--- src/lib.rt:191:9
 returns-2 : tie.Need-returns-2
 unfolding holdsMap named areaOf part zeros
 returns-2 c = and-t (sym (c .before .before .before .before .same .ensures) ∙ not-false _ (c .before .before .before .if1 .left)) (and-f _ (sym (ap (λ (x : Extent). eqb (x .start .0) (c .before .before .before .before .before .before .before .before .args .at)) (c .before .before .extent-of .ensures)) ∙ ne-eqb _ _ (c .if2 .taken)))
 
--- src/lib.rt:193:10
 mul-result : tie.Need-mul-result
 mul-result c = search needs
 
--- src/lib.rt:193:5
 add-result : tie.Need-add-result
 add-result c = search needs
 
--- src/lib.rt:193:33
 cast-result : tie.Need-cast-result
 cast-result c = search needs
 
--- src/lib.rt:182:1
 returns-3 : tie.Need-returns-3
 unfolding holdsMap named areaOf part zeros
 returns-3 c =

@@ -1,17 +1,12 @@
 use native.Mathlib.Omega.{arith}
-use Rattle.fmap_rules.proofs.Signature.{signed-number}
 use borrow.Author.Needs.{needs}
+use Rattle.fmap_rules.proofs.Signature.{signed-number}
 use Rattle.fmap_rules.proofs.is_signed.Statement.{statement}
 use Rattle.fmap_rules.proofs.is_signed.Tie as tie
-use Rattle.fmap_rules.proofs.is_signed.Reads as reads
-use Rattle.fmap_rules.proofs.is_signed.Lts as lts
-use Rattle.octets.proofs.load64.Reads as load64-reads
 
--- src/lib.rt:245:5
 load64-requires : tie.Need-load64-requires
 load64-requires c κs = search needs
 
--- src/lib.rt:241:1
 returns : tie.Need-returns
 returns c = signed-number _ _ _ (c .before .before .pre) (λ i. omega (arith, c .before .shared-slice-known .given i)) (c .load64 .ensures)
 

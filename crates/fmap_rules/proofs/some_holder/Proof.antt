@@ -1,18 +1,14 @@
+use mathlib.Core.Path.{_≡_, sym, ap, _∙_}
+use Prim.Native.Nat.{ℕ, _≤_, _-_}
+use native.Mathlib.Omega.{arith}
+use lib.ListN.{length, drop}
 use borrow.Author.Needs.{needs}
 use denote.Ref.{now}
-use lib.ListN.{length, drop}
-use Prim.Native.Nat.{ℕ, _≤_, _-_}
-use mathlib.Core.Path.{_≡_, refl, sym, ap, _∙_}
-use native.Mathlib.Omega.{arith}
 use Rattle.octets.specs.Tests.{any}
 use Rattle.fmap_rules.proofs.Areas.{length-areas, any-next, any-holds, any-over}
 use Rattle.fmap_rules.specs.Map.{holdsMap, areasIn}
 use Rattle.fmap_rules.proofs.some_holder.Statement.{statement}
 use Rattle.fmap_rules.proofs.some_holder.Tie as tie
-use Rattle.fmap_rules.proofs.some_holder.Reads as reads
-use Rattle.fmap_rules.proofs.some_holder.Lts as lts
-use Rattle.fmap_rules.proofs.area_at.Reads as area-at-reads
-use Rattle.fmap_rules.proofs.is_holder.Reads as is-holder-reads
 
 abbrev Inv-loop : tie.InvT-loop
 Inv-loop areas at n i₀ i = (i ≤ n) × (any (holdsMap at n) (drop i (areasIn areas)) ≡ any (holdsMap at (length (areasIn areas))) (areasIn areas))
@@ -20,35 +16,27 @@ Inv-loop areas at n i₀ i = (i ≤ n) × (any (holdsMap at n) (drop i (areasIn 
 abbrev μ-loop : tie.MeasureT-loop
 μ-loop areas at n i₀ i = n - i
 
--- src/lib.rt:201:5
 loop-holds : tie.Need-loop-holds Inv-loop μ-loop
 loop-holds c = (search needs, ap (λ (k : ℕ). any (holdsMap (c .before .args .at) k) (areasIn (now (c .before .args .areas)))) (sym (length-areas (now (c .before .args .areas)))))
 
--- src/lib.rt:202:22
 area-at-requires : tie.Need-area-at-requires Inv-loop μ-loop
 area-at-requires c κs = search needs
 
--- src/lib.rt:202:12
 is-holder-requires : tie.Need-is-holder-requires Inv-loop μ-loop
 is-holder-requires c κs = search needs
 
--- src/lib.rt:203:13
 returns : tie.Need-returns Inv-loop μ-loop
 returns c = any-holds _ (c .before .before .before .before .loop .i) (omega arith) _ (c .before .before .area-at .ensures .0) (holdsMap _ _) (sym (c .before .is-holder .ensures) ∙ (c .if1 .taken)) (c .before .before .before .before .loop .inv .1)
 
--- src/lib.rt:205:9
 add-i : tie.Need-add-i Inv-loop μ-loop
 add-i c = search needs
 
--- src/lib.rt:201:5
 loop-less : tie.Need-loop-less Inv-loop μ-loop
 loop-less c = search needs
 
--- src/lib.rt:201:5
 loop-again : tie.Need-loop-again Inv-loop μ-loop
 loop-again c = (omega arith, any-next _ (c .before .before .before .before .loop .i) (omega arith) _ (c .before .before .area-at .ensures .0) (holdsMap _ _) (sym (c .before .is-holder .ensures) ∙ (c .if1 .left)) (c .before .before .before .before .loop .inv .1))
 
--- src/lib.rt:195:1
 returns-2 : tie.Need-returns-2 Inv-loop μ-loop
 returns-2 c = any-over _ (c .before .loop .i) (omega arith) (holdsMap _ _) (c .before .loop .inv .1)
 
