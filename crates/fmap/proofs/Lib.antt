@@ -4,3 +4,4 @@ pub mod Finding
 pub mod Reading
 pub mod Letters
 pub mod Promises
+pub mod Named

@@ -12,6 +12,7 @@ use Rattle.fmap_rules.specs.Map.{position, areasOf, goodMap}
 use Rattle.fmap_rules.specs.Written.{mapBytes, Writable}
 use Rattle.fmap_carry.specs.Arrived.{Arrived}
 use Rattle.fmap.specs.Find.{accepted, findMap}
+use Rattle.fmap.specs.Areas.{areaNamed}
 use Rattle.fmap.specs.Carry.{carryImages}
 
 -- M10: what is found is a good map, and no lower position has one
@@ -40,3 +41,7 @@ WrittenIsFound =
     → 98 ≤ length image → length image ≤ 16777216
     → ((j : ℕ) → j < at → goodMap (put at (mapBytes (length image) name base minor areas) image) j ≡ false)
     → findMap (put at (mapBytes (length image) name base minor areas) image) ≡ accepted (position at)
+
+-- no area is found by a name of more than 31 bytes
+abbrev pub LongNameIsNothing : Type 0
+LongNameIsNothing = (image name : List ℕ) → areaNamed image name .answer ≡ accepted true → length name ≤ 31
