@@ -39,17 +39,20 @@ returns c = ap (countBy (now (c .before .before .before .before .args .image))) 
 
 returns-2 : tie.Need-returns-2
 unfolding countAreas
-returns-2 c = ap (countBy (now (c .before .before .before .before .args .image))) (sym (ap foundReply (c .enum-told2 .given .1)) ∙ (c .before .before .find .ensures))
+returns-2 c = ap (countBy (now (c .before .before .before .before .args .image)))
+    (sym (ap foundReply (c .enum-told2 .given .1)) ∙ (c .before .before .find .ensures))
 
 returns-3 : tie.Need-returns-3
 unfolding countAreas
-returns-3 c = ap (countBy (now (c .before .before .before .before .args .image))) (sym (ap foundReply (c .enum-told3 .given .1)) ∙ (c .before .before .find .ensures))
+returns-3 c = ap (countBy (now (c .before .before .before .before .args .image)))
+    (sym (ap foundReply (c .enum-told3 .given .1)) ∙ (c .before .before .find .ensures))
 
 returns-4 : tie.Need-returns-4
 unfolding countAreas
 returns-4 c =
     ap (λ (k : ℕ). accepted k) (sym (length-areas _)) ∙ ap (λ (l : List Area). accepted (length l)) (c .areas-at .ensures .0)
-    ∙ ap (countBy (now (c .before .before .before .before .before .before .args .image))) (sym (ap foundReply (c .before .before .p .given .1)) ∙ (c .before .before .before .before .find .ensures))
+    ∙ ap (countBy (now (c .before .before .before .before .before .before .args .image)))
+    (sym (ap foundReply (c .before .before .p .given .1)) ∙ (c .before .before .before .before .find .ensures))
 
 pub area-count-spec : {M : Type 1} → statement M
 area-count-spec =

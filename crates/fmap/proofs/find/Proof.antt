@@ -26,7 +26,9 @@ next-signed-requires : tie.Need-next-signed-requires Inv-loop μ-loop
 next-signed-requires c κs = search needs
 
 returns-3 : tie.Need-returns-3 Inv-loop μ-loop
-returns-3 c = let s = now (c .before .before .before .before .before .args .image) in find-41 s (in-range _ (c .before .before .before .if1 .left) (c .before .before .if2 .left)) (none-below s (signedAt s) _ (c .before .next-signed .ensures .0) (c .if3 .taken))
+returns-3 c = let s = now (c .before .before .before .before .before .args .image) in find-41 s
+    (in-range _ (c .before .before .before .if1 .left) (c .before .before .if2 .left))
+    (none-below s (signedAt s) _ (c .before .next-signed .ensures .0) (c .if3 .taken))
 
 loop-holds : tie.Need-loop-holds Inv-loop μ-loop
 loop-holds c = looking-starts _ _ (c .before .next-signed .ensures .0) (c .before .next-signed .ensures .1)
@@ -40,7 +42,9 @@ cast-t8 c = search needs
 returns-4 : tie.Need-returns-4 Inv-loop μ-loop
 returns-4 c =
     let s = now (c .before .before .before .before .before .before .before .before .before .args .image) in
-    finds s _ (c .before .before .before .before .before .before .before .if1 .left) (c .before .before .before .before .before .before .if2 .left) (some-below s (signedAt s) _ (c .before .before .before .before .before .next-signed .ensures .0) (c .before .before .before .before .if3 .left)) (c .before .before .loop-test .taken)
+    finds s _ (c .before .before .before .before .before .before .before .if1 .left) (c .before .before .before .before .before .before .if2 .left)
+    (some-below s (signedAt s) _ (c .before .before .before .before .before .next-signed .ensures .0) (c .before .before .before .before .if3 .left))
+    (c .before .before .loop-test .taken)
     (looking-hits s _ (c .before .before .before .loop .inv) (c .before .before .loop-test .taken) (sym (c .before .good-at .ensures) ∙ (c .if4 .taken)))
 
 add-next-signed : tie.Need-add-next-signed Inv-loop μ-loop
@@ -52,15 +56,25 @@ next-signed-requires-2 c κs = omega (arith, room _ _ (c .before .before .before
 loop-less : tie.Need-loop-less Inv-loop μ-loop
 loop-less c =
     let s = now (c .before .before .before .before .before .before .before .before .before .before .args .image) in
-    omega (arith, (c .next-signed2 .ensures .0), first-least (length s - ((c .before .before .before .before .loop .at) + 6)) ((c .before .before .before .before .loop .at) + 6) (signedAt s), room s _ (c .before .before .before .before .loop .inv) (c .before .before .before .loop-test .taken))
+    omega (
+      arith,
+      (c .next-signed2 .ensures .0),
+      first-least (length s - ((c .before .before .before .before .loop .at) + 6))
+          ((c .before .before .before .before .loop .at) + 6) (signedAt s),
+      room s _ (c .before .before .before .before .loop .inv)
+          (c .before .before .before .loop-test .taken),
+    )
 
 loop-again : tie.Need-loop-again Inv-loop μ-loop
-loop-again c = looking-goes _ _ (c .before .before .before .before .loop .inv) _ (c .before .before .before .loop-test .taken) (sym (c .before .before .good-at .ensures) ∙ (c .before .if4 .left)) (c .next-signed2 .ensures .0) (c .next-signed2 .ensures .1)
+loop-again c = looking-goes _ _ (c .before .before .before .before .loop .inv) _ (c .before .before .before .loop-test .taken)
+    (sym (c .before .before .good-at .ensures) ∙ (c .before .if4 .left)) (c .next-signed2 .ensures .0) (c .next-signed2 .ensures .1)
 
 returns-5 : tie.Need-returns-5 Inv-loop μ-loop
 returns-5 c =
     let s = now (c .before .before .before .before .before .before .before .args .image) in
-    find-42 s (in-range _ (c .before .before .before .before .before .if1 .left) (c .before .before .before .before .if2 .left)) (some-below s (signedAt s) _ (c .before .before .before .next-signed .ensures .0) (c .before .before .if3 .left)) (looking-ends s _ (c .before .loop .inv) (c .loop-test .left))
+    find-42 s (in-range _ (c .before .before .before .before .before .if1 .left) (c .before .before .before .before .if2 .left))
+    (some-below s (signedAt s) _ (c .before .before .before .next-signed .ensures .0) (c .before .before .if3 .left))
+    (looking-ends s _ (c .before .loop .inv) (c .loop-test .left))
 
 pub find-spec : {M : Type 1} → statement M
 find-spec =

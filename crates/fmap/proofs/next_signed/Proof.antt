@@ -37,7 +37,11 @@ is-signed-requires c κs = search needs
 
 returns : tie.Need-returns Inv-loop μ-loop
 unfolding signedAt
-returns c = let s = now (c .before .before .before .before .before .before .before .before .args .image) in (sym ((c .before .before .before .before .before .before .loop .inv .1) ∙ first-stop (length s) (c .before .before .before .before .before .before .loop .i) (signedAt s) (omega arith) (sym (c .before .is-signed .ensures) ∙ (c .if2 .taken))), omega arith)
+returns c = let s = now (c .before .before .before .before .before .before .before .before .args .image) in (
+  sym ((c .before .before .before .before .before .before .loop .inv .1) ∙ first-stop (length s) (c .before .before .before .before .before .before .loop .i)
+      (signedAt s) (omega arith) (sym (c .before .is-signed .ensures) ∙ (c .if2 .taken))),
+  omega arith,
+)
 
 add-i : tie.Need-add-i Inv-loop μ-loop
 add-i c = search needs
@@ -47,7 +51,11 @@ loop-less c = search needs
 
 loop-again : tie.Need-loop-again Inv-loop μ-loop
 unfolding signedAt
-loop-again c = let s = now (c .before .before .before .before .before .before .before .before .args .image) in (omega arith, (c .before .before .before .before .before .before .loop .inv .1) ∙ first-step (length s) (c .before .before .before .before .before .before .loop .i) (signedAt s) (omega arith) (sym (c .before .is-signed .ensures) ∙ (c .if2 .left)))
+loop-again c = let s = now (c .before .before .before .before .before .before .before .before .args .image) in (
+  omega arith,
+  (c .before .before .before .before .before .before .loop .inv .1) ∙ first-step (length s)
+      (c .before .before .before .before .before .before .loop .i) (signedAt s) (omega arith) (sym (c .before .is-signed .ensures) ∙ (c .if2 .left)),
+)
 
 add-i-2 : tie.Need-add-i-2 Inv-loop μ-loop
 add-i-2 c = search needs
@@ -57,8 +65,11 @@ loop-less-2 c = search needs
 
 loop-again-2 : tie.Need-loop-again-2 Inv-loop μ-loop
 loop-again-2 c =
-    let s = now (c .before .before .before .before .before .before .args .image) in
-    (omega arith, (c .before .before .before .before .loop .inv .1) ∙ first-skip 8 (length s) (c .before .before .before .before .loop .i) (signedAt s) (omega arith) (λ j a b. unsigned s (c .before .before .before .before .loop .i) j (sym (c .before .is-letter .ensures) ∙ (c .if1 .left)) a b))
+    let s = now (c .before .before .before .before .before .before .args .image) in (
+      omega arith,
+      (c .before .before .before .before .loop .inv .1) ∙ first-skip 8 (length s) (c .before .before .before .before .loop .i) (signedAt s) (omega arith)
+          (λ j a b. unsigned s (c .before .before .before .before .loop .i) j (sym (c .before .is-letter .ensures) ∙ (c .if1 .left)) a b),
+    )
 
 returns-2 : tie.Need-returns-2 Inv-loop μ-loop
 returns-2 c =

@@ -28,7 +28,8 @@ load16-requires c κs = search needs
 
 returns : tie.Need-returns
 unfolding part
-returns c = area-read _ _ _ _ _ (c .before .before .before .before .before .before .before .pre) refl (c .before .extent-of .ensures) (c .before .before .before .copy .ensures) (c .load16 .ensures)
+returns c = area-read _ _ _ _ _ (c .before .before .before .before .before .before .before .pre) refl (c .before .extent-of .ensures)
+    (c .before .before .before .copy .ensures) (c .load16 .ensures)
 
 pub read-area-spec : {M : Type 1} → statement M
 read-area-spec =

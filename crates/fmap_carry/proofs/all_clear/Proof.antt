@@ -24,7 +24,8 @@ clear-of-later-requires : tie.Need-clear-of-later-requires Inv-loop μ-loop
 clear-of-later-requires c κs = ((c .before .before .before .before .before .pre), omega arith)
 
 returns : tie.Need-returns Inv-loop μ-loop
-returns c = pairs-fails _ (c .before .before .before .loop .i) (omega arith) (clear _) (sym (c .before .clear-of-later .ensures) ∙ not-true _ (c .if1 .taken)) (c .before .before .before .loop .inv .1)
+returns c = pairs-fails _ (c .before .before .before .loop .i) (omega arith) (clear _) (sym (c .before .clear-of-later .ensures) ∙ not-true _ (c .if1 .taken))
+    (c .before .before .before .loop .inv .1)
 
 add-i : tie.Need-add-i Inv-loop μ-loop
 add-i c = search needs
@@ -33,7 +34,11 @@ loop-less : tie.Need-loop-less Inv-loop μ-loop
 loop-less c = search needs
 
 loop-again : tie.Need-loop-again Inv-loop μ-loop
-loop-again c = (omega arith, pairs-next _ (c .before .before .before .loop .i) (omega arith) (clear _) (sym (c .before .clear-of-later .ensures) ∙ not-false _ (c .if1 .left)) (c .before .before .before .loop .inv .1))
+loop-again c = (
+  omega arith,
+  pairs-next _ (c .before .before .before .loop .i) (omega arith) (clear _)
+      (sym (c .before .clear-of-later .ensures) ∙ not-false _ (c .if1 .left)) (c .before .before .before .loop .inv .1),
+)
 
 returns-2 : tie.Need-returns-2 Inv-loop μ-loop
 returns-2 c = pairs-over _ (c .before .loop .i) (omega arith) (clear _) (c .before .loop .inv .1)

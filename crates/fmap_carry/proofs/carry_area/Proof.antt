@@ -24,7 +24,11 @@ copy-area-requires : tie.Need-copy-area-requires
 copy-area-requires c κs =
     let a = areaOf (now (c .before .before .before .before .before .before .before .before .before .args .a)) in
     let p = sym (c .before .before .before .before .is-preserved .ensures) ∙ not-false _ (c .before .before .before .if1 .left) in
-    can-copy (now (c .before .before .before .before .before .before .before .before .before .args .old)) (areasIn (now (c .before .before .before .before .before .before .before .before .before .args .news))) a p _ _ (c .before .before .extent-of .ensures) (target-by (now (c .before .before .before .before .before .before .before .before .before .args .news)) a _ _ (c .before .before .before .before .before .before .before .before .before .pre .1) (c .place-of .ensures)) _ ((c .before .before .before .before .before .before .before .before .before .pre .2) p)
+    can-copy (now (c .before .before .before .before .before .before .before .before .before .args .old))
+    (areasIn (now (c .before .before .before .before .before .before .before .before .before .args .news))) a p _ _ (c .before .before .extent-of .ensures)
+    (target-by (now (c .before .before .before .before .before .before .before .before .before .args .news)) a _ _
+    (c .before .before .before .before .before .before .before .before .before .pre .1) (c .place-of .ensures)) _
+    ((c .before .before .before .before .before .before .before .before .before .pre .2) p)
 
 same-length : tie.Need-same-length
 same-length c = search needs
@@ -33,8 +37,12 @@ returns-2 : tie.Need-returns-2
 returns-2 c =
     let a = areaOf (now (c .before .before .before .before .before .before .before .before .before .before .before .before .args .a)) in
     (c .before .before .copy-area .ensures)
-    ∙ carry-by (now (c .before .before .before .before .before .before .before .before .before .before .before .before .args .old)) (areasIn (now (c .before .before .before .before .before .before .before .before .before .before .before .before .args .news))) a (sym (c .before .before .before .before .before .before .before .is-preserved .ensures) ∙ not-false _ (c .before .before .before .before .before .before .if1 .left)) _ _ (c .before .before .before .before .before .extent-of .ensures)
-    (target-by (now (c .before .before .before .before .before .before .before .before .before .before .before .before .args .news)) a _ _ (c .before .before .before .before .before .before .before .before .before .before .before .before .pre .1) (c .before .before .before .place-of .ensures)) _
+    ∙ carry-by (now (c .before .before .before .before .before .before .before .before .before .before .before .before .args .old))
+    (areasIn (now (c .before .before .before .before .before .before .before .before .before .before .before .before .args .news))) a
+    (sym (c .before .before .before .before .before .before .before .is-preserved .ensures) ∙ not-false _
+    (c .before .before .before .before .before .before .if1 .left)) _ _ (c .before .before .before .before .before .extent-of .ensures)
+    (target-by (now (c .before .before .before .before .before .before .before .before .before .before .before .before .args .news)) a _ _
+    (c .before .before .before .before .before .before .before .before .before .before .before .before .pre .1) (c .before .before .before .place-of .ensures)) _
 
 pub carry-area-spec : {M : Type 1} → statement M
 carry-area-spec =

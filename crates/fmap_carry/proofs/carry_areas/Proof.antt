@@ -40,7 +40,11 @@ slice-aggregate-write-areas c = search needs
 write-areas-requires : tie.Need-write-areas-requires
 write-areas-requires c κs = (
   (c .before .before .before .before .before .before .before .match-areas .ensures),
-  fitting (areasIn (now (c .before .before .before .before .before .before .before .before .before .before .before .before .before .args .olds))) (areasIn (now (c .before .before .before .before .before .before .before .before .before .before .before .before .before .args .news))) (sym (c .before .before .before .before .judge .ensures) ∙ ap judgedNumber (c .before .before .enum-told5 .given .1)) _ _ (c .before .before .before .before .before .before .before .before .before .before .before .before .before .pre .2) (c .before .before .before .before .before .before .before .before .before .before .before .before .before .pre .3),
+  fitting (areasIn (now (c .before .before .before .before .before .before .before .before .before .before .before .before .before .args .olds)))
+      (areasIn (now (c .before .before .before .before .before .before .before .before .before .before .before .before .before .args .news)))
+      (sym (c .before .before .before .before .judge .ensures) ∙ ap judgedNumber (c .before .before .enum-told5 .given .1)) _ _
+      (c .before .before .before .before .before .before .before .before .before .before .before .before .before .pre .2)
+      (c .before .before .before .before .before .before .before .before .before .before .before .before .before .pre .3),
 )
 
 returns : tie.Need-returns
@@ -59,7 +63,9 @@ same-length : tie.Need-same-length
 same-length c = search needs
 
 returns-5 : tie.Need-returns-5
-returns-5 c = accepts _ _ _ _ _ (sym (ap judgedNumber (c .before .before .before .before .before .enum-told5 .given .1)) ∙ (c .before .before .before .before .before .before .before .judge .ensures)) (c .before .before .write-areas .ensures)
+returns-5 c = accepts _ _ _ _ _
+    (sym (ap judgedNumber (c .before .before .before .before .before .enum-told5 .given .1)) ∙
+    (c .before .before .before .before .before .before .before .judge .ensures)) (c .before .before .write-areas .ensures)
 
 pub carry-areas-spec : {M : Type 1} → statement M
 carry-areas-spec =

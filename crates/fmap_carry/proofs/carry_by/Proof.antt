@@ -38,7 +38,9 @@ same-length c = search needs
 returns : tie.Need-returns
 returns c =
     (c .before .before .carry-areas .ensures)
-    ∙ ap₂ (λ (olds news : List Area). carryAreas (now (c .before .before .before .before .before .before .before .before .before .before .before .before .args .old)) olds (now (c .before .before .before .before .before .before .before .before .before .before .before .before .args .new)) news) (c .before .before .before .before .before .areas-at .ensures .0) (c .before .before .before .before .before .before .before .keep-areas .ensures .0)
+    ∙ ap₂ (λ (olds news : List Area). carryAreas (now (c .before .before .before .before .before .before .before .before .before .before .before .before .args .old))
+    olds (now (c .before .before .before .before .before .before .before .before .before .before .before .before .args .new)) news)
+    (c .before .before .before .before .before .areas-at .ensures .0) (c .before .before .before .before .before .before .before .keep-areas .ensures .0)
 
 pub carry-by-spec : {M : Type 1} → statement M
 carry-by-spec =

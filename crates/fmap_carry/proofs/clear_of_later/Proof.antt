@@ -15,7 +15,8 @@ use Rattle.fmap_carry.proofs.clear_of_later.Tie as tie
 
 abbrev Inv-loop : tie.InvT-loop
 Inv-loop olds news twins i x n j₀ j =
-    (j ≤ n) × (all (clear (areasIn news) (getD (areasIn olds) i blank)) (drop j (areasIn olds)) ≡ all (clear (areasIn news) (getD (areasIn olds) i blank)) (drop (i + 1) (areasIn olds)))
+    (j ≤ n) × (all (clear (areasIn news) (getD (areasIn olds) i blank)) (drop j (areasIn olds)) ≡ all (clear (areasIn news) (getD (areasIn olds) i blank))
+    (drop (i + 1) (areasIn olds)))
 
 abbrev μ-loop : tie.MeasureT-loop
 μ-loop olds news twins i x n j₀ j = n - j
@@ -36,7 +37,8 @@ loop-holds : tie.Need-loop-holds Inv-loop μ-loop
 loop-holds c = search needs
 
 shared-slice-read-place-of-2 : tie.Need-shared-slice-read-place-of-2 Inv-loop μ-loop
-shared-slice-read-place-of-2 c = matched-long _ _ _ (c .before .before .before .before .before .before .before .before .pre .0) (c .before .before .loop .j) (omega arith)
+shared-slice-read-place-of-2 c = matched-long _ _ _ (c .before .before .before .before .before .before .before .before .pre .0) (c .before .before .loop .j)
+    (omega arith)
 
 cast-place-of-2 : tie.Need-cast-place-of-2 Inv-loop μ-loop
 cast-place-of-2 c = omega (arith, (c .shared-slice-known5 .given) (c .before .before .loop .j))
@@ -55,8 +57,17 @@ is-clear-requires c κs = search needs
 
 returns : tie.Need-returns Inv-loop μ-loop
 returns c =
-    all-fails _ (c .before .before .before .before .before .before .before .loop .j) (omega arith) (now (c .before .before .area-at2 .result)) (c .before .before .area-at2 .ensures .0) (clear (areasIn (now (c .before .before .before .before .before .before .before .before .before .before .before .before .before .args .news))) (getD (areasIn (now (c .before .before .before .before .before .before .before .before .before .before .before .before .before .args .olds))) (c .before .before .before .before .before .before .before .before .before .before .before .before .before .args .i) blank))
-    (clear-at _ _ _ (c .before .before .before .before .before .before .before .before .before .before .before .before .before .pre .0) (c .before .before .before .before .before .before .before .before .before .before .before .before .before .args .i) (c .before .before .before .before .before .before .before .loop .j) (c .before .before .before .before .before .before .before .before .before .before .before .before .before .pre .1) (omega arith) _ _ _ _ (c .before .before .before .area-at .ensures .0) (c .before .before .area-at2 .ensures .0) (c .before .before .before .before .before .before .before .before .place-of .ensures) (c .before .before .before .before .place-of2 .ensures)
+    all-fails _ (c .before .before .before .before .before .before .before .loop .j) (omega arith) (now (c .before .before .area-at2 .result))
+    (c .before .before .area-at2 .ensures .0)
+    (clear (areasIn (now (c .before .before .before .before .before .before .before .before .before .before .before .before .before .args .news)))
+    (getD (areasIn (now (c .before .before .before .before .before .before .before .before .before .before .before .before .before .args .olds)))
+    (c .before .before .before .before .before .before .before .before .before .before .before .before .before .args .i) blank))
+    (clear-at _ _ _ (c .before .before .before .before .before .before .before .before .before .before .before .before .before .pre .0)
+    (c .before .before .before .before .before .before .before .before .before .before .before .before .before .args .i)
+    (c .before .before .before .before .before .before .before .loop .j)
+    (c .before .before .before .before .before .before .before .before .before .before .before .before .before .pre .1) (omega arith) _ _ _ _
+    (c .before .before .before .area-at .ensures .0) (c .before .before .area-at2 .ensures .0)
+    (c .before .before .before .before .before .before .before .before .place-of .ensures) (c .before .before .before .before .place-of2 .ensures)
     ∙ sym (c .before .is-clear .ensures) ∙ not-true _ (c .if1 .taken))
     (c .before .before .before .before .before .before .before .loop .inv .1)
 
@@ -69,8 +80,17 @@ loop-less c = search needs
 loop-again : tie.Need-loop-again Inv-loop μ-loop
 loop-again c = (
   omega arith,
-  all-next _ (c .before .before .before .before .before .before .before .loop .j) (omega arith) (now (c .before .before .area-at2 .result)) (c .before .before .area-at2 .ensures .0) (clear (areasIn (now (c .before .before .before .before .before .before .before .before .before .before .before .before .before .args .news))) (getD (areasIn (now (c .before .before .before .before .before .before .before .before .before .before .before .before .before .args .olds))) (c .before .before .before .before .before .before .before .before .before .before .before .before .before .args .i) blank))
-      (clear-at _ _ _ (c .before .before .before .before .before .before .before .before .before .before .before .before .before .pre .0) (c .before .before .before .before .before .before .before .before .before .before .before .before .before .args .i) (c .before .before .before .before .before .before .before .loop .j) (c .before .before .before .before .before .before .before .before .before .before .before .before .before .pre .1) (omega arith) _ _ _ _ (c .before .before .before .area-at .ensures .0) (c .before .before .area-at2 .ensures .0) (c .before .before .before .before .before .before .before .before .place-of .ensures) (c .before .before .before .before .place-of2 .ensures)
+  all-next _ (c .before .before .before .before .before .before .before .loop .j) (omega arith) (now (c .before .before .area-at2 .result))
+      (c .before .before .area-at2 .ensures .0)
+      (clear (areasIn (now (c .before .before .before .before .before .before .before .before .before .before .before .before .before .args .news)))
+      (getD (areasIn (now (c .before .before .before .before .before .before .before .before .before .before .before .before .before .args .olds)))
+      (c .before .before .before .before .before .before .before .before .before .before .before .before .before .args .i) blank))
+      (clear-at _ _ _ (c .before .before .before .before .before .before .before .before .before .before .before .before .before .pre .0)
+      (c .before .before .before .before .before .before .before .before .before .before .before .before .before .args .i)
+      (c .before .before .before .before .before .before .before .loop .j)
+      (c .before .before .before .before .before .before .before .before .before .before .before .before .before .pre .1) (omega arith) _ _ _ _
+      (c .before .before .before .area-at .ensures .0) (c .before .before .area-at2 .ensures .0)
+      (c .before .before .before .before .before .before .before .before .place-of .ensures) (c .before .before .before .before .place-of2 .ensures)
       ∙ sym (c .before .is-clear .ensures) ∙ not-false _ (c .if1 .left))
       (c .before .before .before .before .before .before .before .loop .inv .1),
 )

@@ -20,7 +20,8 @@ is-preserved-requires-2 c κs = search needs
 
 returns-2 : tie.Need-returns-2
 unfolding clearBy
-returns-2 c = or-f (ap not (sym (c .before .before .before .is-preserved .ensures)) ∙ (c .before .before .if1 .left)) (or-t _ (ap not (sym (c .before .is-preserved2 .ensures)) ∙ (c .if2 .taken)))
+returns-2 c = or-f (ap not (sym (c .before .before .before .is-preserved .ensures)) ∙ (c .before .before .if1 .left))
+    (or-t _ (ap not (sym (c .before .is-preserved2 .ensures)) ∙ (c .if2 .taken)))
 
 extent-of-requires : tie.Need-extent-of-requires
 extent-of-requires c κs = search needs
@@ -34,9 +35,11 @@ is-disjoint-requires c κs = search needs
 returns-3 : tie.Need-returns-3
 unfolding clearBy
 returns-3 c =
-    or-f (ap not (sym (c .before .before .before .before .before .before .before .is-preserved .ensures)) ∙ (c .before .before .before .before .before .before .if1 .left))
+    or-f (ap not (sym (c .before .before .before .before .before .before .before .is-preserved .ensures)) ∙
+    (c .before .before .before .before .before .before .if1 .left))
     (or-f (ap not (sym (c .before .before .before .before .before .is-preserved2 .ensures)) ∙ (c .before .before .before .before .if2 .left))
-    (and-f _ (sym ((c .before .is-disjoint .ensures) ∙ ap₂ disjoint (c .before .before .before .extent-of .ensures) (c .before .before .extent-of2 .ensures)) ∙ not-true _ (c .if3 .taken))))
+    (and-f _ (sym ((c .before .is-disjoint .ensures) ∙ ap₂ disjoint (c .before .before .before .extent-of .ensures) (c .before .before .extent-of2 .ensures)) ∙
+    not-true _ (c .if3 .taken))))
 
 is-disjoint-requires-2 : tie.Need-is-disjoint-requires-2
 is-disjoint-requires-2 c κs = search needs
@@ -44,9 +47,11 @@ is-disjoint-requires-2 c κs = search needs
 returns-4 : tie.Need-returns-4
 unfolding clearBy
 returns-4 c =
-    or-f (ap not (sym (c .before .before .before .before .before .before .before .before .is-preserved .ensures)) ∙ (c .before .before .before .before .before .before .before .if1 .left))
+    or-f (ap not (sym (c .before .before .before .before .before .before .before .before .is-preserved .ensures)) ∙
+    (c .before .before .before .before .before .before .before .if1 .left))
     (or-f (ap not (sym (c .before .before .before .before .before .before .is-preserved2 .ensures)) ∙ (c .before .before .before .before .before .if2 .left))
-    (and-t (sym ((c .before .before .is-disjoint .ensures) ∙ ap₂ disjoint (c .before .before .before .before .extent-of .ensures) (c .before .before .before .extent-of2 .ensures)) ∙ not-false _ (c .before .if3 .left)) (c .is-disjoint2 .ensures)))
+    (and-t (sym ((c .before .before .is-disjoint .ensures) ∙ ap₂ disjoint (c .before .before .before .before .extent-of .ensures)
+    (c .before .before .before .extent-of2 .ensures)) ∙ not-false _ (c .before .if3 .left)) (c .is-disjoint2 .ensures)))
 
 pub is-clear-spec : {M : Type 1} → statement M
 is-clear-spec =

@@ -21,7 +21,9 @@ place-of-requires : tie.Need-place-of-requires
 place-of-requires c κs = search needs
 
 returns-2 : tie.Need-returns-2
-returns-2 c = other-size-by _ _ (sym (c .before .before .before .before .before .is-preserved .ensures) ∙ not-false _ (c .before .before .before .before .if1 .left)) _ (c .before .before .before .before .before .before .before .before .pre .1) _ _ (c .before .before .before .extent-of .ensures) (c .before .before .place-of .ensures)
+returns-2 c = other-size-by _ _ (sym (c .before .before .before .before .before .is-preserved .ensures) ∙ not-false _ (c .before .before .before .before .if1 .left))
+    _ (c .before .before .before .before .before .before .before .before .pre .1) _ _ (c .before .before .before .extent-of .ensures)
+    (c .before .before .place-of .ensures)
 
 pub is-other-size-spec : {M : Type 1} → statement M
 is-other-size-spec =

@@ -14,7 +14,11 @@ same-length : tie.Need-same-length
 same-length c = search needs
 
 returns : tie.Need-returns
-returns c = (kept-are _ _ _ _ (omega arith) (c .before .before .copy .ensures) (c .before .before .before .before .areas-at .ensures .0), (c .before .before .before .before .areas-at .ensures .1), kept-length _ _ _ (omega arith) (c .before .before .copy .ensures))
+returns c = (
+  kept-are _ _ _ _ (omega arith) (c .before .before .copy .ensures) (c .before .before .before .before .areas-at .ensures .0),
+  (c .before .before .before .before .areas-at .ensures .1),
+  kept-length _ _ _ (omega arith) (c .before .before .copy .ensures),
+)
 
 pub keep-areas-spec : {M : Type 1} → statement M
 keep-areas-spec = tie.close (tie.spec areas-at-requires copy-requires same-length returns)

@@ -20,7 +20,8 @@ place-of-requires c κs = search needs
 
 returns : tie.Need-returns
 unfolding withName zeros
-returns c = (c .place-of .ensures) ∙ ap (λ (k : ℕ). getD (areasIn (now (c .before .before .before .before .args .news))) k blank .place) (c .before .find-named .ensures .0)
+returns c = (c .place-of .ensures) ∙ ap (λ (k : ℕ). getD (areasIn (now (c .before .before .before .before .args .news))) k blank .place)
+    (c .before .find-named .ensures .0)
 
 pub map-place-spec : {M : Type 1} → statement M
 map-place-spec =

@@ -52,8 +52,11 @@ loop-again : tie.Need-loop-again Inv-loop μ-loop
 unfolding areaOf part
 loop-again c = (
   omega arith,
-  matched-more _ _ (c .before .before .before .before .loop .twins) (c .before .before .before .before .loop .i) _ (omega arith) (c .before .before .before .before .loop .inv .1)
-      ((c .find-named .ensures .0) ∙ ap (λ (a : Area). findIx (named (a .name)) (areasIn (now (c .before .before .before .before .before .before .before .before .args .news)))) (c .before .before .area-at .ensures .0)),
+  matched-more _ _ (c .before .before .before .before .loop .twins) (c .before .before .before .before .loop .i) _ (omega arith)
+      (c .before .before .before .before .loop .inv .1)
+      ((c .find-named .ensures .0) ∙ ap
+      (λ (a : Area). findIx (named (a .name)) (areasIn (now (c .before .before .before .before .before .before .before .before .args .news))))
+      (c .before .before .area-at .ensures .0)),
   length-set (c .before .before .before .before .loop .twins) (c .before .before .before .before .loop .i) _ ∙ (c .before .before .before .before .loop .inv .2),
 )
 

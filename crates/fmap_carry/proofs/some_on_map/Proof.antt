@@ -27,16 +27,23 @@ area-at-requires : tie.Need-area-at-requires Inv-loop μ-loop
 area-at-requires c κs = search needs
 
 shared-slice-read-is-on-map : tie.Need-shared-slice-read-is-on-map Inv-loop μ-loop
-shared-slice-read-is-on-map c = matched-long _ _ _ (c .before .before .before .before .before .before .before .before .pre) (c .before .before .before .loop .i) (omega arith)
+shared-slice-read-is-on-map c = matched-long _ _ _ (c .before .before .before .before .before .before .before .before .pre) (c .before .before .before .loop .i)
+    (omega arith)
 
 cast-is-on-map : tie.Need-cast-is-on-map Inv-loop μ-loop
 cast-is-on-map c = omega (arith, (c .shared-slice-known4 .given) (c .before .before .before .loop .i))
 
 is-on-map-requires : tie.Need-is-on-map-requires Inv-loop μ-loop
-is-on-map-requires c κs = ((c .before .area-at .ensures .1), matched-at _ _ _ (c .before .before .before .before .before .before .before .before .pre) (c .before .before .before .loop .i) _ (omega arith) (c .before .area-at .ensures .0), (c .before .before .before .before .map-place .ensures))
+is-on-map-requires c κs = (
+  (c .before .area-at .ensures .1),
+  matched-at _ _ _ (c .before .before .before .before .before .before .before .before .pre) (c .before .before .before .loop .i)
+      _ (omega arith) (c .before .area-at .ensures .0),
+  (c .before .before .before .before .map-place .ensures),
+)
 
 returns : tie.Need-returns Inv-loop μ-loop
-returns c = any-holds _ (c .before .before .before .before .before .loop .i) (omega arith) _ (c .before .before .before .area-at .ensures .0) (onMap _) (sym (c .before .is-on-map .ensures) ∙ (c .if1 .taken)) (c .before .before .before .before .before .loop .inv .1)
+returns c = any-holds _ (c .before .before .before .before .before .loop .i) (omega arith) _ (c .before .before .before .area-at .ensures .0) (onMap _)
+    (sym (c .before .is-on-map .ensures) ∙ (c .if1 .taken)) (c .before .before .before .before .before .loop .inv .1)
 
 add-i : tie.Need-add-i Inv-loop μ-loop
 add-i c = search needs
@@ -45,7 +52,11 @@ loop-less : tie.Need-loop-less Inv-loop μ-loop
 loop-less c = search needs
 
 loop-again : tie.Need-loop-again Inv-loop μ-loop
-loop-again c = (omega arith, any-next _ (c .before .before .before .before .before .loop .i) (omega arith) _ (c .before .before .before .area-at .ensures .0) (onMap _) (sym (c .before .is-on-map .ensures) ∙ (c .if1 .left)) (c .before .before .before .before .before .loop .inv .1))
+loop-again c = (
+  omega arith,
+  any-next _ (c .before .before .before .before .before .loop .i) (omega arith) _ (c .before .before .before .area-at .ensures .0)
+      (onMap _) (sym (c .before .is-on-map .ensures) ∙ (c .if1 .left)) (c .before .before .before .before .before .loop .inv .1),
+)
 
 returns-2 : tie.Need-returns-2 Inv-loop μ-loop
 returns-2 c = any-over _ (c .before .loop .i) (omega arith) (onMap _) (c .before .loop .inv .1)

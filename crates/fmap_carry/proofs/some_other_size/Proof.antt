@@ -24,16 +24,22 @@ area-at-requires : tie.Need-area-at-requires Inv-loop μ-loop
 area-at-requires c κs = search needs
 
 shared-slice-read-is-other-size : tie.Need-shared-slice-read-is-other-size Inv-loop μ-loop
-shared-slice-read-is-other-size c = matched-long _ _ _ (c .before .before .before .before .before .before .before .pre) (c .before .before .before .loop .i) (omega arith)
+shared-slice-read-is-other-size c = matched-long _ _ _ (c .before .before .before .before .before .before .before .pre) (c .before .before .before .loop .i)
+    (omega arith)
 
 cast-is-other-size : tie.Need-cast-is-other-size Inv-loop μ-loop
 cast-is-other-size c = omega (arith, (c .shared-slice-known4 .given) (c .before .before .before .loop .i))
 
 is-other-size-requires : tie.Need-is-other-size-requires Inv-loop μ-loop
-is-other-size-requires c κs = ((c .before .area-at .ensures .1), matched-at _ _ _ (c .before .before .before .before .before .before .before .pre) (c .before .before .before .loop .i) _ (omega arith) (c .before .area-at .ensures .0))
+is-other-size-requires c κs = (
+  (c .before .area-at .ensures .1),
+  matched-at _ _ _ (c .before .before .before .before .before .before .before .pre) (c .before .before .before .loop .i) _
+      (omega arith) (c .before .area-at .ensures .0),
+)
 
 returns : tie.Need-returns Inv-loop μ-loop
-returns c = any-holds _ (c .before .before .before .before .before .loop .i) (omega arith) _ (c .before .before .before .area-at .ensures .0) (otherSize _) (sym (c .before .is-other-size .ensures) ∙ (c .if1 .taken)) (c .before .before .before .before .before .loop .inv .1)
+returns c = any-holds _ (c .before .before .before .before .before .loop .i) (omega arith) _ (c .before .before .before .area-at .ensures .0) (otherSize _)
+    (sym (c .before .is-other-size .ensures) ∙ (c .if1 .taken)) (c .before .before .before .before .before .loop .inv .1)
 
 add-i : tie.Need-add-i Inv-loop μ-loop
 add-i c = search needs
@@ -42,7 +48,11 @@ loop-less : tie.Need-loop-less Inv-loop μ-loop
 loop-less c = search needs
 
 loop-again : tie.Need-loop-again Inv-loop μ-loop
-loop-again c = (omega arith, any-next _ (c .before .before .before .before .before .loop .i) (omega arith) _ (c .before .before .before .area-at .ensures .0) (otherSize _) (sym (c .before .is-other-size .ensures) ∙ (c .if1 .left)) (c .before .before .before .before .before .loop .inv .1))
+loop-again c = (
+  omega arith,
+  any-next _ (c .before .before .before .before .before .loop .i) (omega arith) _ (c .before .before .before .area-at .ensures .0)
+      (otherSize _) (sym (c .before .is-other-size .ensures) ∙ (c .if1 .left)) (c .before .before .before .before .before .loop .inv .1),
+)
 
 returns-2 : tie.Need-returns-2 Inv-loop μ-loop
 returns-2 c = any-over _ (c .before .loop .i) (omega arith) (otherSize _) (c .before .loop .inv .1)

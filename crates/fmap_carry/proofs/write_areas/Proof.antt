@@ -27,7 +27,8 @@ area-at-requires : tie.Need-area-at-requires Inv-loop μ-loop
 area-at-requires c κs = search needs
 
 shared-slice-read-carry-area : tie.Need-shared-slice-read-carry-area Inv-loop μ-loop
-shared-slice-read-carry-area c = matched-long _ _ _ (c .before .before .before .before .before .before .before .before .before .pre .0) (c .before .before .before .loop .i) (omega arith)
+shared-slice-read-carry-area c = matched-long _ _ _ (c .before .before .before .before .before .before .before .before .before .pre .0)
+    (c .before .before .before .loop .i) (omega arith)
 
 cast-carry-area : tie.Need-cast-carry-area Inv-loop μ-loop
 cast-carry-area c = omega (arith, (c .shared-slice-known5 .given) (c .before .before .before .loop .i))
@@ -35,8 +36,10 @@ cast-carry-area c = omega (arith, (c .shared-slice-known5 .given) (c .before .be
 carry-area-requires : tie.Need-carry-area-requires Inv-loop μ-loop
 carry-area-requires c κs = (
   (c .before .before .area-at .ensures .1),
-  matched-at _ _ _ (c .before .before .before .before .before .before .before .before .before .before .pre .0) (c .before .before .before .before .loop .i) _ (omega arith) (c .before .before .area-at .ensures .0),
-  λ p. fit-at _ _ _ _ _ (c .before .before .before .before .loop .i) _ (c .before .before .before .before .before .before .before .before .before .before .pre .1) (omega arith) (c .before .before .area-at .ensures .0) (c .before .before .before .before .loop .inv .1) p,
+  matched-at _ _ _ (c .before .before .before .before .before .before .before .before .before .before .pre .0) (c .before .before .before .before .loop .i) _
+      (omega arith) (c .before .before .area-at .ensures .0),
+  λ p. fit-at _ _ _ _ _ (c .before .before .before .before .loop .i) _ (c .before .before .before .before .before .before .before .before .before .before .pre .1)
+      (omega arith) (c .before .before .area-at .ensures .0) (c .before .before .before .before .loop .inv .1) p,
 )
 
 add-i : tie.Need-add-i Inv-loop μ-loop
@@ -49,15 +52,22 @@ loop-again : tie.Need-loop-again Inv-loop μ-loop
 loop-again c = (
   omega arith,
   ap length (c .before .before .carry-area .ensures) ∙ length-area _ _ _ _ ∙ (c .before .before .before .before .before .before .before .loop .inv .1),
-  carried-next _ _ (areasIn (now (c .before .before .before .before .before .before .before .before .before .before .before .before .before .args .olds))) (c .before .before .before .before .before .before .before .loop .i) (c .before .before .before .before .before .before .before .loop .new) _ _ (omega (arith, length-areas (now (c .before .before .before .before .before .before .before .before .before .before .before .before .before .args .olds))))
-      ((c .before .before .carry-area .ensures) ∙ ap (λ (a : Area). carryArea (now (c .before .before .before .before .before .before .before .before .before .before .before .before .before .args .old)) (areasIn (now (c .before .before .before .before .before .before .before .before .before .before .before .before .before .args .news))) a (c .before .before .before .before .before .before .before .loop .new)) (c .before .before .before .before .before .area-at .ensures .0)) (c .before .before .before .before .before .before .before .loop .inv .2),
+  carried-next _ _ (areasIn (now (c .before .before .before .before .before .before .before .before .before .before .before .before .before .args .olds)))
+      (c .before .before .before .before .before .before .before .loop .i) (c .before .before .before .before .before .before .before .loop .new) _ _
+      (omega (arith, length-areas (now (c .before .before .before .before .before .before .before .before .before .before .before .before .before .args .olds))))
+      ((c .before .before .carry-area .ensures) ∙ ap
+      (λ (a : Area). carryArea (now (c .before .before .before .before .before .before .before .before .before .before .before .before .before .args .old))
+      (areasIn (now (c .before .before .before .before .before .before .before .before .before .before .before .before .before .args .news))) a
+      (c .before .before .before .before .before .before .before .loop .new)) (c .before .before .before .before .before .area-at .ensures .0))
+      (c .before .before .before .before .before .before .before .loop .inv .2),
 )
 
 same-length : tie.Need-same-length Inv-loop μ-loop
 same-length c = search needs
 
 returns : tie.Need-returns Inv-loop μ-loop
-returns c = carried-over _ _ (areasIn (now (c .before .before .before .before .before .before .before .args .olds))) (c .before .loop .i) _ _ (omega (arith, length-areas (now (c .before .before .before .before .before .before .before .args .olds)))) (c .before .loop .inv .2)
+returns c = carried-over _ _ (areasIn (now (c .before .before .before .before .before .before .before .args .olds))) (c .before .loop .i) _ _
+    (omega (arith, length-areas (now (c .before .before .before .before .before .before .before .args .olds)))) (c .before .loop .inv .2)
 
 pub write-areas-spec : {M : Type 1} → statement M
 write-areas-spec =

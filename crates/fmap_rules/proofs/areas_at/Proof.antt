@@ -21,7 +21,11 @@ areas-of-requires : tie.Need-areas-of-requires
 areas-of-requires c κs = rw rest-slice (good-fits _ _ (c .before .before .before .pre) .whole)
 
 returns : tie.Need-returns
-returns c = (areas-are _ _ _ (c .areas-of .ensures .0), omega (arith, (c .areas-of .ensures .1), rw (← rest-slice _ _) at (good-fits _ _ (c .before .before .before .before .pre) .few)))
+returns c = (
+  areas-are _ _ _ (c .areas-of .ensures .0),
+  omega
+      (arith, (c .areas-of .ensures .1), rw (← rest-slice _ _) at (good-fits _ _ (c .before .before .before .before .pre) .few)),
+)
 
 pub areas-at-spec : {M : Type 1} → statement M
 areas-at-spec =

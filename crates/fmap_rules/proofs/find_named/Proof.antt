@@ -38,7 +38,12 @@ same-requires c κs = search needs
 
 returns : tie.Need-returns Inv-loop μ-loop
 unfolding named areaOf part
-returns c = (find-here _ (c .before .before .before .before .before .loop .i) (omega arith) (now (c .before .before .before .area-at .result)) (c .before .before .before .area-at .ensures .0) (named _) (sym (c .before .same .ensures) ∙ (c .if1 .taken)) (c .before .before .before .before .before .loop .inv .1), omega arith)
+returns c = (
+  find-here _ (c .before .before .before .before .before .loop .i) (omega arith) (now (c .before .before .before .area-at .result))
+      (c .before .before .before .area-at .ensures .0) (named _) (sym (c .before .same .ensures) ∙ (c .if1 .taken))
+      (c .before .before .before .before .before .loop .inv .1),
+  omega arith,
+)
 
 add-i : tie.Need-add-i Inv-loop μ-loop
 add-i c = search needs
@@ -48,7 +53,12 @@ loop-less c = search needs
 
 loop-again : tie.Need-loop-again Inv-loop μ-loop
 unfolding named areaOf part
-loop-again c = (omega arith, find-next _ (c .before .before .before .before .before .loop .i) (omega arith) (now (c .before .before .before .area-at .result)) (c .before .before .before .area-at .ensures .0) (named _) (sym (c .before .same .ensures) ∙ (c .if1 .left)) (c .before .before .before .before .before .loop .inv .1))
+loop-again c = (
+  omega arith,
+  find-next _ (c .before .before .before .before .before .loop .i) (omega arith) (now (c .before .before .before .area-at .result))
+      (c .before .before .before .area-at .ensures .0) (named _) (sym (c .before .same .ensures) ∙ (c .if1 .left))
+      (c .before .before .before .before .before .loop .inv .1),
+)
 
 returns-2 : tie.Need-returns-2 Inv-loop μ-loop
 returns-2 c = (find-over _ (c .before .loop .i) (omega arith) (named _) (c .before .loop .inv .1), omega arith)

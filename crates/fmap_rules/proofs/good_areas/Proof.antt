@@ -18,14 +18,16 @@ some-holder-requires c κs = search needs
 
 returns-2 : tie.Need-returns-2
 unfolding goodAreas
-returns-2 c = and-t (sym (c .before .before .before .each-good .ensures) ∙ not-false _ (c .before .before .if1 .left)) (and-f _ (sym (c .before .some-holder .ensures) ∙ not-true _ (c .if2 .taken)))
+returns-2 c = and-t (sym (c .before .before .before .each-good .ensures) ∙ not-false _ (c .before .before .if1 .left))
+    (and-f _ (sym (c .before .some-holder .ensures) ∙ not-true _ (c .if2 .taken)))
 
 pairs-good-requires : tie.Need-pairs-good-requires
 pairs-good-requires c κs = search needs
 
 returns-3 : tie.Need-returns-3
 unfolding goodAreas
-returns-3 c = and-t (sym (c .before .before .before .before .each-good .ensures) ∙ not-false _ (c .before .before .before .if1 .left)) (and-t (sym (c .before .before .some-holder .ensures) ∙ not-false _ (c .before .if2 .left)) (c .pairs-good .ensures))
+returns-3 c = and-t (sym (c .before .before .before .before .each-good .ensures) ∙ not-false _ (c .before .before .before .if1 .left))
+    (and-t (sym (c .before .before .some-holder .ensures) ∙ not-false _ (c .before .if2 .left)) (c .pairs-good .ensures))
 
 pub good-areas-spec : {M : Type 1} → statement M
 good-areas-spec =

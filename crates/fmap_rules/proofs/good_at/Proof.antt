@@ -31,12 +31,15 @@ areas-of-requires : tie.Need-areas-of-requires
 areas-of-requires c κs = header-fits _ _ (sym (c .before .good-header .ensures) ∙ not-false _ (c .if1 .left)) .whole
 
 good-areas-requires : tie.Need-good-areas-requires
-good-areas-requires c κs = let f = header-fits _ _ (sym (c .before .before .good-header .ensures) ∙ not-false _ (c .before .if1 .left)) in omega (arith, f .few, (c .areas-of .ensures .1))
+good-areas-requires c κs = let f = header-fits _ _ (sym (c .before .before .good-header .ensures) ∙ not-false _ (c .before .if1 .left)) in omega
+    (arith, f .few, (c .areas-of .ensures .1))
 
 returns-2 : tie.Need-returns-2
 returns-2 c =
     by-areas _ _ _ (rest-slice _ _) (sym (c .before .before .before .good-header .ensures) ∙ not-false _ (c .before .before .if1 .left))
-    ((c .good-areas .ensures) ∙ ap (λ (l : List ℕ). goodAreas (length (now (c .before .before .before .before .before .before .args .image))) (c .before .before .before .before .before .before .args .at) (areasIn l)) (c .before .areas-of .ensures .0))
+    ((c .good-areas .ensures) ∙ ap
+    (λ (l : List ℕ). goodAreas (length (now (c .before .before .before .before .before .before .args .image)))
+    (c .before .before .before .before .before .before .args .at) (areasIn l)) (c .before .areas-of .ensures .0))
 
 pub good-at-spec : {M : Type 1} → statement M
 good-at-spec =

@@ -21,14 +21,17 @@ shared-slice-read-if3 c = search needs
 
 returns-3 : tie.Need-returns-3
 unfolding rest part
-returns-3 c = other-major _ _ (c .before .before .before .before .if1 .left) (sym (c .before .before .before .is-signed .ensures) ∙ not-false _ (c .before .before .if2 .left)) (c .if3 .taken)
+returns-3 c = other-major _ _ (c .before .before .before .before .if1 .left)
+    (sym (c .before .before .before .is-signed .ensures) ∙ not-false _ (c .before .before .if2 .left)) (c .if3 .taken)
 
 shared-slice-read-if4 : tie.Need-shared-slice-read-if4
 shared-slice-read-if4 c = search needs
 
 returns-4 : tie.Need-returns-4
 unfolding rest part
-returns-4 c = other-minor _ _ (c .before .before .before .before .before .before .if1 .left) (sym (c .before .before .before .before .before .is-signed .ensures) ∙ not-false _ (c .before .before .before .before .if2 .left)) (c .before .before .if3 .left) (c .if4 .taken)
+returns-4 c = other-minor _ _ (c .before .before .before .before .before .before .if1 .left)
+    (sym (c .before .before .before .before .before .is-signed .ensures) ∙ not-false _ (c .before .before .before .before .if2 .left)) (c .before .before .if3 .left)
+    (c .if4 .taken)
 
 load32-requires : tie.Need-load32-requires
 load32-requires c κs = search needs
@@ -38,19 +41,30 @@ cast-if5 c = search needs
 
 returns-5 : tie.Need-returns-5
 unfolding rest part
-returns-5 c = other-size _ _ (c .before .before .before .before .before .before .before .before .if1 .left) (sym (c .before .before .before .before .before .before .before .is-signed .ensures) ∙ not-false _ (c .before .before .before .before .before .before .if2 .left)) (c .before .before .before .before .if3 .left) (c .before .before .if4 .left) (λ q. (c .if5 .taken) ((c .before .load32 .ensures) ∙ q))
+returns-5 c = other-size _ _ (c .before .before .before .before .before .before .before .before .if1 .left)
+    (sym (c .before .before .before .before .before .before .before .is-signed .ensures) ∙ not-false _
+    (c .before .before .before .before .before .before .if2 .left)) (c .before .before .before .before .if3 .left) (c .before .before .if4 .left)
+    (λ q. (c .if5 .taken) ((c .before .load32 .ensures) ∙ q))
 
 count-of-requires : tie.Need-count-of-requires
 count-of-requires c κs = search needs
 
 returns-6 : tie.Need-returns-6
 unfolding rest part
-returns-6 c = no-area _ _ (c .before .before .before .before .before .before .before .before .before .before .if1 .left) (sym (c .before .before .before .before .before .before .before .before .before .is-signed .ensures) ∙ not-false _ (c .before .before .before .before .before .before .before .before .if2 .left)) (c .before .before .before .before .before .before .if3 .left) (c .before .before .before .before .if4 .left) (sym (c .before .before .before .load32 .ensures) ∙ (c .before .before .if5 .left)) (rw (← (c .before .count-of .ensures)) (c .if6 .taken))
+returns-6 c = no-area _ _ (c .before .before .before .before .before .before .before .before .before .before .if1 .left)
+    (sym (c .before .before .before .before .before .before .before .before .before .is-signed .ensures) ∙ not-false _
+    (c .before .before .before .before .before .before .before .before .if2 .left)) (c .before .before .before .before .before .before .if3 .left)
+    (c .before .before .before .before .if4 .left) (sym (c .before .before .before .load32 .ensures) ∙ (c .before .before .if5 .left))
+    (rw (← (c .before .count-of .ensures)) (c .if6 .taken))
 
 returns-7 : tie.Need-returns-7
 unfolding rest part
 returns-7 c =
-    too-many _ _ (c .before .before .before .before .before .before .before .before .before .before .before .if1 .left) (sym (c .before .before .before .before .before .before .before .before .before .before .is-signed .ensures) ∙ not-false _ (c .before .before .before .before .before .before .before .before .before .if2 .left)) (c .before .before .before .before .before .before .before .if3 .left) (c .before .before .before .before .before .if4 .left) (sym (c .before .before .before .before .load32 .ensures) ∙ (c .before .before .before .if5 .left)) (rw (← (c .before .before .count-of .ensures)) (c .before .if6 .left))
+    too-many _ _ (c .before .before .before .before .before .before .before .before .before .before .before .if1 .left)
+    (sym (c .before .before .before .before .before .before .before .before .before .before .is-signed .ensures) ∙ not-false _
+    (c .before .before .before .before .before .before .before .before .before .if2 .left)) (c .before .before .before .before .before .before .before .if3 .left)
+    (c .before .before .before .before .before .if4 .left) (sym (c .before .before .before .before .load32 .ensures) ∙ (c .before .before .before .if5 .left))
+    (rw (← (c .before .before .count-of .ensures)) (c .before .if6 .left))
     (rw (← (c .before .before .count-of .ensures)) (c .if7 .taken))
 
 mul-if8 : tie.Need-mul-if8
@@ -62,7 +76,12 @@ add-if8 c = search needs
 returns-8 : tie.Need-returns-8
 unfolding rest part
 returns-8 c =
-    cut-off _ _ (c .before .before .before .before .before .before .before .before .before .before .before .before .if1 .left) (sym (c .before .before .before .before .before .before .before .before .before .before .before .is-signed .ensures) ∙ not-false _ (c .before .before .before .before .before .before .before .before .before .before .if2 .left)) (c .before .before .before .before .before .before .before .before .if3 .left) (c .before .before .before .before .before .before .if4 .left) (sym (c .before .before .before .before .before .load32 .ensures) ∙ (c .before .before .before .before .if5 .left)) (rw (← (c .before .before .before .count-of .ensures)) (c .before .before .if6 .left))
+    cut-off _ _ (c .before .before .before .before .before .before .before .before .before .before .before .before .if1 .left)
+    (sym (c .before .before .before .before .before .before .before .before .before .before .before .is-signed .ensures) ∙ not-false _
+    (c .before .before .before .before .before .before .before .before .before .before .if2 .left))
+    (c .before .before .before .before .before .before .before .before .if3 .left) (c .before .before .before .before .before .before .if4 .left)
+    (sym (c .before .before .before .before .before .load32 .ensures) ∙ (c .before .before .before .before .if5 .left))
+    (rw (← (c .before .before .before .count-of .ensures)) (c .before .before .if6 .left))
     (rw (← (c .before .before .before .count-of .ensures)) (c .before .if7 .left)) (rw (← (c .before .before .before .count-of .ensures)) (c .if8 .taken))
 
 sub-is-legal-name : tie.Need-sub-is-legal-name
@@ -80,8 +99,15 @@ is-legal-name-requires c κs = search needs
 returns-9 : tie.Need-returns-9
 unfolding rest part
 returns-9 c =
-    by-name _ _ (c .before .before .before .before .before .before .before .before .before .before .before .before .before .before .if1 .left) (sym (c .before .before .before .before .before .before .before .before .before .before .before .before .before .is-signed .ensures) ∙ not-false _ (c .before .before .before .before .before .before .before .before .before .before .before .before .if2 .left)) (c .before .before .before .before .before .before .before .before .before .before .if3 .left) (c .before .before .before .before .before .before .before .before .if4 .left) (sym (c .before .before .before .before .before .before .before .load32 .ensures) ∙ (c .before .before .before .before .before .before .if5 .left)) (rw (← (c .before .before .before .before .before .count-of .ensures)) (c .before .before .before .before .if6 .left))
-    (rw (← (c .before .before .before .before .before .count-of .ensures)) (c .before .before .before .if7 .left)) (rw (← (c .before .before .before .before .before .count-of .ensures)) (c .before .before .if8 .left)) (c .is-legal-name .ensures)
+    by-name _ _ (c .before .before .before .before .before .before .before .before .before .before .before .before .before .before .if1 .left)
+    (sym (c .before .before .before .before .before .before .before .before .before .before .before .before .before .is-signed .ensures) ∙ not-false _
+    (c .before .before .before .before .before .before .before .before .before .before .before .before .if2 .left))
+    (c .before .before .before .before .before .before .before .before .before .before .if3 .left)
+    (c .before .before .before .before .before .before .before .before .if4 .left)
+    (sym (c .before .before .before .before .before .before .before .load32 .ensures) ∙ (c .before .before .before .before .before .before .if5 .left))
+    (rw (← (c .before .before .before .before .before .count-of .ensures)) (c .before .before .before .before .if6 .left))
+    (rw (← (c .before .before .before .before .before .count-of .ensures)) (c .before .before .before .if7 .left))
+    (rw (← (c .before .before .before .before .before .count-of .ensures)) (c .before .before .if8 .left)) (c .is-legal-name .ensures)
 
 pub good-header-spec : {M : Type 1} → statement M
 good-header-spec =

@@ -17,14 +17,16 @@ is-inside-requires c κs = search needs
 
 returns-2 : tie.Need-returns-2
 unfolding disjointOrNested
-returns-2 c = or-f (sym (c .before .before .before .is-disjoint .ensures) ∙ (c .before .before .if1 .left)) (or-t _ (sym (c .before .is-inside .ensures) ∙ (c .if2 .taken)))
+returns-2 c = or-f (sym (c .before .before .before .is-disjoint .ensures) ∙ (c .before .before .if1 .left))
+    (or-t _ (sym (c .before .is-inside .ensures) ∙ (c .if2 .taken)))
 
 is-inside-requires-2 : tie.Need-is-inside-requires-2
 is-inside-requires-2 c κs = search needs
 
 returns-3 : tie.Need-returns-3
 unfolding disjointOrNested
-returns-3 c = or-f (sym (c .before .before .before .before .is-disjoint .ensures) ∙ (c .before .before .before .if1 .left)) (or-f (sym (c .before .before .is-inside .ensures) ∙ (c .before .if2 .left)) (c .is-inside2 .ensures))
+returns-3 c = or-f (sym (c .before .before .before .before .is-disjoint .ensures) ∙ (c .before .before .before .if1 .left))
+    (or-f (sym (c .before .before .is-inside .ensures) ∙ (c .before .if2 .left)) (c .is-inside2 .ensures))
 
 pub is-disjoint-or-nested-spec : {M : Type 1} → statement M
 is-disjoint-or-nested-spec =

@@ -23,7 +23,9 @@ returns-2 : tie.Need-returns-2
 unfolding goodArea
 returns-2 c =
     and-t (sym (ap (λ (x : Extent). leb 1 (x .size)) (c .before .before .before .before .extent-of .ensures)) ∙ le-leb _ _ (c .before .before .if1 .left))
-    (and-f _ (sym (ap (λ (x : Extent). leb (endOf x) (c .before .before .before .before .before .before .args .len)) (c .before .before .before .before .extent-of .ensures)) ∙ lt-leb (endOf (c .before .before .before .before .extent-of .result)) (c .before .before .before .before .before .before .args .len) (rw (← (c .before .end-of .ensures)) (c .if2 .taken))))
+    (and-f _ (sym (ap (λ (x : Extent). leb (endOf x) (c .before .before .before .before .before .before .args .len))
+    (c .before .before .before .before .extent-of .ensures)) ∙ lt-leb (endOf (c .before .before .before .before .extent-of .result))
+    (c .before .before .before .before .before .before .args .len) (rw (← (c .before .end-of .ensures)) (c .if2 .taken))))
 
 sub-is-legal-name : tie.Need-sub-is-legal-name
 sub-is-legal-name c = search needs
@@ -40,8 +42,12 @@ is-legal-name-requires c κs = search needs
 returns-3 : tie.Need-returns-3
 unfolding goodArea areaOf part
 returns-3 c =
-    and-t (sym (ap (λ (x : Extent). leb 1 (x .size)) (c .before .before .before .before .before .before .extent-of .ensures)) ∙ le-leb _ _ (c .before .before .before .before .if1 .left))
-    (and-t (sym (ap (λ (x : Extent). leb (endOf x) (c .before .before .before .before .before .before .before .before .args .len)) (c .before .before .before .before .before .before .extent-of .ensures)) ∙ le-leb (endOf (c .before .before .before .before .before .before .extent-of .result)) (c .before .before .before .before .before .before .before .before .args .len) (rw (← (c .before .before .before .end-of .ensures)) (c .before .before .if2 .left))) (c .is-legal-name .ensures))
+    and-t (sym (ap (λ (x : Extent). leb 1 (x .size)) (c .before .before .before .before .before .before .extent-of .ensures)) ∙ le-leb _ _
+    (c .before .before .before .before .if1 .left))
+    (and-t (sym (ap (λ (x : Extent). leb (endOf x) (c .before .before .before .before .before .before .before .before .args .len))
+    (c .before .before .before .before .before .before .extent-of .ensures)) ∙ le-leb (endOf (c .before .before .before .before .before .before .extent-of .result))
+    (c .before .before .before .before .before .before .before .before .args .len)
+    (rw (← (c .before .before .before .end-of .ensures)) (c .before .before .if2 .left))) (c .is-legal-name .ensures))
 
 pub is-good-area-spec : {M : Type 1} → statement M
 is-good-area-spec =

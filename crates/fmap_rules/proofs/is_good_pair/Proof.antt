@@ -43,7 +43,8 @@ is-disjoint-or-nested-requires c κs = search needs
 
 returns-2 : tie.Need-returns-2
 unfolding goodPair named areaOf part
-returns-2 c = and-t (ap not (sym (c .before .before .before .before .same .ensures) ∙ (c .before .before .before .if1 .left))) (rw (← (c .before .before .extent-of .ensures), ← (c .before .extent-of2 .ensures)) (c .is-disjoint-or-nested .ensures))
+returns-2 c = and-t (ap not (sym (c .before .before .before .before .same .ensures) ∙ (c .before .before .before .if1 .left)))
+    (rw (← (c .before .before .extent-of .ensures), ← (c .before .extent-of2 .ensures)) (c .is-disjoint-or-nested .ensures))
 
 pub is-good-pair-spec : {M : Type 1} → statement M
 is-good-pair-spec =

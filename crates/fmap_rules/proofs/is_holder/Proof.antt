@@ -36,7 +36,9 @@ cast-if2 c = search needs
 
 returns-2 : tie.Need-returns-2
 unfolding holdsMap named areaOf part zeros
-returns-2 c = and-t (sym (c .before .before .before .before .same .ensures) ∙ not-false _ (c .before .before .before .if1 .left)) (and-f _ (sym (ap (λ (x : Extent). eqb (x .start .0) (c .before .before .before .before .before .before .before .before .args .at)) (c .before .before .extent-of .ensures)) ∙ ne-eqb _ _ (c .if2 .taken)))
+returns-2 c = and-t (sym (c .before .before .before .before .same .ensures) ∙ not-false _ (c .before .before .before .if1 .left))
+    (and-f _ (sym (ap (λ (x : Extent). eqb (x .start .0) (c .before .before .before .before .before .before .before .before .args .at))
+    (c .before .before .extent-of .ensures)) ∙ ne-eqb _ _ (c .if2 .taken)))
 
 mul-result : tie.Need-mul-result
 mul-result c = search needs
@@ -51,8 +53,10 @@ returns-3 : tie.Need-returns-3
 unfolding holdsMap named areaOf part zeros
 returns-3 c =
     and-t (sym (c .before .before .before .before .before .same .ensures) ∙ not-false _ (c .before .before .before .before .if1 .left))
-    (and-t (sym (ap (λ (x : Extent). eqb (x .start .0) (c .before .before .before .before .before .before .before .before .before .args .at)) (c .before .before .before .extent-of .ensures)) ∙ eq-eqb _ _ (c .before .if2 .left))
-    (ap (λ (x : Extent). leb (mapSize (c .before .before .before .before .before .before .before .before .before .args .count)) (x .size)) (c .before .before .before .extent-of .ensures)))
+    (and-t (sym (ap (λ (x : Extent). eqb (x .start .0) (c .before .before .before .before .before .before .before .before .before .args .at))
+    (c .before .before .before .extent-of .ensures)) ∙ eq-eqb _ _ (c .before .if2 .left))
+    (ap (λ (x : Extent). leb (mapSize (c .before .before .before .before .before .before .before .before .before .args .count)) (x .size))
+    (c .before .before .before .extent-of .ensures)))
 
 pub is-holder-spec : {M : Type 1} → statement M
 is-holder-spec =

@@ -33,7 +33,9 @@ is-zero-requires c κs = search needs
 
 returns-3 : tie.Need-returns-3
 unfolding legalName
-returns-3 c = rw (← (c .before .before .before .before .name-length .ensures .0)) (and-t (le-leb _ _ (c .before .before .before .if1 .left)) (and-t (le-leb _ _ (c .before .before .if2 .left)) ((c .is-zero .ensures) ∙ ap isZero (rest-slice _ _))))
+returns-3 c = rw (← (c .before .before .before .before .name-length .ensures .0))
+    (and-t (le-leb _ _ (c .before .before .before .if1 .left))
+    (and-t (le-leb _ _ (c .before .before .if2 .left)) ((c .is-zero .ensures) ∙ ap isZero (rest-slice _ _))))
 
 pub is-legal-name-spec : {M : Type 1} → statement M
 is-legal-name-spec =
