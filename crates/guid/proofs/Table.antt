@@ -88,15 +88,15 @@ module _ (t : List ℕ) where
 
     pub passed-on : same t (take (getD cs i noType .length) (getD cs i noType .name)) ≡ false → Passed t i → Passed t (i + 1)
     unfolding shortAt
-    passed-on e p = record { below = omega arith; rest = findIx-on (isNamed t) shortNames noName i h (named ∙ e) (p .rest) }
+    passed-on e p = record { below = omega arith; rest = p .rest ∙ findIx-on (isNamed t) shortNames noName i h (named ∙ e) }
 
     pub found : same t (take (getD cs i noType .length) (getD cs i noType .name)) ≡ true → Passed t i → i ≡ shortAt t
     unfolding shortAt
-    found e p = sym (findIx-stop (isNamed t) shortNames noName i h (named ∙ e) (p .rest))
+    found e p = sym (p .rest ∙ findIx-stop (isNamed t) shortNames noName i h (named ∙ e))
 
   pub passed-all : (i : ℕ) → 5 ≤ i → Passed t i → 5 ≡ shortAt t
   unfolding shortAt
-  passed-all i h p = let b = p .below in sym (findIx-done (isNamed t) shortNames i h (p .rest) ∙ omega arith)
+  passed-all i h p = let b = p .below in sym (p .rest ∙ findIx-done (isNamed t) shortNames i h ∙ omega arith)
 
 -- ---- short names in reading
 

@@ -88,3 +88,26 @@ some-none {A} {a} e = let z : _≡_ {A = ℕ} 0 1 = cc in omega arith
 pub option-cases : (o : Option ℕ) → (o ≡ none) ⊎ ((s : ℕ) × (o ≡ some s))
 option-cases none = inl refl
 option-cases (some s) = inr (s, refl)
+
+-- ---- an answer along a row of tests: the first test decides, or it is passed over
+
+pub and-f : {a : Bool} (b : Bool) → a ≡ false → false ≡ (a and b)
+unfolding _and_
+and-f {a} b e = rw e
+
+pub and-t : {a b r : Bool} → a ≡ true → r ≡ b → r ≡ (a and b)
+unfolding _and_
+and-t {a} {b} {r} e f = rw e f
+
+pub or-t : {a : Bool} (b : Bool) → a ≡ true → true ≡ (a or b)
+unfolding _or_
+or-t {a} b e = rw e
+
+pub or-f : {a b r : Bool} → a ≡ false → r ≡ b → r ≡ (a or b)
+unfolding _or_
+or-f {a} {b} {r} e f = rw e f
+
+pub and-last : (a : Bool) {r : Bool} → r ≡ a → r ≡ (a and true)
+unfolding _and_
+and-last true e = e
+and-last false e = e

@@ -93,3 +93,12 @@ unfolding part
 part-part i m a k xs h =
     let e : k ≡ i + (k - i) = omega arith in
     rw e (ap (take m) (drop-take i (k - i) (drop a xs)) ∙ take-take m (k - i) (drop i (drop a xs)) (omega arith) ∙ ap (take m) (drop-drop i a xs))
+
+pub part-of-rest : (i k at : ℕ) (xs : List ℕ) → part i k (rest at xs) ≡ part (at + i) k xs
+unfolding part rest
+part-of-rest i k at xs = ap (take k) (drop-drop i at xs)
+
+-- what a part lent from k to the end holds
+pub rest-slice : (k : ℕ) (xs : List ℕ) → take (length xs - k) (drop k xs) ≡ rest k xs
+unfolding rest
+rest-slice k xs = take-all (length xs - k) (drop k xs) (simp length-drop (omega arith))

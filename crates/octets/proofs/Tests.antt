@@ -1,12 +1,11 @@
 -- Laws of tests over lists: at an index, from every index, and along a loop.
-use mathlib.Core.Path.{_≡_, refl}
+use mathlib.Core.Path.{_≡_, refl, sym, _∙_}
 use mathlib.Core.Logic.{_⊎_, inl, inr}
 use mathlib.Core.Bool.{Bool, true, false, false≢true}
-use mathlib.Core.List.{List, [], _∷_, _++_, reverseAux, reverse}
+use mathlib.Core.List.{List, [], _∷_, _++_, map, reverseAux, reverse}
 use Prim.Native.Nat.{ℕ, zero, suc, _+_, _≤_, _<_, suc-le-suc}
-use native.Mathlib.Nat.{le-of-suc-le-suc, not-suc-le-zero, zero-lt-suc}
+use native.Mathlib.Nat.{le-of-suc-le-suc, not-suc-le-zero, zero-lt-suc, add-zero, add-suc, suc-add}
 use native.Mathlib.Numerals.{add-one}
-use native.Mathlib.Omega.{arith}
 use lib.ListN.{length, getD, take, drop, drop-of-length-le}
 use lib.Seq.{drop-cons}
 use Rattle.octets.specs.Tests.{_and_, _or_, all, any, pairs, findIx}
@@ -128,16 +127,20 @@ module _ {A : Type 0} where
   pub pairs-done : (r : A → A → Bool) (xs : List A) (i : ℕ) → length xs ≤ i → pairs r (drop i xs) ≡ true
   pairs-done r xs i h = rw (drop-of-length-le xs {i = i} h)
 
-  -- a loop against `findIx`: i elements passed over, and what is found in the rest
+  -- and against `findIx`: what a loop has counted and what the rest finds make the whole
+
   pub findIx-on : (p : A → Bool) (xs : List A) (d : A) (i : ℕ) → i < length xs → p (getD xs i d) ≡ false
-      → findIx p xs ≡ i + findIx p (drop i xs) → findIx p xs ≡ i + 1 + findIx p (drop (i + 1) xs)
-  findIx-on p xs d i h e q =
-      let s : findIx p (drop i xs) ≡ suc (findIx p (drop (i + 1) xs)) = rw (drop-cons xs i d, e, findIx, add-one) in omega arith
+      → i + findIx p (drop i xs) ≡ i + 1 + findIx p (drop (i + 1) xs)
+  findIx-on p xs d i h e = rw (drop-cons xs i d, findIx, e, add-one) (add-suc i _ ∙ sym (suc-add i _))
 
-  pub findIx-stop : (p : A → Bool) (xs : List A) (d : A) (i : ℕ) → i < length xs → p (getD xs i d) ≡ true
-      → findIx p xs ≡ i + findIx p (drop i xs) → findIx p xs ≡ i
-  findIx-stop p xs d i h e q =
-      let s : findIx p (drop i xs) ≡ 0 = rw (drop-cons xs i d, e, findIx) in omega arith
+  pub findIx-stop : (p : A → Bool) (xs : List A) (d : A) (i : ℕ) → i < length xs → p (getD xs i d) ≡ true → i + findIx p (drop i xs) ≡ i
+  findIx-stop p xs d i h e = rw (drop-cons xs i d, findIx, e) (add-zero i)
 
-  pub findIx-done : (p : A → Bool) (xs : List A) (i : ℕ) → length xs ≤ i → findIx p xs ≡ i + findIx p (drop i xs) → findIx p xs ≡ i
-  findIx-done p xs i h q = let s : findIx p (drop i xs) ≡ 0 = rw (drop-of-length-le xs {i = i} h) in omega arith
+  pub findIx-done : (p : A → Bool) (xs : List A) (i : ℕ) → length xs ≤ i → i + findIx p (drop i xs) ≡ i
+  findIx-done p xs i h = rw (drop-of-length-le xs {i = i} h) (add-zero i)
+
+module _ {A B : Type 0} where
+  pub getD-map : (f : A → B) (xs : List A) (i : ℕ) (y : B) (d : A) → i < length xs → getD (map f xs) i y ≡ f (getD xs i d)
+  getD-map f [] i y d h = absurd (not-suc-le-zero h)
+  getD-map f (x ∷ xs) zero y d h = refl
+  getD-map f (x ∷ xs) (suc i) y d h = getD-map f xs i y d (le-of-suc-le-suc h)

@@ -29,7 +29,7 @@ returns c =
     let es = entries (now (c .before .before .before .before .before .args .t)) in
     let l = c .before .before .before .loop in
     let k = length-entries (now (c .before .before .before .before .before .args .t)) in
-    (sym (findIx-stop unused es [] (l .i) (omega arith) (sym (c .before .is-unused .ensures) ∙ c .if1 .taken) (l .inv .1)), omega arith)
+    (sym (l .inv .1 ∙ findIx-stop unused es [] (l .i) (omega arith) (sym (c .before .is-unused .ensures) ∙ c .if1 .taken)), omega arith)
 
 add-i : tie.Need-add-i Inv-loop μ-loop
 add-i c = search needs
@@ -42,14 +42,14 @@ loop-again c =
     let es = entries (now (c .before .before .before .before .before .args .t)) in
     let l = c .before .before .before .loop in
     let k = length-entries (now (c .before .before .before .before .before .args .t)) in
-    (omega arith, findIx-on unused es [] (l .i) (omega arith) (sym (c .before .is-unused .ensures) ∙ c .if1 .left) (l .inv .1))
+    (omega arith, l .inv .1 ∙ findIx-on unused es [] (l .i) (omega arith) (sym (c .before .is-unused .ensures) ∙ c .if1 .left))
 
 returns-2 : tie.Need-returns-2 Inv-loop μ-loop
 returns-2 c =
     let es = entries (now (c .before .before .before .args .t)) in
     let l = c .before .loop in
     let k = length-entries (now (c .before .before .before .args .t)) in
-    (sym (findIx-done unused es (l .i) (omega arith) (l .inv .1)), omega arith)
+    (sym (l .inv .1 ∙ findIx-done unused es (l .i) (omega arith)), omega arith)
 
 pub first-unused-spec : {M : Type 1} → statement M
 first-unused-spec =

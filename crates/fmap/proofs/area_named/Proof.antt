@@ -1,0 +1,91 @@
+use mathlib.Core.List.{List}
+use mathlib.Core.Path.{sym, ap, _∙_}
+use borrow.Author.Needs.{needs}
+use denote.Ref.{now}
+use Rattle.octets.specs.Tests.{findIx}
+use Rattle.fmap_rules.specs.declared.Area.{Area}
+use Rattle.fmap.proofs.Finding.{found-good}
+use Rattle.fmap.specs.Areas.{areaNamed, areaBy, areaIn, called}
+use Rattle.fmap.specs.Find.{foundReply}
+use Rattle.fmap.proofs.area_named.Statement.{statement}
+use Rattle.fmap.proofs.area_named.Tie as tie
+
+find-requires : tie.Need-find-requires
+find-requires c κs = search needs
+
+enum-told : tie.Need-enum-told
+enum-told c = search needs
+
+no-area-requires : tie.Need-no-area-requires
+no-area-requires c κs = search needs
+
+enum-told-2 : tie.Need-enum-told-2
+enum-told-2 c = search needs
+
+no-area-requires-2 : tie.Need-no-area-requires-2
+no-area-requires-2 c κs = search needs
+
+enum-told-3 : tie.Need-enum-told-3
+enum-told-3 c = search needs
+
+no-area-requires-3 : tie.Need-no-area-requires-3
+no-area-requires-3 c κs = search needs
+
+enum-known-p : tie.Need-enum-known-p
+enum-known-p c = search needs
+
+areas-at-requires : tie.Need-areas-at-requires
+areas-at-requires c κs = found-good _ _ (sym (c .before .before .before .find .ensures) ∙ ap foundReply (c .before .p .given .1))
+
+area-called-requires : tie.Need-area-called-requires
+area-called-requires c κs = search needs
+
+returns : tie.Need-returns
+unfolding areaNamed
+returns c = (c .no-area .ensures) ∙ ap
+    (areaBy (now (c .before .before .before .before .before .before .args .image))
+    (findIx (called (now (c .before .before .before .before .before .before .args .name)))))
+    (sym (ap foundReply (c .before .enum-told .given .1)) ∙ (c .before .before .before .find .ensures))
+
+returns-2 : tie.Need-returns-2
+unfolding areaNamed
+returns-2 c = (c .no-area2 .ensures) ∙ ap
+    (areaBy (now (c .before .before .before .before .before .before .args .image))
+    (findIx (called (now (c .before .before .before .before .before .before .args .name)))))
+    (sym (ap foundReply (c .before .enum-told2 .given .1)) ∙ (c .before .before .before .find .ensures))
+
+returns-3 : tie.Need-returns-3
+unfolding areaNamed
+returns-3 c = (c .no-area3 .ensures) ∙ ap
+    (areaBy (now (c .before .before .before .before .before .before .args .image))
+    (findIx (called (now (c .before .before .before .before .before .before .args .name)))))
+    (sym (ap foundReply (c .before .enum-told3 .given .1)) ∙ (c .before .before .before .find .ensures))
+
+returns-4 : tie.Need-returns-4
+unfolding areaNamed
+returns-4 c =
+    (c .area-called .ensures) ∙ ap
+    (λ (l : List Area). areaIn l (findIx (called (now (c .before .before .before .before .before .before .before .before .args .name))) l))
+    (c .before .areas-at .ensures .0)
+    ∙ ap (areaBy (now (c .before .before .before .before .before .before .before .before .args .image))
+    (findIx (called (now (c .before .before .before .before .before .before .before .before .args .name)))))
+    (sym (ap foundReply (c .before .before .before .p .given .1)) ∙ (c .before .before .before .before .before .find .ensures))
+
+pub area-named-spec : {M : Type 1} → statement M
+area-named-spec =
+    tie.close
+    (tie.spec
+    find-requires
+    enum-told
+    no-area-requires
+    enum-told-2
+    no-area-requires-2
+    enum-told-3
+    no-area-requires-3
+    enum-known-p
+    areas-at-requires
+    area-called-requires
+    returns
+    returns-2
+    returns-3
+    returns-4)

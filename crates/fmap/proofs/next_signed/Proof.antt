@@ -1,0 +1,98 @@
+use mathlib.Core.Path.{_≡_, sym, _∙_}
+use Prim.Native.Nat.{_≤_, _-_}
+use native.Mathlib.Omega.{arith}
+use lib.ListN.{length}
+use borrow.Author.Needs.{needs}
+use denote.Ref.{now}
+use Rattle.fmap.specs.Find.{signedAt}
+use Rattle.fmap.specs.Lowest.{firstFrom}
+use Rattle.fmap.proofs.Lowest.{first-step, first-skip, first-stop, first-none}
+use Rattle.fmap.proofs.Finding.{signed-short, unsigned}
+use Rattle.fmap.proofs.next_signed.Statement.{statement}
+use Rattle.fmap.proofs.next_signed.Tie as tie
+
+abbrev Inv-loop : tie.InvT-loop
+Inv-loop image from i₀ i = (i ≤ length image) × (firstFrom (length image - from) from (signedAt image) ≡ firstFrom (length image - i) i (signedAt image))
+
+abbrev μ-loop : tie.MeasureT-loop
+μ-loop image from i₀ i = length image - i
+
+loop-holds : tie.Need-loop-holds Inv-loop μ-loop
+loop-holds c = search needs
+
+add-loop : tie.Need-add-loop Inv-loop μ-loop
+add-loop c = search needs
+
+add-is-letter : tie.Need-add-is-letter Inv-loop μ-loop
+add-is-letter c = search needs
+
+shared-slice-read-is-letter : tie.Need-shared-slice-read-is-letter Inv-loop μ-loop
+shared-slice-read-is-letter c = search needs
+
+is-letter-requires : tie.Need-is-letter-requires Inv-loop μ-loop
+is-letter-requires c κs = search needs
+
+is-signed-requires : tie.Need-is-signed-requires Inv-loop μ-loop
+is-signed-requires c κs = search needs
+
+returns : tie.Need-returns Inv-loop μ-loop
+unfolding signedAt
+returns c = let s = now (c .before .before .before .before .before .before .before .before .args .image) in (
+  sym ((c .before .before .before .before .before .before .loop .inv .1) ∙ first-stop (length s) (c .before .before .before .before .before .before .loop .i)
+      (signedAt s) (omega arith) (sym (c .before .is-signed .ensures) ∙ (c .if2 .taken))),
+  omega arith,
+)
+
+add-i : tie.Need-add-i Inv-loop μ-loop
+add-i c = search needs
+
+loop-less : tie.Need-loop-less Inv-loop μ-loop
+loop-less c = search needs
+
+loop-again : tie.Need-loop-again Inv-loop μ-loop
+unfolding signedAt
+loop-again c = let s = now (c .before .before .before .before .before .before .before .before .args .image) in (
+  omega arith,
+  (c .before .before .before .before .before .before .loop .inv .1) ∙ first-step (length s)
+      (c .before .before .before .before .before .before .loop .i) (signedAt s) (omega arith) (sym (c .before .is-signed .ensures) ∙ (c .if2 .left)),
+)
+
+add-i-2 : tie.Need-add-i-2 Inv-loop μ-loop
+add-i-2 c = search needs
+
+loop-less-2 : tie.Need-loop-less-2 Inv-loop μ-loop
+loop-less-2 c = search needs
+
+loop-again-2 : tie.Need-loop-again-2 Inv-loop μ-loop
+loop-again-2 c =
+    let s = now (c .before .before .before .before .before .before .args .image) in (
+      omega arith,
+      (c .before .before .before .before .loop .inv .1) ∙ first-skip 8 (length s) (c .before .before .before .before .loop .i) (signedAt s) (omega arith)
+          (λ j a b. unsigned s (c .before .before .before .before .loop .i) j (sym (c .before .is-letter .ensures) ∙ (c .if1 .left)) a b),
+    )
+
+returns-2 : tie.Need-returns-2 Inv-loop μ-loop
+returns-2 c =
+    let s = now (c .before .before .before .args .image) in
+    (sym ((c .before .loop .inv .1) ∙ first-none (length s) (c .before .loop .i) (signedAt s) (omega arith) (λ j a b. signed-short s j (omega arith))), omega arith)
+
+pub next-signed-spec : {M : Type 1} → statement M
+next-signed-spec =
+    tie.close
+    (tie.spec
+    Inv-loop
+    μ-loop
+    loop-holds
+    add-loop
+    add-is-letter
+    shared-slice-read-is-letter
+    is-letter-requires
+    is-signed-requires
+    returns
+    add-i
+    loop-less
+    loop-again
+    add-i-2
+    loop-less-2
+    loop-again-2
+    returns-2)

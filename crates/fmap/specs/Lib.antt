@@ -1,0 +1,6 @@
+-- What finding a map, reading its areas and carrying preserved areas answer.
+pub mod Lowest
+pub mod Find
+pub mod Areas
+pub mod Carry
+pub mod Promises

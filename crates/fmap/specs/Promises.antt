@@ -1,0 +1,47 @@
+-- What users rely on besides the equations of the calls. Statements only.
+use mathlib.Core.Path.{_≡_}
+use mathlib.Core.Bool.{true, false}
+use mathlib.Core.List.{List}
+use mathlib.Core.Option.{none}
+use Prim.Native.Nat.{ℕ, _≤_, _<_}
+use lib.ListN.{length}
+use Rattle.octets.specs.Bytes.{rest, put}
+use Rattle.fmap_rules.specs.declared.ImagePosition.{ImagePosition}
+use Rattle.fmap_rules.specs.declared.Area.{Area}
+use Rattle.fmap_rules.specs.Map.{position, areasOf, goodMap}
+use Rattle.fmap_rules.specs.Written.{mapBytes, Writable}
+use Rattle.fmap_carry.specs.Arrived.{Arrived}
+use Rattle.fmap.specs.Find.{accepted, findMap}
+use Rattle.fmap.specs.Areas.{areaNamed}
+use Rattle.fmap.specs.Carry.{carryImages}
+
+-- M10: what is found is a good map, and no lower position has one
+pub record Lowest (image : List ℕ) (p : ImagePosition) : Type 0 where
+  pub good : goodMap image (p .0) ≡ true
+  pub none-lower : (j : ℕ) → j < p .0 → goodMap image j ≡ false
+
+abbrev pub FindsLowest : Type 0
+FindsLowest = (image : List ℕ) (p : ImagePosition) → findMap image ≡ accepted p → Lowest image p
+
+-- M11, M12, M13: by the maps found, each preserved area arrives byte for byte, and every other byte stays
+pub record CarriedOver (old new image : List ℕ) : Type 0 where
+  pub from : ImagePosition
+  pub to : ImagePosition
+  pub old-found : findMap old ≡ accepted from
+  pub new-found : findMap new ≡ accepted to
+  pub arrived : Arrived old (areasOf (rest (from .0) old)) new (areasOf (rest (to .0) new)) image
+
+abbrev pub CarryArrives : Type 0
+CarryArrives = (old new image : List ℕ) → carryImages old new ≡ record { answer = none; image = image } → CarriedOver old new image
+
+-- L19: A search finds it unless a lower good map exists.
+abbrev pub WrittenIsFound : Type 0
+WrittenIsFound =
+    (image : List ℕ) (at : ℕ) (name : List ℕ) (base minor : ℕ) (areas : List Area) → Writable (length image) at name minor areas
+    → 98 ≤ length image → length image ≤ 16777216
+    → ((j : ℕ) → j < at → goodMap (put at (mapBytes (length image) name base minor areas) image) j ≡ false)
+    → findMap (put at (mapBytes (length image) name base minor areas) image) ≡ accepted (position at)
+
+-- no area is found by a name of more than 31 bytes
+abbrev pub LongNameIsNothing : Type 0
+LongNameIsNothing = (image name : List ℕ) → areaNamed image name .answer ≡ accepted true → length name ≤ 31

@@ -1,0 +1,256 @@
+// The flash map of an image: finding it, reading its areas, carrying preserved areas to another image.
+ghost use mathlib.Core.Path.{_≡_};
+ghost use mathlib.Core.Bool.{true};
+ghost use Prim.Native.Nat.{_-_, _≤_};
+ghost use lib.ListN.{length};
+ghost use lib.Dec.{eqb};
+ghost use Rattle.octets.specs.Tests.{any, findIx};
+ghost use Rattle.fmap_rules.specs.Map.{signature, areaOf, areasIn, blank, goodMap};
+ghost use Rattle.fmap.specs.Lowest.{firstFrom};
+ghost use Rattle.fmap.specs.Find.{foundReply, signedAt, findMap};
+ghost use Rattle.fmap_carry.specs.Carry.{judgedNumber};
+ghost use Rattle.fmap.specs.Carry.{carriedNumber, carryTo, carryImages};
+ghost use Rattle.fmap.specs.Areas.{countReply, lookupReply, looked, countAreas, areaIn, areaNumbered, areaNamed, called};
+use fmap_carry::Judged;
+use fmap_rules::Area;
+use fmap_rules::Extent;
+use fmap_rules::ImagePosition;
+
+// What finding a map answers.
+pub enum Found {
+    At(ImagePosition),
+    WrongLength,
+    NoSignature,
+    NoGoodMap,
+}
+
+pub enum AreaCount {
+    Count(u32),
+    WrongLength,
+    NoSignature,
+    NoGoodMap,
+}
+
+pub enum Lookup {
+    There,
+    Nothing,
+    WrongLength,
+    NoSignature,
+    NoGoodMap,
+}
+
+// An answer with its area, which is blank unless the answer is There.
+pub struct AreaFound {
+    pub answer: Lookup,
+    pub area: Area,
+}
+
+// What a carry answers. The first three refusals are of the old image, or else of the new one.
+pub enum Carried {
+    Done,
+    WrongLength,
+    NoSignature,
+    NoGoodMap,
+    Missing,
+    OtherSize,
+    Shared,
+    OnMap,
+}
+
+// One of the signature's bytes 41, 46, 4D, 50, 5F hex: bits 1, 6, 13, 16 and 31 of the number, for the bytes 40 to 7F hex.
+// One number is compared, since a branch that depends on the image's bytes is often predicted wrongly.
+fn is_letter(b: u8) -> bool
+    ensures { λ r. ⌜ r ≡ any (eqb b) signature ⌝ }
+{
+    let low = (b % 64) as u64;
+    let high = (b / 64) as u64;
+    (0x80012042u64 >> low) % 2 + (2u64 >> high) % 2 == 2
+}
+
+// The lowest position from `from` on where the signature stands, or the length. Eight bytes whose last is no byte of the
+// signature hold no start of one.
+fn next_signed(image: &[u8], from: usize) -> usize
+    requires { ⌜ from ≤ length (now image) ⌝ }
+    ensures { λ r. ⌜ (r ≡ firstFrom (length (now (image .entry)) - from) from (signedAt (now (image .entry)))) × (r ≤ length (now (image .entry))) ⌝ }
+{
+    let mut i = from;
+    while i + 8 <= image.len() {
+        if is_letter(image[i + 7]) {
+            if fmap_rules::is_signed(image, i) {
+                return i;
+            }
+            i += 1;
+        } else {
+            i += 8;
+        }
+    }
+    image.len()
+}
+
+// Finds the lowest good map. Two signatures share two bytes at most, so the next one starts six bytes on or later.
+pub fn find(image: &[u8]) -> Found
+    ensures { λ r. ⌜ foundReply r ≡ findMap (now (image .entry)) ⌝ }
+{
+    if image.len() < 98 {
+        return Found::WrongLength;
+    }
+    if 16777216 < image.len() {
+        return Found::WrongLength;
+    }
+    let mut at = next_signed(image, 0);
+    if image.len() <= at {
+        return Found::NoSignature;
+    }
+    while at < image.len() {
+        if fmap_rules::good_at(image, at) {
+            return Found::At(ImagePosition(at as u32));
+        }
+        at = next_signed(image, at + 6);
+    }
+    Found::NoGoodMap
+}
+
+// How many areas the map has.
+pub fn area_count(image: &[u8]) -> AreaCount
+    ensures { λ r. ⌜ countReply r ≡ countAreas (now (image .entry)) ⌝ }
+{
+    match find(image) {
+        Found::WrongLength => AreaCount::WrongLength,
+        Found::NoSignature => AreaCount::NoSignature,
+        Found::NoGoodMap => AreaCount::NoGoodMap,
+        Found::At(p) => AreaCount::Count((fmap_rules::areas_at(image, p).len() / 42) as u32),
+    }
+}
+
+fn no_area(answer: Lookup) -> AreaFound
+    ensures { λ r. ⌜ looked r ≡ record { answer = lookupReply answer; area = blank } ⌝ }
+{
+    AreaFound {
+        answer,
+        area: Area {
+            place: Extent {
+                start: ImagePosition(0),
+                size: 0,
+            },
+            name: [0u8; 32],
+            flags: 0,
+        },
+    }
+}
+
+// An area's 42 bytes as a value.
+fn read_area(a: &[u8]) -> Area
+    requires { ⌜ length (now a) ≡ 42 ⌝ }
+    ensures { λ r. ⌜ r ≡ areaOf (now (a .entry)) ⌝ }
+{
+    let mut name = [0u8; 32];
+    octets::copy(&mut name, 0, &a[8..40]);
+    Area {
+        place: fmap_rules::extent_of(a),
+        name,
+        flags: octets::load16(a, 40),
+    }
+}
+
+// Area k of the areas that bytes hold.
+fn area_in(areas: &[u8], k: usize) -> AreaFound
+    ensures { λ r. ⌜ looked r ≡ areaIn (areasIn (now (areas .entry))) k ⌝ }
+{
+    if areas.len() / 42 <= k {
+        return no_area(Lookup::Nothing);
+    }
+    AreaFound {
+        answer: Lookup::There,
+        area: read_area(fmap_rules::area_at(areas, k)),
+    }
+}
+
+// Area k of the map, from 0.
+pub fn area(image: &[u8], k: u32) -> AreaFound
+    ensures { λ r. ⌜ looked r ≡ areaNumbered (now (image .entry)) k ⌝ }
+{
+    match find(image) {
+        Found::WrongLength => no_area(Lookup::WrongLength),
+        Found::NoSignature => no_area(Lookup::NoSignature),
+        Found::NoGoodMap => no_area(Lookup::NoGoodMap),
+        Found::At(p) => area_in(fmap_rules::areas_at(image, p), k as usize),
+    }
+}
+
+fn is_called(a: &[u8], name: &[u8]) -> bool
+    requires { ⌜ length (now a) ≡ 42 ⌝ }
+    ensures { λ r. ⌜ r ≡ called (now (name .entry)) (areaOf (now (a .entry))) ⌝ }
+{
+    let end = 8 + fmap_rules::name_length(&a[8..40]);
+    octets::same(&a[8..end], name)
+}
+
+// The number of the first area with a name, or their count.
+fn find_called(areas: &[u8], name: &[u8]) -> usize
+    ensures { λ r. ⌜ r ≡ findIx (called (now (name .entry))) (areasIn (now (areas .entry))) ⌝ }
+{
+    let n = areas.len() / 42;
+    let mut i = 0;
+    while i < n {
+        if is_called(fmap_rules::area_at(areas, i), name) {
+            return i;
+        }
+        i += 1;
+    }
+    i
+}
+
+fn area_called(areas: &[u8], name: &[u8]) -> AreaFound
+    ensures { λ r. ⌜ looked r ≡ areaIn (areasIn (now (areas .entry))) (findIx (called (now (name .entry))) (areasIn (now (areas .entry)))) ⌝ }
+{
+    area_in(areas, find_called(areas, name))
+}
+
+// The area of the map with a name, given without the zeros that follow it there.
+pub fn area_named(image: &[u8], name: &[u8]) -> AreaFound
+    ensures { λ r. ⌜ looked r ≡ areaNamed (now (image .entry)) (now (name .entry)) ⌝ }
+{
+    match find(image) {
+        Found::WrongLength => no_area(Lookup::WrongLength),
+        Found::NoSignature => no_area(Lookup::NoSignature),
+        Found::NoGoodMap => no_area(Lookup::NoGoodMap),
+        Found::At(p) => area_called(fmap_rules::areas_at(image, p), name),
+    }
+}
+
+fn carried_of(j: Judged) -> Carried
+    ensures { λ r. ⌜ carriedNumber r ≡ judgedNumber j ⌝ }
+{
+    match j {
+        Judged::Free => Carried::Done,
+        Judged::Missing => Carried::Missing,
+        Judged::OtherSize => Carried::OtherSize,
+        Judged::Shared => Carried::Shared,
+        Judged::OnMap => Carried::OnMap,
+    }
+}
+
+// Carries by the good map of the old image at a position.
+fn carry_from(old: &[u8], at: ImagePosition, new: &mut [u8]) -> Carried
+    requires { ⌜ goodMap (now old) (at .0) ≡ true ⌝ }
+    ensures { λ r. ⌜ record { answer = carriedNumber r; image = now (new .exit) } ≡ carryTo (now (old .entry)) at (now (new .entry)) (findMap (now (new .entry))) ⌝ }
+{
+    match find(&new[..]) {
+        Found::WrongLength => Carried::WrongLength,
+        Found::NoSignature => Carried::NoSignature,
+        Found::NoGoodMap => Carried::NoGoodMap,
+        Found::At(bt) => carried_of(fmap_carry::carry_by(old, at, new, bt)),
+    }
+}
+
+// Carries the preserved areas of the old image to the new one.
+pub fn carry(old: &[u8], new: &mut [u8]) -> Carried
+    ensures { λ r. ⌜ record { answer = carriedNumber r; image = now (new .exit) } ≡ carryImages (now (old .entry)) (now (new .entry)) ⌝ }
+{
+    match find(old) {
+        Found::WrongLength => Carried::WrongLength,
+        Found::NoSignature => Carried::NoSignature,
+        Found::NoGoodMap => Carried::NoGoodMap,
+        Found::At(at) => carry_from(old, at, new),
+    }
+}

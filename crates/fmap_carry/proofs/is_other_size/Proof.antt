@@ -1,0 +1,31 @@
+use mathlib.Core.Path.{sym, _∙_}
+use borrow.Author.Tests.{not-true, not-false}
+use borrow.Author.Needs.{needs}
+use Rattle.octets.proofs.Bools.{and-f}
+use Rattle.fmap_carry.proofs.Match.{other-size-by}
+use Rattle.fmap_carry.specs.Carry.{otherSize}
+use Rattle.fmap_carry.proofs.is_other_size.Statement.{statement}
+use Rattle.fmap_carry.proofs.is_other_size.Tie as tie
+
+is-preserved-requires : tie.Need-is-preserved-requires
+is-preserved-requires c κs = search needs
+
+returns : tie.Need-returns
+unfolding otherSize
+returns c = and-f _ (sym (c .before .is-preserved .ensures) ∙ not-true _ (c .if1 .taken))
+
+extent-of-requires : tie.Need-extent-of-requires
+extent-of-requires c κs = search needs
+
+place-of-requires : tie.Need-place-of-requires
+place-of-requires c κs = search needs
+
+returns-2 : tie.Need-returns-2
+returns-2 c = other-size-by _ _ (sym (c .before .before .before .before .before .is-preserved .ensures) ∙ not-false _ (c .before .before .before .before .if1 .left))
+    _ (c .before .before .before .before .before .before .before .before .pre .1) _ _ (c .before .before .before .extent-of .ensures)
+    (c .before .before .place-of .ensures)
+
+pub is-other-size-spec : {M : Type 1} → statement M
+is-other-size-spec =
+    tie.close
+    (tie.spec is-preserved-requires returns extent-of-requires place-of-requires returns-2)

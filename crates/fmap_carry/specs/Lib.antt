@@ -1,0 +1,3 @@
+-- What carrying preserved areas by two given maps does.
+pub mod Carry
+pub mod Arrived

@@ -1,0 +1,253 @@
+-- A map that is written at the start of its area FMAP is good there.
+use mathlib.Core.Path.{_≡_, refl, sym, ap, ap₂, _∙_}
+use mathlib.Core.Bool.{true}
+use mathlib.Core.List.{List, [], _∷_, _++_, map, append-assoc}
+use Prim.Native.Nat.{ℕ, zero, suc, _+_, _-_, _*_, _/_, _≤_, _<_, suc-le-suc}
+use native.Mathlib.Nat.{zero-lt-suc}
+use native.Mathlib.Omega.{arith}
+use lib.ListN.{length, getD, take, drop, length-append}
+use lib.Seq.{take-at, drop-at, length-take-le}
+use borrow.Author.Tests.{eq-eqb, le-leb, leb-true, eqb-true}
+use Rattle.octets.specs.Tests.{_and_}
+use Rattle.octets.specs.Bytes.{le, unle, part, rest, field, put, same, chunks, flat}
+use Rattle.octets.proofs.Bools.{and-i, and-l, and-r}
+use Rattle.octets.proofs.Tests.{any-get}
+use Rattle.octets.proofs.Numbers.{length-le, unle-le}
+use Rattle.octets.proofs.Parts.{part-here, part-skip, part-from, part-in, part-whole, rest-at, length-rest}
+use Rattle.octets.proofs.Puts.{put-eq, length-put}
+use Rattle.octets.proofs.Equal.{same-refl}
+use Rattle.fmap_rules.specs.declared.Area.{Area}
+use Rattle.fmap_rules.specs.Map.{signature, signed, majorOf, minorOf, sizeOf, nameOf, countOf, mapSize, areaOf, areasIn, areasOf, blank, legalName, goodHeader, goodAreas, goodMap, holdsMap}
+use Rattle.fmap_rules.specs.Written.{areaBytes, mapBytes, Stored, Writable, WrittenIsGood}
+use Rattle.fmap_rules.proofs.Good.{ends-in, holder}
+
+-- ---- one area
+
+module _ (a : Area) (s : Stored a) where
+  abbrev t3 : List ℕ
+  t3 = le 2 (a .flags)
+
+  abbrev t2 : List ℕ
+  t2 = a .name ++ t3
+
+  abbrev t1 : List ℕ
+  t1 = le 4 (a .place .size) ++ t2
+
+  length-area : length (areaBytes a) ≡ 42
+  unfolding areaBytes
+  length-area = simp (length-append, length-le) (omega (arith, s .name))
+
+  start-is : field 0 4 (areaBytes a) ≡ a .place .start .0
+  unfolding areaBytes
+  start-is = ap unle (part-here (le 4 (a .place .start .0)) t1 4 (length-le 4 _)) ∙ unle-le 4 _ (s .start)
+
+  size-is : field 4 4 (areaBytes a) ≡ a .place .size
+  unfolding areaBytes
+  size-is =
+      ap unle (part-from (le 4 (a .place .start .0)) t1 4 4 (length-le 4 _) ∙ part-here (le 4 (a .place .size)) t2 4 (length-le 4 _)) ∙ unle-le 4 _ (s .size)
+
+  name-is : part 8 32 (areaBytes a) ≡ a .name
+  unfolding areaBytes
+  name-is =
+      part-skip (le 4 (a .place .start .0)) t1 4 4 32 (length-le 4 _)
+      ∙ part-from (le 4 (a .place .size)) t2 4 32 (length-le 4 _)
+      ∙ part-here (a .name) t3 32 (s .name)
+
+  flags-is : field 40 2 (areaBytes a) ≡ a .flags
+  unfolding areaBytes
+  flags-is =
+      ap unle
+      (part-skip (le 4 (a .place .start .0)) t1 4 36 2 (length-le 4 _)
+      ∙ part-skip (le 4 (a .place .size)) t2 4 32 2 (length-le 4 _)
+      ∙ part-from (a .name) t3 32 2 (s .name)
+      ∙ part-whole t3 2 (length-le 2 _))
+      ∙ unle-le 2 _ (s .flags)
+
+  area-is : areaOf (areaBytes a) ≡ a
+  unfolding areaOf
+  area-is = rw (start-is, size-is, name-is, flags-is)
+
+-- ---- all areas
+
+abbrev StoredAll : List Area → Type 0
+StoredAll areas = (i : ℕ) → i < length areas → Stored (getD areas i blank)
+
+length-flat : (areas : List Area) → StoredAll areas → length (flat (map areaBytes areas)) ≡ 42 * length areas
+length-flat [] f = refl
+length-flat (a ∷ areas) f =
+    length-append (areaBytes a) (flat (map areaBytes areas))
+    ∙ omega (arith, length-area a (f zero (zero-lt-suc _)), length-flat areas (λ i h. f (suc i) (suc-le-suc h)))
+
+chunks-flat : (areas : List Area) → StoredAll areas → map areaOf (chunks 42 (length areas) (flat (map areaBytes areas))) ≡ areas
+unfolding chunks
+chunks-flat [] f = refl
+chunks-flat (a ∷ areas) f =
+    let s = f zero (zero-lt-suc _) in
+    let l = length-area a s in
+    ap₂ _∷_ (ap areaOf (take-at (areaBytes a) (flat (map areaBytes areas)) 42 l) ∙ area-is a s)
+    (ap (λ (xs : List ℕ). map areaOf (chunks 42 (length areas) xs)) (drop-at (areaBytes a) (flat (map areaBytes areas)) 42 l)
+    ∙ chunks-flat areas (λ i h. f (suc i) (suc-le-suc h)))
+
+areas-are : (areas : List Area) → StoredAll areas → areasIn (flat (map areaBytes areas)) ≡ areas
+unfolding areasIn
+areas-are areas f =
+    let l = length-flat areas f in
+    let e : length (flat (map areaBytes areas)) / 42 ≡ length areas = omega arith in
+    ap (λ (k : ℕ). map areaOf (chunks 42 k (flat (map areaBytes areas)))) e ∙ chunks-flat areas f
+
+-- ---- the fields of the map's bytes
+
+module _ (len : ℕ) (name : List ℕ) (base minor : ℕ) (areas : List Area) (wide : length name ≡ 32) (f : StoredAll areas) where
+  abbrev mb : List ℕ
+  mb = mapBytes len name base minor areas
+
+  abbrev r6 : List ℕ
+  r6 = flat (map areaBytes areas)
+
+  abbrev r5 : List ℕ
+  r5 = le 2 (length areas) ++ r6
+
+  abbrev r4 : List ℕ
+  r4 = name ++ r5
+
+  abbrev r3 : List ℕ
+  r3 = le 4 len ++ r4
+
+  abbrev r2 : List ℕ
+  r2 = le 8 base ++ r3
+
+  length-map : length mb ≡ mapSize (length areas)
+  unfolding mapBytes
+  length-map = let l = length-flat areas f in simp (length-append, length-le) (omega arith)
+
+  sig-at : part 0 8 mb ≡ signature
+  unfolding mapBytes part
+  sig-at = refl
+
+  major-at : part 8 1 mb ≡ 1 ∷ []
+  unfolding mapBytes part
+  major-at = refl
+
+  minor-at : part 9 1 mb ≡ minor ∷ []
+  unfolding mapBytes part
+  minor-at = refl
+
+  -- behind the signature and the version
+  cut : (k n : ℕ) → part (10 + k) n mb ≡ part k n r2
+  unfolding mapBytes
+  cut k n = part-skip (95 ∷ 95 ∷ 70 ∷ 77 ∷ 65 ∷ 80 ∷ 95 ∷ 95 ∷ 1 ∷ minor ∷ []) r2 10 k n refl
+
+  size-at : part 18 4 mb ≡ le 4 len
+  size-at = cut 8 4 ∙ part-from (le 8 base) r3 8 4 (length-le 8 _) ∙ part-here (le 4 len) r4 4 (length-le 4 _)
+
+  name-at : part 22 32 mb ≡ name
+  name-at =
+      cut 12 32 ∙ part-skip (le 8 base) r3 8 4 32 (length-le 8 _) ∙ part-from (le 4 len) r4 4 32 (length-le 4 _) ∙ part-here name r5 32 wide
+
+  count-at : part 54 2 mb ≡ le 2 (length areas)
+  count-at =
+      cut 44 2
+      ∙ part-skip (le 8 base) r3 8 36 2 (length-le 8 _)
+      ∙ part-skip (le 4 len) r4 4 32 2 (length-le 4 _)
+      ∙ part-from name r5 32 2 wide
+      ∙ part-here (le 2 (length areas)) r6 2 (length-le 2 _)
+
+  areas-at : part 56 (42 * length areas) mb ≡ r6
+  areas-at =
+      let n = 42 * length areas in
+      cut 46 n
+      ∙ part-skip (le 8 base) r3 8 38 n (length-le 8 _)
+      ∙ part-skip (le 4 len) r4 4 34 n (length-le 4 _)
+      ∙ part-skip name r5 32 2 n wide
+      ∙ part-from (le 2 (length areas)) r6 2 n (length-le 2 _)
+      ∙ part-whole r6 n (length-flat areas f)
+
+-- ---- the image with the map written
+
+module _ (image : List ℕ) (at : ℕ) (name : List ℕ) (base minor : ℕ) (areas : List Area) (w : Writable (length image) at name minor areas) where
+  abbrev bytes : List ℕ
+  bytes = mapBytes (length image) name base minor areas
+
+  abbrev written : List ℕ
+  written = put at bytes image
+
+  bytes-length : length bytes ≡ mapSize (length areas)
+  bytes-length = length-map (length image) name base minor areas (w .name-fits) (w .stored)
+
+  -- the area FMAP ends in the image, so the map does
+  room : at + mapSize (length areas) ≤ length image
+  unfolding holdsMap
+  room =
+      let h = any-get (holdsMap at (length areas)) areas blank (holder (length image) at areas (w .good)) in
+      let e = ends-in (length image) at areas (w .good) (h .0) (h .1) in
+      let starts : getD areas (h .0) blank .place .start .0 ≡ at = eqb-true _ _ (and-l _ _ (and-r _ _ (h .2))) in
+      let whole : mapSize (length areas) ≤ getD areas (h .0) blank .place .size = leb-true _ _ (and-r _ _ (and-r _ _ (h .2))) in
+      omega (arith, e, starts, whole)
+
+  tail : List ℕ
+  tail = drop (at + length bytes) image
+
+  from-at : rest at written ≡ bytes ++ tail
+  unfolding tail
+  from-at =
+      let l = bytes-length in
+      let r = room in
+      ap (rest at) (put-eq at bytes image (omega arith) ∙ append-assoc (take at image) bytes (drop (at + length bytes) image))
+      ∙ rest-at (take at image) (bytes ++ drop (at + length bytes) image) at (length-take-le at image (omega arith))
+
+  look : (k n : ℕ) → k + n ≤ mapSize (length areas) → part k n (rest at written) ≡ part k n bytes
+  look k n h = let l = bytes-length in ap (part k n) from-at ∙ part-in bytes tail k n (omega arith)
+
+  length-written : length written ≡ length image
+  length-written = length-put at bytes image
+
+  length-from : mapSize (length areas) ≤ length (rest at written)
+  length-from = omega (arith, length-rest written at, length-written, room)
+
+  count-is : countOf (rest at written) ≡ length areas
+  count-is =
+      ap unle (look 54 2 (omega arith) ∙ count-at (length image) name base minor areas (w .name-fits) (w .stored))
+      ∙ unle-le 2 (length areas) (omega (arith, w .few))
+
+  areas-same : areasOf (rest at written) ≡ areas
+  unfolding areasOf
+  areas-same =
+      ap (λ (k : ℕ). areasIn (part 56 (42 * k) (rest at written))) count-is
+      ∙ ap areasIn (look 56 (42 * length areas) (omega arith) ∙ areas-at (length image) name base minor areas (w .name-fits) (w .stored))
+      ∙ areas-are areas (w .stored)
+
+  header : goodHeader (length written) (rest at written) ≡ true
+  unfolding goodHeader signed unle
+  header =
+      let p = w .name-fits in
+      let s = w .stored in
+      let c = count-is in
+      let l = length-from in
+      let sig : part 0 8 (rest at written) ≡ signature = look 0 8 (omega arith) ∙ sig-at (length image) name base minor areas p s in
+      let major : majorOf (rest at written) ≡ 1 = ap unle (look 8 1 (omega arith) ∙ major-at (length image) name base minor areas p s) in
+      let minor-is : minorOf (rest at written) ≡ minor + 256 * 0 = ap unle (look 9 1 (omega arith) ∙ minor-at (length image) name base minor areas p s) in
+      let size : sizeOf (rest at written) ≡ length written =
+      ap unle (look 18 4 (omega arith) ∙ size-at (length image) name base minor areas p s) ∙ unle-le 4 (length image) (w .len-fits) ∙ sym length-written in
+      let name-same : nameOf (rest at written) ≡ name = look 22 32 (omega arith) ∙ name-at (length image) name base minor areas p s in
+      let h1 : 56 ≤ length (rest at written) = omega arith in
+      let h2 : minorOf (rest at written) ≤ 1 = omega (arith, w .version) in
+      let h3 : 1 ≤ countOf (rest at written) = omega (arith, w .some) in
+      let h4 : countOf (rest at written) ≤ 128 = omega (arith, w .few) in
+      let h5 : mapSize (countOf (rest at written)) ≤ length (rest at written) = omega arith in
+      and-i _ _ (le-leb _ _ h1)
+      (and-i _ _ (ap (λ (x : List ℕ). same x signature) sig ∙ same-refl signature)
+      (and-i _ _ (eq-eqb _ _ major)
+      (and-i _ _ (le-leb _ _ h2)
+      (and-i _ _ (eq-eqb _ _ size)
+      (and-i _ _ (le-leb _ _ h3)
+      (and-i _ _ (le-leb _ _ h4) (and-i _ _ (le-leb _ _ h5) (ap legalName name-same ∙ w .legal))))))))
+
+  is-good : goodMap written at ≡ true
+  unfolding goodMap
+  is-good =
+      and-i _ _ header
+      (ap (λ (k : ℕ). goodAreas k at (areasOf (rest at written))) length-written ∙ ap (goodAreas (length image) at) areas-same ∙ w .good)
+
+pub written-is-good : WrittenIsGood
+written-is-good image at name base minor areas w =
+    record { good = is-good image at name base minor areas w; same-areas = areas-same image at name base minor areas w }

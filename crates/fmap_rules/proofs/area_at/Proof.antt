@@ -1,0 +1,27 @@
+use native.Mathlib.Omega.{arith}
+use borrow.Author.Needs.{needs}
+use Rattle.fmap_rules.proofs.Areas.{area-slice}
+use Rattle.fmap_rules.proofs.area_at.Statement.{statement}
+use Rattle.fmap_rules.proofs.area_at.Tie as tie
+
+mul-a : tie.Need-mul-a
+mul-a c = search needs
+
+add-e : tie.Need-add-e
+add-e c = search needs
+
+sub-result : tie.Need-sub-result
+sub-result c = search needs
+
+part-result-start : tie.Need-part-result-start
+part-result-start c = search needs
+
+part-result-end : tie.Need-part-result-end
+part-result-end c = search needs
+
+returns : tie.Need-returns
+returns c = area-slice _ _ (omega arith)
+
+pub area-at-spec : {M : Type 1} → statement M
+area-at-spec =
+    tie.close (tie.spec mul-a add-e sub-result part-result-start part-result-end returns)

@@ -1,0 +1,55 @@
+use mathlib.Core.List.{List}
+use mathlib.Core.Path.{sym, ap, _∙_}
+use Prim.Native.Nat.{ℕ}
+use native.Mathlib.Omega.{arith}
+use lib.ListN.{length}
+use borrow.Author.Tests.{not-true, not-false}
+use borrow.Author.Needs.{needs}
+use denote.Ref.{now}
+use Rattle.octets.proofs.Parts.{rest-slice}
+use Rattle.fmap_rules.proofs.Good.{header-fits, bad-header, by-areas}
+use Rattle.fmap_rules.specs.Map.{goodAreas, areasIn}
+use Rattle.fmap_rules.proofs.good_at.Statement.{statement}
+use Rattle.fmap_rules.proofs.good_at.Tie as tie
+
+sub-m : tie.Need-sub-m
+sub-m c = search needs
+
+part-m-start : tie.Need-part-m-start
+part-m-start c = search needs
+
+part-m-end : tie.Need-part-m-end
+part-m-end c = search needs
+
+good-header-requires : tie.Need-good-header-requires
+good-header-requires c κs = search needs
+
+returns : tie.Need-returns
+returns c = bad-header _ _ _ (rest-slice _ _) (sym (c .before .good-header .ensures) ∙ not-true _ (c .if1 .taken))
+
+areas-of-requires : tie.Need-areas-of-requires
+areas-of-requires c κs = header-fits _ _ (sym (c .before .good-header .ensures) ∙ not-false _ (c .if1 .left)) .whole
+
+good-areas-requires : tie.Need-good-areas-requires
+good-areas-requires c κs = let f = header-fits _ _ (sym (c .before .before .good-header .ensures) ∙ not-false _ (c .before .if1 .left)) in omega
+    (arith, f .few, (c .areas-of .ensures .1))
+
+returns-2 : tie.Need-returns-2
+returns-2 c =
+    by-areas _ _ _ (rest-slice _ _) (sym (c .before .before .before .good-header .ensures) ∙ not-false _ (c .before .before .if1 .left))
+    ((c .good-areas .ensures) ∙ ap
+    (λ (l : List ℕ). goodAreas (length (now (c .before .before .before .before .before .before .args .image)))
+    (c .before .before .before .before .before .before .args .at) (areasIn l)) (c .before .areas-of .ensures .0))
+
+pub good-at-spec : {M : Type 1} → statement M
+good-at-spec =
+    tie.close
+    (tie.spec
+    sub-m
+    part-m-start
+    part-m-end
+    good-header-requires
+    returns
+    areas-of-requires
+    good-areas-requires
+    returns-2)

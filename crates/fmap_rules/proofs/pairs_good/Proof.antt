@@ -1,0 +1,57 @@
+use mathlib.Core.Path.{_≡_, sym, _∙_}
+use Prim.Native.Nat.{_≤_, _-_}
+use native.Mathlib.Omega.{arith}
+use lib.ListN.{drop}
+use borrow.Author.Needs.{needs}
+use borrow.Author.Tests.{not-true, not-false}
+use Rattle.octets.specs.Tests.{pairs}
+use Rattle.fmap_rules.proofs.Areas.{pairs-next, pairs-fails, pairs-over}
+use Rattle.fmap_rules.specs.Map.{goodPair, areasIn}
+use Rattle.fmap_rules.proofs.pairs_good.Statement.{statement}
+use Rattle.fmap_rules.proofs.pairs_good.Tie as tie
+
+abbrev Inv-loop : tie.InvT-loop
+Inv-loop areas n i₀ i = (i ≤ n) × (pairs goodPair (drop i (areasIn areas)) ≡ pairs goodPair (areasIn areas))
+
+abbrev μ-loop : tie.MeasureT-loop
+μ-loop areas n i₀ i = n - i
+
+loop-holds : tie.Need-loop-holds Inv-loop μ-loop
+loop-holds c = search needs
+
+good-with-later-requires : tie.Need-good-with-later-requires Inv-loop μ-loop
+good-with-later-requires c κs = search needs
+
+returns : tie.Need-returns Inv-loop μ-loop
+returns c = pairs-fails _ (c .before .before .before .loop .i) (omega arith) goodPair (sym (c .before .good-with-later .ensures) ∙ not-true _ (c .if1 .taken))
+    (c .before .before .before .loop .inv .1)
+
+add-i : tie.Need-add-i Inv-loop μ-loop
+add-i c = search needs
+
+loop-less : tie.Need-loop-less Inv-loop μ-loop
+loop-less c = search needs
+
+loop-again : tie.Need-loop-again Inv-loop μ-loop
+loop-again c = (
+  omega arith,
+  pairs-next _ (c .before .before .before .loop .i) (omega arith) goodPair
+      (sym (c .before .good-with-later .ensures) ∙ not-false _ (c .if1 .left)) (c .before .before .before .loop .inv .1),
+)
+
+returns-2 : tie.Need-returns-2 Inv-loop μ-loop
+returns-2 c = pairs-over _ (c .before .loop .i) (omega arith) goodPair (c .before .loop .inv .1)
+
+pub pairs-good-spec : {M : Type 1} → statement M
+pairs-good-spec =
+    tie.close
+    (tie.spec
+    Inv-loop
+    μ-loop
+    loop-holds
+    good-with-later-requires
+    returns
+    add-i
+    loop-less
+    loop-again
+    returns-2)

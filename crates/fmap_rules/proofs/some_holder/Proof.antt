@@ -1,0 +1,65 @@
+use mathlib.Core.Path.{_≡_, sym, ap, _∙_}
+use Prim.Native.Nat.{ℕ, _≤_, _-_}
+use native.Mathlib.Omega.{arith}
+use lib.ListN.{length, drop}
+use borrow.Author.Needs.{needs}
+use denote.Ref.{now}
+use Rattle.octets.specs.Tests.{any}
+use Rattle.fmap_rules.proofs.Areas.{length-areas, any-next, any-holds, any-over}
+use Rattle.fmap_rules.specs.Map.{holdsMap, areasIn}
+use Rattle.fmap_rules.proofs.some_holder.Statement.{statement}
+use Rattle.fmap_rules.proofs.some_holder.Tie as tie
+
+abbrev Inv-loop : tie.InvT-loop
+Inv-loop areas at n i₀ i = (i ≤ n) × (any (holdsMap at n) (drop i (areasIn areas)) ≡ any (holdsMap at (length (areasIn areas))) (areasIn areas))
+
+abbrev μ-loop : tie.MeasureT-loop
+μ-loop areas at n i₀ i = n - i
+
+loop-holds : tie.Need-loop-holds Inv-loop μ-loop
+loop-holds c = (
+  search needs,
+  ap (λ (k : ℕ). any (holdsMap (c .before .args .at) k) (areasIn (now (c .before .args .areas))))
+      (sym (length-areas (now (c .before .args .areas)))),
+)
+
+area-at-requires : tie.Need-area-at-requires Inv-loop μ-loop
+area-at-requires c κs = search needs
+
+is-holder-requires : tie.Need-is-holder-requires Inv-loop μ-loop
+is-holder-requires c κs = search needs
+
+returns : tie.Need-returns Inv-loop μ-loop
+returns c = any-holds _ (c .before .before .before .before .loop .i) (omega arith) _ (c .before .before .area-at .ensures .0) (holdsMap _ _)
+    (sym (c .before .is-holder .ensures) ∙ (c .if1 .taken)) (c .before .before .before .before .loop .inv .1)
+
+add-i : tie.Need-add-i Inv-loop μ-loop
+add-i c = search needs
+
+loop-less : tie.Need-loop-less Inv-loop μ-loop
+loop-less c = search needs
+
+loop-again : tie.Need-loop-again Inv-loop μ-loop
+loop-again c = (
+  omega arith,
+  any-next _ (c .before .before .before .before .loop .i) (omega arith) _ (c .before .before .area-at .ensures .0) (holdsMap _ _)
+      (sym (c .before .is-holder .ensures) ∙ (c .if1 .left)) (c .before .before .before .before .loop .inv .1),
+)
+
+returns-2 : tie.Need-returns-2 Inv-loop μ-loop
+returns-2 c = any-over _ (c .before .loop .i) (omega arith) (holdsMap _ _) (c .before .loop .inv .1)
+
+pub some-holder-spec : {M : Type 1} → statement M
+some-holder-spec =
+    tie.close
+    (tie.spec
+    Inv-loop
+    μ-loop
+    loop-holds
+    area-at-requires
+    is-holder-requires
+    returns
+    add-i
+    loop-less
+    loop-again
+    returns-2)

@@ -1,0 +1,3 @@
+-- What a good flash map is, and the bytes of one.
+pub mod Map
+pub mod Written

@@ -1,0 +1,319 @@
+// What a good flash map at a position of an image is.
+// An inner crate: no user calls it, so its functions may have a `requires`, which each caller meets.
+ghost use mathlib.Core.Path.{_≡_};
+ghost use mathlib.Core.Bool.{true};
+ghost use Prim.Native.Nat.{_+_, _*_, _/_, _≤_, _<_};
+ghost use lib.ListN.{length, getD, drop};
+ghost use Rattle.octets.specs.Tests.{all, any, pairs, findIx};
+ghost use Rattle.octets.specs.Bytes.{part, rest};
+ghost use Rattle.fmap_rules.specs.Map.{signed, nameLength, legalName, areaOf, areasIn, areasOf, blank, named, endOf, disjoint, inside, disjointOrNested, mapSize, countOf, goodHeader, goodArea, goodPair, holdsMap, goodAreas, goodMap};
+
+// A byte's position in a flash image.
+pub struct ImagePosition(pub u32);
+
+// A run of bytes in a flash image.
+pub struct Extent {
+    pub start: ImagePosition,
+    pub size: u32,
+}
+
+// An area of a map.
+pub struct Area {
+    pub place: Extent,
+    pub name: [u8; 32],
+    pub flags: u16,
+}
+
+// How many of the first bytes are a name's.
+pub fn name_length(n: &[u8]) -> usize
+    ensures { λ r. ⌜ (r ≡ nameLength (now (n .entry))) × (r ≤ length (now (n .entry))) ⌝ }
+{
+    let mut i = 0;
+    while i < n.len() {
+        if n[i] < 33 {
+            return i;
+        }
+        if 126 < n[i] {
+            return i;
+        }
+        i += 1;
+    }
+    i
+}
+
+pub fn is_legal_name(n: &[u8]) -> bool
+    ensures { λ r. ⌜ r ≡ legalName (now (n .entry)) ⌝ }
+{
+    let k = name_length(n);
+    if k < 1 {
+        return false;
+    }
+    if 31 < k {
+        return false;
+    }
+    octets::is_zero(&n[k..])
+}
+
+// The 42 bytes of area i.
+pub fn area_at<'a>(areas: &'a [u8], i: usize) -> &'a [u8]
+    requires { ⌜ i < length (now areas) / 42 ⌝ }
+    ensures { λ r. ⌜ (areaOf (now r) ≡ getD (areasIn (now (areas .entry))) i blank) × (length (now r) ≡ 42) ⌝ }
+{
+    let a = 42 * i;
+    let e = a + 42;
+    &areas[a..e]
+}
+
+pub fn extent_of(a: &[u8]) -> Extent
+    requires { ⌜ length (now a) ≡ 42 ⌝ }
+    ensures { λ r. ⌜ r ≡ areaOf (now (a .entry)) .place ⌝ }
+{
+    Extent {
+        start: ImagePosition(octets::load32(a, 0)),
+        size: octets::load32(a, 4),
+    }
+}
+
+// One past the last byte.
+pub fn end_of(x: Extent) -> u64
+    ensures { λ r. ⌜ r ≡ endOf x ⌝ }
+{
+    x.start.0 as u64 + x.size as u64
+}
+
+pub fn is_disjoint(x: Extent, y: Extent) -> bool
+    ensures { λ r. ⌜ r ≡ disjoint x y ⌝ }
+{
+    if end_of(x) <= y.start.0 as u64 {
+        return true;
+    }
+    end_of(y) <= x.start.0 as u64
+}
+
+fn is_inside(x: Extent, y: Extent) -> bool
+    ensures { λ r. ⌜ r ≡ inside x y ⌝ }
+{
+    if x.start.0 < y.start.0 {
+        return false;
+    }
+    end_of(x) <= end_of(y)
+}
+
+fn is_disjoint_or_nested(x: Extent, y: Extent) -> bool
+    ensures { λ r. ⌜ r ≡ disjointOrNested x y ⌝ }
+{
+    if is_disjoint(x, y) {
+        return true;
+    }
+    if is_inside(x, y) {
+        return true;
+    }
+    is_inside(y, x)
+}
+
+fn is_good_area(a: &[u8], len: usize) -> bool
+    requires { ⌜ length (now a) ≡ 42 ⌝ }
+    ensures { λ r. ⌜ r ≡ goodArea len (areaOf (now (a .entry))) ⌝ }
+{
+    let x = extent_of(a);
+    if x.size < 1 {
+        return false;
+    }
+    if (len as u64) < end_of(x) {
+        return false;
+    }
+    is_legal_name(&a[8..40])
+}
+
+fn each_good(areas: &[u8], len: usize) -> bool
+    ensures { λ r. ⌜ r ≡ all (goodArea len) (areasIn (now (areas .entry))) ⌝ }
+{
+    let n = areas.len() / 42;
+    let mut i = 0;
+    while i < n {
+        if !is_good_area(area_at(areas, i), len) {
+            return false;
+        }
+        i += 1;
+    }
+    true
+}
+
+fn is_good_pair(a: &[u8], b: &[u8]) -> bool
+    requires { ⌜ (length (now a) ≡ 42) × (length (now b) ≡ 42) ⌝ }
+    ensures { λ r. ⌜ r ≡ goodPair (areaOf (now (a .entry))) (areaOf (now (b .entry))) ⌝ }
+{
+    if octets::same(&a[8..40], &b[8..40]) {
+        return false;
+    }
+    is_disjoint_or_nested(extent_of(a), extent_of(b))
+}
+
+// Area i goes with each later one.
+fn good_with_later(areas: &[u8], i: usize) -> bool
+    requires { ⌜ i < length (now areas) / 42 ⌝ }
+    ensures { λ r. ⌜ r ≡ all (goodPair (getD (areasIn (now (areas .entry))) i blank)) (drop (i + 1) (areasIn (now (areas .entry)))) ⌝ }
+{
+    let n = areas.len() / 42;
+    let mut j = i + 1;
+    while j < n {
+        if !is_good_pair(area_at(areas, i), area_at(areas, j)) {
+            return false;
+        }
+        j += 1;
+    }
+    true
+}
+
+fn pairs_good(areas: &[u8]) -> bool
+    ensures { λ r. ⌜ r ≡ pairs goodPair (areasIn (now (areas .entry))) ⌝ }
+{
+    let n = areas.len() / 42;
+    let mut i = 0;
+    while i < n {
+        if !good_with_later(areas, i) {
+            return false;
+        }
+        i += 1;
+    }
+    true
+}
+
+fn is_holder(a: &[u8], at: usize, count: usize) -> bool
+    requires { ⌜ (length (now a) ≡ 42) × (count ≤ 128) ⌝ }
+    ensures { λ r. ⌜ r ≡ holdsMap at count (areaOf (now (a .entry))) ⌝ }
+{
+    if !octets::same(
+        b"FMAP\0\0\0\0\0\0\0\0\0\0\0\0\0\0\0\0\0\0\0\0\0\0\0\0\0\0\0\0",
+        &a[8..40],
+    ) {
+        return false;
+    }
+    let x = extent_of(a);
+    if x.start.0 as u64 != at as u64 {
+        return false;
+    }
+    56 + 42 * (count as u64) <= x.size as u64
+}
+
+fn some_holder(areas: &[u8], at: usize) -> bool
+    requires { ⌜ length (now areas) / 42 ≤ 128 ⌝ }
+    ensures { λ r. ⌜ r ≡ any (holdsMap at (length (areasIn (now (areas .entry))))) (areasIn (now (areas .entry))) ⌝ }
+{
+    let n = areas.len() / 42;
+    let mut i = 0;
+    while i < n {
+        if is_holder(area_at(areas, i), at, n) {
+            return true;
+        }
+        i += 1;
+    }
+    false
+}
+
+// Each area, the area FMAP, then each two: what costs least comes first.
+pub fn good_areas(areas: &[u8], len: usize, at: usize) -> bool
+    requires { ⌜ length (now areas) / 42 ≤ 128 ⌝ }
+    ensures { λ r. ⌜ r ≡ goodAreas len at (areasIn (now (areas .entry))) ⌝ }
+{
+    if !each_good(areas, len) {
+        return false;
+    }
+    if !some_holder(areas, at) {
+        return false;
+    }
+    pairs_good(areas)
+}
+
+// The number of the first area with a name, or their count.
+pub fn find_named(areas: &[u8], name: &[u8]) -> usize
+    ensures { λ r. ⌜ (r ≡ findIx (named (now (name .entry))) (areasIn (now (areas .entry)))) × (r ≤ length (now (areas .entry)) / 42) ⌝ }
+{
+    let n = areas.len() / 42;
+    let mut i = 0;
+    while i < n {
+        let a = area_at(areas, i);
+        if octets::same(name, &a[8..40]) {
+            return i;
+        }
+        i += 1;
+    }
+    i
+}
+
+fn count_of(m: &[u8]) -> usize
+    requires { ⌜ 56 ≤ length (now m) ⌝ }
+    ensures { λ r. ⌜ r ≡ countOf (now (m .entry)) ⌝ }
+{
+    octets::load16(m, 54) as usize
+}
+
+// The bytes of all areas.
+fn areas_of<'a>(m: &'a [u8]) -> &'a [u8]
+    requires { ⌜ mapSize (countOf (now m)) ≤ length (now m) ⌝ }
+    ensures { λ r. ⌜ (now r ≡ part 56 (42 * countOf (now (m .entry))) (now (m .entry))) × (length (now r) ≡ 42 * countOf (now (m .entry))) ⌝ }
+{
+    let e = 56 + 42 * count_of(m);
+    &m[56..e]
+}
+
+// The signature stands at a position: its eight bytes as one number.
+pub fn is_signed(image: &[u8], at: usize) -> bool
+    requires { ⌜ at + 8 ≤ length (now image) ⌝ }
+    ensures { λ r. ⌜ r ≡ signed (rest at (now (image .entry))) ⌝ }
+{
+    octets::load64(image, at) == 0x5f5f50414d465f5f
+}
+
+// The fields that are compared with a number come before the name.
+fn good_header(m: &[u8], len: usize) -> bool
+    ensures { λ r. ⌜ r ≡ goodHeader len (now (m .entry)) ⌝ }
+{
+    if m.len() < 56 {
+        return false;
+    }
+    if !is_signed(m, 0) {
+        return false;
+    }
+    if m[8] != 1 {
+        return false;
+    }
+    if 1 < m[9] {
+        return false;
+    }
+    if octets::load32(m, 18) as u64 != len as u64 {
+        return false;
+    }
+    let n = count_of(m);
+    if n < 1 {
+        return false;
+    }
+    if 128 < n {
+        return false;
+    }
+    if m.len() < 56 + 42 * n {
+        return false;
+    }
+    is_legal_name(&m[22..54])
+}
+
+// A good map stands at a position.
+pub fn good_at(image: &[u8], at: usize) -> bool
+    requires { ⌜ at ≤ length (now image) ⌝ }
+    ensures { λ r. ⌜ r ≡ goodMap (now (image .entry)) at ⌝ }
+{
+    let m = &image[at..];
+    if !good_header(m, image.len()) {
+        return false;
+    }
+    good_areas(areas_of(m), image.len(), at)
+}
+
+// The bytes of the areas of a good map.
+pub fn areas_at<'a>(image: &'a [u8], at: ImagePosition) -> &'a [u8]
+    requires { ⌜ goodMap (now image) (at .0) ≡ true ⌝ }
+    ensures { λ r. ⌜ (areasIn (now r) ≡ areasOf (rest (at .0) (now (image .entry)))) × (length (now r) ≤ 5376) ⌝ }
+{
+    let a = at.0 as usize;
+    areas_of(&image[a..])
+}
