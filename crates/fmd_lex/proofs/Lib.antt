@@ -1,3 +1,4 @@
 pub mod Tokens
 pub mod Numbers
+pub mod Names
 pub mod Samples

@@ -4,12 +4,14 @@ use mathlib.Core.Path.{_≡_}
 use mathlib.Core.List.{List}
 use mathlib.Core.Bool.{Bool, true, false}
 use native.Mathlib.Numerals.{add-one}
+use native.Mathlib.Omega.{arith}
 use lib.ListN.{length, drop, getD, drop-of-length-le}
 use lib.Seq.{drop-cons}
 use borrow.Author.Tests.{ne-eqb}
 use Rattle.octets.specs.Tests.{_or_}
 use Rattle.fmd_lex.specs.Chars.{isBlank, isWord}
-use Rattle.fmd_lex.specs.Tokens.{skipFrom, wordFrom}
+use Rattle.fmd_lex.specs.Tokens.{skipFrom, wordFrom, Within}
+use Rattle.fmd_lex.specs.declared.Token.{Token}
 
 module _ (s : List ℕ) (i : ℕ) where
   pub word-in : i < length s → isWord (getD s i 0) ≡ true → wordFrom (drop (i + 1) s) (i + 1) ≡ wordFrom (drop i s) i
@@ -48,3 +50,7 @@ module _ (s : List ℕ) (i : ℕ) where
   unfolding skipFrom
   skip-end true h = rw (drop-of-length-le s {i = i} h)
   skip-end false h = rw (drop-of-length-le s {i = i} h)
+
+-- what lies at or after a place lies at or after an earlier one
+pub earlier : {n a b : ℕ} {t : Token} → Within n a t → b ≤ a → Within n b t
+earlier w h = record { after = omega arith; ordered = w .ordered; inside = w .inside; filled = w .filled }

@@ -1,0 +1,2 @@
+-- The grammar of a layout text: what its image and its sections are, or its first fault.
+pub mod Heads
