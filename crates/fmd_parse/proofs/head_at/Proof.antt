@@ -59,9 +59,10 @@ unfolding headAt
 returns c =
     let a = rw (c .before .before .before .before .before .before .before .before .before .before .h .given .1) at (c .before .before .before .before .before .before .before .before .before .before .before .before .named-at .ensures .1) in
     let b = rw (c .before .before .before .before .before .before .i .given .1) at (c .before .before .before .before .before .before .before .before .flags-at .ensures .1) in
-    let d = rw (c .before .before .j .given .1) at (c .before .before .before .before .offset-at .ensures .1) in
-    (rw (sym (c .before .before .before .before .before .before .before .before .before .before .before .before .named-at .ensures .0) ∙ c .before .before .before .before .before .before .before .before .before .before .h .given .1, sym (c .before .before .before .before .before .before .before .before .flags-at .ensures .0) ∙ c .before .before .before .before .before .before .i .given .1, sym (c .before .before .before .before .offset-at .ensures .0) ∙ c .before .before .j .given .1) (c .size-at .ensures .0)
-    , head-in _ _ _ _ _ (c .size-at .result) (c .size-at .ensures .1) (omega arith) (a .1) (a .2))
+    let d = rw (c .before .before .j .given .1) at (c .before .before .before .before .offset-at .ensures .1) in (
+      rw (sym (c .before .before .before .before .before .before .before .before .before .before .before .before .named-at .ensures .0) ∙ c .before .before .before .before .before .before .before .before .before .before .h .given .1, sym (c .before .before .before .before .before .before .before .before .flags-at .ensures .0) ∙ c .before .before .before .before .before .before .i .given .1, sym (c .before .before .before .before .offset-at .ensures .0) ∙ c .before .before .j .given .1) (c .size-at .ensures .0),
+      head-in _ _ _ _ _ (c .size-at .result) (c .size-at .ensures .1) (omega arith) (a .1) (a .2),
+    )
 
 -- src/lib.rt:251:1
 returns-2 : tie.Need-returns-2

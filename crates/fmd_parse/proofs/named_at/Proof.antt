@@ -51,11 +51,14 @@ cast-t15 c = omega (arith, name-size (c .before .before .before .before .before 
 -- src/lib.rt:102:9
 returns-4 : tie.Need-returns-4
 unfolding namedAt pickRow
-returns-4 c =
-    (rw (eq-eqb _ _ (c .before .before .before .before .before .before .before .if1 .left), sym (c .before .before .before .before .before .before .name-at .ensures) ∙ c .before .before .before .before .before .if2 .taken, lt-leb _ _ (c .before .before .before .before .if3 .left), le-ltb _ _ (c .before .before .before .if4 .left), sym (c .before .before .next-token .ensures .0))
-    , (earlier (c .before .before .next-token .ensures .1) (omega (arith, c .before .before .before .before .before .before .before .before .before .before .pre .1 .filled (c .before .before .before .before .before .before .before .if1 .left)))
-    , c .before .before .before .if4 .left
-    , c .before .before .before .before .if3 .left))
+returns-4 c = (
+  rw (eq-eqb _ _ (c .before .before .before .before .before .before .before .if1 .left), sym (c .before .before .before .before .before .before .name-at .ensures) ∙ c .before .before .before .before .before .if2 .taken, lt-leb _ _ (c .before .before .before .before .if3 .left), le-ltb _ _ (c .before .before .before .if4 .left), sym (c .before .before .next-token .ensures .0)),
+  (
+    earlier (c .before .before .next-token .ensures .1) (omega (arith, c .before .before .before .before .before .before .before .before .before .before .pre .1 .filled (c .before .before .before .before .before .before .before .if1 .left))),
+    c .before .before .before .if4 .left,
+    c .before .before .before .before .if3 .left,
+  ),
+)
 
 -- src/lib.rt:76:1
 returns-5 : tie.Need-returns-5

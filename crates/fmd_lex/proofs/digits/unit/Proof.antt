@@ -1,8 +1,8 @@
 use native.Mathlib.Omega.{arith}
 use borrow.Author.Tests.{ne-eqb}
 use Rattle.fmd_lex.specs.Numbers.{unitOf}
-use Rattle.fmd_lex.proofs.unit.Statement.{statement}
-use Rattle.fmd_lex.proofs.unit.Tie as tie
+use Rattle.fmd_lex.proofs.digits.unit.Statement.{statement}
+use Rattle.fmd_lex.proofs.digits.unit.Tie as tie
 
 returns : tie.Need-returns
 unfolding unitOf

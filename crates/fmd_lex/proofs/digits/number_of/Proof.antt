@@ -2,8 +2,8 @@ use mathlib.Core.Path.{_∙_}
 use native.Mathlib.Omega.{arith}
 use borrow.Author.Needs.{needs}
 use Rattle.fmd_lex.proofs.Numbers.{num-none, num-plain, num-zero, num-hex, num-unit}
-use Rattle.fmd_lex.proofs.number_of.Statement.{statement}
-use Rattle.fmd_lex.proofs.number_of.Tie as tie
+use Rattle.fmd_lex.proofs.digits.number_of.Statement.{statement}
+use Rattle.fmd_lex.proofs.digits.number_of.Tie as tie
 
 returns : tie.Need-returns
 returns c = num-none (c .before .before .args .w .now) (c .if1 .taken)

@@ -4,8 +4,8 @@ use native.Mathlib.Omega.{arith}
 use borrow.Author.Needs.{needs}
 use borrow.Author.Tests.{eq-eqb, ne-eqb}
 use Rattle.fmd_lex.proofs.Numbers.{capped-in, capped-out, scaled-none, scaled-one, scaled-many}
-use Rattle.fmd_lex.proofs.with_unit.Statement.{statement}
-use Rattle.fmd_lex.proofs.with_unit.Tie as tie
+use Rattle.fmd_lex.proofs.digits.with_unit.Statement.{statement}
+use Rattle.fmd_lex.proofs.digits.with_unit.Tie as tie
 
 sub-left : tie.Need-sub-left
 sub-left c = search needs

@@ -6,8 +6,8 @@ use lib.ListN.{length, drop}
 use borrow.Author.Needs.{needs}
 use Rattle.fmd_lex.specs.Numbers.{digits}
 use Rattle.fmd_lex.proofs.Numbers.{capped-in, digits-over, digits-end, digits-in, digits-out}
-use Rattle.fmd_lex.proofs.more_digits.Statement.{statement}
-use Rattle.fmd_lex.proofs.more_digits.Tie as tie
+use Rattle.fmd_lex.proofs.digits.more_digits.Statement.{statement}
+use Rattle.fmd_lex.proofs.digits.more_digits.Tie as tie
 
 abbrev Inv-loop : tie.InvT-loop
 Inv-loop w at base first n₀ i₀ n i = (i ≤ length w) × (n ≤ 4294967295) × (digits base n (drop i w) ≡ digits base first (drop at w))

@@ -2,8 +2,8 @@ use mathlib.Core.Path.{_∙_}
 use native.Mathlib.Omega.{arith}
 use borrow.Author.Needs.{needs}
 use Rattle.fmd_lex.proofs.Numbers.{some-in, some-out, some-end}
-use Rattle.fmd_lex.proofs.some_digits.Statement.{statement}
-use Rattle.fmd_lex.proofs.some_digits.Tie as tie
+use Rattle.fmd_lex.proofs.digits.some_digits.Statement.{statement}
+use Rattle.fmd_lex.proofs.digits.some_digits.Tie as tie
 
 shared-slice-read-digit : tie.Need-shared-slice-read-digit
 shared-slice-read-digit c = search needs

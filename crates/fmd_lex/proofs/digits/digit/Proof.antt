@@ -2,8 +2,8 @@ use native.Mathlib.Omega.{arith}
 use borrow.Author.Needs.{needs}
 use borrow.Author.Tests.{lt-ltb, le-ltb}
 use Rattle.fmd_lex.specs.Numbers.{digitOf}
-use Rattle.fmd_lex.proofs.digit.Statement.{statement}
-use Rattle.fmd_lex.proofs.digit.Tie as tie
+use Rattle.fmd_lex.proofs.digits.digit.Statement.{statement}
+use Rattle.fmd_lex.proofs.digits.digit.Tie as tie
 
 returns : tie.Need-returns
 unfolding digitOf
