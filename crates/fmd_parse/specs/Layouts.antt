@@ -70,13 +70,15 @@ abbrev pub afterList : Parsed → (List Section → Token → Layout) → Layout
 afterList (fault n p) k = refused n p
 afterList (parsed l t) k = k l t
 
--- L1: An image: .., braces. L10: After the last brace only blanks and comments.
+-- L10: After the last brace only blanks and comments.
+abbrev pub endOf : Image → List Section → Token → Layout
+endOf i l u = cond (isSign endKind u) (layout i l) (refused 51 (u .start))
+
+-- L1: An image: .., braces.
 unfoldable pub layoutOf : List ℕ → Layout
 layoutOf s =
     afterImage (imageAt s (tokenAt s 0))
-    (λ i t.
-    afterList (listFrom (2 * length s + 2) s t 1 128 [])
-    (λ l u. cond (isSign endKind u) (layout i l) (refused 51 (u .start))))
+    (λ i t. afterList (listFrom (2 * length s + 2) s t 1 128 []) (endOf i))
 
 -- ---- what the values of the code say
 
