@@ -13,12 +13,19 @@ mod digits; // digits.rt: the number that a word is
 
 // The kinds of tokens: the text's end, a byte that begins no token, a word; a sign's kind is its own byte: ( ) @ { }.
 pub const END: u8 = 0;
+
 pub const BAD: u8 = 1;
+
 pub const WORD: u8 = 2;
+
 pub const LEFT: u8 = 40;
+
 pub const RIGHT: u8 = 41;
+
 pub const AT: u8 = 64;
+
 pub const OPEN: u8 = 123;
+
 pub const CLOSE: u8 = 125;
 
 // A token of the text, from the place start up to the place end.

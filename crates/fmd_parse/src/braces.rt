@@ -5,16 +5,16 @@ ghost use Prim.Native.Nat.{_≤_, _<_};
 ghost use lib.ListN.{length};
 ghost use Rattle.fmd_lex.specs.Tokens.{Within};
 ghost use Rattle.fmd_parse.specs.Layouts.{listOf, Sound, SectionRead, ListRead};
-use fmd_lex::Token;
-use fmd_lex::CLOSE;
-use fmd_lex::OPEN;
-use fmd_lex::next_token;
 use super::Part;
 use super::Reached;
 use super::Section;
 use super::Sections;
 use super::Step;
 use super::head::head_at;
+use fmd_lex::CLOSE;
+use fmd_lex::OPEN;
+use fmd_lex::Token;
+use fmd_lex::next_token;
 
 // The list with one section more.
 fn pushed(l: Sections, h: Section) -> Sections

@@ -4,16 +4,16 @@ ghost use Prim.Native.Nat.{_≤_};
 ghost use lib.ListN.{length};
 ghost use Rattle.fmd_lex.specs.Tokens.{Within};
 ghost use Rattle.fmd_parse.specs.Images.{titleAt, addressAt, lengthAt, openAt, imageAt, setAddress, setLength, HeadingIn};
-use fmd_lex::Token;
-use fmd_lex::AT;
-use fmd_lex::OPEN;
-use fmd_lex::WORD;
-use fmd_lex::next_token;
 use super::Address;
 use super::Amount;
 use super::Heading;
 use super::Image;
 use super::head::amount_at;
+use fmd_lex::AT;
+use fmd_lex::OPEN;
+use fmd_lex::Token;
+use fmd_lex::WORD;
+use fmd_lex::next_token;
 
 // The image's name.
 fn title_at(text: &[u8], t: Token) -> Heading

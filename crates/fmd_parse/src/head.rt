@@ -4,20 +4,20 @@ ghost use Prim.Native.Nat.{_+_, _≤_};
 ghost use lib.ListN.{length};
 ghost use Rattle.fmd_lex.specs.Tokens.{Within};
 ghost use Rattle.fmd_parse.specs.Heads.{amountAt, namedAt, flagAt, lastAt, otherAt, flagsAt, offsetAt, sizeAt, headAt, setOffset, setSize, AmountIn, PartIn, HeadIn};
-use fmd_lex::Flag;
-use fmd_lex::Number;
-use fmd_lex::Token;
-use fmd_lex::AT;
-use fmd_lex::LEFT;
-use fmd_lex::RIGHT;
-use fmd_lex::WORD;
-use fmd_lex::next_token;
 use super::Amount;
 use super::Offset;
 use super::ParentOffset;
 use super::Part;
 use super::Section;
 use super::Size;
+use fmd_lex::AT;
+use fmd_lex::Flag;
+use fmd_lex::LEFT;
+use fmd_lex::Number;
+use fmd_lex::RIGHT;
+use fmd_lex::Token;
+use fmd_lex::WORD;
+use fmd_lex::next_token;
 
 // The number that must stand at t.
 pub fn amount_at(text: &[u8], t: Token) -> Amount

@@ -1,27 +1,20 @@
-use borrow.Author.Tests.{eq-eqb, ne-eqb}
 use borrow.Author.Needs.{needs}
+use borrow.Author.Tests.{eq-eqb, ne-eqb}
 use Rattle.fmd_parse.proofs.ended.Statement.{statement}
 use Rattle.fmd_parse.proofs.ended.Tie as tie
-use Rattle.fmd_parse.proofs.ended.Reads as reads
-use Rattle.fmd_parse.proofs.ended.Lts as lts
 
--- src/lib.rt:135:22
 enum-known-step : tie.Need-enum-known-step
 enum-known-step c = search needs
 
--- src/lib.rt:137:17
 returns : tie.Need-returns
 returns c = (c .before .before .before .before .before .before .pre, rw (c .before .before .before .step .given .1, eq-eqb _ _ (c .if1 .taken)))
 
--- src/lib.rt:147:23
 enum-known-step-2 : tie.Need-enum-known-step-2
 enum-known-step-2 c = search needs
 
--- src/lib.rt:128:1
 returns-2 : tie.Need-returns-2
 returns-2 c = (c .before .before .before .before .before .before .pre, rw (c .before .before .before .step .given .1, ne-eqb _ _ (c .if1 .left)))
 
--- src/lib.rt:128:1
 returns-3 : tie.Need-returns-3
 returns-3 c = (c .before .before .before .before .pre, rw (c .before .step2 .given .1))
 

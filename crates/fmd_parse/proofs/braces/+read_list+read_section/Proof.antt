@@ -1,27 +1,26 @@
-use borrow.Author.Needs.{needs}
-use Rattle.fmd_parse.proofs.Layouts.{section-stopped, section-shut, section-open, list-stopped, list-closed, list-more}
-use Rattle.fmd_parse.specs.declared.Reached.{Reached}
-use Rattle.fmd_parse.specs.Layouts.{Sound, ListRead}
-use Rattle.fmd_lex.proofs.Tokens.{earlier}
-use Rattle.fmd_lex.specs.Tokens.{Within}
-use lib.ListN.{length}
+use mathlib.Core.Path.{sym, _∙_}
+use Prim.Native.Nat.{_+_, _*_, _-_, ℕ, _<_}
 use native.Mathlib.Omega.{arith}
-use Prim.Native.Nat.{_+_, _*_, _-_, _≤_}
-use mathlib.Core.Path.{_≡_, sym, _∙_}
-use Prim.Native.Nat.{ℕ, _<_}
+use lib.ListN.{length}
+use borrow.Author.Needs.{needs}
 use borrow.Fn.Kinds.{In}
 use borrow.Fn.PlainCycle.{Measures, is, falls, and}
-use Rattle.fmd_parse.proofs.braces.read_list.Reads as read-list
-use Rattle.fmd_parse.proofs.braces.read_list.Kinds as read-list-kinds
-use Rattle.fmd_parse.proofs.braces.+read_list+read_section.Lts-read_list as read-list-lts
-use Rattle.fmd_parse.proofs.braces.read_section.Reads as read-section
-use Rattle.fmd_parse.proofs.braces.read_section.Kinds as read-section-kinds
-use Rattle.fmd_parse.proofs.braces.+read_list+read_section.Lts-read_section as read-section-lts
-use Rattle.fmd_lex.proofs.next_token.Reads as next-token-reads
-use Rattle.fmd_parse.proofs.braces.pushed.Reads as pushed-reads
-use Rattle.fmd_parse.proofs.head.head_at.Reads as head-at-reads
+use Rattle.fmd_parse.specs.Layouts.{Sound, ListRead}
+use Rattle.fmd_parse.specs.declared.Reached.{Reached}
+use Rattle.fmd_lex.proofs.Tokens.{earlier}
+use Rattle.fmd_lex.specs.Tokens.{Within}
+use Rattle.fmd_parse.proofs.Layouts.{section-stopped, section-shut, section-open, list-stopped, list-closed, list-more}
 use Rattle.fmd_parse.proofs.braces.+read_list+read_section.{statement}
 use Rattle.fmd_parse.proofs.braces.+read_list+read_section.Tie.{close}
+use Rattle.fmd_lex.proofs.next_token.Reads as next-token-reads
+use Rattle.fmd_parse.proofs.braces.+read_list+read_section.Lts-read_list as read-list-lts
+use Rattle.fmd_parse.proofs.braces.+read_list+read_section.Lts-read_section as read-section-lts
+use Rattle.fmd_parse.proofs.braces.pushed.Reads as pushed-reads
+use Rattle.fmd_parse.proofs.braces.read_list.Kinds as read-list-kinds
+use Rattle.fmd_parse.proofs.braces.read_list.Reads as read-list
+use Rattle.fmd_parse.proofs.braces.read_section.Kinds as read-section-kinds
+use Rattle.fmd_parse.proofs.braces.read_section.Reads as read-section
+use Rattle.fmd_parse.proofs.head.head_at.Reads as head-at-reads
 
 abbrev μ-read-list : Measures 1 read-list-kinds.ps ℕ
 μ-read-list κs a = 2 * (length (a .0 .now) - a .1 .0 .start) + 1
@@ -54,7 +53,6 @@ read-list-Inv-loop text level parent now₀ m₀ now m = Within (length text) (n
 abbrev read-list-μ-loop : read-list-lts.MeasureT-loop
 read-list-μ-loop text level parent now₀ m₀ now m = length text - now .start
 
--- src/braces.rt:63:5
 read-list-loop-holds : (t : ℕ) → read-list-lts.Need-loop-holds (
   read-section-below t,
   read-section.Post,
@@ -63,7 +61,6 @@ read-list-loop-holds : (t : ℕ) → read-list-lts.Need-loop-holds (
 ) (read-list-at t) read-list.Post read-list-Inv-loop read-list-μ-loop
 read-list-loop-holds t c = (search needs, c .before .pre .1 .2, λ r g. g)
 
--- src/braces.rt:64:13
 read-list-read-section-requires : (t : ℕ) → read-list-lts.Need-read-section-requires (
   read-section-below t,
   read-section.Post,
@@ -73,7 +70,6 @@ read-list-read-section-requires : (t : ℕ) → read-list-lts.Need-read-section-
 read-list-read-section-requires t c κs = let v = c .loop .inv in
     (omega arith, (c .before .before .pre .1 .0, earlier (v .0) (omega arith), v .1))
 
--- src/braces.rt:69:17
 read-list-enum-told : (t : ℕ) → read-list-lts.Need-enum-told (
   read-section-below t,
   read-section.Post,
@@ -82,7 +78,6 @@ read-list-enum-told : (t : ℕ) → read-list-lts.Need-enum-told (
 ) (read-list-at t) read-list.Post read-list-Inv-loop read-list-μ-loop
 read-list-enum-told t c = search needs
 
--- src/braces.rt:69:17
 read-list-returns : (t : ℕ) → read-list-lts.Need-returns (
   read-section-below t,
   read-section.Post,
@@ -91,7 +86,6 @@ read-list-returns : (t : ℕ) → read-list-lts.Need-returns (
 ) (read-list-at t) read-list.Post read-list-Inv-loop read-list-μ-loop
 read-list-returns t c = c .before .before .before .before .loop .inv .2 _ (list-stopped (c .before .before .before .read-section .ensures) (c .enum-told .given .1))
 
--- src/braces.rt:71:26
 read-list-enum-known-step : (t : ℕ) → read-list-lts.Need-enum-known-step (
   read-section-below t,
   read-section.Post,
@@ -100,7 +94,6 @@ read-list-enum-known-step : (t : ℕ) → read-list-lts.Need-enum-known-step (
 ) (read-list-at t) read-list.Post read-list-Inv-loop read-list-μ-loop
 read-list-enum-known-step t c = search needs
 
--- src/braces.rt:73:25
 read-list-next-token-requires : (t : ℕ) → read-list-lts.Need-next-token-requires (
   read-section-below t,
   read-section.Post,
@@ -110,7 +103,6 @@ read-list-next-token-requires : (t : ℕ) → read-list-lts.Need-next-token-requ
 read-list-next-token-requires t c κs = let w = rw (c .before .before .before .step .given .1) at (c .before .before .before .before .before .before .read-section .ensures .within) in
     omega arith
 
--- src/braces.rt:74:21
 read-list-returns-2 : (t : ℕ) → read-list-lts.Need-returns-2 (
   read-section-below t,
   read-section.Post,
@@ -119,7 +111,6 @@ read-list-returns-2 : (t : ℕ) → read-list-lts.Need-returns-2 (
 ) (read-list-at t) read-list.Post read-list-Inv-loop read-list-μ-loop
 read-list-returns-2 t c = c .before .before .before .before .before .before .before .before .loop .inv .2 _ (list-closed (c .before .before .before .before .before .before .before .read-section .ensures) (c .before .before .before .before .step .given .1) (c .before .if1 .taken) (c .next-token .ensures .0) (c .next-token .ensures .1))
 
--- src/braces.rt:63:5
 read-list-loop-less : (t : ℕ) → read-list-lts.Need-loop-less (
   read-section-below t,
   read-section.Post,
@@ -129,7 +120,6 @@ read-list-loop-less : (t : ℕ) → read-list-lts.Need-loop-less (
 read-list-loop-less t c = let w = rw (c .before .before .before .step .given .1) at (c .before .before .before .before .before .before .read-section .ensures .within) in
     omega arith
 
--- src/braces.rt:63:5
 read-list-loop-again : (t : ℕ) → read-list-lts.Need-loop-again (
   read-section-below t,
   read-section.Post,
@@ -140,7 +130,6 @@ read-list-loop-again t c = let w = rw (c .before .before .before .step .given .1
     let v = c .before .before .before .before .before .before .before .loop .inv in
     (earlier w (omega arith), c .before .before .before .before .before .before .read-section .ensures .sound, λ r g. v .2 r (list-more (c .before .before .before .before .before .before .read-section .ensures) (c .before .before .before .step .given .1) (c .if1 .left) g))
 
--- src/braces.rt:37:11
 read-section-head-at-requires : (t : ℕ) → read-section-lts.Need-head-at-requires (
   head-at-reads.Asked,
   head-at-reads.Learnt,
@@ -153,7 +142,6 @@ read-section-head-at-requires : (t : ℕ) → read-section-lts.Need-head-at-requ
 ) (read-section-at t) read-section.Post
 read-section-head-at-requires t c κs = search needs
 
--- src/braces.rt:38:20
 read-section-enum-known-h : (t : ℕ) → read-section-lts.Need-enum-known-h (
   head-at-reads.Asked,
   head-at-reads.Learnt,
@@ -166,7 +154,6 @@ read-section-enum-known-h : (t : ℕ) → read-section-lts.Need-enum-known-h (
 ) (read-section-at t) read-section.Post
 read-section-enum-known-h t c = search needs
 
--- src/braces.rt:39:17
 read-section-pushed-requires : (t : ℕ) → read-section-lts.Need-pushed-requires (
   head-at-reads.Asked,
   head-at-reads.Learnt,
@@ -180,7 +167,6 @@ read-section-pushed-requires : (t : ℕ) → read-section-lts.Need-pushed-requir
 read-section-pushed-requires t c κs = let w = rw (c .before .h .given .1) at (c .before .before .before .head-at .ensures .1) in
     (c .before .before .before .before .before .pre .1 .2, w .2)
 
--- src/braces.rt:41:17
 read-section-returns : (t : ℕ) → read-section-lts.Need-returns (
   head-at-reads.Asked,
   head-at-reads.Learnt,
@@ -194,7 +180,6 @@ read-section-returns : (t : ℕ) → read-section-lts.Need-returns (
 read-section-returns t c = let w = rw (c .before .before .before .before .h .given .1) at (c .before .before .before .before .before .before .head-at .ensures .1) in
     section-shut (c .before .before .before .before .before .before .before .before .pre .1 .2) (sym (c .before .before .before .before .before .before .head-at .ensures .0) ∙ c .before .before .before .before .h .given .1) (w .0) (c .before .before .pushed .ensures .1) (c .before .before .pushed .ensures .0) (c .if1 .taken)
 
--- src/braces.rt:46:17
 read-section-next-token-requires : (t : ℕ) → read-section-lts.Need-next-token-requires (
   head-at-reads.Asked,
   head-at-reads.Learnt,
@@ -208,7 +193,6 @@ read-section-next-token-requires : (t : ℕ) → read-section-lts.Need-next-toke
 read-section-next-token-requires t c κs = let w = rw (c .before .before .before .before .h .given .1) at (c .before .before .before .before .before .before .head-at .ensures .1) in
     w .0 .inside
 
--- src/braces.rt:47:32
 read-section-add-read-list : (t : ℕ) → read-section-lts.Need-add-read-list (
   head-at-reads.Asked,
   head-at-reads.Learnt,
@@ -222,7 +206,6 @@ read-section-add-read-list : (t : ℕ) → read-section-lts.Need-add-read-list (
 read-section-add-read-list t c = let w = rw (c .before .before .before .before .before .h .given .1) at (c .before .before .before .before .before .before .before .head-at .ensures .1) in
     omega arith
 
--- src/braces.rt:47:43
 read-section-cast-read-list : (t : ℕ) → read-section-lts.Need-cast-read-list (
   head-at-reads.Asked,
   head-at-reads.Learnt,
@@ -236,7 +219,6 @@ read-section-cast-read-list : (t : ℕ) → read-section-lts.Need-cast-read-list
 read-section-cast-read-list t c = let w = rw (c .before .before .before .before .before .h .given .1) at (c .before .before .before .before .before .before .before .head-at .ensures .1) in
     omega arith
 
--- src/braces.rt:47:13
 read-section-read-list-requires : (t : ℕ) → read-section-lts.Need-read-list-requires (
   head-at-reads.Asked,
   head-at-reads.Learnt,
@@ -250,7 +232,6 @@ read-section-read-list-requires : (t : ℕ) → read-section-lts.Need-read-list-
 read-section-read-list-requires t c κs = let w = rw (c .before .before .before .before .before .h .given .1) at (c .before .before .before .before .before .before .before .head-at .ensures .1) in
     (omega arith, (c .before .before .before .before .before .before .before .before .before .pre .1 .0, earlier (c .next-token .ensures .1) (omega arith), c .before .before .before .pushed .ensures .0))
 
--- src/braces.rt:49:21
 read-section-enum-known-k : (t : ℕ) → read-section-lts.Need-enum-known-k (
   head-at-reads.Asked,
   head-at-reads.Learnt,
@@ -263,7 +244,6 @@ read-section-enum-known-k : (t : ℕ) → read-section-lts.Need-enum-known-k (
 ) (read-section-at t) read-section.Post
 read-section-enum-known-k t c = search needs
 
--- src/braces.rt:32:1
 read-section-returns-2 : (t : ℕ) → read-section-lts.Need-returns-2 (
   head-at-reads.Asked,
   head-at-reads.Learnt,
@@ -277,7 +257,6 @@ read-section-returns-2 : (t : ℕ) → read-section-lts.Need-returns-2 (
 read-section-returns-2 t c = let w = rw (c .before .before .before .before .before .before .h .given .1) at (c .before .before .before .before .before .before .before .before .head-at .ensures .1) in
     section-open (c .before .before .before .before .before .before .before .before .before .before .pre .1 .2) (sym (c .before .before .before .before .before .before .before .before .head-at .ensures .0) ∙ c .before .before .before .before .before .before .h .given .1) (w .0) (c .before .before .before .before .pushed .ensures .1) (c .before .before .if1 .left) (c .before .next-token .ensures .0) (c .before .next-token .ensures .1) (c .read-list .ensures)
 
--- src/braces.rt:32:1
 read-section-returns-3 : (t : ℕ) → read-section-lts.Need-returns-3 (
   head-at-reads.Asked,
   head-at-reads.Learnt,

@@ -1,27 +1,21 @@
-use lib.Seq.{take-suc-set}
-use lib.ListN.{length, length-set}
-use native.Mathlib.Omega.{arith}
-use native.Mathlib.Numerals.{add-one}
 use Prim.Native.Nat.{_<_}
+use native.Mathlib.Numerals.{add-one}
+use native.Mathlib.Omega.{arith}
+use lib.ListN.{length, length-set}
+use lib.Seq.{take-suc-set}
 use borrow.Author.Needs.{needs}
 use Rattle.fmd_parse.proofs.braces.pushed.Statement.{statement}
 use Rattle.fmd_parse.proofs.braces.pushed.Tie as tie
-use Rattle.fmd_parse.proofs.braces.pushed.Reads as reads
-use Rattle.fmd_parse.proofs.braces.pushed.Lts as lts
 
--- src/braces.rt:26:5
 mul-h : tie.Need-mul-h
 mul-h c = search needs
 
--- src/braces.rt:26:5
 element-set-from-h : tie.Need-element-set-from-h
 element-set-from-h c = search needs
 
--- src/braces.rt:27:15
 add-m : tie.Need-add-m
 add-m c = search needs
 
--- src/braces.rt:20:1
 returns : tie.Need-returns
 returns c = let h : c .args .l .count < length (c .args .l .items) = omega arith in
     (record { room = search needs; full = simp length-set (c .pre .0 .full) }, rw (add-one (c .args .l .count)) (take-suc-set (c .args .l .items) (c .args .l .count) (c .args .h) h))

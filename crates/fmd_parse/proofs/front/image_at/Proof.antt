@@ -1,71 +1,51 @@
-use Rattle.fmd_parse.specs.Images.{imageAt}
 use mathlib.Core.Path.{sym, _∙_}
 use borrow.Author.Needs.{needs}
+use Rattle.fmd_parse.specs.Images.{imageAt}
 use Rattle.fmd_parse.proofs.front.image_at.Statement.{statement}
 use Rattle.fmd_parse.proofs.front.image_at.Tie as tie
-use Rattle.fmd_parse.proofs.front.image_at.Reads as reads
-use Rattle.fmd_parse.proofs.front.image_at.Lts as lts
-use Rattle.fmd_parse.proofs.front.address_at.Reads as address-at-reads
-use Rattle.fmd_parse.proofs.front.length_at.Reads as length-at-reads
-use Rattle.fmd_parse.proofs.front.open_at.Reads as open-at-reads
-use Rattle.fmd_parse.proofs.front.title_at.Reads as title-at-reads
 
--- src/front.rt:118:11
 title-at-requires : tie.Need-title-at-requires
 title-at-requires c κs = search needs
 
--- src/front.rt:119:23
 enum-known-i : tie.Need-enum-known-i
 enum-known-i c = search needs
 
--- src/front.rt:119:38
 address-at-requires : tie.Need-address-at-requires
 address-at-requires c κs = rw (c .before .i .given .1) at (c .before .before .before .title-at .ensures .1)
 
--- src/front.rt:120:27
 enum-known-j : tie.Need-enum-known-j
 enum-known-j c = search needs
 
--- src/front.rt:120:42
 length-at-requires : tie.Need-length-at-requires
 length-at-requires c κs = rw (c .before .j .given .1) at (c .before .before .before .address-at .ensures .1)
 
--- src/front.rt:121:31
 enum-known-k : tie.Need-enum-known-k
 enum-known-k c = search needs
 
--- src/front.rt:121:40
 open-at-requires : tie.Need-open-at-requires
 open-at-requires c κs = rw (c .before .k .given .1) at (c .before .before .before .length-at .ensures .1)
 
--- src/front.rt:122:32
 enum-known-n : tie.Need-enum-known-n
 enum-known-n c = search needs
 
--- src/front.rt:124:28
 enum-known-n-2 : tie.Need-enum-known-n-2
 enum-known-n-2 c = search needs
 
--- src/front.rt:126:24
 enum-known-n-3 : tie.Need-enum-known-n-3
 enum-known-n-3 c = search needs
 
--- src/front.rt:113:1
 returns : tie.Need-returns
 unfolding imageAt
 returns c = (rw (sym (c .before .before .before .before .before .before .before .before .before .before .before .before .title-at .ensures .0) ∙ c .before .before .before .before .before .before .before .before .before .before .i .given .1, sym (c .before .before .before .before .before .before .before .before .address-at .ensures .0) ∙ c .before .before .before .before .before .before .j .given .1, sym (c .before .before .before .before .length-at .ensures .0) ∙ c .before .before .k .given .1) (c .open-at .ensures .0), c .open-at .ensures .1)
 
--- src/front.rt:113:1
 returns-2 : tie.Need-returns-2
 unfolding imageAt
 returns-2 c = (rw (sym (c .before .before .before .before .before .before .before .before .before .before .before .title-at .ensures .0) ∙ c .before .before .before .before .before .before .before .before .before .i .given .1, sym (c .before .before .before .before .before .before .before .address-at .ensures .0) ∙ c .before .before .before .before .before .j .given .1, sym (c .before .before .before .length-at .ensures .0) ∙ c .before .n .given .1), tt)
 
--- src/front.rt:113:1
 returns-3 : tie.Need-returns-3
 unfolding imageAt
 returns-3 c = (rw (sym (c .before .before .before .before .before .before .before .title-at .ensures .0) ∙ c .before .before .before .before .before .i .given .1, sym (c .before .before .before .address-at .ensures .0) ∙ c .before .n2 .given .1), tt)
 
--- src/front.rt:113:1
 returns-4 : tie.Need-returns-4
 unfolding imageAt
 returns-4 c = (rw (sym (c .before .before .before .title-at .ensures .0) ∙ c .before .n3 .given .1), tt)

@@ -1,25 +1,19 @@
+use mathlib.Core.Path.{sym}
+use native.Mathlib.Omega.{arith}
+use borrow.Author.Needs.{needs}
+use borrow.Author.Tests.{eq-eqb, ne-eqb}
 use Rattle.fmd_parse.specs.Images.{openAt}
 use Rattle.fmd_lex.proofs.Tokens.{earlier}
-use borrow.Author.Tests.{eq-eqb, ne-eqb}
-use native.Mathlib.Omega.{arith}
-use mathlib.Core.Path.{sym}
-use borrow.Author.Needs.{needs}
 use Rattle.fmd_parse.proofs.front.open_at.Statement.{statement}
 use Rattle.fmd_parse.proofs.front.open_at.Tie as tie
-use Rattle.fmd_parse.proofs.front.open_at.Reads as reads
-use Rattle.fmd_parse.proofs.front.open_at.Lts as lts
-use Rattle.fmd_lex.proofs.next_token.Reads as next-token-reads
 
--- src/front.rt:106:13
 next-token-requires : tie.Need-next-token-requires
 next-token-requires c κs = search needs
 
--- src/front.rt:107:9
 returns : tie.Need-returns
 unfolding openAt
 returns c = (rw (eq-eqb _ _ (c .before .if1 .taken), sym (c .next-token .ensures .0)), earlier (c .next-token .ensures .1) (omega arith))
 
--- src/front.rt:100:1
 returns-2 : tie.Need-returns-2
 unfolding openAt
 returns-2 c = (rw (ne-eqb _ _ (c .if1 .left)), tt)

@@ -1,41 +1,30 @@
-use Rattle.fmd_parse.specs.Heads.{amountAt}
-use borrow.Author.Tests.{eq-eqb, ne-eqb}
 use mathlib.Core.Path.{sym, _∙_}
 use borrow.Author.Needs.{needs}
+use borrow.Author.Tests.{eq-eqb, ne-eqb}
+use Rattle.fmd_parse.specs.Heads.{amountAt}
 use Rattle.fmd_parse.proofs.head.amount_at.Statement.{statement}
 use Rattle.fmd_parse.proofs.head.amount_at.Tie as tie
-use Rattle.fmd_parse.proofs.head.amount_at.Reads as reads
-use Rattle.fmd_parse.proofs.head.amount_at.Lts as lts
-use Rattle.fmd_lex.proofs.next_token.Reads as next-token-reads
-use Rattle.fmd_lex.proofs.number_at.Reads as number-at-reads
 
--- src/lib.rt:64:9
 returns : tie.Need-returns
 unfolding amountAt
 returns c = (rw (ne-eqb _ _ (c .if1 .taken)), tt)
 
--- src/lib.rt:66:11
 number-at-requires : tie.Need-number-at-requires
 number-at-requires c κs = search needs
 
--- src/lib.rt:67:23
 enum-known-n : tie.Need-enum-known-n
 enum-known-n c = search needs
 
--- src/lib.rt:68:17
 next-token-requires : tie.Need-next-token-requires
 next-token-requires c κs = search needs
 
--- src/lib.rt:71:26
 enum-told : tie.Need-enum-told
 enum-told c = search needs
 
--- src/lib.rt:58:1
 returns-2 : tie.Need-returns-2
 unfolding amountAt
 returns-2 c = (rw (eq-eqb _ _ (c .before .before .before .before .before .if1 .left), sym (c .before .before .before .before .number-at .ensures) ∙ c .before .before .n .given .1, sym (c .next-token .ensures .0)), c .next-token .ensures .1)
 
--- src/lib.rt:58:1
 returns-3 : tie.Need-returns-3
 unfolding amountAt
 returns-3 c = (rw (eq-eqb _ _ (c .before .before .before .if1 .left), sym (c .before .before .number-at .ensures) ∙ c .enum-told .given .1), tt)

@@ -1,64 +1,48 @@
-use Rattle.fmd_parse.specs.Heads.{flagAt}
-use borrow.Author.Tests.{eq-eqb, ne-eqb}
 use mathlib.Core.Path.{sym, _∙_}
 use borrow.Author.Needs.{needs}
+use borrow.Author.Tests.{eq-eqb, ne-eqb}
+use Rattle.fmd_parse.specs.Heads.{flagAt}
 use Rattle.fmd_parse.proofs.head.flag_at.Statement.{statement}
 use Rattle.fmd_parse.proofs.head.flag_at.Tie as tie
-use Rattle.fmd_parse.proofs.head.flag_at.Reads as reads
-use Rattle.fmd_parse.proofs.head.flag_at.Lts as lts
-use Rattle.fmd_lex.proofs.flag_at.Reads as flag-at-reads
-use Rattle.fmd_lex.proofs.next_token.Reads as next-token-reads
 
--- src/lib.rt:115:9
 returns : tie.Need-returns
 unfolding flagAt
 returns c = (rw (ne-eqb _ _ (c .if1 .taken)), tt)
 
--- src/lib.rt:118:11
 flag-at-requires : tie.Need-flag-at-requires
 flag-at-requires c κs = search needs
 
--- src/lib.rt:120:16
 enum-told : tie.Need-enum-told
 enum-told c = search needs
 
--- src/lib.rt:121:17
 returns-2 : tie.Need-returns-2
 unfolding flagAt
 returns-2 c = (rw (eq-eqb _ _ (c .before .before .before .before .if1 .left), sym (c .before .before .before .flag-at .ensures) ∙ c .before .enum-told .given .1, c .if2 .taken), tt)
 
--- src/lib.rt:124:17
 next-token-requires : tie.Need-next-token-requires
 next-token-requires c κs = search needs
 
--- src/lib.rt:128:16
 enum-told-2 : tie.Need-enum-told-2
 enum-told-2 c = search needs
 
--- src/lib.rt:129:17
 returns-3 : tie.Need-returns-3
 unfolding flagAt
 returns-3 c = (rw (eq-eqb _ _ (c .before .before .before .before .if1 .left), sym (c .before .before .before .flag-at .ensures) ∙ c .before .enum-told2 .given .1, c .if3 .taken), tt)
 
--- src/lib.rt:132:17
 next-token-requires-2 : tie.Need-next-token-requires-2
 next-token-requires-2 c κs = search needs
 
--- src/lib.rt:135:26
 enum-told-3 : tie.Need-enum-told-3
 enum-told-3 c = search needs
 
--- src/lib.rt:109:1
 returns-4 : tie.Need-returns-4
 unfolding flagAt
 returns-4 c = (rw (eq-eqb _ _ (c .before .before .before .before .before .if1 .left), sym (c .before .before .before .before .flag-at .ensures) ∙ c .before .before .enum-told .given .1, c .before .if2 .left, sym (c .next-token .ensures .0)), c .next-token .ensures .1)
 
--- src/lib.rt:109:1
 returns-5 : tie.Need-returns-5
 unfolding flagAt
 returns-5 c = (rw (eq-eqb _ _ (c .before .before .before .before .before .if1 .left), sym (c .before .before .before .before .flag-at .ensures) ∙ c .before .before .enum-told2 .given .1, c .before .if3 .left, sym (c .next-token2 .ensures .0)), c .next-token2 .ensures .1)
 
--- src/lib.rt:109:1
 returns-6 : tie.Need-returns-6
 unfolding flagAt
 returns-6 c = (rw (eq-eqb _ _ (c .before .before .before .if1 .left), sym (c .before .before .flag-at .ensures) ∙ c .enum-told3 .given .1), tt)

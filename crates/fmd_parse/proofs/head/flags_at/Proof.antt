@@ -1,50 +1,37 @@
-use Rattle.fmd_parse.specs.Heads.{flagsAt}
-use Rattle.fmd_parse.proofs.Heads.{part-earlier}
-use Rattle.fmd_lex.proofs.Tokens.{earlier}
-use borrow.Author.Tests.{eq-eqb, ne-eqb}
-use native.Mathlib.Omega.{arith}
 use mathlib.Core.Path.{sym, _∙_}
+use native.Mathlib.Omega.{arith}
 use borrow.Author.Needs.{needs}
+use borrow.Author.Tests.{eq-eqb, ne-eqb}
+use Rattle.fmd_parse.specs.Heads.{flagsAt}
+use Rattle.fmd_lex.proofs.Tokens.{earlier}
+use Rattle.fmd_parse.proofs.Heads.{part-earlier}
 use Rattle.fmd_parse.proofs.head.flags_at.Statement.{statement}
 use Rattle.fmd_parse.proofs.head.flags_at.Tie as tie
-use Rattle.fmd_parse.proofs.head.flags_at.Reads as reads
-use Rattle.fmd_parse.proofs.head.flags_at.Lts as lts
-use Rattle.fmd_lex.proofs.next_token.Reads as next-token-reads
-use Rattle.fmd_parse.proofs.head.flag_at.Reads as flag-at-reads
-use Rattle.fmd_parse.proofs.head.other_at.Reads as other-at-reads
 
--- src/lib.rt:174:9
 returns : tie.Need-returns
 unfolding flagsAt
 returns c = (rw (ne-eqb _ _ (c .if1 .taken)), search needs)
 
--- src/lib.rt:176:9
 next-token-requires : tie.Need-next-token-requires
 next-token-requires c κs = search needs
 
--- src/lib.rt:177:11
 flag-at-requires : tie.Need-flag-at-requires
 flag-at-requires c κs = search needs
 
--- src/lib.rt:178:20
 enum-known-k : tie.Need-enum-known-k
 enum-known-k c = search needs
 
--- src/lib.rt:178:29
 other-at-requires : tie.Need-other-at-requires
 other-at-requires c κs = earlier (rw (c .before .k .given .1) at (c .before .before .before .flag-at .ensures .1)) (omega arith)
 
--- src/lib.rt:179:21
 enum-known-n : tie.Need-enum-known-n
 enum-known-n c = search needs
 
--- src/lib.rt:168:1
 returns-2 : tie.Need-returns-2
 unfolding flagsAt
 returns-2 c = let w = rw (c .before .before .k .given .1) at (c .before .before .before .before .flag-at .ensures .1) in
     (rw (eq-eqb _ _ (c .before .before .before .before .before .before .if1 .left), sym (c .before .before .before .before .before .next-token .ensures .0), sym (c .before .before .before .before .flag-at .ensures .0) ∙ c .before .before .k .given .1) (c .other-at .ensures .0), part-earlier _ _ _ (c .other-at .result) (c .other-at .ensures .1) (omega arith))
 
--- src/lib.rt:168:1
 returns-3 : tie.Need-returns-3
 unfolding flagsAt
 returns-3 c = (rw (eq-eqb _ _ (c .before .before .before .before .before .if1 .left), sym (c .before .before .before .before .next-token .ensures .0), sym (c .before .before .before .flag-at .ensures .0) ∙ c .before .n .given .1), tt)

@@ -1,28 +1,20 @@
-use Rattle.fmd_parse.specs.Heads.{lastAt}
-use borrow.Author.Tests.{eq-eqb, ne-eqb}
 use mathlib.Core.Path.{sym}
 use borrow.Author.Needs.{needs}
+use borrow.Author.Tests.{eq-eqb, ne-eqb}
+use Rattle.fmd_parse.specs.Heads.{lastAt}
 use Rattle.fmd_parse.proofs.head.last_at.Statement.{statement}
 use Rattle.fmd_parse.proofs.head.last_at.Tie as tie
-use Rattle.fmd_parse.proofs.head.last_at.Reads as reads
-use Rattle.fmd_parse.proofs.head.last_at.Lts as lts
-use Rattle.fmd_lex.proofs.next_token.Reads as next-token-reads
-use Rattle.fmd_parse.proofs.head.flag_at.Reads as flag-at-reads
 
--- src/lib.rt:146:13
 next-token-requires : tie.Need-next-token-requires
 next-token-requires c κs = search needs
 
--- src/lib.rt:147:9
 returns : tie.Need-returns
 unfolding lastAt
 returns c = (rw (eq-eqb _ _ (c .before .if1 .taken), sym (c .next-token .ensures .0)), c .next-token .ensures .1)
 
--- src/lib.rt:149:5
 flag-at-requires : tie.Need-flag-at-requires
 flag-at-requires c κs = search needs
 
--- src/lib.rt:140:1
 returns-2 : tie.Need-returns-2
 unfolding lastAt
 returns-2 c = (rw (ne-eqb _ _ (c .before .if1 .left)) (c .flag-at .ensures .0), c .flag-at .ensures .1)
