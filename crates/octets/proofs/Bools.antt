@@ -1,7 +1,7 @@
 -- Laws of conjunction, disjunction and Option.
 use mathlib.Core.Path.{_≡_, refl, sym, _∙_}
 use mathlib.Core.Logic.{_⊎_, inl, inr}
-use mathlib.Core.Bool.{Bool, true, false, not, true≢false, false≢true}
+use mathlib.Core.Bool.{Bool, true, false, cond, not, true≢false, false≢true}
 use mathlib.Core.Option.{Option, none, some}
 use Prim.Native.Nat.{ℕ}
 use native.Mathlib.Omega.{arith}
@@ -88,3 +88,8 @@ some-none {A} {a} e = let z : _≡_ {A = ℕ} 0 1 = cc in omega arith
 pub option-cases : (o : Option ℕ) → (o ≡ none) ⊎ ((s : ℕ) × (o ≡ some s))
 option-cases none = inl refl
 option-cases (some s) = inr (s, refl)
+
+-- what holds of each of two values where the test takes it holds of the choice
+pub choice : {A : Type 0} (P : A → Type 0) (b : Bool) (x y : A) → (b ≡ true → P x) → (b ≡ false → P y) → P (cond b x y)
+choice P true x y p q = p refl
+choice P false x y p q = q refl
