@@ -2,3 +2,4 @@
 pub mod Heads
 pub mod Images
 pub mod Layouts
+pub mod Trees
