@@ -11,7 +11,6 @@ use lib.Seq.{drop-cons}
 use lib.Dec.{ltb, eqb}
 use borrow.Author.Tests.{eq-eqb, ne-eqb, lt-ltb, le-ltb, le-leb, lt-leb, eqb-false}
 use Rattle.fmd_lex.specs.Numbers.{digitOf, unitOf, capped, scaled, digits, someDigits, afterZero, numberOf}
-use Rattle.fmd_lex.specs.declared.Number.{Number}
 use Rattle.fmd_lex.specs.declared.Number.the-variants.{Value, Wrong}
 
 pub capped-in : (n : ℕ) → n ≤ 4294967295 → Value n ≡ capped n

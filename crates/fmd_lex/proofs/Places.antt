@@ -1,5 +1,5 @@
 -- Where the tokens of a text stand, and what the bytes of a word are.
-use mathlib.Core.Path.{_≡_, sym}
+use mathlib.Core.Path.{_≡_}
 use mathlib.Core.Bool.{Bool, true, false, false≢true}
 use mathlib.Core.List.{List, [], _∷_}
 use Prim.Native.Nat.{ℕ, suc, _+_, _-_, _≤_, _<_}
@@ -12,7 +12,7 @@ use Rattle.octets.specs.Tests.{_or_, all}
 use Rattle.octets.specs.Bytes.{part}
 use Rattle.octets.proofs.Bools.{and-i, choice}
 use Rattle.fmd_lex.specs.Chars.{isBlank, isSign, isWord}
-use Rattle.fmd_lex.specs.Tokens.{endKind, badKind, wordKind, tokenOf, skipFrom, wordFrom, tokenHere, tokenAt, bytesOf, Within}
+use Rattle.fmd_lex.specs.Tokens.{wordKind, skipFrom, wordFrom, tokenHere, tokenAt, bytesOf, Within}
 use Rattle.fmd_lex.specs.declared.Token.{Token}
 use Rattle.fmd_lex.proofs.Tokens.{word-in}
 
@@ -89,5 +89,5 @@ word-bytes s at =
     (λ f. choice P (isSign (getD s p 0)) _ _ (λ g z. absurd (sign-no-word (getD s p 0) g z)) (λ g z. absurd (omega arith))))
     (λ e z. absurd (omega arith))
   where
-  P : Token → Type 0
-  P t = t .kind ≡ wordKind → all isWord (take (t .end - t .start) (drop (t .start) s)) ≡ true
+    P : Token → Type 0
+    P t = t .kind ≡ wordKind → all isWord (take (t .end - t .start) (drop (t .start) s)) ≡ true

@@ -1,7 +1,7 @@
 -- Sample 8 of the rules, over the definition of a number.
 use mathlib.Core.Path.{_≡_, refl}
 use mathlib.Core.List.{[], _∷_}
-use Rattle.fmd_lex.specs.Numbers.{digitOf, unitOf, capped, scaled, digits, someDigits, afterZero, numberOf}
+use Rattle.fmd_lex.specs.Numbers.{digitOf, capped, scaled, digits, someDigits, afterZero, numberOf}
 use Rattle.fmd_lex.specs.declared.Number.the-variants.{Value, Wrong}
 
 -- S8: 010 is 52; 0x10 is 16. A word that is no number gives 52 where a number must stand.

@@ -1,6 +1,6 @@
 -- Classes of bytes of a layout text.
 use mathlib.Core.Bool.{Bool, not}
-use mathlib.Core.List.{List, [], _∷_}
+use mathlib.Core.List.{[], _∷_}
 use Prim.Native.Nat.{ℕ}
 use lib.Dec.{leb, eqb}
 use Rattle.octets.specs.Tests.{_and_, any}

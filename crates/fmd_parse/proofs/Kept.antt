@@ -1,11 +1,11 @@
 -- What each part of a section keeps of the section read so far, and where its fault stands.
 use mathlib.Core.Path.{_≡_, refl, _∙_}
 use mathlib.Core.Bool.{Bool, true, false, not}
-use mathlib.Core.List.{List, [], _∷_}
-use mathlib.Core.Option.{Option, none, some}
+use mathlib.Core.List.{List}
+use mathlib.Core.Option.{Option}
 use Prim.Native.Nat.{ℕ, _+_, _-_, _≤_, _<_}
 use native.Mathlib.Omega.{arith}
-use lib.Dec.{ltb, leb, eqb}
+use lib.Dec.{ltb, leb}
 use lib.ListN.{length, getD}
 use borrow.Author.Tests.{leb-false, ltb-false, eqb-true}
 use Rattle.octets.specs.Tests.{_or_, all}
@@ -22,7 +22,7 @@ use Rattle.fmd_lex.specs.declared.Flag.{Flag}
 use Rattle.fmd_lex.specs.declared.Flag.the-variants.{Cbfs, Preserve, Unknown}
 use Rattle.fmd_lex.proofs.Tokens.{earlier}
 use Rattle.fmd_lex.proofs.Places.{token-within, word-bytes}
-use Rattle.fmd_parse.specs.Heads.{next, isWord, isSign, counted, amountAt, onward, judged, bare, namedAt, marked, flagAt, lastAt, otherAt, flagsAt, withOffset, offsetAt, withSize, sizeAt, headAt}
+use Rattle.fmd_parse.specs.Heads.{next, isWord, isSign, counted, amountAt, onward, judged, namedAt, marked, flagAt, lastAt, otherAt, flagsAt, withOffset, offsetAt, withSize, sizeAt, headAt}
 use Rattle.fmd_parse.specs.Trees.{Numbered, Named}
 use Rattle.fmd_parse.specs.declared.Section.{Section}
 use Rattle.fmd_parse.specs.declared.Amount.{Amount}
@@ -75,9 +75,9 @@ unfolding amountAt _or_
 amount-from {s} {a} {t} w =
     choice (AmountFrom s (t .end)) (isWord t) _ _ (λ e. by-number (numberOf (bytesOf s t))) (λ e. fault-here w 51 refl)
   where
-  by-number : (n : Number) → AmountFrom s (t .end) (counted s t n)
-  by-number (Value n) = next-from w
-  by-number Wrong = fault-here w 52 refl
+    by-number : (n : Number) → AmountFrom s (t .end) (counted s t n)
+    by-number (Value n) = next-from w
+    by-number Wrong = fault-here w 52 refl
 
 -- ---- parts after the name
 
@@ -112,10 +112,10 @@ module _ {s : List ℕ} {a : ℕ} {t : Token} (w : From s a t) (h : Section) whe
   unfolding flagAt _or_
   flag-keeps = choice (Keeps s (t .end) h) (isWord t) _ _ (λ e. by-flag (flagOf (bytesOf s t))) (λ e. fault-here w 51 refl)
     where
-    by-flag : (f : Flag) → Keeps s (t .end) h (marked s t h f)
-    by-flag Cbfs = choice (Keeps s (t .end) h) (h .cbfs) _ _ (λ e. fault-here w 56 refl) (λ e. (next-from w, record { place = refl; length = refl; parent = refl; level = refl }))
-    by-flag Preserve = choice (Keeps s (t .end) h) (h .preserve) _ _ (λ e. fault-here w 56 refl) (λ e. (next-from w, record { place = refl; length = refl; parent = refl; level = refl }))
-    by-flag Unknown = fault-here w 56 refl
+      by-flag : (f : Flag) → Keeps s (t .end) h (marked s t h f)
+      by-flag Cbfs = choice (Keeps s (t .end) h) (h .cbfs) _ _ (λ e. fault-here w 56 refl) (λ e. (next-from w, record { place = refl; length = refl; parent = refl; level = refl }))
+      by-flag Preserve = choice (Keeps s (t .end) h) (h .preserve) _ _ (λ e. fault-here w 56 refl) (λ e. (next-from w, record { place = refl; length = refl; parent = refl; level = refl }))
+      by-flag Unknown = fault-here w 56 refl
 
   last-keeps : Keeps s (t .end) h (lastAt s t h)
   unfolding lastAt
@@ -135,11 +135,11 @@ module _ {s : List ℕ} {a : ℕ} {t : Token} (w : From s a t) (h : Section) whe
       let x = next-from w in
       choice (Keeps s (t .start) h) (isSign 64 t) _ _ (λ e. by-amount (amountAt s (next s t)) (amount-from x)) (λ e. (own-from w, kept h))
     where
-    by-amount : (m : Amount) → AmountFrom s (next s t .end) m → Keeps s (t .start) h (withOffset h m)
-    by-amount (Counted n u) v =
-        let x = next-from w in
-        (from-earlier v (omega arith), record { place = refl; length = refl; parent = refl; level = refl })
-    by-amount (Uncounted k p) v = v
+      by-amount : (m : Amount) → AmountFrom s (next s t .end) m → Keeps s (t .start) h (withOffset h m)
+      by-amount (Counted n u) v =
+          let x = next-from w in
+          (from-earlier v (omega arith), record { place = refl; length = refl; parent = refl; level = refl })
+      by-amount (Uncounted k p) v = v
 
   pub size-keeps : Keeps s (t .start) h (sizeAt s t h)
   unfolding sizeAt
@@ -148,9 +148,9 @@ module _ {s : List ℕ} {a : ℕ} {t : Token} (w : From s a t) (h : Section) whe
       (λ e. choice (Keeps s (t .start) h) (isDigit (getD s (t .start) 0)) _ _ (λ f. by-amount (amountAt s t) (amount-from w)) (λ f. (own-from w, kept h)))
       (λ e. (own-from w, kept h))
     where
-    by-amount : (m : Amount) → AmountFrom s (t .end) m → Keeps s (t .start) h (withSize h m)
-    by-amount (Counted n u) v = (from-earlier v (omega arith), record { place = refl; length = refl; parent = refl; level = refl })
-    by-amount (Uncounted k p) v = v
+      by-amount : (m : Amount) → AmountFrom s (t .end) m → Keeps s (t .start) h (withSize h m)
+      by-amount (Counted n u) v = (from-earlier v (omega arith), record { place = refl; length = refl; parent = refl; level = refl })
+      by-amount (Uncounted k p) v = v
 
 pub flags-keeps : {s : List ℕ} {a : ℕ} {t : Token} → From s a t → (h : Section) → Keeps s (t .start) h (flagsAt s t h)
 unfolding flagsAt
@@ -175,51 +175,53 @@ abbrev pub Heads : List ℕ → ℕ → ℕ → ℕ → ℕ → Part → Type 0
 Heads s a lv par n (Read h u) = From s a u × Headed s lv par n h
 Heads s a lv par n (Fault m p) = Faulty s m p
 
-row-choice : (P : Part → Type 0) (b : Bool) (k : ℕ) (r : Option ℕ) (t : Token) (x : Part) → (b ≡ true → P (Fault k (t .start)))
-    → (b ≡ false → P (judged r t x)) → P (judged (pickRow b k r) t x)
+pub row-choice : {A : Type 0} (P : A → Type 0) (b : Bool) (k : ℕ) (r : Option ℕ) (f : ℕ → A) (x : A) → (b ≡ true → P (f k))
+    → (b ≡ false → P (judged r f x)) → P (judged (pickRow b k r) f x)
 unfolding pickRow
-row-choice P true k r t x p q = p refl
-row-choice P false k r t x p q = q refl
+row-choice P true k r f x p q = p refl
+row-choice P false k r f x p q = q refl
 
 named-heads : {s : List ℕ} {a : ℕ} {t : Token} → From s a t → (lv par n : ℕ) → Heads s (t .start + 1) lv par n (namedAt s t lv par n)
 unfolding namedAt _or_
 named-heads {s} {a} {t} w lv par n =
     let P = Heads s (t .start + 1) lv par n in
-    row-choice P (not (isWord t)) 51 _ t _ (λ e. fault-here w 51 refl)
-    (λ e. row-choice P (not (goodName (bytesOf s t))) 53 _ t _ (λ f. fault-here w 53 refl)
-    (λ f. row-choice P (leb 128 n) 55 _ t _ (λ g. fault-here w 55 refl)
-    (λ g. row-choice P (ltb 8 lv) 55 _ t _ (λ d. fault-here w 55 refl)
+    row-choice P (not (isWord t)) 51 _ _ _ (λ e. fault-here w 51 refl)
+    (λ e. row-choice P (not (goodName (bytesOf s t))) 53 _ _ _ (λ f. fault-here w 53 refl)
+    (λ f. row-choice P (leb 128 n) 55 _ _ _ (λ g. fault-here w 55 refl)
+    (λ g. row-choice P (ltb 8 lv) 55 _ _ _ (λ d. fault-here w 55 refl)
     (λ d.
     let k : t .kind ≡ wordKind = eqb-true (t .kind) wordKind (not-f (isWord t) e) in
-    let l = w .within .filled k in
-    (from-earlier (next-from w) (omega arith)
-    , record {
-      named = name-here w k (not-f _ f);
-      deep = ltb-false 8 lv d;
-      many = leb-false 128 n g;
-      parent = refl;
-      level = refl;
-    })))))
+    let l = w .within .filled k in (
+      from-earlier (next-from w) (omega arith),
+      record {
+        named = name-here w k (not-f _ f);
+        deep = ltb-false 8 lv d;
+        many = leb-false 128 n g;
+        parent = refl;
+        level = refl;
+      },
+    )))))
 
 onward-heads : (s : List ℕ) (a lv par n : ℕ) (p : Part) (f : Section → Token → Part) → Heads s a lv par n p
     → ((h : Section) (u : Token) → From s a u → Keeps s (u .start) h (f h u)) → Heads s a lv par n (onward p f)
 onward-heads s a lv par n (Fault m p) f w g = w
 onward-heads s a lv par n (Read h u) f w g = go (f h u) (g h u (w .0))
   where
-  go : (p : Part) → Keeps s (u .start) h p → Heads s a lv par n p
-  go (Fault m p) x = x
-  go (Read k v) x =
-      let o = w .0 in
-      let q = x .1 in
-      let d = w .1 in
-      (from-earlier (x .0) (omega arith)
-      , record {
-        named = rw (q .place, q .length) (d .named);
-        deep = d .deep;
-        many = d .many;
-        parent = q .parent ∙ d .parent;
-        level = q .level ∙ d .level;
-      })
+    go : (p : Part) → Keeps s (u .start) h p → Heads s a lv par n p
+    go (Fault m p) x = x
+    go (Read k v) x =
+        let o = w .0 in
+        let q = x .1 in
+        let d = w .1 in (
+          from-earlier (x .0) (omega arith),
+          record {
+            named = rw (q .place, q .length) (d .named);
+            deep = d .deep;
+            many = d .many;
+            parent = q .parent ∙ d .parent;
+            level = q .level ∙ d .level;
+          },
+        )
 
 pub head-heads : {s : List ℕ} {a : ℕ} {t : Token} → From s a t → (lv par n : ℕ) → Heads s (t .start + 1) lv par n (headAt s t lv par n)
 unfolding headAt

@@ -1,16 +1,16 @@
 -- Laws of the two readers' contracts: one for each way out of each reader.
-use mathlib.Core.Path.{_≡_, sym, _∙_, ap}
+use mathlib.Core.Path.{_≡_, sym}
 use mathlib.Core.List.{List, [], _∷_, _++_}
 use Prim.Native.Nat.{ℕ, zero, suc, _+_, _*_, _-_, _≤_, _<_}
 use native.Mathlib.Omega.{arith}
-use lib.ListN.{length, take}
+use lib.ListN.{length}
 use lib.Seq.{length-take-le}
 use borrow.Author.Tests.{eq-eqb, ne-eqb}
 use Rattle.fmd_lex.specs.Tokens.{tokenAt, Within}
 use Rattle.fmd_lex.specs.declared.Token.{Token}
 use Rattle.fmd_lex.proofs.Tokens.{earlier}
 use Rattle.fmd_parse.specs.Heads.{headAt}
-use Rattle.fmd_parse.specs.Layouts.{Parsed, sectionFrom, listFrom, listOf, Sound, stepOf, reachedOf, StepIn, SectionRead, ListRead}
+use Rattle.fmd_parse.specs.Layouts.{sectionFrom, listFrom, listOf, Sound, reachedOf, StepIn, SectionRead, ListRead}
 use Rattle.fmd_parse.specs.declared.Section.{Section}
 use Rattle.fmd_parse.specs.declared.Sections.{Sections}
 use Rattle.fmd_parse.specs.declared.Part.the-variants.{Read, Fault}

@@ -1,18 +1,18 @@
 -- Samples 7 and 8 of the rules, over the definition of a layout.
 use mathlib.Core.Bool.{false}
-use mathlib.Core.List.{List, [], _∷_}
+use mathlib.Core.List.{[], _∷_}
 use mathlib.Core.Path.{_≡_, refl}
 use Prim.Native.Nat.{ℕ}
 use Rattle.octets.specs.Tests.{_and_, _or_}
 use Rattle.octets.specs.Rows.{pickRow}
-use Rattle.octets.specs.Bytes.{part, same}
+use Rattle.octets.specs.Bytes.{part}
 use Rattle.fmd_lex.specs.Chars.{isBlank, isSign, isWord, isDigit}
 use Rattle.fmd_lex.specs.Tokens.{skipFrom, wordFrom, tokenHere, tokenAt}
-use Rattle.fmd_lex.specs.Numbers.{digitOf, unitOf, capped, scaled, digits, someDigits, afterZero, numberOf}
-use Rattle.fmd_lex.specs.Names.{goodName, flagOf}
-use Rattle.fmd_parse.specs.Heads.{amountAt, namedAt, flagAt, flagsAt, offsetAt, sizeAt, headAt}
+use Rattle.fmd_lex.specs.Numbers.{digitOf, capped, scaled, digits, someDigits, afterZero, numberOf}
+use Rattle.fmd_lex.specs.Names.{goodName}
+use Rattle.fmd_parse.specs.Heads.{amountAt, namedAt, flagsAt, offsetAt, sizeAt, headAt}
 use Rattle.fmd_parse.specs.Images.{titleAt, addressAt, lengthAt, openAt, imageAt}
-use Rattle.fmd_parse.specs.Layouts.{sectionFrom, listFrom, Layout, layout, refused, layoutOf}
+use Rattle.fmd_parse.specs.Layouts.{sectionFrom, listFrom, layout, refused, layoutOf}
 use Rattle.fmd_parse.specs.declared.Address.the-variants.{Omitted}
 use Rattle.fmd_parse.specs.declared.Image.{Image}
 use Rattle.fmd_parse.specs.declared.Offset.the-variants.{Omitted as OmittedOffset}

@@ -3,11 +3,10 @@
 use mathlib.Core.Bool.{Bool, true, false, cond, not}
 use mathlib.Core.List.{List, [], _∷_}
 use mathlib.Core.Option.{Option, none, some}
-use Prim.Native.Nat.{ℕ, _+_, _-_, _≤_, _<_}
+use Prim.Native.Nat.{ℕ, _-_, _≤_, _<_}
 use lib.Dec.{ltb, leb, eqb}
 use lib.ListN.{getD}
-use Rattle.octets.specs.Tests.{_and_}
-use Rattle.octets.specs.Rows.{Row, row, refusal}
+use Rattle.octets.specs.Rows.{row, refusal}
 use Rattle.fmd_lex.specs.Chars.{isDigit}
 use Rattle.fmd_lex.specs.Tokens.{wordKind, tokenAt, bytesOf, Within}
 use Rattle.fmd_lex.specs.Numbers.{numberOf}
@@ -17,9 +16,7 @@ use Rattle.fmd_lex.specs.declared.Number.{Number}
 use Rattle.fmd_lex.specs.declared.Number.the-variants.{Value, Wrong}
 use Rattle.fmd_lex.specs.declared.Flag.{Flag}
 use Rattle.fmd_lex.specs.declared.Flag.the-variants.{Cbfs, Preserve, Unknown}
-use Rattle.fmd_parse.specs.declared.Offset.{Offset}
 use Rattle.fmd_parse.specs.declared.Offset.the-variants.{Given as GivenOffset, Omitted as OmittedOffset}
-use Rattle.fmd_parse.specs.declared.Size.{Size}
 use Rattle.fmd_parse.specs.declared.Size.the-variants.{Given as GivenSize, Omitted as OmittedSize}
 use Rattle.fmd_parse.specs.declared.Section.{Section}
 use Rattle.fmd_parse.specs.declared.Amount.{Amount}
@@ -57,10 +54,11 @@ abbrev pub onward : Part → (Section → Token → Part) → Part
 onward (Read h t) k = k h t
 onward (Fault n p) k = Fault n p
 
--- R33: .. the first fault in the text (..; a word's fault stands at its first byte, ..; at one place the lowest number)
-abbrev pub judged : Option ℕ → Token → Part → Part
-judged (some n) t k = Fault n (t .start)
-judged none t k = k
+-- R33: .. the first fault in the text (..; a word's fault stands at its first byte, ..; at one place the lowest number):
+-- what f makes of the first row that holds, else k
+abbrev pub judged : {A : Type 0} → Option ℕ → (ℕ → A) → A → A
+judged (some n) f k = f n
+judged none f k = k
 
 -- the section of a name alone
 abbrev pub bare : Token → ℕ → ℕ → Section
@@ -74,7 +72,7 @@ namedAt s t lv par n =
     judged
     (refusal
     (row (not (isWord t)) 51 ∷ row (not (goodName (bytesOf s t))) 53 ∷ row (leb 128 n) 55 ∷ row (ltb 8 lv) 55 ∷ []))
-    t
+    (λ m. Fault m (t .start))
     (Read (bare t lv par) (next s t))
 
 -- the section with one part more

@@ -1,16 +1,14 @@
 -- The image of a layout text, up to its opening brace. Readers as in Heads.
-use mathlib.Core.Bool.{Bool, true, false, cond, not}
+use mathlib.Core.Bool.{cond, not}
 use mathlib.Core.List.{List, [], _∷_}
-use mathlib.Core.Option.{Option, none, some}
 use Prim.Native.Nat.{ℕ, _-_}
 use lib.Dec.{leb}
 use Rattle.octets.specs.Tests.{_and_}
 use Rattle.octets.specs.Rows.{row, refusal}
-use Rattle.fmd_lex.specs.Tokens.{tokenAt, bytesOf, Within}
+use Rattle.fmd_lex.specs.Tokens.{bytesOf, Within}
 use Rattle.fmd_lex.specs.Names.{goodName}
 use Rattle.fmd_lex.specs.declared.Token.{Token}
-use Rattle.fmd_parse.specs.Heads.{next, isWord, isSign, amountAt}
-use Rattle.fmd_parse.specs.declared.Address.{Address}
+use Rattle.fmd_parse.specs.Heads.{next, isWord, isSign, amountAt, judged}
 use Rattle.fmd_parse.specs.declared.Address.the-variants.{Given, Omitted}
 use Rattle.fmd_parse.specs.declared.Image.{Image}
 use Rattle.fmd_parse.specs.declared.Amount.{Amount}
@@ -24,14 +22,10 @@ abbrev pub onward : Heading → (Image → Token → Heading) → Heading
 onward (Read i t) k = k i t
 onward (Fault n p) k = Fault n p
 
-abbrev pub judged : Option ℕ → Token → Heading → Heading
-judged (some n) t k = Fault n (t .start)
-judged none t k = k
-
 -- the name
 unfoldable pub titleAt : List ℕ → Token → Heading
 titleAt s t =
-    judged (refusal (row (not (isWord t)) 51 ∷ row (not (goodName (bytesOf s t))) 53 ∷ [])) t
+    judged (refusal (row (not (isWord t)) 51 ∷ row (not (goodName (bytesOf s t))) 53 ∷ [])) (λ n. Fault n (t .start))
     (Read (record { address = Omitted; size = 0; place = t .start; length = t .end - t .start }) (next s t))
 
 -- the optional @address

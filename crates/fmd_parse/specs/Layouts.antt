@@ -1,5 +1,5 @@
 -- Sections in braces, and a whole layout text.
-use mathlib.Core.Bool.{Bool, true, false, cond}
+use mathlib.Core.Bool.{cond}
 use mathlib.Core.List.{List, [], _∷_, _++_}
 use mathlib.Core.Path.{_≡_}
 use Prim.Native.Nat.{ℕ, zero, suc, _+_, _*_, _-_, _≤_, _<_}
@@ -37,8 +37,8 @@ abbrev pub afterSection : Parsed → (List Section → Token → Parsed) → Par
 afterSection (fault n p) k = fault n p
 afterSection (parsed l t) k = k l t
 
--- The first number is fuel: where it is above what is left of the text twice over, it changes nothing (Laws: enough). Then the text, the token, the level,
--- the parent's index in the list (128: the image), the sections before.
+-- First the fuel, above twice the bytes that are left: no text runs out of it (proofs/Trees: layout-facts, where no fault has the number 0).
+-- Then the text, the token, the level, the parent's index in the list (128: the image), the sections before.
 unfoldable mutual
   -- L2: A section: .., optional braces.
   pub sectionFrom : ℕ → List ℕ → Token → ℕ → ℕ → List Section → Parsed

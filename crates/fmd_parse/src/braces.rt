@@ -43,8 +43,9 @@ fn read_section(text: &[u8], t: Token, level: u8, parent: u8, l: Sections) -> Re
                     list: m,
                 };
             }
+            let own = n as u8;
             let v = next_token(text, u.end);
-            read_list(text, v, level + 1, n as u8, m)
+            read_list(text, v, level + 1, own, m)
         }
         Part::Fault(k, p) => Reached {
             step: Step::Stopped(k, p),

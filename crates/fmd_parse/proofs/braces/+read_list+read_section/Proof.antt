@@ -180,6 +180,19 @@ read-section-returns : (t : ℕ) → read-section-lts.Need-returns (
 read-section-returns t c = let w = rw (c .before .before .before .before .h .given .1) at (c .before .before .before .before .before .before .head-at .ensures .1) in
     section-shut (c .before .before .before .before .before .before .before .before .pre .1 .2) (sym (c .before .before .before .before .before .before .head-at .ensures .0) ∙ c .before .before .before .before .h .given .1) (w .0) (c .before .before .pushed .ensures .1) (c .before .before .pushed .ensures .0) (c .if1 .taken)
 
+read-section-cast-own : (t : ℕ) → read-section-lts.Need-cast-own (
+  head-at-reads.Asked,
+  head-at-reads.Learnt,
+  pushed-reads.Asked,
+  pushed-reads.Learnt,
+  next-token-reads.Asked,
+  next-token-reads.Learnt,
+  read-list-below t,
+  read-list.Post,
+) (read-section-at t) read-section.Post
+read-section-cast-own t c = let w = rw (c .before .before .before .before .h .given .1) at (c .before .before .before .before .before .before .head-at .ensures .1) in
+    omega arith
+
 read-section-next-token-requires : (t : ℕ) → read-section-lts.Need-next-token-requires (
   head-at-reads.Asked,
   head-at-reads.Learnt,
@@ -204,19 +217,6 @@ read-section-add-read-list : (t : ℕ) → read-section-lts.Need-add-read-list (
   read-list.Post,
 ) (read-section-at t) read-section.Post
 read-section-add-read-list t c = let w = rw (c .before .before .before .before .before .h .given .1) at (c .before .before .before .before .before .before .before .head-at .ensures .1) in
-    omega arith
-
-read-section-cast-read-list : (t : ℕ) → read-section-lts.Need-cast-read-list (
-  head-at-reads.Asked,
-  head-at-reads.Learnt,
-  pushed-reads.Asked,
-  pushed-reads.Learnt,
-  next-token-reads.Asked,
-  next-token-reads.Learnt,
-  read-list-below t,
-  read-list.Post,
-) (read-section-at t) read-section.Post
-read-section-cast-read-list t c = let w = rw (c .before .before .before .before .before .h .given .1) at (c .before .before .before .before .before .before .before .head-at .ensures .1) in
     omega arith
 
 read-section-read-list-requires : (t : ℕ) → read-section-lts.Need-read-list-requires (
@@ -305,9 +305,9 @@ pub +read-list+read-section-spec : {M : Type 1} → statement M
     (read-section-enum-known-h t)
     (read-section-pushed-requires t)
     (read-section-returns t)
+    (read-section-cast-own t)
     (read-section-next-token-requires t)
     (read-section-add-read-list t)
-    (read-section-cast-read-list t)
     (read-section-read-list-requires t)
     (read-section-enum-known-k t)
     (read-section-returns-2 t)
