@@ -33,7 +33,7 @@ next s t = tokenAt s (t .end)
 abbrev pub isWord : Token → Bool
 isWord t = eqb (t .kind) wordKind
 
--- the sign of the byte b: 40 ( 41 ) 64 @ 123 { 125 }
+-- the sign with the byte b; in decimal ( is 40, ) 41, @ 64, { 123 and } 125
 abbrev pub isSign : ℕ → Token → Bool
 isSign b t = eqb (t .kind) b
 
@@ -98,8 +98,7 @@ marked s t h Unknown = Fault 56 (t .start)
 unfoldable pub flagAt : List ℕ → Token → Section → Part
 flagAt s t h = cond (isWord t) (marked s t h (flagOf (bytesOf s t))) (Fault 51 (t .start))
 
--- L2: optional flags in parentheses (CBFS, PRESERVE, at least one, blanks between)
--- After both flags: the end, for a third word is unknown or repeats.
+-- after both flags: the end, for a third word is unknown or repeats
 unfoldable pub lastAt : List ℕ → Token → Section → Part
 lastAt s t h = cond (isSign 41 t) (Read h (next s t)) (flagAt s t h)
 
@@ -107,6 +106,7 @@ lastAt s t h = cond (isSign 41 t) (Read h (next s t)) (flagAt s t h)
 unfoldable pub otherAt : List ℕ → Token → Section → Part
 otherAt s t h = cond (isSign 41 t) (Read h (next s t)) (onward (flagAt s t h) (λ k u. lastAt s u k))
 
+-- L2: optional flags in parentheses (CBFS, PRESERVE, at least one, blanks between)
 unfoldable pub flagsAt : List ℕ → Token → Section → Part
 flagsAt s t h = cond (isSign 40 t) (onward (flagAt s (next s t) h) (λ k u. otherAt s u k)) (Read h t)
 
@@ -126,7 +126,7 @@ withSize h (Uncounted k p) = Fault k p
 unfoldable pub sizeAt : List ℕ → Token → Section → Part
 sizeAt s t h = cond (isWord t) (cond (isDigit (getD s (t .start) 0)) (withSize h (amountAt s t)) (Read h t)) (Read h t)
 
--- L2: A section: name, optional flags, optional @offset, optional size, ..
+-- L2: A section: name, optional flags in parentheses (..), optional @offset from its parent, optional size, ..
 unfoldable pub headAt : List ℕ → Token → ℕ → ℕ → ℕ → Part
 headAt s t lv par n =
     onward (namedAt s t lv par n)
