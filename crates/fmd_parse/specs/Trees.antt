@@ -11,8 +11,8 @@ use Rattle.octets.specs.Bytes.{part}
 use Rattle.fmd_lex.specs.Chars.{isWord}
 use Rattle.fmd_lex.specs.Names.{goodName}
 use Rattle.fmd_parse.specs.Layouts.{Layout, layout, refused}
-use Rattle.fmd_parse.specs.declared.Offset.the-variants.{Omitted as OmittedOffset}
-use Rattle.fmd_parse.specs.declared.Size.the-variants.{Omitted as OmittedSize}
+use Rattle.fmd_parse.specs.declared.Offset.the-variants.{Given as GivenOffset}
+use Rattle.fmd_parse.specs.declared.Size.the-variants.{Given as GivenSize}
 use Rattle.fmd_parse.specs.declared.Section.{Section}
 use Rattle.fmd_parse.specs.declared.Image.{Image}
 
@@ -26,9 +26,9 @@ pub record Named (s : List ℕ) (p n : ℕ) : Type 0 where
   pub word : all isWord (part p n s) ≡ true
   pub good : goodName (part p n s) ≡ true
 
--- what getD answers past the end of a list
+-- what getD answers past the end of a list: the value that an index of the code has there
 abbrev pub blank : Section
-blank = record { offset = OmittedOffset; size = OmittedSize; place = 0; length = 0; cbfs = false; preserve = false; parent = 0; level = 0 }
+blank = record { offset = GivenOffset (record { 0 = 0 }); size = GivenSize 0; place = 0; length = 0; cbfs = false; preserve = false; parent = 0; level = 0 }
 
 -- the parent of a section of the level lv at the index k: the image at level 1, else an earlier section, one level above
 abbrev pub Under : List Section → ℕ → ℕ → ℕ → Type 0
