@@ -1,0 +1,2 @@
+-- Offsets and sizes of the sections, and row 58.
+pub mod Plans
