@@ -32,6 +32,17 @@ repeats s l k = any (λ e. same (nameOf s e) (nameOf s (getD l k blank))) (take 
 unfoldable pub firstRepeat : List ℕ → List Section → Found
 firstRepeat s l = firstFrom (repeats s l) (length l) 0
 
+-- "FMAP"
+abbrev pub fmap : List ℕ
+fmap = 70 ∷ 77 ∷ 65 ∷ 80 ∷ []
+
+unfoldable pub isFmap : List ℕ → List Section → ℕ → Bool
+isFmap s l k = same (nameOf s (getD l k blank)) fmap
+
+-- R22: section FMAP; nested ones count too
+unfoldable pub fmapIn : List ℕ → List Section → Found
+fmapIn s l = firstFrom (isFmap s l) (length l) 0
+
 -- section k has children
 unfoldable pub hasChild : List Section → ℕ → Bool
 hasChild l k = any (λ e. eqb (e .parent) k) l

@@ -5,7 +5,7 @@ ghost use Prim.Native.Nat.{_+_, _≤_, _<_};
 ghost use lib.ListN.{length, drop};
 ghost use Rattle.octets.specs.Bytes.{same as sameBytes};
 ghost use Rattle.fmd_parse.specs.Layouts.{listOf, Sound};
-ghost use Rattle.fmd_rows.specs.Rows.{nameOf, repeats, firstRepeat, hasChild, holdsCbfs, firstCbfs, siblingIn, isUndecided, undecided, firstUndecided, Inside};
+ghost use Rattle.fmd_rows.specs.Rows.{nameOf, repeats, firstRepeat, isFmap, fmapIn, hasChild, holdsCbfs, firstCbfs, siblingIn, isUndecided, undecided, firstUndecided, Inside};
 use fmd_parse::Offset;
 use fmd_parse::Section;
 use fmd_parse::Sections;
@@ -60,6 +60,33 @@ pub fn first_repeat(text: &[u8], l: Sections) -> Found
     let mut k: usize = 0;
     while k < n {
         if is_repeat(text, l, k) {
+            return Found::At(k);
+        }
+        k += 1;
+    }
+    Found::Nowhere
+}
+
+// Section k is named FMAP.
+fn is_fmap(text: &[u8], l: Sections, k: usize) -> bool
+    requires { ⌜ Sound l × (k < l .count) × Inside (now text) (listOf l) ⌝ }
+    ensures { λ r. ⌜ r ≡ isFmap (now (text .entry)) (listOf l) k ⌝ }
+{
+    let h = l.items[k];
+    let p = h.place as usize;
+    let e = p + h.length as usize;
+    octets::same(&text[p..e], b"FMAP")
+}
+
+// The section FMAP.
+pub fn find_fmap(text: &[u8], l: Sections) -> Found
+    requires { ⌜ Sound l × Inside (now text) (listOf l) ⌝ }
+    ensures { λ r. ⌜ r ≡ fmapIn (now (text .entry)) (listOf l) ⌝ }
+{
+    let n = l.count;
+    let mut k: usize = 0;
+    while k < n {
+        if is_fmap(text, l, k) {
             return Found::At(k);
         }
         k += 1;
