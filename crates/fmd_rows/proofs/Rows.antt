@@ -14,10 +14,11 @@ use Rattle.octets.specs.Tests.{any}
 use Rattle.octets.specs.Bytes.{part, same}
 use Rattle.octets.proofs.Tests.{any-on, any-stop, any-done}
 use Rattle.fmd_parse.specs.Layouts.{listOf, Sound}
-use Rattle.fmd_parse.specs.Trees.{blank}
+use Rattle.fmd_parse.specs.Trees.{blank, Tree}
+use Rattle.fmd_parse.specs.declared.Section.{Section}
 use Rattle.fmd_parse.specs.declared.Sections.{Sections}
 use Rattle.fmd_parse.proofs.Layouts.{counted}
-use Rattle.fmd_rows.specs.Rows.{firstFrom, nameOf, repeats, siblingIn}
+use Rattle.fmd_rows.specs.Rows.{firstFrom, nameOf, repeats, siblingIn, Inside}
 use Rattle.fmd_rows.specs.declared.Found.the-variants.{At, Nowhere}
 use Rattle.fmd_rows.specs.declared.Sibling.the-variants.{Next, Last}
 
@@ -109,3 +110,7 @@ module _ (l : Sections) (g : Sound l) where
 pub slice : (p n : ℕ) (s : List ℕ) → take (p + n - p) (drop p s) ≡ part p n s
 unfolding part
 slice p n s = let e : p + n - p ≡ n = omega arith in rw e
+
+-- the names of a list that was read from a text lie in it
+pub inside : {s : List ℕ} {l : List Section} → Tree s l → Inside s l
+inside t k h = t .each k h .named .inside
