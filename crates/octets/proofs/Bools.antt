@@ -1,7 +1,7 @@
 -- Laws of conjunction, disjunction and Option.
 use mathlib.Core.Path.{_≡_, refl, sym, _∙_}
 use mathlib.Core.Logic.{_⊎_, inl, inr}
-use mathlib.Core.Bool.{Bool, true, false, not, true≢false, false≢true}
+use mathlib.Core.Bool.{Bool, true, false, cond, not, true≢false, false≢true}
 use mathlib.Core.Option.{Option, none, some}
 use Prim.Native.Nat.{ℕ}
 use native.Mathlib.Omega.{arith}
@@ -107,7 +107,7 @@ pub or-f : {a b r : Bool} → a ≡ false → r ≡ b → r ≡ (a or b)
 unfolding _or_
 or-f {a} {b} {r} e f = rw e f
 
-pub and-last : (a : Bool) {r : Bool} → r ≡ a → r ≡ (a and true)
-unfolding _and_
-and-last true e = e
-and-last false e = e
+-- what holds of each of two values where the test takes it holds of the choice
+pub choice : {A : Type 0} (P : A → Type 0) (b : Bool) (x y : A) → (b ≡ true → P x) → (b ≡ false → P y) → P (cond b x y)
+choice P true x y p q = p refl
+choice P false x y p q = q refl

@@ -1,0 +1,5 @@
+pub mod Tokens
+pub mod Numbers
+pub mod Places
+pub mod Names
+pub mod Samples

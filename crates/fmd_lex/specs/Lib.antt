@@ -1,0 +1,5 @@
+-- What the words, signs, numbers, names and flags of a layout text are.
+pub mod Chars
+pub mod Tokens
+pub mod Numbers
+pub mod Names

@@ -1,0 +1,51 @@
+use mathlib.Core.Path.{sym, _∙_}
+use native.Mathlib.Omega.{arith}
+use borrow.Author.Needs.{needs}
+use borrow.Author.Tests.{le-leb, lt-leb}
+use Rattle.octets.specs.Tests.{_and_}
+use Rattle.fmd_parse.specs.Images.{lengthAt}
+use Rattle.fmd_lex.proofs.Tokens.{earlier}
+use Rattle.fmd_parse.proofs.front.length_at.Statement.{statement}
+use Rattle.fmd_parse.proofs.front.length_at.Tie as tie
+
+amount-at-requires : tie.Need-amount-at-requires
+amount-at-requires c κs = search needs
+
+enum-known-n : tie.Need-enum-known-n
+enum-known-n c = search needs
+
+returns : tie.Need-returns
+unfolding lengthAt _and_
+returns c = (rw (sym (c .before .before .before .before .amount-at .ensures .0) ∙ c .before .before .n .given .1, lt-leb _ _ (c .if1 .taken)), tt)
+
+returns-2 : tie.Need-returns-2
+unfolding lengthAt _and_
+returns-2 c = (rw (sym (c .before .before .before .before .before .amount-at .ensures .0) ∙ c .before .before .before .n .given .1, le-leb _ _ (c .before .if1 .left), lt-leb _ _ (c .if2 .taken)), tt)
+
+with-length-requires : tie.Need-with-length-requires
+with-length-requires c κs = search needs
+
+enum-known-k : tie.Need-enum-known-k
+enum-known-k c = search needs
+
+returns-3 : tie.Need-returns-3
+unfolding lengthAt _and_
+returns-3 c = let w = rw (c .before .before .before .before .n .given .1) at (c .before .before .before .before .before .before .amount-at .ensures .1) in
+    (rw (sym (c .before .before .before .before .before .before .amount-at .ensures .0) ∙ c .before .before .before .before .n .given .1, le-leb _ _ (c .before .before .if1 .left), le-leb _ _ (c .before .if2 .left), c .with-length .ensures), earlier w (omega arith))
+
+returns-4 : tie.Need-returns-4
+unfolding lengthAt _and_
+returns-4 c = (rw (sym (c .before .before .before .amount-at .ensures .0) ∙ c .before .k .given .1), tt)
+
+pub length-at-spec : {M : Type 1} → statement M
+length-at-spec =
+    tie.close
+    (tie.spec
+    amount-at-requires
+    enum-known-n
+    returns
+    returns-2
+    with-length-requires
+    enum-known-k
+    returns-3
+    returns-4)

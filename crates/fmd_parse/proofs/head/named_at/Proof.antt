@@ -1,0 +1,69 @@
+use mathlib.Core.Path.{sym, _∙_}
+use native.Mathlib.Omega.{arith}
+use borrow.Author.Needs.{needs}
+use borrow.Author.Tests.{eq-eqb, ne-eqb, le-leb, lt-leb, le-ltb, lt-ltb}
+use Rattle.octets.specs.Rows.{pickRow}
+use Rattle.fmd_parse.specs.Heads.{namedAt}
+use Rattle.fmd_lex.proofs.Names.{name-size}
+use Rattle.fmd_lex.proofs.Tokens.{earlier}
+use Rattle.fmd_parse.proofs.head.named_at.Statement.{statement}
+use Rattle.fmd_parse.proofs.head.named_at.Tie as tie
+
+returns : tie.Need-returns
+unfolding namedAt pickRow
+returns c = (rw (ne-eqb _ _ (c .if1 .taken)), tt)
+
+name-at-requires : tie.Need-name-at-requires
+name-at-requires c κs = search needs
+
+returns-2 : tie.Need-returns-2
+unfolding namedAt pickRow
+returns-2 c = (rw (eq-eqb _ _ (c .before .before .before .if1 .left), sym (c .before .before .name-at .ensures) ∙ c .before .if2 .taken, le-leb _ _ (c .if3 .taken)), tt)
+
+returns-3 : tie.Need-returns-3
+unfolding namedAt pickRow
+returns-3 c = (rw (eq-eqb _ _ (c .before .before .before .before .if1 .left), sym (c .before .before .before .name-at .ensures) ∙ c .before .before .if2 .taken, lt-leb _ _ (c .before .if3 .left), lt-ltb _ _ (c .if4 .taken)), tt)
+
+next-token-requires : tie.Need-next-token-requires
+next-token-requires c κs = search needs
+
+cast-t13 : tie.Need-cast-t13
+cast-t13 c = search needs
+
+sub-t14 : tie.Need-sub-t14
+sub-t14 c = search needs
+
+cast-t15 : tie.Need-cast-t15
+cast-t15 c =
+    let start = c .before .before .before .before .before .before .before .before .before .before in
+    omega (arith, name-size (start .args .text .now) (start .args .t) (start .pre .1 .ordered) (start .pre .1 .inside) (sym (c .before .before .before .before .before .before .name-at .ensures) ∙ c .before .before .before .before .before .if2 .taken))
+
+returns-4 : tie.Need-returns-4
+unfolding namedAt pickRow
+returns-4 c = (
+  rw (eq-eqb _ _ (c .before .before .before .before .before .before .before .if1 .left), sym (c .before .before .before .before .before .before .name-at .ensures) ∙ c .before .before .before .before .before .if2 .taken, lt-leb _ _ (c .before .before .before .before .if3 .left), le-ltb _ _ (c .before .before .before .if4 .left), sym (c .before .before .next-token .ensures .0)),
+  (
+    earlier (c .before .before .next-token .ensures .1) (omega (arith, c .before .before .before .before .before .before .before .before .before .before .pre .1 .filled (c .before .before .before .before .before .before .before .if1 .left))),
+    c .before .before .before .if4 .left,
+    c .before .before .before .before .if3 .left,
+  ),
+)
+
+returns-5 : tie.Need-returns-5
+unfolding namedAt pickRow
+returns-5 c = (rw (eq-eqb _ _ (c .before .before .if1 .left), sym (c .before .name-at .ensures) ∙ c .if2 .left), tt)
+
+pub named-at-spec : {M : Type 1} → statement M
+named-at-spec =
+    tie.close
+    (tie.spec
+    returns
+    name-at-requires
+    returns-2
+    returns-3
+    next-token-requires
+    cast-t13
+    sub-t14
+    cast-t15
+    returns-4
+    returns-5)

@@ -1,0 +1,50 @@
+use mathlib.Core.Path.{sym, _∙_}
+use native.Mathlib.Omega.{arith}
+use borrow.Author.Needs.{needs}
+use borrow.Author.Tests.{eq-eqb, ne-eqb}
+use Rattle.fmd_parse.specs.Heads.{otherAt}
+use Rattle.fmd_lex.proofs.Tokens.{earlier}
+use Rattle.fmd_parse.proofs.Heads.{part-earlier}
+use Rattle.fmd_parse.proofs.head.other_at.Statement.{statement}
+use Rattle.fmd_parse.proofs.head.other_at.Tie as tie
+
+next-token-requires : tie.Need-next-token-requires
+next-token-requires c κs = search needs
+
+returns : tie.Need-returns
+unfolding otherAt
+returns c = (rw (eq-eqb _ _ (c .before .if1 .taken), sym (c .next-token .ensures .0)), c .next-token .ensures .1)
+
+flag-at-requires : tie.Need-flag-at-requires
+flag-at-requires c κs = search needs
+
+enum-known-k : tie.Need-enum-known-k
+enum-known-k c = search needs
+
+last-at-requires : tie.Need-last-at-requires
+last-at-requires c κs = earlier (rw (c .before .k .given .1) at (c .before .before .before .flag-at .ensures .1)) (omega arith)
+
+enum-known-n : tie.Need-enum-known-n
+enum-known-n c = search needs
+
+returns-2 : tie.Need-returns-2
+unfolding otherAt
+returns-2 c = let w = rw (c .before .before .k .given .1) at (c .before .before .before .before .flag-at .ensures .1) in
+    (rw (ne-eqb _ _ (c .before .before .before .before .before .if1 .left), sym (c .before .before .before .before .flag-at .ensures .0) ∙ c .before .before .k .given .1) (c .last-at .ensures .0), part-earlier _ _ _ (c .last-at .result) (c .last-at .ensures .1) (omega arith))
+
+returns-3 : tie.Need-returns-3
+unfolding otherAt
+returns-3 c = (rw (ne-eqb _ _ (c .before .before .before .before .if1 .left), sym (c .before .before .before .flag-at .ensures .0) ∙ c .before .n .given .1), tt)
+
+pub other-at-spec : {M : Type 1} → statement M
+other-at-spec =
+    tie.close
+    (tie.spec
+    next-token-requires
+    returns
+    flag-at-requires
+    enum-known-k
+    last-at-requires
+    enum-known-n
+    returns-2
+    returns-3)

@@ -1,0 +1,121 @@
+-- Sections in braces, and a whole layout text.
+use mathlib.Core.Bool.{cond}
+use mathlib.Core.List.{List, [], _∷_, _++_}
+use mathlib.Core.Path.{_≡_}
+use Prim.Native.Nat.{ℕ, zero, suc, _+_, _*_, _-_, _≤_, _<_}
+use lib.ListN.{length, take}
+use Rattle.fmd_lex.specs.Tokens.{endKind, tokenAt, Within}
+use Rattle.fmd_lex.specs.declared.Token.{Token}
+use Rattle.fmd_parse.specs.Heads.{next, isSign, headAt}
+use Rattle.fmd_parse.specs.Images.{imageAt}
+use Rattle.fmd_parse.specs.declared.Section.{Section}
+use Rattle.fmd_parse.specs.declared.Part.{Part}
+use Rattle.fmd_parse.specs.declared.Part.the-variants.{Read, Fault}
+use Rattle.fmd_parse.specs.declared.Sections.{Sections}
+use Rattle.fmd_parse.specs.declared.Step.{Step}
+use Rattle.fmd_parse.specs.declared.Step.the-variants.{Onward, Stopped}
+use Rattle.fmd_parse.specs.declared.Reached.{Reached}
+use Rattle.fmd_parse.specs.declared.Image.{Image}
+use Rattle.fmd_parse.specs.declared.Heading.{Heading}
+use Rattle.fmd_parse.specs.declared.Heading.the-variants.{Read as ReadImage, Fault as FaultImage}
+use Rattle.fmd_parse.specs.declared.Answer.{Answer}
+use Rattle.fmd_parse.specs.declared.Answer.the-variants.{Accepted, Refused}
+use Rattle.fmd_parse.specs.declared.Outcome.{Outcome}
+
+-- ---- sections
+
+-- the sections so far, in the text's order, and the token after them; or the first fault
+pub data Parsed : Type 0 where
+  fault : ℕ → ℕ → Parsed
+  parsed : List Section → Token → Parsed
+
+abbrev pub afterHead : Part → (Section → Token → Parsed) → Parsed
+afterHead (Read h t) k = k h t
+afterHead (Fault n p) k = fault n p
+
+abbrev pub afterSection : Parsed → (List Section → Token → Parsed) → Parsed
+afterSection (fault n p) k = fault n p
+afterSection (parsed l t) k = k l t
+
+-- First the fuel, above twice the bytes that are left: no text runs out of it (proofs/Trees: layout-facts, where no fault has the number 0).
+-- Then the text, the token, the level, the parent's index in the list (128: the image), the sections before.
+unfoldable mutual
+  -- L2: A section: .., optional braces.
+  pub sectionFrom : ℕ → List ℕ → Token → ℕ → ℕ → List Section → Parsed
+  sectionFrom zero s t lv par l = fault 0 0
+  sectionFrom (suc f) s t lv par l =
+      afterHead (headAt s t lv par (length l))
+      (λ h u.
+      cond (isSign 123 u) (listFrom f s (next s u) (lv + 1) (length l) (l ++ (h ∷ []))) (parsed (l ++ (h ∷ [])) u))
+
+  -- L3: Braces hold at least one section, and a section may hold sections to any allowed depth.
+  pub listFrom : ℕ → List ℕ → Token → ℕ → ℕ → List Section → Parsed
+  listFrom zero s t lv par l = fault 0 0
+  listFrom (suc f) s t lv par l =
+      afterSection (sectionFrom f s t lv par l)
+      (λ m u. cond (isSign 125 u) (parsed m (next s u)) (listFrom f s u lv par m))
+
+-- ---- a whole text
+
+-- its image and its sections, or its first fault: R33
+pub data Layout : Type 0 where
+  refused : ℕ → ℕ → Layout
+  layout : Image → List Section → Layout
+
+abbrev pub afterImage : Heading → (Image → Token → Layout) → Layout
+afterImage (ReadImage i t) k = k i t
+afterImage (FaultImage n p) k = refused n p
+
+abbrev pub afterList : Parsed → (List Section → Token → Layout) → Layout
+afterList (fault n p) k = refused n p
+afterList (parsed l t) k = k l t
+
+-- L10: After the last brace only blanks and comments.
+abbrev pub endOf : Image → List Section → Token → Layout
+endOf i l u = cond (isSign endKind u) (layout i l) (refused 51 (u .start))
+
+-- L1: An image: .., braces.
+unfoldable pub layoutOf : List ℕ → Layout
+layoutOf s =
+    afterImage (imageAt s (tokenAt s 0))
+    (λ i t. afterList (listFrom (2 * length s + 2) s t 1 128 []) (endOf i))
+
+-- ---- what the values of the code say
+
+abbrev pub listOf : Sections → List Section
+listOf l = take (l .count) (l .items)
+
+-- at most 128 sections stand in the 128 places
+pub record Sound (l : Sections) : Type 0 where
+  pub room : l .count ≤ 128
+  pub full : length (l .items) ≡ 128
+
+abbrev pub stepOf : Step → List Section → Parsed
+stepOf (Onward u) l = parsed l u
+stepOf (Stopped n p) l = fault n p
+
+abbrev pub reachedOf : Reached → Parsed
+reachedOf r = stepOf (r .step) (listOf (r .list))
+
+abbrev pub answerOf : Answer → List Section → Layout
+answerOf (Accepted i) l = layout i l
+answerOf (Refused n p) l = refused n p
+
+abbrev pub outcomeOf : Outcome → Layout
+outcomeOf o = answerOf (o .answer) (listOf (o .list))
+
+-- ---- the contracts of the two readers
+
+abbrev pub StepIn : ℕ → ℕ → Step → Type 0
+StepIn n at (Onward u) = Within n at u
+StepIn n at (Stopped k p) = Unit {0}
+
+pub record SectionRead (s : List ℕ) (t : Token) (lv par : ℕ) (l : Sections) (r : Reached) : Type 0 where
+  pub sound : Sound (r .list)
+  pub within : StepIn (length s) (t .start + 1) (r .step)
+  pub same : (f : ℕ) → 2 * (length s - t .start) < f → reachedOf r ≡ sectionFrom f s t lv par (listOf l)
+
+pub record ListRead (s : List ℕ) (t : Token) (lv par : ℕ) (l : Sections) (r : Reached) : Type 0 where
+  pub sound : Sound (r .list)
+  pub within : StepIn (length s) (t .start + 1) (r .step)
+  pub same : (f : ℕ) → 2 * (length s - t .start) + 1 < f → reachedOf r ≡ listFrom f s t lv par (listOf l)

@@ -1,0 +1,97 @@
+-- Offsets and sizes of the sections, in the text's order, or the first section that does not fit (58).
+use mathlib.Core.Bool.{Bool, cond}
+use mathlib.Core.List.{List, [], _∷_, _++_}
+use mathlib.Core.Path.{_≡_}
+use Prim.Native.Nat.{ℕ, _+_, _-_, _≤_}
+use lib.Dec.{ltb, leb, eqb}
+use lib.ListN.{length, getD, take}
+use Rattle.octets.specs.Tests.{_and_}
+use Rattle.fmd_parse.specs.declared.Offset.{Offset}
+use Rattle.fmd_parse.specs.declared.Offset.the-variants.{Given as GivenOffset, Omitted as OmittedOffset}
+use Rattle.fmd_parse.specs.declared.Size.{Size}
+use Rattle.fmd_parse.specs.declared.Size.the-variants.{Given as GivenSize, Omitted as OmittedSize}
+use Rattle.fmd_parse.specs.declared.Section.{Section}
+use Rattle.fmd_rows.specs.Rows.{siblingIn}
+use Rattle.fmd_rows.specs.declared.Found.{Found}
+use Rattle.fmd_rows.specs.declared.Found.the-variants.{At, Nowhere}
+use Rattle.fmd_rows.specs.declared.Sibling.{Sibling}
+use Rattle.fmd_rows.specs.declared.Sibling.the-variants.{Next, Last}
+use Rattle.fmd_plan.specs.declared.Placed.{Placed}
+use Rattle.fmd_plan.specs.declared.Plan.{Plan}
+use Rattle.fmd_plan.specs.declared.Spot.{Spot}
+use Rattle.fmd_plan.specs.declared.Spot.the-variants.{Fits, Unfit}
+use Rattle.fmd_plan.specs.declared.Resolution.{Resolution}
+
+-- what getD answers past the end of a list
+abbrev pub blank : Placed
+blank = record { offset = record { 0 = 0 }; size = 0; parent = 0; level = 0 }
+
+-- the end, in its parent, of a section with this parent, e for any other
+unfoldable pub endWith : ℕ → ℕ → Placed → ℕ
+endWith par e p = cond (eqb (p .parent) par) (p .offset .0 + p .size) e
+
+-- the end of the last section with this parent; e where there is none
+unfoldable pub endIn : ℕ → ℕ → List Placed → ℕ
+endIn par e [] = e
+endIn par e (p ∷ ps) = endIn par (endWith par e p) ps
+
+-- the parent's size: that of an earlier section, else the image's
+unfoldable pub roomOf : ℕ → ℕ → List Placed → ℕ
+roomOf z par ps = cond (ltb par (length ps)) (getD ps par blank .size) z
+
+-- L12: A missing offset is the previous sibling's end, 0 for the first.
+abbrev pub startOf : Offset → ℕ → ℕ
+startOf (GivenOffset o) e = o .0
+startOf OmittedOffset e = e
+
+-- L13: A missing size reaches to the next sibling's given offset (57 if it has none), for the last sibling to the parent's end.
+abbrev pub sizeOf : Size → Sibling → ℕ → ℕ → ℕ
+sizeOf (GivenSize n) next start room = n
+sizeOf OmittedSize (Next (GivenOffset o)) start room = o .0 - start
+sizeOf OmittedSize (Next OmittedOffset) start room = 0
+sizeOf OmittedSize Last start room = room - start
+
+-- L14: Sizes are at least 1, siblings ascend without overlap and end within the parent, else 58.
+unfoldable pub fits : ℕ → ℕ → ℕ → ℕ → Bool
+fits e start size room = leb 1 size and leb e start and leb (start + size) room
+
+-- a section at its start and of its size, after a sibling that ends at e
+unfoldable pub spotOf : Section → ℕ → ℕ → ℕ → ℕ → Spot
+spotOf h e start size room =
+    cond (fits e start size room) (Fits (record { offset = record { 0 = start }; size = size; parent = h .parent; level = h .level })) Unfit
+
+unfoldable pub spotIn : Section → ℕ → ℕ → Sibling → Spot
+spotIn h e room next = spotOf h e (startOf (h .offset) e) (sizeOf (h .size) next (startOf (h .offset) e) room) room
+
+-- the section h of an image of z bytes, after the sections ps and before the sections hs
+unfoldable pub placeOf : ℕ → List Placed → Section → List Section → Spot
+placeOf z ps h hs = spotIn h (endIn (h .parent) 0 ps) (roomOf z (h .parent) ps) (siblingIn (h .parent) hs)
+
+-- the sections resolved, or the index of the first that does not fit
+pub data Resolved : Type 0 where
+  unfit : ℕ → Resolved
+  plan : List Placed → Resolved
+
+abbrev pub afterSpot : Spot → ℕ → (Placed → Resolved) → Resolved
+afterSpot (Fits p) k f = f p
+afterSpot Unfit k f = unfit k
+
+unfoldable pub resolveFrom : ℕ → List Placed → List Section → Resolved
+resolveFrom z ps [] = plan ps
+resolveFrom z ps (h ∷ hs) = afterSpot (placeOf z ps h hs) (length ps) (λ p. resolveFrom z (ps ++ (p ∷ [])) hs)
+
+-- ---- what the values of the code say
+
+abbrev pub planOf : Plan → List Placed
+planOf p = take (p .count) (p .items)
+
+pub record Sound (p : Plan) : Type 0 where
+  pub room : p .count ≤ 128
+  pub full : length (p .items) ≡ 128
+
+abbrev pub foundOf : Found → List Placed → Resolved
+foundOf (At k) ps = unfit k
+foundOf Nowhere ps = plan ps
+
+abbrev pub resolutionOf : Resolution → Resolved
+resolutionOf r = foundOf (r .unfit) (planOf (r .plan))

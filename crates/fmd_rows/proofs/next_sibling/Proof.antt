@@ -1,0 +1,61 @@
+use mathlib.Core.Path.{_≡_, _∙_}
+use Prim.Native.Nat.{_≤_, _-_}
+use native.Mathlib.Omega.{arith}
+use lib.ListN.{drop}
+use borrow.Author.Needs.{needs}
+use Rattle.fmd_rows.specs.Rows.{siblingIn}
+use Rattle.fmd_parse.specs.Layouts.{listOf}
+use Rattle.fmd_rows.proofs.Rows.{sibling-on, sibling-stop, sibling-done}
+use Rattle.fmd_rows.proofs.next_sibling.Statement.{statement}
+use Rattle.fmd_rows.proofs.next_sibling.Tie as tie
+
+abbrev Inv-loop : tie.InvT-loop
+Inv-loop at parent l n j₀ j = (j ≤ n) × (siblingIn parent (drop j (listOf l)) ≡ siblingIn parent (drop at (listOf l)))
+
+abbrev μ-loop : tie.MeasureT-loop
+μ-loop at parent l n j₀ j = n - j
+
+loop-holds : tie.Need-loop-holds Inv-loop μ-loop
+loop-holds c = search needs
+
+mul-e : tie.Need-mul-e Inv-loop μ-loop
+mul-e c = search needs
+
+element-copy-out-e : tie.Need-element-copy-out-e Inv-loop μ-loop
+element-copy-out-e c = search needs
+
+returns : tie.Need-returns Inv-loop μ-loop
+returns c =
+    let turn = c .before .before .before .before in
+    let start = c .before .before .before .before .before in
+    sibling-stop (start .args .t1) (start .pre .0) (start .args .parent) (turn .loop .j) (c .before .before .before .loop-test .taken) (c .if1 .taken) ∙ turn .loop .inv .1
+
+add-j : tie.Need-add-j Inv-loop μ-loop
+add-j c = search needs
+
+loop-less : tie.Need-loop-less Inv-loop μ-loop
+loop-less c = search needs
+
+loop-again : tie.Need-loop-again Inv-loop μ-loop
+loop-again c =
+    let turn = c .before .before .before .before in
+    let start = c .before .before .before .before .before in
+    (search needs, sibling-on (start .args .t1) (start .pre .0) (start .args .parent) (turn .loop .j) (c .before .before .before .loop-test .taken) (c .if1 .left) ∙ turn .loop .inv .1)
+
+returns-2 : tie.Need-returns-2 Inv-loop μ-loop
+returns-2 c = sibling-done (c .before .before .args .t1) (c .before .before .pre .0) (c .before .before .args .parent) (c .before .loop .j) (omega arith) ∙ c .before .loop .inv .1
+
+pub next-sibling-spec : {M : Type 1} → statement M
+next-sibling-spec =
+    tie.close
+    (tie.spec
+    Inv-loop
+    μ-loop
+    loop-holds
+    mul-e
+    element-copy-out-e
+    returns
+    add-j
+    loop-less
+    loop-again
+    returns-2)

@@ -1,0 +1,2 @@
+-- The rows of the whole section list that the text alone decides.
+pub mod Rows

@@ -1,0 +1,77 @@
+-- Rows 54, 56 and 57 of a section list, each by the index of the first section at fault.
+use mathlib.Core.Bool.{Bool, true, false, cond}
+use mathlib.Core.List.{List, [], _∷_}
+use Prim.Native.Nat.{ℕ, zero, suc, _+_, _≤_, _<_}
+use lib.Dec.{eqb}
+use lib.ListN.{length, getD, take, drop}
+use Rattle.octets.specs.Tests.{_and_, any}
+use Rattle.octets.specs.Bytes.{part, same}
+use Rattle.fmd_parse.specs.Trees.{blank}
+use Rattle.fmd_parse.specs.declared.Offset.the-variants.{Given as GivenOffset, Omitted as OmittedOffset}
+use Rattle.fmd_parse.specs.declared.Size.{Size}
+use Rattle.fmd_parse.specs.declared.Size.the-variants.{Given as GivenSize, Omitted as OmittedSize}
+use Rattle.fmd_parse.specs.declared.Section.{Section}
+use Rattle.fmd_rows.specs.declared.Found.{Found}
+use Rattle.fmd_rows.specs.declared.Found.the-variants.{At, Nowhere}
+use Rattle.fmd_rows.specs.declared.Sibling.{Sibling}
+use Rattle.fmd_rows.specs.declared.Sibling.the-variants.{Next, Last}
+
+-- the first of the n indices from k on that passes
+unfoldable pub firstFrom : (ℕ → Bool) → ℕ → ℕ → Found
+firstFrom p zero k = Nowhere
+firstFrom p (suc n) k = cond (p k) (At k) (firstFrom p n (suc k))
+
+-- the bytes of a section's name
+abbrev pub nameOf : List ℕ → Section → List ℕ
+nameOf s h = part (h .place) (h .length) s
+
+-- R19: 54: section name used twice. Section k has the name of an earlier one.
+unfoldable pub repeats : List ℕ → List Section → ℕ → Bool
+repeats s l k = any (λ e. same (nameOf s e) (nameOf s (getD l k blank))) (take k l)
+
+unfoldable pub firstRepeat : List ℕ → List Section → Found
+firstRepeat s l = firstFrom (repeats s l) (length l) 0
+
+-- "FMAP"
+abbrev pub fmap : List ℕ
+fmap = 70 ∷ 77 ∷ 65 ∷ 80 ∷ []
+
+unfoldable pub isFmap : List ℕ → List Section → ℕ → Bool
+isFmap s l k = same (nameOf s (getD l k blank)) fmap
+
+-- R22: section FMAP; nested ones count too
+unfoldable pub fmapIn : List ℕ → List Section → Found
+fmapIn s l = firstFrom (isFmap s l) (length l) 0
+
+-- section k has children
+unfoldable pub hasChild : List Section → ℕ → Bool
+hasChild l k = any (λ e. eqb (e .parent) k) l
+
+-- R20: 56: .. CBFS on a section with children
+unfoldable pub holdsCbfs : List Section → ℕ → Bool
+holdsCbfs l k = getD l k blank .cbfs and hasChild l k
+
+unfoldable pub firstCbfs : List Section → Found
+firstCbfs l = firstFrom (holdsCbfs l) (length l) 0
+
+-- the next sibling of a section with this parent, by its offset; the list: the sections after it
+unfoldable pub siblingIn : ℕ → List Section → Sibling
+siblingIn par [] = Last
+siblingIn par (x ∷ xs) = cond (eqb (x .parent) par) (Next (x .offset)) (siblingIn par xs)
+
+-- L13: A missing size reaches to the next sibling's given offset (57 if it has none)
+abbrev pub isUndecided : Size → Sibling → Bool
+isUndecided (GivenSize n) next = false
+isUndecided OmittedSize Last = false
+isUndecided OmittedSize (Next (GivenOffset o)) = false
+isUndecided OmittedSize (Next OmittedOffset) = true
+
+unfoldable pub undecided : List Section → ℕ → Bool
+undecided l k = isUndecided (getD l k blank .size) (siblingIn (getD l k blank .parent) (drop (k + 1) l))
+
+unfoldable pub firstUndecided : List Section → Found
+firstUndecided l = firstFrom (undecided l) (length l) 0
+
+-- every name lies in the text
+abbrev pub Inside : List ℕ → List Section → Type 0
+Inside s l = (k : ℕ) → k < length l → getD l k blank .place + getD l k blank .length ≤ length s
