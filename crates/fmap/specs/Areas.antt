@@ -16,7 +16,7 @@ use Rattle.fmap.specs.declared.Lookup.{Lookup}
 use Rattle.fmap.specs.declared.Lookup.the-variants.{There, Nothing, WrongLength as LengthToo, NoSignature as SignatureToo, NoGoodMap as MapToo}
 use Rattle.fmap.specs.declared.AreaFound.{AreaFound}
 
--- W15: the number and the value of each answer; accepted false: no such area, to which the rules give no number
+-- (W15) the number and the value of each answer; accepted false: no such area, to which the rules give no number
 abbrev pub countReply : AreaCount → Reply ℕ
 countReply (Count n) = accepted n
 countReply WrongLength = refused 40

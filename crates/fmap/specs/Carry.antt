@@ -10,7 +10,7 @@ use Rattle.fmap.specs.Find.{Reply, accepted, refused, findMap}
 use Rattle.fmap.specs.declared.Carried.{Carried}
 use Rattle.fmap.specs.declared.Carried.the-variants.{Done, WrongLength, NoSignature, NoGoodMap, Missing, OtherSize, Shared, OnMap}
 
--- W15: the number of each answer; a carry that is accepted answers only that
+-- (W15) the number of each answer; a carry that is accepted answers only that
 abbrev pub carriedNumber : Carried → Option ℕ
 carriedNumber Done = none
 carriedNumber WrongLength = some 40

@@ -14,7 +14,7 @@ use Rattle.fmap.specs.Lowest.{lowest, someBelow}
 use Rattle.fmap.specs.declared.Found.{Found}
 use Rattle.fmap.specs.declared.Found.the-variants.{At, WrongLength, NoSignature, NoGoodMap}
 
--- R1, R3: a call is accepted with a value, or refused with a number alone
+-- R1, (R3) a call is accepted with a value, or refused with a number alone
 pub data Reply (A : Type 0) : Type 0 where
   accepted : A → Reply A
   refused : ℕ → Reply A
@@ -24,7 +24,7 @@ module _ {A : Type 0} where
   reply none a = accepted a
   reply (some k) a = refused k
 
--- W15: the number and the value of each answer of finding
+-- (W15) the number and the value of each answer of finding
 abbrev pub foundReply : Found → Reply ImagePosition
 foundReply (At p) = accepted p
 foundReply WrongLength = refused 40

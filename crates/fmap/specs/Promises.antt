@@ -15,7 +15,7 @@ use Rattle.fmap.specs.Find.{accepted, findMap}
 use Rattle.fmap.specs.Areas.{areaNamed}
 use Rattle.fmap.specs.Carry.{carryImages}
 
--- M10: what is found is a good map, and no lower position has one
+-- (M10) what is found is a good map, and no lower position has one
 pub record Lowest (image : List ℕ) (p : ImagePosition) : Type 0 where
   pub good : goodMap image (p .0) ≡ true
   pub none-lower : (j : ℕ) → j < p .0 → goodMap image j ≡ false
@@ -23,7 +23,7 @@ pub record Lowest (image : List ℕ) (p : ImagePosition) : Type 0 where
 abbrev pub FindsLowest : Type 0
 FindsLowest = (image : List ℕ) (p : ImagePosition) → findMap image ≡ accepted p → Lowest image p
 
--- M11, M12, M13: by the maps found, each preserved area arrives byte for byte, and every other byte stays
+-- M11, M12, (M13) by the maps found, each preserved area arrives byte for byte, and every other byte stays
 pub record CarriedOver (old new image : List ℕ) : Type 0 where
   pub from : ImagePosition
   pub to : ImagePosition

@@ -10,7 +10,7 @@ use Rattle.fmap_rules.specs.declared.Area.{Area}
 use Rattle.fmap_rules.specs.Map.{blank, endOf}
 use Rattle.fmap_carry.specs.Carry.{preserved, target}
 
--- M11, M12: the bytes of each preserved area stand in the same-named area of the image; every byte in none of these is that of the new image
+-- M11, (M12) the bytes of each preserved area stand in the same-named area of the image; every byte in none of these is that of the new image
 pub record Arrived (old : List ℕ) (olds : List Area) (new : List ℕ) (news : List Area) (image : List ℕ) : Type 0 where
   pub same-length : length image ≡ length new
   pub arrive : (i : ℕ) → i < length olds → preserved (getD olds i blank) ≡ true

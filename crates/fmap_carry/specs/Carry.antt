@@ -15,7 +15,7 @@ use Rattle.fmap_rules.specs.Map.{blank, named, fmapName, endOf, disjoint}
 use Rattle.fmap_carry.specs.declared.Judged.{Judged}
 use Rattle.fmap_carry.specs.declared.Judged.the-variants.{Free, Missing, OtherSize, Shared, OnMap}
 
--- M2: the flag PRESERVE 8
+-- (M2) the flag PRESERVE 8
 unfoldable pub preserved : Area → Bool
 preserved a = eqb (a .flags / 8 % 2) 1
 
@@ -23,11 +23,11 @@ preserved a = eqb (a .flags / 8 % 2) 1
 unfoldable pub withName : List Area → List ℕ → Area
 withName areas n = getD areas (findIx (named n) areas) blank
 
--- M11: where the same-named area of the new map lies, whatever its flags there
+-- (M11) where the same-named area of the new map lies, whatever its flags there
 abbrev pub target : List Area → Area → Extent
 target news a = withName news (a .name) .place
 
--- ---- R23, R24: of an area a of the old map, by the areas of the new one
+-- ---- R23, (R24) of an area a of the old map, by the areas of the new one
 
 unfoldable pub missing : List Area → Area → Bool
 missing news a = preserved a and not (any (named (a .name)) news)
@@ -54,7 +54,7 @@ carryRows olds news =
     ∷ row (any (onMap news) olds) 63
     ∷ []
 
--- W15: the number of each judgement
+-- (W15) the number of each judgement
 abbrev pub judgedNumber : Judged → Option ℕ
 judgedNumber Free = none
 judgedNumber Missing = some 60
@@ -67,7 +67,7 @@ judgedNumber OnMap = some 63
 unfoldable pub carryArea : List ℕ → List Area → Area → List ℕ → List ℕ
 carryArea old news a image = cond (preserved a) (put (target news a .start .0) (part (a .place .start .0) (a .place .size) old) image) image
 
--- M12, M13: all else stays; the areas are those of the maps before the carry
+-- M12, (M13) all else stays; the areas are those of the maps before the carry
 unfoldable pub carried : List ℕ → List Area → List Area → List ℕ → List ℕ
 carried old news [] image = image
 carried old news (a ∷ olds) image = carried old news olds (carryArea old news a image)
@@ -101,6 +101,6 @@ abbrev pub Fitting : ℕ → ℕ → List Area → List Area → Type 0
 Fitting oldLength newLength news olds =
     (i : ℕ) → i < length olds → preserved (getD olds i blank) ≡ true → Fit oldLength newLength news (getD olds i blank)
 
--- M6: each area ends in the image
+-- (M6) each area ends in the image
 unfoldable pub endsIn : ℕ → Area → Bool
 endsIn len a = leb (endOf (a .place)) len

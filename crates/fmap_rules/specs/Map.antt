@@ -10,7 +10,7 @@ use Rattle.fmap_rules.specs.declared.ImagePosition.{ImagePosition}
 use Rattle.fmap_rules.specs.declared.Extent.{Extent}
 use Rattle.fmap_rules.specs.declared.Area.{Area}
 
--- Q7: a byte's position in the image, as its own type
+-- (Q7) a byte's position in the image, as its own type
 abbrev pub position : ℕ → ImagePosition
 position n = record { 0 = n }
 
@@ -128,6 +128,6 @@ holdsMap at count a = named fmapName a and (eqb (a .place .start .0) at and leb 
 unfoldable pub goodAreas : ℕ → ℕ → List Area → Bool
 goodAreas len at areas = all (goodArea len) areas and (any (holdsMap at (length areas)) areas and pairs goodPair areas)
 
--- M3: a good map at a position
+-- (M3) a good map at a position
 unfoldable pub goodMap : List ℕ → ℕ → Bool
 goodMap image at = goodHeader (length image) (rest at image) and goodAreas (length image) at (areasOf (rest at image))

@@ -8,11 +8,11 @@ use Rattle.octets.specs.Bytes.{le, rest, put, flat}
 use Rattle.fmap_rules.specs.declared.Area.{Area}
 use Rattle.fmap_rules.specs.Map.{signature, legalName, blank, goodAreas, goodMap, areasOf}
 
--- M2: the 42 bytes of an area
+-- (M2) the 42 bytes of an area
 unfoldable pub areaBytes : Area → List ℕ
 areaBytes a = le 4 (a .place .start .0) ++ (le 4 (a .place .size) ++ (a .name ++ le 2 (a .flags)))
 
--- M1: the bytes of a map: version 1.minor, of an image of len bytes
+-- (M1) the bytes of a map: version 1.minor, of an image of len bytes
 unfoldable pub mapBytes : ℕ → List ℕ → ℕ → ℕ → List Area → List ℕ
 mapBytes len name base minor areas =
     signature ++ ((1 ∷ minor ∷ []) ++ (le 8 base ++ (le 4 len ++ (name ++ (le 2 (length areas) ++ flat (map areaBytes areas))))))
@@ -35,7 +35,7 @@ pub record Writable (len at : ℕ) (name : List ℕ) (minor : ℕ) (areas : List
   pub stored : (i : ℕ) → i < length areas → Stored (getD areas i blank)
   pub good : goodAreas len at areas ≡ true
 
--- L18: a map written at the start of its area FMAP is good there, and its areas are those written
+-- (L18) a map written at the start of its area FMAP is good there, and its areas are those written
 pub record WrittenThere (image : List ℕ) (at : ℕ) (areas : List Area) : Type 0 where
   pub good : goodMap image at ≡ true
   pub same-areas : areasOf (rest at image) ≡ areas

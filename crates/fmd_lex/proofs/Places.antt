@@ -77,7 +77,7 @@ sign-no-word : (b : ℕ) → isSign b ≡ true → b ≡ wordKind → ⊥
 unfolding isSign _or_
 sign-no-word b g z = false≢true (rw z at g)
 
--- L5: a word has bytes of 21 to 7E hex, no sign and no #
+-- (L5) a word has bytes of 21 to 7E hex, no sign and no #
 pub word-bytes : (s : List ℕ) (at : ℕ) → tokenAt s at .kind ≡ wordKind → all isWord (bytesOf s (tokenAt s at)) ≡ true
 unfolding tokenAt tokenHere part
 word-bytes s at =

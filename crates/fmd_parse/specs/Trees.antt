@@ -40,7 +40,7 @@ pub record Standing (s : List ℕ) (l : List Section) (k : ℕ) (h : Section) : 
   pub high : h .level ≤ 8
   pub under : Under l k (h .level) (h .parent)
 
--- Q5: at most 128 sections, 8 levels; children after parents
+-- (Q5) at most 128 sections, 8 levels; children after parents
 pub record Tree (s : List ℕ) (l : List Section) : Type 0 where
   pub room : length l ≤ 128
   pub each : (k : ℕ) → k < length l → Standing s l k (getD l k blank)

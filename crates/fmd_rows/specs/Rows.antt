@@ -25,7 +25,7 @@ firstFrom p (suc n) k = cond (p k) (At k) (firstFrom p n (suc k))
 abbrev pub nameOf : List ℕ → Section → List ℕ
 nameOf s h = part (h .place) (h .length) s
 
--- R19: 54: section name used twice. Section k has the name of an earlier one.
+-- (R19) 54: section name used twice. Section k has the name of an earlier one.
 unfoldable pub repeats : List ℕ → List Section → ℕ → Bool
 repeats s l k = any (λ e. same (nameOf s e) (nameOf s (getD l k blank))) (take k l)
 
@@ -39,7 +39,7 @@ fmap = 70 ∷ 77 ∷ 65 ∷ 80 ∷ []
 unfoldable pub isFmap : List ℕ → List Section → ℕ → Bool
 isFmap s l k = same (nameOf s (getD l k blank)) fmap
 
--- R22: section FMAP; nested ones count too
+-- (R22) section FMAP; nested ones count too
 unfoldable pub fmapIn : List ℕ → List Section → Found
 fmapIn s l = firstFrom (isFmap s l) (length l) 0
 
