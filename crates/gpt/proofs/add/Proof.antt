@@ -26,7 +26,8 @@ slice-aggregate-add-3 : tie.Need-slice-aggregate-add-3
 slice-aggregate-add-3 c = search needs
 
 add-requires : tie.Need-add-requires
-add-requires c κs = (passed _ (c .before .before .before .before .before .enum-told .given .1) (c .before .before .before .before .before .before .before .opened .ensures), search needs, search needs, search needs)
+add-requires c κs =
+    (passed _ (c .before .before .before .before .before .enum-told .given .1) (c .before .before .before .before .before .before .before .opened .ensures), search needs, search needs, search needs)
 
 same-length : tie.Need-same-length
 same-length c = search needs
@@ -35,7 +36,13 @@ same-length-2 : tie.Need-same-length-2
 same-length-2 c = search needs
 
 returns : tie.Need-returns
-returns c = let a = c .before .before .before .before .before .before .before .before .args in let h = now (a .head) in let t = now (a .tail) in edit-not-open (a .n) h t (add (a .t4) (a .t5) (a .size) (a .attributes) (a .t8)) (add-lengths (a .t4) (a .t5) (a .size) (a .attributes) (a .t8) (search needs) (search needs) (search needs)) _ (stopped _ _ (c .before .r .given .1) (c .before .before .before .opened .ensures))
+returns c =
+    let a = c .before .before .before .before .before .before .before .before .args in
+    let h = now (a .head) in
+    let t = now (a .tail) in
+    edit-not-open (a .n) h t (add (a .t4) (a .t5) (a .size) (a .attributes) (a .t8))
+    (add-lengths (a .t4) (a .t5) (a .size) (a .attributes) (a .t8) (search needs) (search needs) (search needs)) _
+    (stopped _ _ (c .before .r .given .1) (c .before .before .before .opened .ensures))
 
 same-length-3 : tie.Need-same-length-3
 same-length-3 c = search needs

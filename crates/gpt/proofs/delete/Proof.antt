@@ -26,7 +26,10 @@ same-length-2 : tie.Need-same-length-2
 same-length-2 c = search needs
 
 returns : tie.Need-returns
-returns c = let a = c .before .before .before .before .before .before .before .before .args in edit-not-open (a .n) (now (a .head)) (now (a .tail)) (delete (a .slot)) refl _ (stopped _ _ (c .before .r .given .1) (c .before .before .before .opened .ensures))
+returns c =
+    let a = c .before .before .before .before .before .before .before .before .args in
+    edit-not-open (a .n) (now (a .head)) (now (a .tail)) (delete (a .slot)) refl _
+    (stopped _ _ (c .before .r .given .1) (c .before .before .before .opened .ensures))
 
 same-length-3 : tie.Need-same-length-3
 same-length-3 c = search needs

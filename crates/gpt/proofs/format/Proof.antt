@@ -20,13 +20,19 @@ slice-aggregate-fresh-head : tie.Need-slice-aggregate-fresh-head
 slice-aggregate-fresh-head c = search needs
 
 fresh-head-requires : tie.Need-fresh-head-requires
-fresh-head-requires c κs = let a = c .before .before .before .before .before .before .before .before .before .before .args in let f = format-facts (a .n) (a .t4) (now (a .head)) (now (a .tail)) (passed _ (c .before .before .enum-told .given .1) (c .before .before .before .before .format .ensures)) in (f .head, f .least, f .most, search needs)
+fresh-head-requires c κs =
+    let a = c .before .before .before .before .before .before .before .before .before .before .args in
+    let f = format-facts (a .n) (a .t4) (now (a .head)) (now (a .tail)) (passed _ (c .before .before .enum-told .given .1) (c .before .before .before .before .format .ensures)) in
+    (f .head, f .least, f .most, search needs)
 
 slice-aggregate-fresh-tail : tie.Need-slice-aggregate-fresh-tail
 slice-aggregate-fresh-tail c = search needs
 
 fresh-tail-requires : tie.Need-fresh-tail-requires
-fresh-tail-requires c κs = let a = c .before .before .before .before .before .before .before .before .before .before .before .before .before .before .before .args in let f = format-facts (a .n) (a .t4) (now (a .head)) (now (a .tail)) (passed _ (c .before .before .before .before .before .before .before .enum-told .given .1) (c .before .before .before .before .before .before .before .before .before .format .ensures)) in (f .tail, f .least, search needs)
+fresh-tail-requires c κs =
+    let a = c .before .before .before .before .before .before .before .before .before .before .before .before .before .before .before .args in
+    let f = format-facts (a .n) (a .t4) (now (a .head)) (now (a .tail)) (passed _ (c .before .before .before .before .before .before .before .enum-told .given .1) (c .before .before .before .before .before .before .before .before .before .format .ensures)) in
+    (f .tail, f .least, search needs)
 
 same-length : tie.Need-same-length
 same-length c = search needs
@@ -35,7 +41,10 @@ same-length-2 : tie.Need-same-length-2
 same-length-2 c = search needs
 
 returns : tie.Need-returns
-returns c = let a = c .before .before .before .before .before .before .before .before .before .args in format-stopped (a .n) (a .t4) (now (a .head)) (now (a .tail)) _ (stopped _ _ (c .before .r .given .1) (c .before .before .before .format .ensures))
+returns c =
+    let a = c .before .before .before .before .before .before .before .before .before .args in
+    format-stopped (a .n) (a .t4) (now (a .head)) (now (a .tail)) _
+    (stopped _ _ (c .before .r .given .1) (c .before .before .before .format .ensures))
 
 same-length-3 : tie.Need-same-length-3
 same-length-3 c = search needs
@@ -44,7 +53,11 @@ same-length-4 : tie.Need-same-length-4
 same-length-4 c = search needs
 
 returns-2 : tie.Need-returns-2
-returns-2 c = let a = c .before .before .before .before .before .before .before .before .before .before .before .before .before .before .before .before .before .before .args in format-done (a .n) (a .t4) (now (a .head)) (now (a .tail)) _ _ (passed _ (c .before .before .before .before .before .before .before .before .before .before .enum-told .given .1) (c .before .before .before .before .before .before .before .before .before .before .before .before .format .ensures)) (c .before .before .before .before .before .before .before .fresh-head .ensures) (c .before .before .fresh-tail .ensures)
+returns-2 c =
+    let a = c .before .before .before .before .before .before .before .before .before .before .before .before .before .before .before .before .before .before .args in
+    format-done (a .n) (a .t4) (now (a .head)) (now (a .tail)) _ _
+    (passed _ (c .before .before .before .before .before .before .before .before .before .before .enum-told .given .1) (c .before .before .before .before .before .before .before .before .before .before .before .before .format .ensures))
+    (c .before .before .before .before .before .before .before .fresh-head .ensures) (c .before .before .fresh-tail .ensures)
 
 pub format-spec : {M : Type 1} → statement M
 format-spec =

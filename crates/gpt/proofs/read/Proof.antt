@@ -17,7 +17,9 @@ found-requires : tie.Need-found-requires
 found-requires c κs = passed _ (c .enum-told .given .1) (c .before .before .lent .ensures)
 
 returns : tie.Need-returns
-returns c = let a = c .before .before .before .before .before .before .args in read-stopped (a .n) (now (a .head)) (now (a .tail)) _ _ (c .before .r .given .1) (c .before .before .before .lent .ensures)
+returns c =
+    let a = c .before .before .before .before .before .before .args in
+    read-stopped (a .n) (now (a .head)) (now (a .tail)) _ _ (c .before .r .given .1) (c .before .before .before .lent .ensures)
 
 returns-2 : tie.Need-returns-2
 returns-2 c = search needs

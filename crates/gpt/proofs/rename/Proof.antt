@@ -21,7 +21,8 @@ slice-aggregate-rename : tie.Need-slice-aggregate-rename
 slice-aggregate-rename c = search needs
 
 rename-requires : tie.Need-rename-requires
-rename-requires c κs = (passed _ (c .before .before .before .enum-told .given .1) (c .before .before .before .before .before .opened .ensures), search needs)
+rename-requires c κs =
+    (passed _ (c .before .before .before .enum-told .given .1) (c .before .before .before .before .before .opened .ensures), search needs)
 
 same-length : tie.Need-same-length
 same-length c = search needs
@@ -30,7 +31,12 @@ same-length-2 : tie.Need-same-length-2
 same-length-2 c = search needs
 
 returns : tie.Need-returns
-returns c = let a = c .before .before .before .before .before .before .before .before .args in let h = now (a .head) in let t = now (a .tail) in edit-not-open (a .n) h t (rename (a .slot) (a .t5)) (eq-eqb (length (a .t5)) 36 (search needs)) _ (stopped _ _ (c .before .r .given .1) (c .before .before .before .opened .ensures))
+returns c =
+    let a = c .before .before .before .before .before .before .before .before .args in
+    let h = now (a .head) in
+    let t = now (a .tail) in
+    edit-not-open (a .n) h t (rename (a .slot) (a .t5)) (eq-eqb (length (a .t5)) 36 (search needs)) _
+    (stopped _ _ (c .before .r .given .1) (c .before .before .before .opened .ensures))
 
 same-length-3 : tie.Need-same-length-3
 same-length-3 c = search needs

@@ -19,19 +19,34 @@ enum-told-2 : tie.Need-enum-told-2
 enum-told-2 c = search needs
 
 repair-tail-requires : tie.Need-repair-tail-requires
-repair-tail-requires c κs = let a = c .before .before .before .before .before .before .before .before .before .args in let h = now (a .head) in let t = now (a .tail) in let f = found-lent (a .n) h t _ Different (c .before .before .before .before .read .ensures) (c .before .before .enum-told2 .given .1) 2 refl in (f .head, f .tail, f .least)
+repair-tail-requires c κs =
+    let a = c .before .before .before .before .before .before .before .before .before .args in
+    let h = now (a .head) in
+    let t = now (a .tail) in
+    let f = found-lent (a .n) h t _ Different (c .before .before .before .before .read .ensures) (c .before .before .enum-told2 .given .1) 2 refl in
+    (f .head, f .tail, f .least)
 
 enum-told-3 : tie.Need-enum-told-3
 enum-told-3 c = search needs
 
 repair-tail-requires-2 : tie.Need-repair-tail-requires-2
-repair-tail-requires-2 c κs = let a = c .before .before .before .before .before .before .before .before .before .args in let h = now (a .head) in let t = now (a .tail) in let f = found-lent (a .n) h t _ PrimaryOnly (c .before .before .before .before .read .ensures) (c .before .before .enum-told3 .given .1) 3 refl in (f .head, f .tail, f .least)
+repair-tail-requires-2 c κs =
+    let a = c .before .before .before .before .before .before .before .before .before .args in
+    let h = now (a .head) in
+    let t = now (a .tail) in
+    let f = found-lent (a .n) h t _ PrimaryOnly (c .before .before .before .before .read .ensures) (c .before .before .enum-told3 .given .1) 3 refl in
+    (f .head, f .tail, f .least)
 
 enum-told-4 : tie.Need-enum-told-4
 enum-told-4 c = search needs
 
 repair-head-requires : tie.Need-repair-head-requires
-repair-head-requires c κs = let a = c .before .before .before .before .before .before .before .before .before .args in let h = now (a .head) in let t = now (a .tail) in let f = found-lent (a .n) h t _ BackupOnly (c .before .before .before .before .read .ensures) (c .before .before .enum-told4 .given .1) 4 refl in (f .head, f .tail, f .least)
+repair-head-requires c κs =
+    let a = c .before .before .before .before .before .before .before .before .before .args in
+    let h = now (a .head) in
+    let t = now (a .tail) in
+    let f = found-lent (a .n) h t _ BackupOnly (c .before .before .before .before .read .ensures) (c .before .before .enum-told4 .given .1) 4 refl in
+    (f .head, f .tail, f .least)
 
 enum-known-r : tie.Need-enum-known-r
 enum-known-r c = search needs
@@ -43,7 +58,11 @@ same-length-2 : tie.Need-same-length-2
 same-length-2 c = search needs
 
 returns : tie.Need-returns
-returns c = let a = c .before .before .before .before .before .before .before .args in let h = now (a .head) in let t = now (a .tail) in repaired-is (a .n) h t _ Same (c .before .before .read .ensures) (c .enum-told .given .1) 1 refl
+returns c =
+    let a = c .before .before .before .before .before .before .before .args in
+    let h = now (a .head) in
+    let t = now (a .tail) in
+    repaired-is (a .n) h t _ Same (c .before .before .read .ensures) (c .enum-told .given .1) 1 refl
 
 same-length-3 : tie.Need-same-length-3
 same-length-3 c = search needs
@@ -52,7 +71,13 @@ same-length-4 : tie.Need-same-length-4
 same-length-4 c = search needs
 
 returns-2 : tie.Need-returns-2
-returns-2 c = let a = c .before .before .before .before .before .before .before .before .before .before .before .before .args in let h = now (a .head) in let t = now (a .tail) in ap (λ (x : List ℕ). out (accepted (2 ∷ [])) h x) (c .before .before .repair-tail .ensures) ∙ repaired-is (a .n) h t _ Different (c .before .before .before .before .before .before .before .read .ensures) (c .before .before .before .before .before .enum-told2 .given .1) 2 refl
+returns-2 c =
+    let a = c .before .before .before .before .before .before .before .before .before .before .before .before .args in
+    let h = now (a .head) in
+    let t = now (a .tail) in
+    ap (λ (x : List ℕ). out (accepted (2 ∷ [])) h x) (c .before .before .repair-tail .ensures) ∙ repaired-is (a .n) h t _ Different
+    (c .before .before .before .before .before .before .before .read .ensures) (c .before .before .before .before .before .enum-told2 .given .1) 2
+    refl
 
 same-length-5 : tie.Need-same-length-5
 same-length-5 c = search needs
@@ -61,7 +86,13 @@ same-length-6 : tie.Need-same-length-6
 same-length-6 c = search needs
 
 returns-3 : tie.Need-returns-3
-returns-3 c = let a = c .before .before .before .before .before .before .before .before .before .before .before .before .args in let h = now (a .head) in let t = now (a .tail) in ap (λ (x : List ℕ). out (accepted (3 ∷ [])) h x) (c .before .before .repair-tail2 .ensures) ∙ repaired-is (a .n) h t _ PrimaryOnly (c .before .before .before .before .before .before .before .read .ensures) (c .before .before .before .before .before .enum-told3 .given .1) 3 refl
+returns-3 c =
+    let a = c .before .before .before .before .before .before .before .before .before .before .before .before .args in
+    let h = now (a .head) in
+    let t = now (a .tail) in
+    ap (λ (x : List ℕ). out (accepted (3 ∷ [])) h x) (c .before .before .repair-tail2 .ensures) ∙ repaired-is (a .n) h t _ PrimaryOnly
+    (c .before .before .before .before .before .before .before .read .ensures) (c .before .before .before .before .before .enum-told3 .given .1) 3
+    refl
 
 same-length-7 : tie.Need-same-length-7
 same-length-7 c = search needs
@@ -70,7 +101,13 @@ same-length-8 : tie.Need-same-length-8
 same-length-8 c = search needs
 
 returns-4 : tie.Need-returns-4
-returns-4 c = let a = c .before .before .before .before .before .before .before .before .before .before .before .before .args in let h = now (a .head) in let t = now (a .tail) in ap (λ (x : List ℕ). out (accepted (4 ∷ [])) x t) (c .before .before .repair-head .ensures) ∙ repaired-is (a .n) h t _ BackupOnly (c .before .before .before .before .before .before .before .read .ensures) (c .before .before .before .before .before .enum-told4 .given .1) 4 refl
+returns-4 c =
+    let a = c .before .before .before .before .before .before .before .before .before .before .before .before .args in
+    let h = now (a .head) in
+    let t = now (a .tail) in
+    ap (λ (x : List ℕ). out (accepted (4 ∷ [])) x t) (c .before .before .repair-head .ensures) ∙ repaired-is (a .n) h t _ BackupOnly
+    (c .before .before .before .before .before .before .before .read .ensures) (c .before .before .before .before .before .enum-told4 .given .1) 4
+    refl
 
 same-length-9 : tie.Need-same-length-9
 same-length-9 c = search needs
@@ -79,7 +116,11 @@ same-length-10 : tie.Need-same-length-10
 same-length-10 c = search needs
 
 returns-5 : tie.Need-returns-5
-returns-5 c = let a = c .before .before .before .before .before .before .before .before .args in let h = now (a .head) in let t = now (a .tail) in refused-repair (a .n) h t _ _ (c .before .before .before .read .ensures) (c .before .r .given .1) _ refl
+returns-5 c =
+    let a = c .before .before .before .before .before .before .before .before .args in
+    let h = now (a .head) in
+    let t = now (a .tail) in
+    refused-repair (a .n) h t _ _ (c .before .before .before .read .ensures) (c .before .r .given .1) _ refl
 
 pub repair-spec : {M : Type 1} → statement M
 repair-spec =

@@ -26,7 +26,11 @@ same-length-2 : tie.Need-same-length-2
 same-length-2 c = search needs
 
 returns : tie.Need-returns
-returns c = let a = c .before .before .before .before .before .before .before .before .args in let h = now (a .head) in let t = now (a .tail) in edit-not-open (a .n) h t (resize (a .slot) (a .size)) refl _ (stopped _ _ (c .before .r .given .1) (c .before .before .before .opened .ensures))
+returns c =
+    let a = c .before .before .before .before .before .before .before .before .args in
+    let h = now (a .head) in
+    let t = now (a .tail) in
+    edit-not-open (a .n) h t (resize (a .slot) (a .size)) refl _ (stopped _ _ (c .before .r .given .1) (c .before .before .before .opened .ensures))
 
 same-length-3 : tie.Need-same-length-3
 same-length-3 c = search needs

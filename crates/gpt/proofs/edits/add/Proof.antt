@@ -9,7 +9,10 @@ use Rattle.gpt.proofs.edits.add.Statement.{statement}
 use Rattle.gpt.proofs.edits.add.Tie as tie
 
 entries-in-requires : tie.Need-entries-in-requires
-entries-in-requires c κs = let a = c .before .before .before .before .before .before .args in let h = now (a .head) in let T = entriesIn disk512 primary h in open-facts (a .n) h (now (a .tail)) (c .before .before .before .before .before .before .pre .0) .head
+entries-in-requires c κs =
+    let a = c .before .before .before .before .before .before .args in
+    let h = now (a .head) in
+    open-facts (a .n) h (now (a .tail)) (c .before .before .before .before .before .before .pre .0) .head
 
 add-requires : tie.Need-add-requires
 add-requires c κs = search needs
@@ -21,13 +24,24 @@ enum-told : tie.Need-enum-told
 enum-told c = search needs
 
 add-placed-requires : tie.Need-add-placed-requires
-add-placed-requires c κs = let a = c .before .before .before .before .before .before .before .before .before .before .before .before .args in let h = now (a .head) in let T = entriesIn disk512 primary h in (c .before .before .before .before .before .before .before .before .before .before .before .before .pre .0, c .before .before .before .before .before .before .before .before .before .before .before .before .pre .1, c .before .before .before .before .before .before .before .before .before .before .before .before .pre .2, c .before .before .before .before .before .before .before .before .before .before .before .before .pre .3, add-rows-at _ T (now (a .kind)) (now (a .unique)) (a .size) (a .attributes) (now (a .name)) (c .before .before .before .before .before .entries-in .ensures .0) (passed _ (c .before .before .enum-told .given .1) (c .before .before .before .before .add .ensures)))
+add-placed-requires c κs =
+    let a = c .before .before .before .before .before .before .before .before .before .before .before .before .args in
+    let h = now (a .head) in
+    let T = entriesIn disk512 primary h in
+    (c .before .before .before .before .before .before .before .before .before .before .before .before .pre .0, c .before .before .before .before .before .before .before .before .before .before .before .before .pre .1, c .before .before .before .before .before .before .before .before .before .before .before .before .pre .2, c .before .before .before .before .before .before .before .before .before .before .before .before .pre .3, add-rows-at _ T (now (a .kind)) (now (a .unique)) (a .size) (a .attributes) (now (a .name)) (c .before .before .before .before .before .entries-in .ensures .0) (passed _ (c .before .before .enum-told .given .1) (c .before .before .before .before .add .ensures)))
 
 same-length : tie.Need-same-length
 same-length c = search needs
 
 returns : tie.Need-returns
-returns c = let a = c .before .before .before .before .before .before .before .before .before .before .before .args in let h = now (a .head) in let T = entriesIn disk512 primary h in refused-at (a .n) h (now (a .tail)) (add (now (a .kind)) (now (a .unique)) (a .size) (a .attributes) (now (a .name))) (add-lengths (now (a .kind)) (now (a .unique)) (a .size) (a .attributes) (now (a .name)) (c .before .before .before .before .before .before .before .before .before .before .before .pre .1) (c .before .before .before .before .before .before .before .before .before .before .before .pre .2) (c .before .before .before .before .before .before .before .before .before .before .before .pre .3)) (c .before .before .before .before .before .before .before .before .before .before .before .pre .0) _ (c .before .before .before .before .entries-in .ensures .0) _ (add-stops (a .n) _ (now (a .kind)) (now (a .unique)) (a .size) (a .attributes) (now (a .name)) _ (stopped _ _ (c .before .r .given .1) (c .before .before .before .add .ensures)))
+returns c =
+    let a = c .before .before .before .before .before .before .before .before .before .before .before .args in
+    let h = now (a .head) in
+    refused-at (a .n) h (now (a .tail)) (add (now (a .kind)) (now (a .unique)) (a .size) (a .attributes) (now (a .name)))
+    (add-lengths (now (a .kind)) (now (a .unique)) (a .size) (a .attributes) (now (a .name)) (c .before .before .before .before .before .before .before .before .before .before .before .pre .1) (c .before .before .before .before .before .before .before .before .before .before .before .pre .2) (c .before .before .before .before .before .before .before .before .before .before .before .pre .3))
+    (c .before .before .before .before .before .before .before .before .before .before .before .pre .0) _
+    (c .before .before .before .before .entries-in .ensures .0) _
+    (add-stops (a .n) _ (now (a .kind)) (now (a .unique)) (a .size) (a .attributes) (now (a .name)) _ (stopped _ _ (c .before .r .given .1) (c .before .before .before .add .ensures)))
 
 same-length-2 : tie.Need-same-length-2
 same-length-2 c = search needs

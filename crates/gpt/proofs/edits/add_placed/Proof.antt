@@ -10,13 +10,24 @@ use Rattle.gpt.proofs.edits.add_placed.Statement.{statement}
 use Rattle.gpt.proofs.edits.add_placed.Tie as tie
 
 entries-in-requires : tie.Need-entries-in-requires
-entries-in-requires c κs = let a = c .before .before .before .before .before .before .args in let h = now (a .head) in let T = entriesIn disk512 primary h in open-facts (a .n) h (now (a .tail)) (c .before .before .before .before .before .before .pre .0) .head
+entries-in-requires c κs =
+    let a = c .before .before .before .before .before .before .args in
+    let h = now (a .head) in
+    open-facts (a .n) h (now (a .tail)) (c .before .before .before .before .before .before .pre .0) .head
 
 sub-t16 : tie.Need-sub-t16
-sub-t16 c = let a = c .before .before .before .before .before .before .before .args in let h = now (a .head) in let T = entriesIn disk512 primary h in omega (arith, open-facts (a .n) h (now (a .tail)) (c .before .before .before .before .before .before .before .pre .0) .least)
+sub-t16 c =
+    let a = c .before .before .before .before .before .before .before .args in
+    let h = now (a .head) in
+    omega (arith, open-facts (a .n) h (now (a .tail)) (c .before .before .before .before .before .before .before .pre .0) .least)
 
 lowest-requires : tie.Need-lowest-requires
-lowest-requires c κs = let a = c .before .before .before .before .before .before .before .args in let h = now (a .head) in let T = entriesIn disk512 primary h in let o = open-facts (a .n) h (now (a .tail)) (c .before .before .before .before .before .before .before .pre .0) in (c .entries-in .ensures .1, add-size (a .n) T (now (a .kind)) (now (a .unique)) (a .size) (a .attributes) (now (a .name)) (c .before .before .before .before .before .before .before .pre .4), omega arith)
+lowest-requires c κs =
+    let a = c .before .before .before .before .before .before .before .args in
+    let h = now (a .head) in
+    let T = entriesIn disk512 primary h in
+    let o = open-facts (a .n) h (now (a .tail)) (c .before .before .before .before .before .before .before .pre .0) in
+    (c .entries-in .ensures .1, add-size (a .n) T (now (a .kind)) (now (a .unique)) (a .size) (a .attributes) (now (a .name)) (c .before .before .before .before .before .before .before .pre .4), omega arith)
 
 enum-told : tie.Need-enum-told
 enum-told c = search needs
@@ -25,13 +36,24 @@ enum-known-first : tie.Need-enum-known-first
 enum-known-first c = search needs
 
 add-at-requires : tie.Need-add-at-requires
-add-at-requires c κs = let a = c .before .before .before .before .before .before .before .before .before .before .before .before .before .args in let h = now (a .head) in let T = entriesIn disk512 primary h in (c .before .before .before .before .before .before .before .before .before .before .before .before .before .pre .0, c .before .before .before .before .before .before .before .before .before .before .before .before .before .pre .1, c .before .before .before .before .before .before .before .before .before .before .before .before .before .pre .2, c .before .before .before .before .before .before .before .before .before .before .before .before .before .pre .3, c .before .before .before .before .before .before .before .before .before .before .before .before .before .pre .4, placed-at (a .n) T (now (a .kind)) (now (a .unique)) (a .size) (a .attributes) (now (a .name)) _ _ _ (c .before .before .before .before .before .before .entries-in .ensures .0) (c .before .before .before .first .given .1) (c .before .before .before .before .before .lowest .ensures))
+add-at-requires c κs =
+    let a = c .before .before .before .before .before .before .before .before .before .before .before .before .before .args in
+    let h = now (a .head) in
+    let T = entriesIn disk512 primary h in
+    (c .before .before .before .before .before .before .before .before .before .before .before .before .before .pre .0, c .before .before .before .before .before .before .before .before .before .before .before .before .before .pre .1, c .before .before .before .before .before .before .before .before .before .before .before .before .before .pre .2, c .before .before .before .before .before .before .before .before .before .before .before .before .before .pre .3, c .before .before .before .before .before .before .before .before .before .before .before .before .before .pre .4, placed-at (a .n) T (now (a .kind)) (now (a .unique)) (a .size) (a .attributes) (now (a .name)) _ _ _ (c .before .before .before .before .before .before .entries-in .ensures .0) (c .before .before .before .first .given .1) (c .before .before .before .before .before .lowest .ensures))
 
 same-length : tie.Need-same-length
 same-length c = search needs
 
 returns : tie.Need-returns
-returns c = let a = c .before .before .before .before .before .before .before .before .before .before .args in let h = now (a .head) in let T = entriesIn disk512 primary h in refused-at (a .n) h (now (a .tail)) (add (now (a .kind)) (now (a .unique)) (a .size) (a .attributes) (now (a .name))) (add-lengths (now (a .kind)) (now (a .unique)) (a .size) (a .attributes) (now (a .name)) (c .before .before .before .before .before .before .before .before .before .before .pre .1) (c .before .before .before .before .before .before .before .before .before .before .pre .2) (c .before .before .before .before .before .before .before .before .before .before .pre .3)) (c .before .before .before .before .before .before .before .before .before .before .pre .0) T refl 25 (add-full (a .n) T (now (a .kind)) (now (a .unique)) (a .size) (a .attributes) (now (a .name)) (c .before .before .before .before .before .before .before .before .before .before .pre .4) (placed-none (a .n) T (now (a .kind)) (now (a .unique)) (a .size) (a .attributes) (now (a .name)) _ _ (c .before .before .before .entries-in .ensures .0) (c .enum-told .given .1) (c .before .before .lowest .ensures)))
+returns c =
+    let a = c .before .before .before .before .before .before .before .before .before .before .args in
+    let h = now (a .head) in
+    let T = entriesIn disk512 primary h in
+    refused-at (a .n) h (now (a .tail)) (add (now (a .kind)) (now (a .unique)) (a .size) (a .attributes) (now (a .name)))
+    (add-lengths (now (a .kind)) (now (a .unique)) (a .size) (a .attributes) (now (a .name)) (c .before .before .before .before .before .before .before .before .before .before .pre .1) (c .before .before .before .before .before .before .before .before .before .before .pre .2) (c .before .before .before .before .before .before .before .before .before .before .pre .3))
+    (c .before .before .before .before .before .before .before .before .before .before .pre .0) T refl 25
+    (add-full (a .n) T (now (a .kind)) (now (a .unique)) (a .size) (a .attributes) (now (a .name)) (c .before .before .before .before .before .before .before .before .before .before .pre .4) (placed-none (a .n) T (now (a .kind)) (now (a .unique)) (a .size) (a .attributes) (now (a .name)) _ _ (c .before .before .before .entries-in .ensures .0) (c .enum-told .given .1) (c .before .before .lowest .ensures)))
 
 same-length-2 : tie.Need-same-length-2
 same-length-2 c = search needs

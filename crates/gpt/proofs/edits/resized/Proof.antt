@@ -18,13 +18,23 @@ sub-resized : tie.Need-sub-resized
 sub-resized c = search needs
 
 add-resized : tie.Need-add-resized
-add-resized c = let a = c .before .before .before .before .args in let h = now (a .head) in let T = entriesIn disk512 primary h in record { fits = resized-fits T _ _ (a .i) _ (a .size) (c .before .before .entries-in .ensures .0) (c .before .entry .ensures .0) (c .load64 .ensures) (c .before .before .before .before .pre .2) (c .before .before .before .before .pre .3) }
+add-resized c =
+    let a = c .before .before .before .before .args in
+    let h = now (a .head) in
+    let T = entriesIn disk512 primary h in
+    record
+    { fits = resized-fits T _ _ (a .i) _ (a .size) (c .before .before .entries-in .ensures .0) (c .before .entry .ensures .0) (c .load64 .ensures) (c .before .before .before .before .pre .2) (c .before .before .before .before .pre .3) }
 
 resized-requires : tie.Need-resized-requires
 resized-requires c κs = search needs
 
 returns : tie.Need-returns
-returns c = let a = c .before .before .before .before .before .args in let h = now (a .head) in let T = entriesIn disk512 primary h in resized-is T _ _ (a .i) _ (a .size) (c .before .before .before .entries-in .ensures .0) (c .before .before .entry .ensures .0) (c .before .load64 .ensures) (c .before .before .before .before .before .pre .2) _ (c .resized .ensures)
+returns c =
+    let a = c .before .before .before .before .before .args in
+    let h = now (a .head) in
+    let T = entriesIn disk512 primary h in
+    resized-is T _ _ (a .i) _ (a .size) (c .before .before .before .entries-in .ensures .0) (c .before .before .entry .ensures .0)
+    (c .before .load64 .ensures) (c .before .before .before .before .before .pre .2) _ (c .resized .ensures)
 
 pub resized-spec : {M : Type 1} → statement M
 resized-spec =

@@ -36,7 +36,8 @@ loop-less : tie.Need-loop-less Inv-loop μ-loop
 loop-less c = search needs
 
 loop-again : tie.Need-loop-again Inv-loop μ-loop
-loop-again c = named-on (search needs) (omega arith) (c .before .before .store16 .ensures) (c .before .before .before .before .before .before .loop .inv)
+loop-again c =
+    named-on (search needs) (omega arith) (c .before .before .store16 .ensures) (c .before .before .before .before .before .before .loop .inv)
 
 same-length : tie.Need-same-length Inv-loop μ-loop
 same-length c = c .before .loop .inv .width
