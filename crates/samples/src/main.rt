@@ -1,11 +1,14 @@
-// Runs the samples that are not proved, and the published CRC-32 vectors (values and sources: host/vectors/crc32.txt), and prints a line for each:
+// Runs samples of the rules and the published CRC-32 vectors (values and sources: host/vectors/crc32.txt), and prints a line for each:
 //
 //     crc32 LABEL CRC     the CRC-32 of the input of that label
 //     guid TEXT BYTES     a GUID text and its stored bytes, or "refused" and the number
 //     type TEXT BYTES     the same of a type
 //     text BYTES TEXT     stored bytes and the text written for them
 //
-// A second program that shares no code with this one prints the same lines (host/second).
+// The lines of `disk` follow. A second program that shares no code with this one prints the same lines (host/second).
+mod calls;
+mod disk;
+mod lines;
 mod print;
 
 use guid::Answer;
@@ -137,4 +140,5 @@ fn main() {
     type_samples();
     more_type_samples();
     text_samples();
+    disk::samples();
 }

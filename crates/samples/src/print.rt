@@ -1,4 +1,4 @@
-// Bytes, and numbers in upper-case hex, on standard output.
+// Bytes, and numbers in upper-case hex or decimal, on standard output.
 use libc::STDOUT_FILENO;
 
 pub fn bytes(s: &[u8]) {
@@ -27,4 +27,20 @@ pub fn hex(s: &[u8]) {
         hex8(s[i]);
         i += 1;
     }
+}
+
+fn last_digit(x: u64) {
+    bytes(&[digit((x % 10) as u8)]);
+}
+
+// Without leading zeros.
+pub fn decimal(x: u64) {
+    let mut power: u64 = 10000000000000000000;
+    while 1 < power {
+        if power <= x {
+            last_digit(x / power);
+        }
+        power /= 10;
+    }
+    last_digit(x);
 }

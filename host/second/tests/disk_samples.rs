@@ -1,10 +1,10 @@
-//! The disk samples, as `second_samples --gpt` prints them.
+//! The disk samples, as `second_samples` prints them.
 
 use std::process::Command;
 
 #[test]
 fn samples_1_to_5_and_9() {
-    let output = Command::new(env!("CARGO_BIN_EXE_second_samples")).arg("--gpt").output().unwrap();
+    let output = Command::new(env!("CARGO_BIN_EXE_second_samples")).output().unwrap();
     let printed = String::from_utf8(output.stdout).unwrap();
     let lines: Vec<&str> =
         printed.lines().filter(|line| line.starts_with("disk ") && !line.contains(" crc32 ")).collect();

@@ -8,7 +8,7 @@
 //! text BYTES TEXT     stored bytes and the text written for them
 //! ```
 //!
-//! With `--gpt`, the lines of `disk` follow.
+//! The lines of `disk` follow.
 
 mod disk;
 
@@ -97,13 +97,7 @@ fn main() -> io::Result<()> {
     for guid in STORED {
         writeln!(out, "text {} {}", hex(&guid), writing(&guid))?;
     }
-    for option in std::env::args().skip(1) {
-        match option.as_str() {
-            "--gpt" => disk::print(&mut out)?,
-            _ => return Err(io::Error::other(format!("unknown option {option}"))),
-        }
-    }
-    Ok(())
+    disk::print(&mut out)
 }
 
 fn reading(call: fn(&Rules, &[u8], &mut [u8]) -> u32, text: &str) -> String {

@@ -1,0 +1,129 @@
+// The lines of the disk samples.
+use crate::calls::Sums;
+use crate::print;
+use gpt::Added;
+use gpt::Counted;
+use gpt::Done;
+use gpt::Reading;
+use gpt::Refusal;
+ghost use mathlib.Core.Path.{_≡_};
+ghost use lib.ListN.{length};
+ghost use Rattle.gpt.specs.Answers.{numberOf};
+
+pub fn begin(n: u64, call: &[u8]) {
+    print::bytes(b"disk ");
+    print::decimal(n);
+    print::bytes(b" ");
+    print::bytes(call);
+}
+
+fn named(name: &[u8], x: u64) {
+    print::bytes(name);
+    print::decimal(x);
+}
+
+fn number(r: Refusal) -> u64
+    ensures { λ k. ⌜ k ≡ numberOf r ⌝ }
+{
+    match r {
+        Refusal::WrongLength => 1,
+        Refusal::BlockCount => 2,
+        Refusal::NoDiskGuid => 3,
+        Refusal::NeitherGood => 10,
+        Refusal::NotTheSame => 11,
+        Refusal::NoSuchSlot => 12,
+        Refusal::SlotUnused => 13,
+        Refusal::NoSize => 20,
+        Refusal::NoType => 21,
+        Refusal::NoUniqueGuid => 22,
+        Refusal::BadName => 23,
+        Refusal::NoUnusedSlot => 24,
+        Refusal::NoRoom => 25,
+    }
+}
+
+fn refused(r: Refusal) {
+    named(b" refused ", number(r));
+}
+
+pub fn done(answer: Done) {
+    match answer {
+        Done::Accepted => (),
+        Done::Refused(r) => refused(r),
+    }
+    print::bytes(b"\n");
+}
+
+pub fn added(answer: Added) {
+    match answer {
+        Added::At { slot, first } => {
+            named(b" slot ", slot);
+            named(b" first ", first.0);
+        }
+        Added::Refused(r) => refused(r),
+    }
+    print::bytes(b"\n");
+}
+
+fn state(answer: Reading) {
+    match answer {
+        Reading::Same => print::bytes(b" 1"),
+        Reading::Different => print::bytes(b" 2"),
+        Reading::PrimaryOnly => print::bytes(b" 3"),
+        Reading::BackupOnly => print::bytes(b" 4"),
+        Reading::Refused(r) => refused(r),
+    }
+    print::bytes(b"\n");
+}
+
+fn free(answer: Counted) {
+    match answer {
+        Counted::Free { blocks, longest } => {
+            named(b" ", blocks);
+            named(b" longest ", longest);
+        }
+        Counted::Refused(r) => refused(r),
+    }
+    print::bytes(b"\n");
+}
+
+// State, free counts, sums and bytes.
+pub fn close(head: &[u8], tail: &[u8], n: u64, sums: Sums) {
+    begin(n, b"state");
+    state(gpt::read(head, tail, n));
+    begin(n, b"free");
+    free(gpt::free_counts(head, tail, n));
+    begin(n, b"granted");
+    named(b" ", sums.granted);
+    named(b" back ", sums.back);
+    print::bytes(b"\n");
+    crcs(head, tail, n);
+}
+
+fn crcs(head: &[u8], tail: &[u8], n: u64) {
+    begin(n, b"crc32 ");
+    print::hex32(crc32::crc32(head));
+    print::bytes(b" ");
+    print::hex32(crc32::crc32(tail));
+    print::bytes(b"\n");
+}
+
+// Of a header's bytes: its own block and the other header's, the usable blocks, where the entries begin.
+fn header(h: &[u8], n: u64)
+    requires { ⌜ length (now h) ≡ 92 ⌝ }
+{
+    begin(n, b"header ");
+    print::decimal(octets::load64(h, 24));
+    named(b" other ", octets::load64(h, 32));
+    named(b" usable ", octets::load64(h, 40));
+    named(b" ", octets::load64(h, 48));
+    named(b" entries ", octets::load64(h, 72));
+    print::bytes(b"\n");
+}
+
+pub fn headers(head: &[u8], tail: &[u8], n: u64)
+    requires { ⌜ (length (now head) ≡ 17408) × (length (now tail) ≡ 16896) ⌝ }
+{
+    header(&head[512..604], n);
+    header(&tail[16384..16476], n);
+}
