@@ -38,7 +38,7 @@ uint32_t usi_fmap_find(const uint8_t *image, size_t image_len, uint64_t *positio
 /* Carries each area that the old image's map marks PRESERVE, byte for byte, into the same-named area of the new image; every other byte of it stays.
  * Refusals in order: 40, 41, 42 of the old image, then of the new one; 60 a preserved area is missing in the new map; 61 it has another size there;
  * 62 areas to be carried share a byte in either map; 63 one shares a byte with area FMAP of the new map. On a refusal the new image is as it was. */
-uint32_t usi_fmap_carry(const uint8_t *old, size_t old_len, uint8_t *new_image, size_t new_image_len);
+uint32_t usi_fmap_carry(const uint8_t *old, size_t old_len, uint8_t *image, size_t image_len);
 
 #ifdef __cplusplus
 }

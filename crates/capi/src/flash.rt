@@ -38,8 +38,8 @@ fn carried(c: Carried) -> u32
 }
 
 #[no_mangle]
-pub extern "C" fn usi_fmap_carry(old: &[u8], new_image: &mut [u8]) -> u32
-    ensures { λ r. ⌜ record { result = r; image = now (new_image .exit) } ≡ carryTold (carryImages (now (old .entry)) (now (new_image .entry))) ⌝ }
+pub extern "C" fn usi_fmap_carry(old: &[u8], image: &mut [u8]) -> u32
+    ensures { λ r. ⌜ record { result = r; image = now (image .exit) } ≡ carryTold (carryImages (now (old .entry)) (now (image .entry))) ⌝ }
 {
-    carried(fmap::carry(old, new_image))
+    carried(fmap::carry(old, image))
 }
