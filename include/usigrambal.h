@@ -30,6 +30,16 @@ uint32_t usi_type_read(const uint8_t *text, size_t text_len, uint8_t *guid, size
  * Refusal: 1 guid_len is not 16 or text_len is not 36. On a refusal text is as it was. */
 uint32_t usi_guid_write(const uint8_t *guid, size_t guid_len, uint8_t *text, size_t text_len);
 
+/* Finds the lowest good flash map of an image of 98 to 16,777,216 bytes and answers its position.
+ * Refusals in order: 40 image length outside its range; 41 the eight signature bytes stand nowhere; 42 they do, but no good map.
+ * On a refusal *position is as it was. */
+uint32_t usi_fmap_find(const uint8_t *image, size_t image_len, uint64_t *position);
+
+/* Carries each area that the old image's map marks PRESERVE, byte for byte, into the same-named area of the new image; every other byte of it stays.
+ * Refusals in order: 40, 41, 42 of the old image, then of the new one; 60 a preserved area is missing in the new map; 61 it has another size there;
+ * 62 areas to be carried share a byte in either map; 63 one shares a byte with area FMAP of the new map. On a refusal the new image is as it was. */
+uint32_t usi_fmap_carry(const uint8_t *old, size_t old_len, uint8_t *image, size_t image_len);
+
 #ifdef __cplusplus
 }
 #endif
