@@ -1,2 +1,3 @@
 -- What C is told of each answer.
 pub mod Told
+pub mod GptTold
