@@ -1,2 +1,4 @@
 pub mod Told
 pub mod GptTold
+pub mod Copied
+pub mod Lengths
