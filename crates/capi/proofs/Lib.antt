@@ -1,2 +1,5 @@
 pub mod Told
 pub mod FlashTold
+pub mod GptTold
+pub mod Copied
+pub mod Lengths

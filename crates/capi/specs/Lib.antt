@@ -1,3 +1,4 @@
 -- What C is told of each answer.
 pub mod Told
 pub mod FlashTold
+pub mod GptTold

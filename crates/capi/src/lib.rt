@@ -1,10 +1,11 @@
 // The library's calls for C (include/usigrambal.h): numbers, slices, and 0 or the refusal's number.
+mod disk;
+mod flash;
+
 ghost use mathlib.Core.Path.{_≡_};
 ghost use Rattle.crc_lanes.specs.Crc.{crc32 as crcOf};
 ghost use Rattle.guid.specs.Calls.{numberOf, readOf, readTypeOf, writeOf};
 ghost use Rattle.capi.specs.Told.{codeOf, told};
-
-mod flash;
 
 use guid::Answer;
 
