@@ -50,7 +50,7 @@ gpt-tells-done d r h t o e q = gpt-tells (doneOf d) r [] [] h t o e q (none-told
 pub gpt-accepted : (a : Answer) (old vs : List ℕ) → a ≡ accepted vs → (0 ≡ resultOf a) × (vs ≡ valuesOf old a)
 gpt-accepted a old vs e = (ap resultOf (sym e), ap (valuesOf old) (sym e))
 
--- where the entries begin, for a reading that is a
+-- where the entries begin, by the reading r
 pub placed-refused : (r : Reading) (q : Refusal) (k : ℕ) (old : List ℕ) → r ≡ reading.Refused q → k ≡ numberOf q
     → (k ≡ resultOf (placeOf (readingOf r))) × (old ≡ valuesOf old (placeOf (readingOf r)))
 placed-refused r q k old e f = gpt-refused _ (numberOf q) k old (ap (λ (x : Reading). placeOf (readingOf x)) e) f
