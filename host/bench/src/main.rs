@@ -1,11 +1,13 @@
 //! Prints the speed of the library beside that of its peers.
 
 mod check;
+mod disk;
 mod ours;
 mod peers;
 mod table;
 mod work;
 
+use disk::Disk;
 use table::Table;
 use usigrambal::raw;
 use work::{loads, of, of_two, onto, stores};
@@ -18,11 +20,15 @@ const OCTETS_SIZES: [usize; 4] = [16, 128, 16 << 10, 1 << 20];
 fn main() {
     CRC_SIZES.into_iter().for_each(check::crc);
     OCTETS_SIZES.into_iter().for_each(check::octets);
+    let (full, room) = (Disk::with_gaps(128), Disk::with_gaps(127));
     let mut table = Table::default();
     CRC_SIZES.into_iter().for_each(|size| crc_rows(&mut table, size));
     OCTETS_SIZES.into_iter().for_each(|size| octets_rows(&mut table, size));
+    gpt_rows(&mut table, &full, &room);
     table.measure();
     table.print();
+    println!();
+    table.print_units();
 }
 
 fn crc_rows(t: &mut Table, size: usize) {
@@ -50,4 +56,13 @@ fn octets_rows(t: &mut Table, size: usize) {
         onto(size, |s| ours::fill(s, 255)),
         onto(size, |s| peers::memset_fill(s, 255)),
     );
+}
+
+/// The worst disks: 128 partitions, and 127 with room for one more behind the last gap.
+fn gpt_rows<'a>(t: &mut Table<'a>, full: &'a Disk, room: &'a Disk) {
+    let unit = || of(work::bytes(16 << 10), peers::zlib_crc32);
+    t.units("gpt: read, 128 partitions", 6.0, || full.read(), unit());
+    let mut copy = room.clone();
+    t.units("gpt: add, 127 partitions", 14.0, move || room.add_to(&mut copy), unit());
+    t.units("gpt: free counts, 128 partitions", 14.0, || full.free(), unit());
 }

@@ -19,6 +19,8 @@ struct Side<'a> {
 struct Row<'a> {
     what: &'static str,
     size: usize,
+    /// A row in units: the peer is the unit, and ours may take at most so many.
+    most: Option<f64>,
     ours: Side<'a>,
     peer: Side<'a>,
 }
@@ -37,7 +39,18 @@ impl<'a> Table<'a> {
         ours: impl FnMut() -> A + 'a,
         peer: impl FnMut() -> B + 'a,
     ) {
-        self.rows.push(Row { what, size, ours: side(ours), peer: side(peer) });
+        self.rows.push(Row { what, size, most: None, ours: side(ours), peer: side(peer) });
+    }
+
+    /// Adds a row in units: our call, which may take at most `most` times as long as the unit.
+    pub fn units<A, B>(
+        &mut self,
+        what: &'static str,
+        most: f64,
+        ours: impl FnMut() -> A + 'a,
+        unit: impl FnMut() -> B + 'a,
+    ) {
+        self.rows.push(Row { what, size: 0, most: Some(most), ours: side(ours), peer: side(unit) });
     }
 
     /// Times all rows, round by round.
@@ -59,10 +72,23 @@ impl<'a> Table<'a> {
         println!("Speed, best of {ROUNDS}; 1 MB is 10^6 bytes.");
         println!("The ratio is ours / peer: 1.00x the same, above it ours is faster.");
         println!("{:<34} {:>9} {:>15} {:>15} {:>8}", "what / peer", "size", "ours", "peer", "ratio");
-        for row in self.grouped() {
+        for row in self.grouped().into_iter().filter(|row| row.most.is_none()) {
             let (ours, peer) = (row.speed(&row.ours), row.speed(&row.peer));
             let size = size_text(row.size);
             println!("{:<34} {size:>9} {ours:>10.0} MB/s {peer:>10.0} MB/s {:>7.2}x", row.what, ours / peer);
+        }
+    }
+
+    /// The rows in units; the unit is the time of zlib's crc32 over 16 KiB.
+    pub fn print_units(&self) {
+        println!(
+            "{:<44} {:>10} {:>8} {:>9}",
+            "what, in units of zlib's crc32 over 16 KiB", "ours", "units", "at most"
+        );
+        for row in &self.rows {
+            let Some(most) = row.most else { continue };
+            let micros = row.ours.best * 1e6;
+            println!("{:<44} {micros:>7.1} us {:>8.2} {most:>9.0}", row.what, row.ours.best / row.peer.best);
         }
     }
 

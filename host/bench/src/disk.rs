@@ -1,0 +1,57 @@
+//! Disks for the rows of the disk calls: full tables whose free blocks lie in gaps too short for what is asked, so that
+//! a search has to walk them all.
+
+use usigrambal::raw;
+
+pub const N: u64 = 1 << 20;
+const KIND: [u8; 16] = [0xAF; 16];
+const NAME: [u16; 36] = [0; 36];
+/// The size of the add that is timed; longer than every gap but the last.
+const ASKED: u64 = 2;
+
+#[derive(Clone)]
+pub struct Disk {
+    head: Vec<u8>,
+    tail: Vec<u8>,
+}
+
+impl Disk {
+    /// A disk with so many partitions of two blocks, one free block behind each.
+    pub fn with_gaps(partitions: u8) -> Disk {
+        let mut disk = Disk { head: vec![0; 17_408], tail: vec![0; 16_896] };
+        assert_eq!(raw::gpt_format(&mut disk.head, &mut disk.tail, N, &[1; 16]), 0);
+        for partition in 1..=partitions {
+            assert_eq!(disk.add(partition, 3), 0);
+        }
+        for slot in 1..=u64::from(partitions) {
+            assert_eq!(raw::gpt_resize(&mut disk.head, &mut disk.tail, N, slot, 2), 0);
+        }
+        disk
+    }
+
+    fn add(&mut self, unique: u8, size: u64) -> u32 {
+        let new = raw::NewPartition { kind: &KIND, unique: &[unique; 16], size, attributes: 0, name: &NAME };
+        raw::gpt_add(&mut self.head, &mut self.tail, N, &new, &mut 0, &mut 0)
+    }
+
+    pub fn read(&self) -> u64 {
+        let mut state = 0;
+        assert_eq!(raw::gpt_read(&self.head, &self.tail, N, &mut state), 0);
+        state
+    }
+
+    pub fn free(&self) -> u64 {
+        let (mut free, mut longest) = (0, 0);
+        assert_eq!(raw::gpt_free(&self.head, &self.tail, N, &mut free, &mut longest), 0);
+        free + longest
+    }
+
+    /// Adds a partition to a copy of the disk; the copy's time counts too.
+    pub fn add_to(&self, copy: &mut Disk) -> u32 {
+        copy.head.copy_from_slice(&self.head);
+        copy.tail.copy_from_slice(&self.tail);
+        let refusal = copy.add(255, ASKED);
+        assert_eq!(refusal, 0);
+        refusal
+    }
+}

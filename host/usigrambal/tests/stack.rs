@@ -1,0 +1,51 @@
+//! Every disk call runs on a thread with a stack of 64 KiB.
+#![cfg(feature = "gpt")]
+
+use std::thread;
+use usigrambal::raw::{self, NewPartition};
+
+const STACK: usize = 64 << 10;
+const N: u64 = 1 << 20;
+
+/// Head and tail on the heap, so that the stack holds the calls alone.
+fn disk() -> (Vec<u8>, Vec<u8>) {
+    (vec![0; 17_408], vec![0; 16_896])
+}
+
+fn on_small_stack(work: impl FnOnce() + Send + 'static) {
+    thread::Builder::new().stack_size(STACK).spawn(work).expect("a thread").join().expect("no overflow");
+}
+
+#[test]
+fn every_disk_call_needs_at_most_64_kib_of_stack() {
+    on_small_stack(|| {
+        let (mut head, mut tail) = disk();
+        let (mut a, mut b) = (0, 0);
+        assert_eq!(raw::gpt_format(&mut head, &mut tail, N, &[7; 16]), 0);
+        for unique in 1..=128_u8 {
+            let new = NewPartition {
+                kind: &[9; 16],
+                unique: &[unique; 16],
+                size: 3,
+                attributes: 0,
+                name: &[0; 36],
+            };
+            assert_eq!(raw::gpt_add(&mut head, &mut tail, N, &new, &mut a, &mut b), 0);
+        }
+        assert_eq!(raw::gpt_resize(&mut head, &mut tail, N, 64, 2), 0);
+        assert_eq!(raw::gpt_rename(&mut head, &mut tail, N, 64, &[65; 36]), 0);
+        assert_eq!(raw::gpt_delete(&mut head, &mut tail, N, 64), 0);
+        assert_eq!(raw::gpt_free(&head, &tail, N, &mut a, &mut b), 0);
+        assert_eq!(raw::gpt_table(&head, &tail, N, &mut a, &mut b), 0);
+        assert_eq!(raw::gpt_read(&head, &tail, N, &mut a), 0);
+        assert_eq!(a, 1);
+        // The primary's CRC is broken: repair writes the head from the tail.
+        head[512 + 16] ^= 1;
+        assert_eq!(raw::gpt_repair(&mut head, &mut tail, N, &mut a), 0);
+        assert_eq!(a, 4);
+        // Tables that differ are judged one by one.
+        tail[16_384 + 16] ^= 1;
+        assert_eq!(raw::gpt_repair(&mut head, &mut tail, N, &mut a), 0);
+        assert_eq!(a, 3);
+    });
+}
