@@ -58,7 +58,8 @@ fn octets_rows(t: &mut Table, size: usize) {
     );
 }
 
-/// The worst disks: 128 partitions, and 127 with room for one more behind the last gap.
+/// Both copies the same (state 1), a gap behind each partition: 128 partitions, and 127 with room for one more behind the last gap.
+/// Not timed here: state 2 with two full tables, where each copy is judged by itself.
 fn gpt_rows<'a>(t: &mut Table<'a>, full: &'a Disk, room: &'a Disk) {
     let unit = || of(work::bytes(16 << 10), peers::zlib_crc32);
     t.units("gpt: read, 128 partitions", 6.0, || full.read(), unit());
