@@ -52,8 +52,8 @@ pub record Said : Type 0 where
   pub at : ImagePosition
 
 -- (R1) a refusal's number alone
-abbrev pub refusedBy : ℕ → Said
-refusedBy n = record { answer = some n; image = blank; areas = []; at = position 0 }
+abbrev pub refusedWith : Option ℕ → Said
+refusedWith n = record { answer = n; image = blank; areas = []; at = position 0 }
 
 -- L17: .. base the address or 0
 abbrev pub baseOf : Address → ℕ
@@ -65,7 +65,7 @@ unfoldable pub imageOf : List ℕ → TextImage → ℕ → Image
 imageOf s i count = record { name = storedName s (i .place) (i .length); size = i .size; address = baseOf (i .address); count = count }
 
 abbrev pub saidBy : List ℕ → Judged → Said
-saidBy s (fault n p) = refusedBy n
+saidBy s (fault n p) = refusedWith (some n)
 saidBy s (good i l ps m) =
     record { answer = none; image = imageOf s i (length l); areas = areasOf s l ps; at = areaAt s l ps m .place .start }
 
@@ -101,7 +101,7 @@ listBy x ys = record { answer = x .answer; image = x .image; sections = filled (
 
 -- R33: FMD: 1 (section list not 128 records)
 unfoldable pub layoutFor : List ℕ → ℕ → Said
-layoutFor s places = cond (eqb places 128) (layoutIn s) (refusedBy 1)
+layoutFor s places = cond (eqb places 128) (layoutIn s) (refusedWith (some 1))
 
 unfoldable pub listText : List ℕ → List Section → Listed
 listText s ys = listBy (layoutFor s (length ys)) ys

@@ -5,7 +5,9 @@ ghost use Prim.Native.Nat.{_≤_, _<_};
 ghost use lib.ListN.{length, getD};
 ghost use Rattle.fmap_rules.specs.Map.{blank};
 ghost use Rattle.fmap_write.specs.Areas.{listOf, Sound};
-ghost use Rattle.fmd.specs.Calls.{said, layoutIn, layoutFor, reading, readText, sectionOf, filled, listed, listText};
+ghost use Rattle.fmd.specs.Calls.{numberOf, said, refusedWith, layoutIn, layoutFor, reading, readText, sectionOf, filled, listed, listText};
+use fmap_rules::Area;
+use fmap_rules::Extent;
 use fmap_rules::ImagePosition;
 use fmap_write::Areas;
 
@@ -54,10 +56,44 @@ pub struct Layout {
     pub at: ImagePosition,
 }
 
+// No layout.
+fn refused(answer: Answer) -> Layout
+    ensures { λ r. ⌜ Sound (r .areas) × (said r ≡ refusedWith (numberOf answer)) ⌝ }
+{
+    let image = Image {
+        name: [0u8; 32],
+        size: 0,
+        address: 0,
+        count: 0,
+    };
+    let a = Area {
+        place: Extent {
+            start: ImagePosition(0),
+            size: 0,
+        },
+        name: [0u8; 32],
+        flags: 0,
+    };
+    Layout {
+        reading: Reading {
+            answer: answer,
+            image: image,
+        },
+        areas: Areas {
+            items: [a; 128],
+            count: 0,
+        },
+        at: ImagePosition(0),
+    }
+}
+
 // Reads a layout text, whole.
 fn layout_in(text: &[u8]) -> Layout
     ensures { λ r. ⌜ Sound (r .areas) × (said r ≡ layoutIn (now (text .entry))) ⌝ }
-{}
+{
+    let k = text.len();
+    refused(Answer::TooLong)
+}
 
 // Reads a layout text.
 pub fn read(text: &[u8]) -> Reading
