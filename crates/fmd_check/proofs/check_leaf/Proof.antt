@@ -1,3 +1,6 @@
+use Rattle.fmap_rules.specs.Map.{mapSize}
+use lib.ListN.{getD}
+use Rattle.fmd_plan.specs.Plans.{blank}
 use Rattle.fmd_check.specs.Check.{checkLeaf}
 use Rattle.fmd_plan.proofs.Plans.{item}
 use Rattle.fmd_parse.proofs.Layouts.{counted}
@@ -41,13 +44,13 @@ returns-2 : tie.Need-returns-2
 unfolding checkLeaf _or_
 returns-2 c =
     let start = c .before .before .before .before .before .before .before in
-    rw (sym (c .before .before .before .before .before .before .has-child .ensures) ∙ c .before .before .before .before .before .if1 .left, item (start .args .t3) (start .pre .1) (start .args .k) (omega (arith, start .pre .2, start .pre .3)), counted (start .args .l) (start .pre .0), lt-ltb _ _ (c .before .if2 .taken)) (c .fault-at2 .ensures)
+    rw (sym (c .before .before .before .before .before .before .has-child .ensures) ∙ c .before .before .before .before .before .if1 .left, item (start .args .t3) (start .pre .1) (start .args .k) (omega (arith, start .pre .2, start .pre .3)), counted (start .args .l) (start .pre .0), lt-ltb (getD (start .args .t3 .items) (start .args .k) blank .size) (mapSize (start .args .l .count)) (c .before .if2 .taken)) (c .fault-at2 .ensures)
 
 returns-3 : tie.Need-returns-3
 unfolding checkLeaf _or_
 returns-3 c =
     let start = c .before .before .before .before .before .before in
-    record { list = start .pre .0; plan = start .pre .1; same = rw (sym (c .before .before .before .before .before .has-child .ensures) ∙ c .before .before .before .before .if1 .left, item (start .args .t3) (start .pre .1) (start .args .k) (omega (arith, start .pre .2, start .pre .3)), counted (start .args .l) (start .pre .0), le-ltb _ _ (c .if2 .left)) }
+    record { list = start .pre .0; plan = start .pre .1; same = rw (sym (c .before .before .before .before .before .has-child .ensures) ∙ c .before .before .before .before .if1 .left, item (start .args .t3) (start .pre .1) (start .args .k) (omega (arith, start .pre .2, start .pre .3)), counted (start .args .l) (start .pre .0), le-ltb (getD (start .args .t3 .items) (start .args .k) blank .size) (mapSize (start .args .l .count)) (c .if2 .left)) }
 
 pub check-leaf-spec : {M : Type 1} → statement M
 check-leaf-spec =
