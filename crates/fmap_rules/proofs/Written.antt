@@ -23,6 +23,10 @@ use Rattle.fmap_rules.proofs.Good.{ends-in, holder}
 
 -- ---- one area
 
+pub length-area : (a : Area) → length (a .name) ≡ 32 → length (areaBytes a) ≡ 42
+unfolding areaBytes
+length-area a e = simp (length-append, length-le) (omega arith)
+
 module _ (a : Area) (s : Stored a) where
   abbrev t3 : List ℕ
   t3 = le 2 (a .flags)
@@ -32,10 +36,6 @@ module _ (a : Area) (s : Stored a) where
 
   abbrev t1 : List ℕ
   t1 = le 4 (a .place .size) ++ t2
-
-  length-area : length (areaBytes a) ≡ 42
-  unfolding areaBytes
-  length-area = simp (length-append, length-le) (omega (arith, s .name))
 
   start-is : field 0 4 (areaBytes a) ≡ a .place .start .0
   unfolding areaBytes
@@ -76,14 +76,14 @@ length-flat : (areas : List Area) → StoredAll areas → length (flat (map area
 length-flat [] f = refl
 length-flat (a ∷ areas) f =
     length-append (areaBytes a) (flat (map areaBytes areas))
-    ∙ omega (arith, length-area a (f zero (zero-lt-suc _)), length-flat areas (λ i h. f (suc i) (suc-le-suc h)))
+    ∙ omega (arith, length-area a (f zero (zero-lt-suc _) .name), length-flat areas (λ i h. f (suc i) (suc-le-suc h)))
 
 chunks-flat : (areas : List Area) → StoredAll areas → map areaOf (chunks 42 (length areas) (flat (map areaBytes areas))) ≡ areas
 unfolding chunks
 chunks-flat [] f = refl
 chunks-flat (a ∷ areas) f =
     let s = f zero (zero-lt-suc _) in
-    let l = length-area a s in
+    let l = length-area a (s .name) in
     ap₂ _∷_ (ap areaOf (take-at (areaBytes a) (flat (map areaBytes areas)) 42 l) ∙ area-is a s)
     (ap (λ (xs : List ℕ). map areaOf (chunks 42 (length areas) xs)) (drop-at (areaBytes a) (flat (map areaBytes areas)) 42 l)
     ∙ chunks-flat areas (λ i h. f (suc i) (suc-le-suc h)))

@@ -1,0 +1,69 @@
+use Prim.Native.Nat.{_-_}
+use native.Mathlib.Omega.{arith}
+use borrow.Author.Needs.{needs}
+use Rattle.fmap_write.proofs.Fields.{WrittenTo, long-name, written-none, written-on, written-all}
+use Rattle.fmap_write.proofs.put_areas.Statement.{statement}
+use Rattle.fmap_write.proofs.put_areas.Tie as tie
+
+abbrev Inv-loop : tie.InvT-loop
+Inv-loop to₀ at areas n i₀ to i = WrittenTo areas at to₀ to i
+
+abbrev μ-loop : tie.MeasureT-loop
+μ-loop to₀ at areas n i₀ to i = n - i
+
+loop-holds : tie.Need-loop-holds Inv-loop μ-loop
+loop-holds c = written-none _ _ _
+
+mul-put-area : tie.Need-mul-put-area Inv-loop μ-loop
+mul-put-area c = search needs
+
+add-put-area : tie.Need-add-put-area Inv-loop μ-loop
+add-put-area c = search needs
+
+mul-put-area-2 : tie.Need-mul-put-area-2 Inv-loop μ-loop
+mul-put-area-2 c = search needs
+
+element-copy-out-put-area : tie.Need-element-copy-out-put-area Inv-loop μ-loop
+element-copy-out-put-area c = omega arith
+
+put-area-requires : tie.Need-put-area-requires Inv-loop μ-loop
+put-area-requires c κs =
+    let top = c .before .before .before .before .before in
+    (search needs, long-name (top .args .t3) (top .pre .0) (c .before .before .before .loop .i) _ (omega arith))
+
+add-i : tie.Need-add-i Inv-loop μ-loop
+add-i c = search needs
+
+loop-less : tie.Need-loop-less Inv-loop μ-loop
+loop-less c = search needs
+
+loop-again : tie.Need-loop-again Inv-loop μ-loop
+loop-again c =
+    let s1 = c .before .before in
+    let s2 = s1 .before .before .before .before in
+    let top = s2 .before .before in
+    written-on _ (top .pre .0) (omega arith) (s1 .put-area .ensures) (s2 .loop .inv)
+
+same-length : tie.Need-same-length Inv-loop μ-loop
+same-length c = c .before .loop .inv .same-length
+
+returns : tie.Need-returns Inv-loop μ-loop
+returns c = written-all (c .before .before .before .pre .0) (omega arith) (c .before .loop .inv)
+
+pub put-areas-spec : {M : Type 1} → statement M
+put-areas-spec =
+    tie.close
+    (tie.spec
+    Inv-loop
+    μ-loop
+    loop-holds
+    mul-put-area
+    add-put-area
+    mul-put-area-2
+    element-copy-out-put-area
+    put-area-requires
+    add-i
+    loop-less
+    loop-again
+    same-length
+    returns)

@@ -1,0 +1,43 @@
+use mathlib.Core.Path.{sym}
+use borrow.Author.Needs.{needs}
+use Rattle.fmap_write.proofs.Fields.{length-list, map-written}
+use Rattle.fmap_write.proofs.put_map.Statement.{statement}
+use Rattle.fmap_write.proofs.put_map.Tie as tie
+
+cast-size : tie.Need-cast-size
+cast-size c = search needs
+
+cast-put-header : tie.Need-cast-put-header
+cast-put-header c = search needs
+
+put-header-requires : tie.Need-put-header-requires
+put-header-requires c κs = search needs
+
+add-put-areas : tie.Need-add-put-areas
+add-put-areas c = search needs
+
+put-areas-requires : tie.Need-put-areas-requires
+put-areas-requires c κs = search needs
+
+same-length : tie.Need-same-length
+same-length c = search needs
+
+returns : tie.Need-returns
+returns c =
+    let s1 = c .before .before in
+    let s2 = s1 .before .before .before .before in
+    let top = s2 .before .before .before in
+    map-written _ (top .args .name) (top .args .base) (top .args .minor) (search needs) (top .args .at) _ _ _ _
+    (s2 .put-header .ensures _ (sym (length-list _ (top .pre .0)))) (s1 .put-areas .ensures)
+
+pub put-map-spec : {M : Type 1} → statement M
+put-map-spec =
+    tie.close
+    (tie.spec
+    cast-size
+    cast-put-header
+    put-header-requires
+    add-put-areas
+    put-areas-requires
+    same-length
+    returns)
