@@ -1,0 +1,4 @@
+-- Laws of the sections as areas.
+pub mod Places
+pub mod Shape
+pub mod Nested
