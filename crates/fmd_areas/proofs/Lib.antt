@@ -2,3 +2,4 @@
 pub mod Places
 pub mod Shape
 pub mod Nested
+pub mod Names
