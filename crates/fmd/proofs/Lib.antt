@@ -1,0 +1,2 @@
+-- What users of the layout calls rely on.
+pub mod Writable
