@@ -19,7 +19,7 @@ use fmd_parse::Sections;
 use fmd_plan::Placed;
 use fmd_plan::Plan;
 
-// The position of section k, of a level, by its parents'.
+// The position of section k, of a level: its offset plus its parent's position. Level 0 is the image.
 fn position(p: Plan, k: usize, level: u8) -> ImagePosition
     requires { ⌜ SoundPlan p × Climbs level (planOf p) k × (positionIn level (planOf p) k ≤ 4294967295) ⌝ }
     ensures { λ r. ⌜ r .0 ≡ positionIn level (planOf p) k ⌝ }
