@@ -74,7 +74,7 @@ written-on {m} {at} {old} {new} {i} d {next} s h p q =
     let in-list : i < length (listOf m) = omega arith in
     let la : length (areaBytes a) ≡ 42 = length-area a (long-name m s i d h) in
     let cut : drop i (listOf m) ≡ a ∷ drop (i + 1) (listOf m) =
-        rw add-one (drop-cons (listOf m) i d in-list) ∙ ap (λ (x : Area). x ∷ drop (i + 1) (listOf m)) (getD-take (m .count) (m .items) i d h) in
+    rw add-one (drop-cons (listOf m) i d in-list) ∙ ap (λ (x : Area). x ∷ drop (i + 1) (listOf m)) (getD-take (m .count) (m .items) i d h) in
     record {
       below = omega arith;
       same-length = ap length p ∙ length-put _ _ new ∙ q .same-length;
