@@ -1,6 +1,5 @@
 -- `fmd::fill` meets its contract: a walk of its MIR, by hand. The borrow is opened once, before the loop, and closed once, after it. In each turn
 -- one element is taken out of the row, stored to, and put back.
--- Assumes nothing.
 use mathlib.Core.Path.{_≡_, refl, sym, _∙_, ap, subst}
 use Prim.Native.Nat.{ℕ, zero, suc, _<_, _≤_, _+_, _*_, _^_}
 use mathlib.Core.Bool.{Bool}
@@ -116,12 +115,19 @@ abbrev SectionAt : {M : Type 1} (𝓤 : URA M) (H : Heap 𝓤) (A : Atoms 𝓤) 
 SectionAt 𝓤 H A mem run = tripleOf 𝓤 H A section-at.signature (section-at.spec 𝓤 H A mem run)
 
 module _ {M : Type 1} (𝓤 : URA M) (H : Heap 𝓤) (A : Atoms 𝓤) (W : Given 𝓤 H A) (mem : Memory → SProp 𝓤) (run : Routine → Fun 𝓤) (κ : Lft) (q : Share)
-    (b o : ℕ) (γ : GName) (ys : List Section) (m : Areas) (mach : Val) where
+    (b o : ℕ) (γ : GName) (ys : List Section) (m : Areas) where
+  -- the machine values
+  abbrev xv : Val
+  xv = sliceVal (b, o) (length ys)
+
+  abbrev mv : Val
+  mv = LL.val R.the-type R′.the-laws m
+
   abbrev x : Arg
   x = (record { ptr = (b, o); name = γ; now = ys }, (m, tt))
 
   abbrev at : List Val × (List Val × Unit {0})
-  at = (sliceVal (b, o) (length ys) ∷ [], (mach ∷ [], tt))
+  at = (xv ∷ [], (mv ∷ [], tt))
 
   abbrev n : ℕ
   n = m .count
@@ -144,23 +150,23 @@ module _ {M : Type 1} (𝓤 : URA M) (H : Heap 𝓤) (A : Atoms 𝓤) (W : Given
 
   exits : Room T.the-row (length ys) → n ≤ length ys
       → ent 𝓤 (⋆ 𝓤 H A (‵ (fobs γ (codedHoleys T.the-row .code (heres T.the-row zs))) ∷ ‵ (fbor κ (Held T.the-row (length zs) b o γ)) ∷ ‵ (flft κ q)
-      ∷ ‵ (fsep (R.the-row .own m (mach ∷ [])) ftrue) ∷ []))
+      ∷ ‵ (fsep (R.the-row .own m (mv ∷ [])) ftrue) ∷ []))
       (Post vunit)
   exits gn fit =
       qed W (‵ (fobs γ (codedHoleys T.the-row .code (heres T.the-row zs))) ∷ ‵ (fbor κ (Held T.the-row (length zs) b o γ)) ∷ ‵ (flft κ q)
-      ∷ ‵ (fsep (R.the-row .own m (mach ∷ [])) ftrue) ∷ []) ∵
+      ∷ ‵ (fsep (R.the-row .own m (mv ∷ [])) ftrue) ∷ []) ∵
       suffices ! _ (ends-at 𝓤 H A fill.ended stayed (fill.clauses 𝓤 H A mem run) W (((κ, tt), (q, tt), tt, x, at), tt) vunit tt (zs, (tt, tt))
       (len n fit, (tt, tt))) $ says ! refl $
       nothing ! $ move ! (3 ∷ 0 ∷ []) $ join ! $
       frame ! $ fjoin ! $ pureI ! (at-slice T.the-row y (at .0)) (tt, (tt, tt))
-      (ap (λ (m : ℕ). sliceVal (b, o) m ∷ []) (sym (len n fit)), subst (Room T.the-row) (sym (len n fit)) gn) $ fjoin ! $ fjoin ! $ frame ! $
+      (ap (λ (k : ℕ). sliceVal (b, o) k ∷ []) (sym (len n fit)), subst (Room T.the-row) (sym (len n fit)) gn) $ fjoin ! $ fjoin ! $ frame ! $
       feqI ! (List Val) (vunit ∷ []) (vunit ∷ []) refl $ done !
 
-  -- what `record_at`'s triple binds outside, at i
+  -- what `section_at`'s triple binds outside, at i
   abbrev to : ℕ → SectionAt 𝓤 H A mem run .Ghost
-  to i = ((tt, tt, tt, (m, (i, tt)), (mach ∷ [], (vint w64 i ∷ [], tt))), tt)
+  to i = ((tt, tt, tt, (m, (i, tt)), (mv ∷ [], (vint w64 i ∷ [], tt))), tt)
 
-  goes-section-at : (i : ℕ) → Is R.the-row m (mach ∷ []) → i < 2 ^ 64 → Sound m × (i < m .count)
+  goes-section-at : (i : ℕ) → Is R.the-row m (mv ∷ []) → i < 2 ^ 64 → Sound m × (i < m .count)
       → ent 𝓤 (sem 𝓤 H A ftrue) (SectionAt 𝓤 H A mem run .pre (to i))
   goes-section-at i gr gi within =
       qed W (‵ ftrue ∷ []) ∵ says ! within $ frame ! $ nothing ! $ owned ! usize (Is usize) (uint-makes 𝓤 H A W w64) i _ (refl, gi) $ fjoin ! $
@@ -171,7 +177,7 @@ module _ {M : Type 1} (𝓤 : URA M) (H : Heap 𝓤) (A : Atoms 𝓤) (W : Given
   section-is i r = exE 𝓤 _ (λ ws. snd∗ 𝓤 (sem 𝓤 H A (lasts section-at.ended tt (m, (i, tt)) ws)) (fact 𝓤 (r ≡ sectionOf (getD (m .items) i blank))))
 
   module _ (𝓣 : Tables 𝓤 H) (known : Triple 𝓤 (𝓣 .C #fmd·section-at) (SectionAt 𝓤 H A mem run)) (gn : Room T.the-row (length ys))
-      (gr : Is R.the-row m (mach ∷ [])) (gi : n < 2 ^ 64) (sound : Sound m) (fit : n ≤ length ys) (l₀ l₁ l₂ l₃ l₄ l₅ l₆ l₇ l₈ : ℕ) where
+      (gr : Is R.the-row m (mv ∷ [])) (gi : n < 2 ^ 64) (sound : Sound m) (fit : n ≤ length ys) (l₀ l₁ l₂ l₃ l₄ l₅ l₆ l₇ l₈ : ℕ) where
     abbrev C : Calls 𝓤 H
     C = 𝓣 .C
 
@@ -183,11 +189,10 @@ module _ {M : Type 1} (𝓤 : URA M) (H : Heap 𝓤) (A : Atoms 𝓤) (W : Given
 
     -- what no turn touches
     abbrev Frame : List (Item 𝓤)
-    Frame = ‵ (fat fullShare slice l₁ 0 (sliceVal (b, o) (length ys))) ∷ ‵ (fat fullShare R′.mir l₂ 0 mach) ∷ ‵ (fat fullShare word l₃ 0 (vint w64 n))
-        ∷ ‵ (froom tyUnit l₀ 0)
+    Frame = ‵ (fat fullShare slice l₁ 0 xv) ∷ ‵ (fat fullShare R′.mir l₂ 0 mv) ∷ ‵ (fat fullShare word l₃ 0 (vint w64 n)) ∷ ‵ (froom tyUnit l₀ 0)
         ∷ ‵ (fobor κ q (Held T.the-row (length ys) b o γ)) ∷ ‵ (fobs γ (codedHoleys T.the-row .code (heres T.the-row ys)))
         ∷ ‵ (fauth γ (codedHoleys T.the-row .code (heres T.the-row ys)))
-        ∷ ‵ (fsep (R.the-row .own m (mach ∷ [])) ftrue)
+        ∷ ‵ (fsep (R.the-row .own m (mv ∷ [])) ftrue)
         ∷ ‵ (fdies tyUnit l₀) ∷ ‵ (fdies slice l₁) ∷ ‵ (fdies R′.mir l₂) ∷ ‵ (fdies word l₃) ∷ ‵ (fdies word l₄) ∷ ‵ (fdies tyBool l₅)
         ∷ ‵ (fdies T′.mir l₆) ∷ ‵ (fdies word l₇) ∷ ‵ (fdies tyPtr l₈) ∷ []
 
@@ -234,7 +239,7 @@ module _ {M : Type 1} (𝓤 : URA M) (H : Heap 𝓤) (A : Atoms 𝓤) (W : Given
         rewrite ! 6 (λ (p : ℕ). ‵ (fat fullShare tyPtr l₈ 0 (vptr b p))) (sym (place-is 44 o i)) refl $
         move ! (1 ∷ []) $ elem-out ! T.the-row (Is T.the-row) (shows 𝓤 H A T.the-row) (LL.vals T.the-type T′.the-laws)
         (LL.tells T.the-type T′.the-laws) fullShare (L i) i past b o within (λ _.
-        -- [list[i]; what it owns; the others; what r owns; _4; _5; _6; _7; _8; _1; …]
+        -- [sections[i]; what it owns; the others; what r owns; _4; _5; _6; _7; _8; _1; …]
         assigns ! (of-opd ! (load ! (from ! (stop !)) (look ! 6 refl))) (from ! (hop ! (look ! 8 refl) (stop !)))
         (store-raw ! 0 refl (LL.lawful T.the-type T′.the-laws 𝓤 H A W .typed r _ is .0)) $
         move ! (1 ∷ []) $ drop ! $ move ! (0 ∷ 2 ∷ 1 ∷ []) $ elem-put ! T.the-row fullShare (L i) i r (w ∷ []) b o within $
@@ -282,56 +287,37 @@ module _ {M : Type 1} (𝓤 : URA M) (H : Heap 𝓤) (A : Atoms 𝓤) (W : Given
     loops : ent 𝓤 (⋆ 𝓤 H A (At 0)) (Wp 𝓤 H C Λ En (loop turn) Left)
     loops = via 𝓤 (Inv n) (invI n 0 (zero-add n)) (loop-rule 𝓤 H (W .laws) 𝓣 _<_ (Nat·lt-wfRel .wf) En turn Left Inv turns n)
 
-module _ {M : Type 1} (𝓤 : URA M) (H : Heap 𝓤) (A : Atoms 𝓤) (W : Given 𝓤 H A) (mem : Memory → SProp 𝓤) (run : Routine → Fun 𝓤) (κ : Lft) (q : Share)
-    (b o : ℕ) (γ : GName) (ys : List Section) (m : Areas) where
-  -- the machine values
-  abbrev rv : Val
-  rv = LL.val R.the-type R′.the-laws m
+    -- what is had once the parameters are passed
+    abbrev Passed : List (Item 𝓤)
+    Passed = ‵ (froom tyPtr l₈ 0) ∷ ‵ (fdies tyPtr l₈) ∷ ‵ (froom word l₇ 0) ∷ ‵ (fdies word l₇) ∷ ‵ (froom T′.mir l₆ 0) ∷ ‵ (fdies T′.mir l₆)
+        ∷ ‵ (froom tyBool l₅ 0) ∷ ‵ (fdies tyBool l₅)
+        ∷ ‵ (froom word l₄ 0) ∷ ‵ (fdies word l₄) ∷ ‵ (froom word l₃ 0) ∷ ‵ (fdies word l₃) ∷ ‵ (fat fullShare R′.mir l₂ 0 mv) ∷ ‵ (fdies R′.mir l₂)
+        ∷ ‵ (fat fullShare slice l₁ 0 xv) ∷ ‵ (fdies slice l₁) ∷ ‵ (froom tyUnit l₀ 0) ∷ ‵ (fdies tyUnit l₀)
+        ∷ (‵ (flft κ q) ⊛ ‵ ftrue) ∷ ‵ (owns (MutSlice (named 0) κ T.the-row ∷ R.the-row ∷ []) x at) ∷ []
 
-  abbrev xv : Val
-  xv = sliceVal (b, o) (length ys)
+    -- the body: the count is copied, the borrow is opened, and the loop runs
+    runs : ent 𝓤 (⋆ 𝓤 H A Passed) (Wp 𝓤 H C Λ En body.t-1 (atReturn 𝓤 H En Post))
+    runs =
+        qed W Passed ∵ exec ! C Λ En body.t-1 (atRet En Post) $
+        assigns ! (of-opd ! (load ! (from ! (fld ! refl (stop !))) (look-in ! 12 (sub ! 1 refl (whole !))))) (from ! (stop !))
+        (init ! 10 refl (tt, record { fits = gi })) $
+        assigns ! (of-opd ! (lit ! tt)) (from ! (stop !)) (init ! 8 refl (tt, record { fits = lit< tt })) $
+        move ! (19 ∷ []) $ fsplit ! $ fsplit ! $ move ! (1 ∷ []) $ fsplit ! $ move ! (22 ∷ []) $ split ! $ move ! (2 ∷ 3 ∷ 0 ∷ []) $
+        opens-slice ! tt T.the-row ys b o $
+        keep ! (0 ∷ 15 ∷ 13 ∷ 11 ∷ 9 ∷ 7 ∷ 21 ∷ 19 ∷ 17 ∷ 23 ∷ 1 ∷ 2 ∷ 3 ∷ 6 ∷ 24 ∷ 22 ∷ 20 ∷ 18 ∷ 16 ∷ 14 ∷ 12 ∷ 10 ∷ 8 ∷ []) $
+        by ! loops
 
-  abbrev a : Arg
-  a = (record { ptr = (b, o); name = γ; now = ys }, (m, tt))
-
-  abbrev Ends : Val → SProp 𝓤
-  Ends = walkOf 𝓤 H A fill.ended stayed (fill.clauses 𝓤 H A mem run) .post (((κ, tt), (q, tt), tt, a, (xv ∷ [], (rv ∷ [], tt))), tt)
-
-  module _ (𝓣 : Tables 𝓤 H) (known : Triple 𝓤 (𝓣 .C #fmd·section-at) (SectionAt 𝓤 H A mem run)) (gn : Room T.the-row (length ys))
-      (gr : Is R.the-row m (rv ∷ [])) (gi : m .count < 2 ^ 64) (sound : Sound m) (fit : m .count ≤ length ys) where
-    module _ (l₀ l₁ l₂ l₃ l₄ l₅ l₆ l₇ l₈ : ℕ) where
-      abbrev Locals : Env 𝓤 H
-      Locals = (tyUnit, l₀) ∷ (slice, l₁) ∷ (R′.mir, l₂) ∷ (word, l₃) ∷ (word, l₄) ∷ (tyBool, l₅) ∷ (T′.mir, l₆) ∷ (word, l₇) ∷ (tyPtr, l₈) ∷ []
-
-      -- what is had once the parameters are passed
-      abbrev Passed : List (Item 𝓤)
-      Passed = ‵ (froom tyPtr l₈ 0) ∷ ‵ (fdies tyPtr l₈) ∷ ‵ (froom word l₇ 0) ∷ ‵ (fdies word l₇) ∷ ‵ (froom T′.mir l₆ 0) ∷ ‵ (fdies T′.mir l₆)
-          ∷ ‵ (froom tyBool l₅ 0) ∷ ‵ (fdies tyBool l₅)
-          ∷ ‵ (froom word l₄ 0) ∷ ‵ (fdies word l₄) ∷ ‵ (froom word l₃ 0) ∷ ‵ (fdies word l₃) ∷ ‵ (fat fullShare R′.mir l₂ 0 rv) ∷ ‵ (fdies R′.mir l₂)
-          ∷ ‵ (fat fullShare slice l₁ 0 xv) ∷ ‵ (fdies slice l₁) ∷ ‵ (froom tyUnit l₀ 0) ∷ ‵ (fdies tyUnit l₀)
-          ∷ (‵ (flft κ q) ⊛ ‵ ftrue) ∷ ‵ (owns (MutSlice (named 0) κ T.the-row ∷ R.the-row ∷ []) a (xv ∷ [], (rv ∷ [], tt))) ∷ []
-
-      -- the body: the count is copied, the borrow is opened, and the loop runs
-      runs : ent 𝓤 (⋆ 𝓤 H A Passed) (Wp 𝓤 H (𝓣 .C) (𝓣 .Λ) Locals body.t-1 (atReturn 𝓤 H Locals Ends))
-      runs =
-          qed W Passed ∵ exec ! (𝓣 .C) (𝓣 .Λ) Locals body.t-1 (atRet Locals Ends) $
-          assigns ! (of-opd ! (load ! (from ! (fld ! refl (stop !))) (look-in ! 12 (sub ! 1 refl (whole !))))) (from ! (stop !))
-          (init ! 10 refl (tt, record { fits = gi })) $
-          assigns ! (of-opd ! (lit ! tt)) (from ! (stop !)) (init ! 8 refl (tt, record { fits = lit< tt })) $
-          move ! (19 ∷ []) $ fsplit ! $ fsplit ! $ move ! (1 ∷ []) $ fsplit ! $ move ! (22 ∷ []) $ split ! $ move ! (2 ∷ 3 ∷ 0 ∷ []) $
-          opens-slice ! tt T.the-row ys b o $
-          keep ! (0 ∷ 15 ∷ 13 ∷ 11 ∷ 9 ∷ 7 ∷ 21 ∷ 19 ∷ 17 ∷ 23 ∷ 1 ∷ 2 ∷ 3 ∷ 6 ∷ 24 ∷ 22 ∷ 20 ∷ 18 ∷ 16 ∷ 14 ∷ 12 ∷ 10 ∷ 8 ∷ []) $
-          by ! (loops 𝓤 H A W mem run κ q b o γ ys m rv 𝓣 known gn gr gi sound fit l₀ l₁ l₂ l₃ l₄ l₅ l₆ l₇ l₈)
-
-    walk : ent 𝓤 (onEntry 𝓤 H A fill.signature (κ, tt) (q, tt) a (xv ∷ [], (rv ∷ [], tt))) (WpFn 𝓤 H (𝓣 .C) (𝓣 .Λ) plainly (xv ∷ rv ∷ []) Ends)
-    walk =
-        qed W ((‵ (flft κ q) ⊛ ‵ ftrue) ∷ ‵ (owns (MutSlice (named 0) κ T.the-row ∷ R.the-row ∷ []) a (xv ∷ [], (rv ∷ [], tt))) ∷ []) ∵ enter ! (𝓣 .C)
-        (𝓣 .Λ) plainly (xv ∷ rv ∷ []) _ $
-        alloc1 ! (λ l₀. alloc1 ! (λ l₁. alloc1 ! (λ l₂. alloc1 !
-        (λ l₃. alloc1 ! (λ l₄. alloc1 ! (λ l₅. alloc1 ! (λ l₆. alloc1 ! (λ l₇. alloc1 ! (λ l₈. alloc0 ! $ params1 ! $
-        pass1 ! (init ! 14 refl (tt, (tt, (record { fits = gn .0 }, tt)))) $
-        pass1 ! (init ! 12 refl (LL.lawful R.the-type R′.the-laws 𝓤 H A W .typed m _ gr .0)) $ pass0 ! $
-        by ! (runs l₀ l₁ l₂ l₃ l₄ l₅ l₆ l₇ l₈))))))))))
+  walk : (𝓣 : Tables 𝓤 H) → Triple 𝓤 (𝓣 .C #fmd·section-at) (SectionAt 𝓤 H A mem run) → Room T.the-row (length ys) → Is R.the-row m (mv ∷ [])
+      → n < 2 ^ 64 → Sound m → n ≤ length ys
+      → ent 𝓤 (onEntry 𝓤 H A fill.signature (κ, tt) (q, tt) x at) (WpFn 𝓤 H (𝓣 .C) (𝓣 .Λ) plainly (xv ∷ mv ∷ []) Post)
+  walk 𝓣 known gn gr gi sound fit =
+      qed W ((‵ (flft κ q) ⊛ ‵ ftrue) ∷ ‵ (owns (MutSlice (named 0) κ T.the-row ∷ R.the-row ∷ []) x at) ∷ []) ∵ enter ! (𝓣 .C) (𝓣 .Λ) plainly
+      (xv ∷ mv ∷ []) _ $
+      alloc1 ! (λ l₀. alloc1 ! (λ l₁. alloc1 ! (λ l₂. alloc1 !
+      (λ l₃. alloc1 ! (λ l₄. alloc1 ! (λ l₅. alloc1 ! (λ l₆. alloc1 ! (λ l₇. alloc1 ! (λ l₈. alloc0 ! $ params1 ! $
+      pass1 ! (init ! 14 refl (tt, (tt, (record { fits = gn .0 }, tt)))) $
+      pass1 ! (init ! 12 refl (LL.lawful R.the-type R′.the-laws 𝓤 H A W .typed m _ gr .0)) $ pass0 ! $
+      by ! (runs 𝓣 known gn gr gi sound fit l₀ l₁ l₂ l₃ l₄ l₅ l₆ l₇ l₈))))))))))
 
 module _ {M : Type 1} (𝓤 : URA M) (H : Heap 𝓤) (A : Atoms 𝓤) (W : Given 𝓤 H A) (mem : Memory → SProp 𝓤) (run : Routine → Fun 𝓤) (𝓣 : Tables 𝓤 H)
     (known : Triple 𝓤 (𝓣 .C #fmd·section-at) (SectionAt 𝓤 H A mem run)) where

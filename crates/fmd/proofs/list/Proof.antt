@@ -1,6 +1,5 @@
 -- `fmd::list` meets its contract: a walk of its MIR, by hand. `layout_for` is called on the text, and `fill` on the list and the areas: none where
 -- the text is refused.
--- Assumes nothing.
 use mathlib.Core.Path.{_≡_, refl, sym, _∙_, ap, subst}
 use Prim.Native.Nat.{ℕ, _<_, _≤_, _^_}
 use mathlib.Core.List.{[], _∷_, List, map}
@@ -207,7 +206,7 @@ module _ {M : Type 1} (𝓤 : URA M) (H : Heap 𝓤) (A : Atoms 𝓤) (W : Given
           move ! (19 ∷ []) $ fsplit ! $ use1 W (‵ Own ⊛ ‵ Own) (shr-slice-copy 𝓤 H A W (named 0) κ₁ u8 .twice s (sv ∷ [])) $ split ! $
           move ! (21 ∷ []) $ split ! $
           move ! (1 ∷ []) $ move ! (1 ∷ 2 ∷ []) $ use2 W (raw (LayoutFor 𝓤 H A mem run .pre to-layout-for)) (goes-layout-for (gn .0)) $
-          -- [the call's; the second token; what text owns; what list owns; _8; …; _7; …; _6; …; _5; …; _4; …; _3; …; _2; …; _1; …; _0; …]
+          -- [the call's; the second token; what text owns; what sections owns; _8; …; _7; …; _6; …; _5; …; _4; …; _3; …; _2; …; _1; …; _0; …]
           calls-at ! fm (LayoutFor 𝓤 H A mem run) known-layout-for to-layout-for
           (and-then ! (load ! (from ! (stop !)) (look ! 18 refl)) (and-then ! (load ! (from ! (stop !)) (look ! 10 refl)) (no-more !))) (λ w.
           use1 W (later (some (λ (r : Layout). (Tok₁ ⊛ ‵ (O.the-row .own r (w ∷ []))) ⊛ raw
