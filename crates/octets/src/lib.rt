@@ -1,7 +1,7 @@
 // Byte fields, copies and comparisons in byte slices, and the words of specs/ that every other crate cites.
 // An inner crate: no user calls it, so its functions may have a `requires`, which each caller meets.
 ghost use mathlib.Core.Path.{_≡_};
-ghost use Prim.Native.Nat.{_+_, _≤_};
+ghost use Prim.Native.Nat.{_+_, _≤_, _<_};
 ghost use lib.ListN.{length, replicate, drop};
 ghost use Rattle.octets.specs.Bytes.{le, field, put, isZero, same as sameBytes};
 
@@ -111,8 +111,8 @@ pub fn same(a: &[u8], b: &[u8]) -> bool
     same_from(a, b, i)
 }
 
-// Writes all of src into dst from at on.
-pub fn copy(dst: &mut [u8], at: usize, src: &[u8])
+// Writes all of src into dst from at on, byte by byte.
+fn copy_bytes(dst: &mut [u8], at: usize, src: &[u8])
     requires { ⌜ at + length (now src) ≤ length (now dst) ⌝ }
     ensures { λ _. ⌜ now (dst .exit) ≡ put at (now (src .entry)) (now (dst .entry)) ⌝ }
 {
@@ -120,6 +120,55 @@ pub fn copy(dst: &mut [u8], at: usize, src: &[u8])
     while i < src.len() {
         dst[at + i] = src[i];
         i += 1;
+    }
+}
+
+const BLOCK: usize = 16384;
+
+// The same by way of a local array, which the compiler knows to be apart from both slices: of the two loops it makes one memmove,
+// and no array.
+fn copy_block(dst: &mut [u8], at: usize, src: &[u8])
+    requires { ⌜ (at + length (now src) ≤ length (now dst)) × (length (now src) ≤ 16384) ⌝ }
+    ensures { λ _. ⌜ now (dst .exit) ≡ put at (now (src .entry)) (now (dst .entry)) ⌝ }
+{
+    let mut block = [0u8; BLOCK];
+    copy_bytes(&mut block, 0, src);
+    copy_bytes(dst, at, &block[0..src.len()]);
+}
+
+// Where the block that begins at i ends.
+fn block_end(i: usize, len: usize) -> usize
+    requires { ⌜ i < len ⌝ }
+    ensures { λ r. ⌜ (i < r) × (r ≤ len) × (r ≤ i + 16384) ⌝ }
+{
+    if BLOCK < len - i { i + BLOCK } else { len }
+}
+
+// The same block by block.
+fn copy_blocks(dst: &mut [u8], at: usize, src: &[u8])
+    requires { ⌜ at + length (now src) ≤ length (now dst) ⌝ }
+    ensures { λ _. ⌜ now (dst .exit) ≡ put at (now (src .entry)) (now (dst .entry)) ⌝ }
+{
+    let mut i = 0;
+    while i < src.len() {
+        let end = block_end(i, src.len());
+        copy_block(dst, at + i, &src[i..end]);
+        i = end;
+    }
+}
+
+// Below this length the byte loop takes less time than a call of memmove.
+const SHORT: usize = 64;
+
+// Writes all of src into dst from at on.
+pub fn copy(dst: &mut [u8], at: usize, src: &[u8])
+    requires { ⌜ at + length (now src) ≤ length (now dst) ⌝ }
+    ensures { λ _. ⌜ now (dst .exit) ≡ put at (now (src .entry)) (now (dst .entry)) ⌝ }
+{
+    if src.len() < SHORT {
+        copy_bytes(dst, at, src);
+    } else {
+        copy_blocks(dst, at, src);
     }
 }
 
