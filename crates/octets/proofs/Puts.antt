@@ -6,7 +6,7 @@ use Prim.Native.Nat.{ℕ, zero, suc, _+_, _-_, _/_, _%_, _^_, _≤_, _<_}
 use native.Mathlib.Nat.{add-zero, add-suc, suc-add}
 use native.Mathlib.Omega.{arith}
 use lib.ListN.{length, getD, set, take, drop, length-append, drop-of-length-le, take-append-drop}
-use lib.Seq.{sets, length-sets, sets-eq, take-set-le, take-set-lt, drop-set-lt, drop-set-add, drop-drop, set-comm, set-set, getD-set-other, take-at, take-add, length-take-le}
+use lib.Seq.{sets, length-sets, sets-eq, take-set-le, take-set-lt, drop-set-lt, drop-set-add, drop-drop, set-comm, set-set, getD-set-other, take-at, take-add, take-length, length-take-le}
 use Rattle.octets.specs.Bytes.{le, part, put}
 use Rattle.octets.proofs.Numbers.{length-le, le-add, le-mod}
 use Rattle.octets.proofs.Parts.{length-part}
@@ -32,14 +32,15 @@ put-snoc us xs v at = sym (put-put us (v ∷ []) xs at)
 pub then : (xs us ys vs zs : List ℕ) (at k : ℕ) → ys ≡ put at us xs → zs ≡ put k vs ys → at + length us ≡ k → zs ≡ put at (us ++ vs) xs
 then xs us ys vs zs at k p q e = q ∙ rw (p, ← e) (put-put us vs xs at)
 
--- the first i of src written, and then those up to e: what a copy in steps leaves, step by step
-pub put-upto : (src xs ys zs : List ℕ) (at i e : ℕ) → i ≤ e → i ≤ length src → ys ≡ put at (take i src) xs
-    → zs ≡ put (at + i) (take (e - i) (drop i src)) ys → zs ≡ put at (take e src) xs
-put-upto src xs ys zs at i e h g p q =
-    let w : at + length (take i src) ≡ at + i = ap (λ (k : ℕ). at + k) (length-take-le i src g) in
-    let j : i + (e - i) ≡ e = omega arith in
-    then xs (take i src) ys (take (e - i) (drop i src)) zs at (at + i) p q w
-    ∙ ap (λ (l : List ℕ). put at l xs) (sym (take-add i (e - i) src) ∙ ap (λ (k : ℕ). take k src) j)
+-- a list whose first h are written, as the part from 0 to h, and then its others
+pub put-halves : (vs xs ys zs : List ℕ) (at h : ℕ) → h ≤ length vs → ys ≡ put at (take (h - 0) vs) xs
+    → zs ≡ put (at + h) (take (length vs - h) (drop h vs)) ys → zs ≡ put at vs xs
+put-halves vs xs ys zs at h g p q =
+    let z : h - 0 ≡ h = omega arith in
+    let l = length-take-le h vs g in
+    let e : h + (length vs - h) ≡ length vs = omega arith in
+    then xs (take h vs) ys (take (length vs - h) (drop h vs)) zs at (at + h) (rw z at p) q (omega arith)
+    ∙ ap (λ (l : List ℕ). put at l xs) (sym (take-add h (length vs - h) vs) ∙ rw e (take-length vs))
 
 -- what two stores of half the width leave is the store of the whole
 pub store-halves : (n v at : ℕ) (xs ys zs : List ℕ) → ys ≡ put at (le n (v % 256 ^ n)) xs → zs ≡ put (at + n) (le n (v / 256 ^ n)) ys

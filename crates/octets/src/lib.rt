@@ -1,7 +1,7 @@
 // Byte fields, copies and comparisons in byte slices, and the words of specs/ that every other crate cites.
 // An inner crate: no user calls it, so its functions may have a `requires`, which each caller meets.
 ghost use mathlib.Core.Path.{_≡_};
-ghost use Prim.Native.Nat.{_+_, _≤_, _<_};
+ghost use Prim.Native.Nat.{_+_, _≤_};
 ghost use lib.ListN.{length, replicate, drop};
 ghost use Rattle.octets.specs.Bytes.{le, field, put, isZero, same as sameBytes};
 
@@ -123,12 +123,12 @@ fn copy_bytes(dst: &mut [u8], at: usize, src: &[u8])
     }
 }
 
-const BLOCK: usize = 16384;
+const BLOCK: usize = 65536;
 
 // The same by way of a local array, which the compiler knows to be apart from both slices: of the two loops it makes one memmove,
 // and no array.
 fn copy_block(dst: &mut [u8], at: usize, src: &[u8])
-    requires { ⌜ (at + length (now src) ≤ length (now dst)) × (length (now src) ≤ 16384) ⌝ }
+    requires { ⌜ (at + length (now src) ≤ length (now dst)) × (length (now src) ≤ 65536) ⌝ }
     ensures { λ _. ⌜ now (dst .exit) ≡ put at (now (src .entry)) (now (dst .entry)) ⌝ }
 {
     let mut block = [0u8; BLOCK];
@@ -136,25 +136,18 @@ fn copy_block(dst: &mut [u8], at: usize, src: &[u8])
     copy_bytes(dst, at, &block[0..src.len()]);
 }
 
-// Where the block that begins at i ends.
-fn block_end(i: usize, len: usize) -> usize
-    requires { ⌜ i < len ⌝ }
-    ensures { λ r. ⌜ (i < r) × (r ≤ len) × (r ≤ i + 16384) ⌝ }
-{
-    if BLOCK < len - i { i + BLOCK } else { len }
-}
-
-// The same block by block.
-fn copy_blocks(dst: &mut [u8], at: usize, src: &[u8])
+// The same, halved until it is a block.
+fn copy_halves(dst: &mut [u8], at: usize, src: &[u8])
     requires { ⌜ at + length (now src) ≤ length (now dst) ⌝ }
     ensures { λ _. ⌜ now (dst .exit) ≡ put at (now (src .entry)) (now (dst .entry)) ⌝ }
 {
-    let mut i = 0;
-    while i < src.len() {
-        let end = block_end(i, src.len());
-        copy_block(dst, at + i, &src[i..end]);
-        i = end;
+    if src.len() <= BLOCK {
+        copy_block(dst, at, src);
+        return;
     }
+    let half = src.len() / 2;
+    copy_halves(dst, at, &src[0..half]);
+    copy_halves(dst, at + half, &src[half..]);
 }
 
 // Below this length the byte loop takes less time than a call of memmove.
@@ -167,8 +160,10 @@ pub fn copy(dst: &mut [u8], at: usize, src: &[u8])
 {
     if src.len() < SHORT {
         copy_bytes(dst, at, src);
+    } else if src.len() <= BLOCK {
+        copy_block(dst, at, src);
     } else {
-        copy_blocks(dst, at, src);
+        copy_halves(dst, at, src);
     }
 }
 
