@@ -4,7 +4,7 @@ use borrow.Fn.PlainCycle.{Measures, is, falls, and}
 use denote.Ref.{now}
 use lib.ListN.{length}
 use native.Mathlib.Omega.{arith}
-use Prim.Native.Nat.{ℕ, _<_}
+use Prim.Native.Nat.{ℕ, _/_, _<_}
 use Rattle.octets.proofs.Puts.{put-halves}
 use Rattle.octets.proofs.copy_halves.Reads as reads
 use Rattle.octets.proofs.copy_halves.Kinds as kinds
@@ -66,8 +66,8 @@ same-length-2 t c = search needs
 returns-2 : (t : ℕ) → lts.Need-returns-2 (callees t) (given t) reads.Post
 returns-2 t c =
     let s = c .before .before .before .before .before .before .before .before .before .before .before .before .before .args in
-    put-halves (now (s .src)) (now (s .dst)) _ _ (s .at) _ (omega arith) (c .before .before .before .before .before .before .before .copy-halves .ensures)
-    (c .before .before .copy-halves2 .ensures)
+    let first = c .before .before .before .before .before .before .before .copy-halves .ensures in
+    put-halves (now (s .src)) (now (s .dst)) _ _ (s .at) (length (now (s .src)) / 2) (omega arith) first (c .before .before .copy-halves2 .ensures)
 
 pub +copy-halves-spec : {M : Type 1} → statement M
 +copy-halves-spec =

@@ -1,12 +1,7 @@
-use lib.ListN.{length, take}
+use borrow.Author.Needs.{needs}
 use denote.Ref.{now}
 use native.Mathlib.Omega.{arith}
-use mathlib.Core.List.{List}
-use mathlib.Core.Path.{_≡_, ap, _∙_}
-use Prim.Native.Nat.{ℕ, _≤_, _-_, _+_}
-use Rattle.octets.specs.Bytes.{put, part}
 use Rattle.octets.proofs.Puts.{put-by-block}
-use borrow.Author.Needs.{needs}
 use Rattle.octets.proofs.copy_block.Statement.{statement}
 use Rattle.octets.proofs.copy_block.Tie as tie
 
