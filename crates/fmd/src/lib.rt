@@ -4,6 +4,7 @@ ghost use mathlib.Core.Option.{some};
 ghost use mathlib.Core.Path.{_≡_};
 ghost use Prim.Native.Nat.{_+_, _≤_, _<_};
 ghost use lib.ListN.{length, getD};
+ghost use Rattle.octets.specs.Rows.{isNone};
 ghost use Rattle.fmap_rules.specs.Map.{blank};
 ghost use Rattle.fmap_write.specs.Areas.{listOf, Sound};
 ghost use Rattle.fmd_parse.specs.Layouts.{listOf as sectionsOf, Sound as SoundList};
@@ -147,13 +148,15 @@ fn accepted(text: &[u8], i: TextImage, m: usize, l: Sections, p: Plan) -> Layout
     let areas = fmd_areas::areas_of(text, l, p);
     let image = image_of(text, i, l.count);
     let a = areas.items[m];
+    let place = a.place;
+    let start = place.start;
     Layout {
         reading: Reading {
             answer: Answer::Accepted,
             image: image,
         },
         areas: areas,
-        at: a.place.start,
+        at: start,
     }
 }
 
@@ -241,21 +244,18 @@ pub fn write_map(text: &[u8], image: &mut [u8]) -> Answer
     ensures { λ r. ⌜ written r (now (image .exit)) ≡ writeText (now (text .entry)) (now (image .entry)) ⌝ }
 {
     let l = layout_in(text);
-    let answer = l.reading.answer;
+    let reading = l.reading;
+    let answer = reading.answer;
     if !is_accepted(answer) {
         return answer;
     }
-    if image.len() != l.reading.image.size as usize {
+    let i = reading.image;
+    if image.len() != i.size as usize {
         return Answer::WrongLength;
     }
-    let name = l.reading.image.name;
-    fmap_write::put_map(
-        image,
-        l.at.0 as usize,
-        name,
-        l.reading.image.address as u64,
-        1,
-        l.areas,
-    );
+    let at = l.at;
+    let name = i.name;
+    let areas = l.areas;
+    fmap_write::put_map(image, at.0 as usize, name, i.address as u64, 1, areas);
     Answer::Accepted
 }
