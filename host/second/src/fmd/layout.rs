@@ -68,8 +68,9 @@ impl Layout {
         marked && section.level <= rules.leaf_levels && self.has_children(k)
     }
 
+    /// The first child follows at once.
     pub fn has_children(&self, k: usize) -> bool {
-        self.sections().iter().any(|section| section.parent == Some(k))
+        self.sections().get(k + 1).is_some_and(|section| section.parent == Some(k))
     }
 
     /// R21, L13: 57.
@@ -88,19 +89,13 @@ impl Layout {
     }
 
     fn next_sibling(&self, k: usize) -> Option<&Section> {
-        let parent = self.sections()[k].parent;
-        self.sections()[k + 1..].iter().find(|section| section.parent == parent)
-    }
-
-    fn previous_sibling(&self, k: usize) -> Option<usize> {
-        let parent = self.sections()[k].parent;
-        (0..k).rev().find(|j| self.sections()[*j].parent == parent)
+        self.sections()[k].next.map(|next| &self.sections()[next])
     }
 
     /// L12 to L15: parents and earlier siblings are resolved already.
     fn resolve(&mut self, rules: &FmdRules, k: usize) {
         let section = &self.sections()[k];
-        let before = self.previous_sibling(k).map(|j| self.places[j]);
+        let before = section.previous.map(|j| self.places[j]);
         let parent = section.parent.map(|j| self.places[j]);
         let image_size = i128::from(self.reading.image.size);
         let parent_size = parent.map_or(image_size, |place| place.size);

@@ -26,6 +26,9 @@ pub struct Section {
     pub offset: Option<u64>,
     pub size: Option<u64>,
     pub parent: Option<usize>,
+    /// The siblings beside it.
+    pub previous: Option<usize>,
+    pub next: Option<usize>,
     /// 1 for those in the image's braces.
     pub level: usize,
 }
@@ -33,6 +36,15 @@ pub struct Section {
 struct Fault {
     at: usize,
     row: Row,
+}
+
+/// A braced list that is being read.
+#[derive(Default)]
+struct List {
+    /// The section that has the braces; none for the image.
+    holder: Option<usize>,
+    held: usize,
+    last: Option<usize>,
 }
 
 /// The text is out of grammar, and what follows is not looked at.
@@ -83,17 +95,16 @@ impl<'a> Reader<'a> {
     /// The image and, list by list, its sections.
     fn layout(&mut self) -> Result<(), Stop> {
         self.image()?;
-        // The lists that are open: the section that holds each, and how many sections it has so far.
-        let mut lists = vec![(None, 0)];
-        while let Some((parent, held)) = lists.pop() {
-            if held >= self.rules.sections_min && self.take(b'}') {
+        let mut open = vec![List::default()];
+        while let Some(mut list) = open.pop() {
+            if list.held >= self.rules.sections_min && self.take(b'}') {
                 continue;
             }
-            let brace = self.before();
-            let index = self.section(parent, lists.len() + 1, brace)?;
-            lists.push((parent, held + 1));
+            let index = self.section(&list, open.len() + 1)?;
+            list = List { held: list.held + 1, last: Some(index), ..list };
+            open.push(list);
             if self.take(b'{') {
-                lists.push((Some(index), 0));
+                open.push(List { holder: Some(index), ..List::default() });
             }
         }
         self.end()
@@ -119,8 +130,9 @@ impl<'a> Reader<'a> {
         self.sign(b'{')
     }
 
-    /// L2: a section up to its braces; answers its place in the list. `brace` is where the list opens.
-    fn section(&mut self, parent: Option<usize>, level: usize, brace: usize) -> Result<usize, Stop> {
+    /// L2: a section up to its braces; answers its place among all.
+    fn section(&mut self, list: &List, level: usize) -> Result<usize, Stop> {
+        let brace = self.before();
         let (at, name) = self.word()?;
         if self.rules.section_names_judged {
             self.judge_name(at, name);
@@ -134,8 +146,16 @@ impl<'a> Reader<'a> {
                 TooDeep::Brace => self.faults.push(Fault { at: brace, row: Row::TooMany }),
             }
         }
-        let name = name.to_vec();
-        let mut section = Section { name, flags: Vec::new(), offset: None, size: None, parent, level };
+        let mut section = Section {
+            name: name.to_vec(),
+            flags: Vec::new(),
+            offset: None,
+            size: None,
+            parent: list.holder,
+            previous: list.last,
+            next: None,
+            level,
+        };
         let mut last = None;
         for part in self.rules.head {
             let begins = self.begins(*part, last);
@@ -144,8 +164,12 @@ impl<'a> Reader<'a> {
                 last = Some(*part);
             }
         }
+        let index = self.reading.sections.len();
+        if let Some(previous) = list.last {
+            self.reading.sections[previous].next = Some(index);
+        }
         self.reading.sections.push(section);
-        Ok(self.reading.sections.len() - 1)
+        Ok(index)
     }
 
     /// L2, L7: whether the next token begins that part, after the part `last`.
