@@ -347,6 +347,28 @@ pub fn changed_tokens(tokens: &[Vec<u8>], random: &mut Random) -> Vec<u8> {
     joined(&tokens, random)
 }
 
+/// The text with numbers changed: one more, one less, another one of the text, a small one; or an offset or a size left
+/// out.
+pub fn changed_numbers(tokens: &[Vec<u8>], random: &mut Random) -> Vec<u8> {
+    let mut tokens = tokens.to_vec();
+    for _ in 0..1 + random.below(3) {
+        let numbers: Vec<usize> = (0..tokens.len()).filter(|k| tokens[*k][0].is_ascii_digit()).collect();
+        let Some(&at) = numbers.get(random.below(numbers.len().max(1))) else { break };
+        let decimal = std::str::from_utf8(&tokens[at]).ok().and_then(|word| word.parse::<u64>().ok());
+        match (random.below(5), decimal) {
+            (0, Some(number)) => tokens[at] = (number + 1).to_string().into_bytes(),
+            (1, Some(number)) => tokens[at] = number.saturating_sub(1).to_string().into_bytes(),
+            (2, _) => tokens[at] = tokens[random.pick(&numbers)].clone(),
+            (3, _) => tokens[at] = number(random.number_below(400), random),
+            _ => {
+                let first = if tokens[at - 1] == b"@" { at - 1 } else { at };
+                tokens.drain(first..=at);
+            }
+        }
+    }
+    joined(&tokens, random)
+}
+
 /// The text with a byte changed, put in or left out, or with a piece of it said twice, once or a few times.
 pub fn changed_bytes(text: &[u8], random: &mut Random) -> Vec<u8> {
     let mut text = text.to_vec();

@@ -2,7 +2,7 @@
 
 use super::call;
 use crate::run::{Outcome, Run};
-use testkit::layout::{blanks, changed_bytes, changed_tokens, joined, Layout, Wanted};
+use testkit::layout::{blanks, changed_bytes, changed_numbers, changed_tokens, joined, Layout, Wanted};
 use testkit::random::Random;
 
 const DRAWN: usize = 2500;
@@ -74,14 +74,15 @@ pub fn each_byte(run: &mut Run) -> Outcome {
     Ok(())
 }
 
-/// Good texts with tokens or bytes changed.
+/// Good texts with tokens, numbers or bytes changed.
 pub fn changed(run: &mut Run) -> Outcome {
     for k in 0..CHANGED {
         let sections = 1 + run.random.below(9);
         let tokens = layout(sections, &mut run.random).tokens(&mut run.random);
         let random = &mut run.random;
-        let text = match k % 3 {
+        let text = match k % 4 {
             0 => changed_tokens(&tokens, random),
+            3 => changed_numbers(&tokens, random),
             1 => changed_bytes(&joined(&tokens, random), random),
             // One blank between all tokens, so that most changes are not in blanks.
             _ => changed_bytes(&[tokens.join(&b' '), blanks(random)].concat(), random),
