@@ -1,22 +1,24 @@
 -- A map's bytes, written field by field.
 use mathlib.Core.Path.{_≡_, refl, sym, ap, _∙_}
 use mathlib.Core.List.{List, [], _∷_, _++_, map, append-assoc}
-use Prim.Native.Nat.{ℕ, zero, suc, _+_, _*_, _≤_, _<_}
-use native.Mathlib.Nat.{mul-zero, add-zero, not-suc-le-zero, le-of-suc-le-suc}
+use Prim.Native.Nat.{ℕ, _+_, _*_, _≤_, _<_}
+use native.Mathlib.Nat.{mul-zero, add-zero}
 use native.Mathlib.Omega.{arith}
 use native.Mathlib.Numerals.{add-one}
-use lib.ListN.{length, getD, take, drop, length-append, drop-of-length-le}
+use lib.ListN.{length, getD, take, drop, length-map, length-append, drop-of-length-le}
 use lib.Seq.{drop-cons, getD-take, length-take-le}
 use Rattle.octets.specs.Bytes.{le, part, put, flat}
 use Rattle.octets.proofs.Numbers.{length-le}
 use Rattle.octets.proofs.Parts.{part-here}
 use Rattle.octets.proofs.Puts.{then, length-put}
 use Rattle.fmap_rules.specs.declared.Area.{Area}
-use Rattle.fmap_rules.specs.Map.{blank}
 use Rattle.fmap_rules.specs.Written.{areaBytes, mapBytes}
-use Rattle.fmap_rules.proofs.Written.{length-area}
 use Rattle.fmap_write.specs.declared.Areas.{Areas}
-use Rattle.fmap_write.specs.Areas.{listOf, Sound}
+use Rattle.fmap_write.specs.Areas.{listOf}
+
+-- of an array of structs, the length is known for a `map` over it
+pub length-unmap : (X Y : Type 0) (f : X → Y) (l : List X) (n : ℕ) → length (map f l) ≡ n → length l ≡ n
+length-unmap X Y f l n e = sym (length-map l f) ∙ e
 
 -- ---- an area
 
@@ -31,51 +33,40 @@ area-written a at s0 s1 s2 s3 s4 wide p1 p2 p3 p4 =
     (then s1 _ s2 _ s4 (at + 4) (at + 8) p2 (then s2 _ s3 _ s4 (at + 8) (at + 40) p3 p4 (omega arith)) (omega arith))
     (omega arith)
 
--- ---- areas by value
-
-getD-any : (areas : List Area) (i : ℕ) (d e : Area) → i < length areas → getD areas i d ≡ getD areas i e
-getD-any [] i d e h = absurd (not-suc-le-zero h)
-getD-any (a ∷ areas) zero d e h = refl
-getD-any (a ∷ areas) (suc i) d e h = getD-any areas i d e (le-of-suc-le-suc h)
-
-pub length-list : (m : Areas) → Sound m → length (listOf m) ≡ m .count
-length-list m s = let r = s .room in let f = s .full in length-take-le (m .count) (m .items) (omega arith)
-
--- d stands for no area, whatever it is
-pub long-name : (m : Areas) → Sound m → (i : ℕ) (d : Area) → i < m .count → length (getD (m .items) i d .name) ≡ 32
-long-name m s i d h =
-    let r = s .room in
-    let f = s .full in
-    ap (λ (a : Area). length (a .name)) (getD-any (m .items) i d blank (omega arith)) ∙ s .names i h
-
 -- ---- areas one after the other
 
 abbrev bytesOf : List Area → List ℕ
 bytesOf areas = flat (map areaBytes areas)
 
+pub length-list : (m : Areas) → m .count ≤ length (m .items) → length (listOf m) ≡ m .count
+length-list m h = length-take-le (m .count) (m .items) h
+
 -- areas are written up to i: with the others written behind them the whole is
 pub record WrittenTo (m : Areas) (at : ℕ) (old new : List ℕ) (i : ℕ) : Type 0 where
+  pub room : m .count ≤ length (m .items)
   pub below : i ≤ m .count
   pub same-length : length new ≡ length old
   pub whole : put (at + 42 * i) (bytesOf (drop i (listOf m))) new ≡ put at (bytesOf (listOf m)) old
 
-pub written-none : (m : Areas) (at : ℕ) (old : List ℕ) → WrittenTo m at old old 0
-written-none m at old = record {
+pub written-none : (m : Areas) (at : ℕ) (old : List ℕ) → m .count ≤ length (m .items) → WrittenTo m at old old 0
+written-none m at old h = record {
+  room = h;
   below = omega arith;
   same-length = refl;
   whole = rw (mul-zero, add-zero);
 }
 
-pub written-on : {m : Areas} {at : ℕ} {old new : List ℕ} {i : ℕ} (d : Area) {next : List ℕ} → Sound m → i < m .count
-    → next ≡ put (at + 42 * i) (areaBytes (getD (m .items) i d)) new → WrittenTo m at old new i → WrittenTo m at old next (i + 1)
-written-on {m} {at} {old} {new} {i} d {next} s h p q =
+pub written-on : {m : Areas} {at : ℕ} {old new next : List ℕ} {i : ℕ} (d : Area) → i < m .count
+    → next ≡ put (at + 42 * i) (areaBytes (getD (m .items) i d)) new → length (areaBytes (getD (m .items) i d)) ≡ 42
+    → WrittenTo m at old new i → WrittenTo m at old next (i + 1)
+written-on {m} {at} {old} {new} {next} {i} d h p k q =
     let a = getD (m .items) i d in
-    let l = length-list m s in
+    let l = length-list m (q .room) in
     let in-list : i < length (listOf m) = omega arith in
-    let la : length (areaBytes a) ≡ 42 = length-area a (long-name m s i d h) in
     let cut : drop i (listOf m) ≡ a ∷ drop (i + 1) (listOf m) =
-        rw add-one (drop-cons (listOf m) i d in-list) ∙ ap (λ (x : Area). x ∷ drop (i + 1) (listOf m)) (getD-take (m .count) (m .items) i d h) in
+    rw add-one (drop-cons (listOf m) i d in-list) ∙ ap (λ (x : Area). x ∷ drop (i + 1) (listOf m)) (getD-take (m .count) (m .items) i d h) in
     record {
+      room = q .room;
       below = omega arith;
       same-length = ap length p ∙ length-put _ _ new ∙ q .same-length;
       whole =
@@ -84,10 +75,10 @@ written-on {m} {at} {old} {new} {i} d {next} s h p q =
           ∙ q .whole;
     }
 
-pub written-all : {m : Areas} {at : ℕ} {old new : List ℕ} {i : ℕ} → Sound m → m .count ≤ i → WrittenTo m at old new i → new ≡ put at (bytesOf (listOf m)) old
+pub written-all : {m : Areas} {at : ℕ} {old new : List ℕ} {i : ℕ} → m .count ≤ i → WrittenTo m at old new i → new ≡ put at (bytesOf (listOf m)) old
 unfolding put
-written-all {m} {at} {old} {new} {i} s h q =
-    let l = length-list m s in
+written-all {m} {at} {old} {new} {i} h q =
+    let l = length-list m (q .room) in
     ap (λ (l : List Area). put (at + 42 * i) (bytesOf l) new) (sym (drop-of-length-le (listOf m) {i = i} (omega arith))) ∙ q .whole
 
 -- ---- the header, then the areas

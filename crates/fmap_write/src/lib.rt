@@ -7,7 +7,7 @@ ghost use lib.ListN.{length};
 ghost use Rattle.octets.specs.Bytes.{part, put, flat};
 ghost use Rattle.fmap_rules.specs.Map.{mapSize};
 ghost use Rattle.fmap_rules.specs.Written.{areaBytes, mapBytes};
-ghost use Rattle.fmap_write.specs.Areas.{listOf, Sound};
+ghost use Rattle.fmap_write.specs.Areas.{listOf};
 use fmap_rules::Area;
 
 // Up to 128 areas, in the map's order.
@@ -18,8 +18,8 @@ pub struct Areas {
 
 // An area's 42 bytes.
 fn put_area(to: &mut [u8], at: usize, a: Area)
-    requires { ⌜ (at + 42 ≤ length (now to)) × (length (a .name) ≡ 32) ⌝ }
-    ensures { λ _. ⌜ now (to .exit) ≡ put at (areaBytes a) (now (to .entry)) ⌝ }
+    requires { ⌜ at + 42 ≤ length (now to) ⌝ }
+    ensures { λ _. ⌜ (now (to .exit) ≡ put at (areaBytes a) (now (to .entry))) × (length (areaBytes a) ≡ 42) ⌝ }
 {
     let name = a.name;
     octets::store32(to, at, a.place.start.0);
@@ -30,7 +30,7 @@ fn put_area(to: &mut [u8], at: usize, a: Area)
 
 // Areas, one after the other.
 pub fn put_areas(to: &mut [u8], at: usize, areas: Areas)
-    requires { ⌜ Sound areas × (at + 42 * areas .count ≤ length (now to)) ⌝ }
+    requires { ⌜ (areas .count ≤ 128) × (at + 42 * areas .count ≤ length (now to)) ⌝ }
     ensures { λ _. ⌜ now (to .exit) ≡ put at (flat (map areaBytes (listOf areas))) (now (to .entry)) ⌝ }
 {
     let n = areas.count;
@@ -57,7 +57,7 @@ fn put_header(to: &mut [u8], at: usize, size: u32, name: [u8; 32], base: u64, mi
 
 // The map of the areas at a position, for version 1.minor.
 pub fn put_map(image: &mut [u8], at: usize, name: [u8; 32], base: u64, minor: u8, areas: Areas)
-    requires { ⌜ Sound areas × (at + mapSize (areas .count) ≤ length (now image)) × (length (now image) < 2 ^ 32) ⌝ }
+    requires { ⌜ (areas .count ≤ 128) × (at + mapSize (areas .count) ≤ length (now image)) × (length (now image) < 2 ^ 32) ⌝ }
     ensures { λ _. ⌜ now (image .exit) ≡ put at (mapBytes (length (now (image .entry))) name base minor (listOf areas)) (now (image .entry)) ⌝ }
 {
     let size = image.len() as u32;

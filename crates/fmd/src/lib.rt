@@ -1,15 +1,25 @@
 // The layout language: a layout text read, listed as sections, and written as a map into an image.
 ghost use mathlib.Core.List.{map};
+ghost use mathlib.Core.Option.{some};
 ghost use mathlib.Core.Path.{_≡_};
-ghost use Prim.Native.Nat.{_≤_, _<_};
+ghost use Prim.Native.Nat.{_+_, _≤_, _<_};
 ghost use lib.ListN.{length, getD};
 ghost use Rattle.fmap_rules.specs.Map.{blank};
 ghost use Rattle.fmap_write.specs.Areas.{listOf, Sound};
-ghost use Rattle.fmd.specs.Calls.{numberOf, said, refusedWith, layoutIn, layoutFor, reading, readText, sectionOf, filled, listed, listText};
+ghost use Rattle.fmd_parse.specs.Layouts.{listOf as sectionsOf, Sound as SoundList};
+ghost use Rattle.fmd_plan.specs.Plans.{planOf, Sound as SoundPlan};
+ghost use Rattle.fmd_check.specs.Check.{good};
+ghost use Rattle.fmd_check.specs.Facts.{Numbered, Accepted};
+ghost use Rattle.fmd.specs.Calls.{numberOf, said, refusedWith, baseOf, imageOf, saidBy, layoutIn, layoutFor, reading, readText, sectionOf, filled, listed, listText, written, writeText};
 use fmap_rules::Area;
 use fmap_rules::Extent;
 use fmap_rules::ImagePosition;
 use fmap_write::Areas;
+use fmd_check::Verdict;
+use fmd_parse::Address;
+use fmd_parse::Image as TextImage;
+use fmd_parse::Sections;
+use fmd_plan::Plan;
 
 // What a call answers.
 pub enum Answer {
@@ -87,12 +97,76 @@ fn refused(answer: Answer) -> Layout
     }
 }
 
+// The answer of a refusal's number.
+fn answer_of(n: u16) -> Answer
+    requires { ⌜ Numbered n ⌝ }
+    ensures { λ r. ⌜ numberOf r ≡ some n ⌝ }
+{
+    match n {
+        50 => Answer::TooLong,
+        51 => Answer::OutOfGrammar,
+        52 => Answer::BadNumber,
+        53 => Answer::BadName,
+        54 => Answer::NameTwice,
+        55 => Answer::TooMany,
+        56 => Answer::BadFlag,
+        57 => Answer::Undecided,
+        58 => Answer::Unfit,
+        _ => Answer::NoMapSection,
+    }
+}
+
+fn base_of(a: Address) -> u32
+    ensures { λ r. ⌜ r ≡ baseOf a ⌝ }
+{
+    match a {
+        Address::Given(n) => n,
+        Address::Omitted => 0,
+    }
+}
+
+fn image_of(text: &[u8], i: TextImage, count: usize) -> Image
+    requires { ⌜ (i .place + i .length ≤ length (now text)) × (i .length ≤ 32) × (count ≤ 128) ⌝ }
+    ensures { λ r. ⌜ r ≡ imageOf (now (text .entry)) i count ⌝ }
+{
+    let address = i.address;
+    let name = fmd_areas::stored_name(text, i.place, i.length);
+    Image {
+        name: name,
+        size: i.size,
+        address: base_of(address),
+        count: count as u32,
+    }
+}
+
+// The layout of a text that is accepted; section m is FMAP.
+fn accepted(text: &[u8], i: TextImage, m: usize, l: Sections, p: Plan) -> Layout
+    requires { ⌜ SoundList l × SoundPlan p × Accepted (now text) i (sectionsOf l) (planOf p) m ⌝ }
+    ensures { λ r. ⌜ Sound (r .areas) × (said r ≡ saidBy (now (text .entry)) (good i (sectionsOf l) (planOf p) m)) ⌝ }
+{
+    let areas = fmd_areas::areas_of(text, l, p);
+    let image = image_of(text, i, l.count);
+    let a = areas.items[m];
+    Layout {
+        reading: Reading {
+            answer: Answer::Accepted,
+            image: image,
+        },
+        areas: areas,
+        at: a.place.start,
+    }
+}
+
 // Reads a layout text, whole.
 fn layout_in(text: &[u8]) -> Layout
     ensures { λ r. ⌜ Sound (r .areas) × (said r ≡ layoutIn (now (text .entry))) ⌝ }
 {
-    let k = text.len();
-    refused(Answer::TooLong)
+    let c = fmd_check::check(text);
+    let verdict = c.verdict;
+    match verdict {
+        Verdict::Good(i, m) => accepted(text, i, m, c.list, c.plan),
+        Verdict::Fault(n, _) => refused(answer_of(n)),
+    }
 }
 
 // Reads a layout text.
@@ -107,7 +181,10 @@ pub fn read(text: &[u8]) -> Reading
 fn layout_for(text: &[u8], places: usize) -> Layout
     ensures { λ r. ⌜ Sound (r .areas) × (r .areas .count ≤ places) × (said r ≡ layoutFor (now (text .entry)) places) ⌝ }
 {
-    layout_in(text)
+    if places == 128 {
+        return layout_in(text);
+    }
+    refused(Answer::WrongLength)
 }
 
 // Area i as a section of the list.
@@ -148,4 +225,37 @@ pub fn list<'a, 'b>(text: &'a [u8], sections: &'b mut [Section]) -> Reading
     let areas = l.areas;
     fill(sections, areas);
     l.reading
+}
+
+fn is_accepted(a: Answer) -> bool
+    ensures { λ r. ⌜ r ≡ isNone (numberOf a) ⌝ }
+{
+    match a {
+        Answer::Accepted => true,
+        _ => false,
+    }
+}
+
+// Writes the map of a layout text into an image.
+pub fn write_map(text: &[u8], image: &mut [u8]) -> Answer
+    ensures { λ r. ⌜ written r (now (image .exit)) ≡ writeText (now (text .entry)) (now (image .entry)) ⌝ }
+{
+    let l = layout_in(text);
+    let answer = l.reading.answer;
+    if !is_accepted(answer) {
+        return answer;
+    }
+    if image.len() != l.reading.image.size as usize {
+        return Answer::WrongLength;
+    }
+    let name = l.reading.image.name;
+    fmap_write::put_map(
+        image,
+        l.at.0 as usize,
+        name,
+        l.reading.image.address as u64,
+        1,
+        l.areas,
+    );
+    Answer::Accepted
 }

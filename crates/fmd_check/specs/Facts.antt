@@ -1,11 +1,9 @@
 -- What holds of every refusal, and of every text that is accepted: the statement of a theorem (proofs/Facts: check-facts).
 use mathlib.Core.Path.{_≡_}
 use mathlib.Core.Bool.{true, false}
-use mathlib.Core.List.{List, [], _∷_}
+use mathlib.Core.List.{List}
 use Prim.Native.Nat.{ℕ, _≤_, _<_}
-use lib.Dec.{eqb}
 use lib.ListN.{length, getD}
-use Rattle.octets.specs.Tests.{any}
 use Rattle.fmap_rules.specs.Map.{mapSize}
 use Rattle.fmd_parse.specs.Trees.{Tree, Imaged}
 use Rattle.fmd_parse.specs.declared.Section.{Section}
@@ -16,9 +14,9 @@ use Rattle.fmd_plan.specs.Fitted.{Fitted}
 use Rattle.fmd_plan.specs.declared.Placed.{Placed}
 use Rattle.fmd_check.specs.Check.{Judged, fault, good}
 
--- (R33) the numbers that a layout text is refused with
+-- (R33) a layout text is refused with one of the numbers 50 to 59
 abbrev pub Numbered : ℕ → Type 0
-Numbered n = any (eqb n) (50 ∷ 51 ∷ 52 ∷ 53 ∷ 54 ∷ 55 ∷ 56 ∷ 57 ∷ 58 ∷ 59 ∷ []) ≡ true
+Numbered n = (50 ≤ n) × (n ≤ 59)
 
 -- image, sections, their places, and the index of section FMAP
 pub record Accepted (s : List ℕ) (i : Image) (l : List Section) (ps : List Placed) (m : ℕ) : Type 0 where

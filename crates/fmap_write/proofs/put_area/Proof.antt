@@ -1,4 +1,8 @@
+use mathlib.Core.Path.{_≡_}
+use native.Mathlib.Omega.{arith}
+use lib.ListN.{length}
 use borrow.Author.Needs.{needs}
+use Rattle.fmap_rules.proofs.Written.{length-area}
 use Rattle.fmap_write.proofs.Fields.{area-written}
 use Rattle.fmap_write.proofs.put_area.Statement.{statement}
 use Rattle.fmap_write.proofs.put_area.Tie as tie
@@ -19,7 +23,10 @@ slice-aggregate-copy : tie.Need-slice-aggregate-copy
 slice-aggregate-copy c = search needs
 
 copy-requires : tie.Need-copy-requires
-copy-requires c κs = search needs
+copy-requires c κs =
+    let top = c .before .before .before .before .before .before .before .before .before .before .before .before in
+    let long : length (top .args .a .name) ≡ 32 = search needs in
+    omega arith
 
 add-store16 : tie.Need-add-store16
 add-store16 c = search needs
@@ -32,12 +39,15 @@ same-length c = search needs
 
 returns : tie.Need-returns
 returns c =
+    let top = c .before .before .before .before .before .before .before .before .before .before .before .before .before .before .before .before .before .before .before in
+    let long : length (top .args .a .name) ≡ 32 = search needs in
     let s1 = c .before .before in
     let s2 = s1 .before .before .before .before in
     let s3 = s2 .before .before .before .before .before in
-    let s4 = s3 .before .before .before .before in
-    let top = s4 .before .before .before .before in
-    area-written (top .args .a) (top .args .at) _ _ _ _ _ (top .pre .1) (s4 .store32 .ensures) (s3 .store322 .ensures) (s2 .copy .ensures) (s1 .store16 .ensures)
+    let s4 = s3 .before .before .before .before in (
+      area-written (top .args .a) (top .args .at) _ _ _ _ _ long (s4 .store32 .ensures) (s3 .store322 .ensures) (s2 .copy .ensures) (s1 .store16 .ensures),
+      length-area (top .args .a) long,
+    )
 
 pub put-area-spec : {M : Type 1} → statement M
 put-area-spec =

@@ -1,7 +1,9 @@
+use mathlib.Core.Path.{_≡_}
 use Prim.Native.Nat.{_-_}
 use native.Mathlib.Omega.{arith}
+use lib.ListN.{length}
 use borrow.Author.Needs.{needs}
-use Rattle.fmap_write.proofs.Fields.{WrittenTo, long-name, written-none, written-on, written-all}
+use Rattle.fmap_write.proofs.Fields.{length-unmap, WrittenTo, written-none, written-on, written-all}
 use Rattle.fmap_write.proofs.put_areas.Statement.{statement}
 use Rattle.fmap_write.proofs.put_areas.Tie as tie
 
@@ -12,7 +14,10 @@ abbrev μ-loop : tie.MeasureT-loop
 μ-loop to₀ at areas n i₀ to i = n - i
 
 loop-holds : tie.Need-loop-holds Inv-loop μ-loop
-loop-holds c = written-none _ _ _
+loop-holds c =
+    let top = c .before in
+    let full : length (top .args .t3 .items) ≡ 128 = search (needs, length-unmap) in
+    written-none _ _ _ (omega arith)
 
 mul-put-area : tie.Need-mul-put-area Inv-loop μ-loop
 mul-put-area c = search needs
@@ -24,12 +29,10 @@ mul-put-area-2 : tie.Need-mul-put-area-2 Inv-loop μ-loop
 mul-put-area-2 c = search needs
 
 element-copy-out-put-area : tie.Need-element-copy-out-put-area Inv-loop μ-loop
-element-copy-out-put-area c = omega arith
+element-copy-out-put-area c = search needs
 
 put-area-requires : tie.Need-put-area-requires Inv-loop μ-loop
-put-area-requires c κs =
-    let top = c .before .before .before .before .before in
-    (search needs, long-name (top .args .t3) (top .pre .0) (c .before .before .before .loop .i) _ (omega arith))
+put-area-requires c κs = search needs
 
 add-i : tie.Need-add-i Inv-loop μ-loop
 add-i c = search needs
@@ -41,14 +44,13 @@ loop-again : tie.Need-loop-again Inv-loop μ-loop
 loop-again c =
     let s1 = c .before .before in
     let s2 = s1 .before .before .before .before in
-    let top = s2 .before .before in
-    written-on _ (top .pre .0) (omega arith) (s1 .put-area .ensures) (s2 .loop .inv)
+    written-on _ (omega arith) (s1 .put-area .ensures .0) (s1 .put-area .ensures .1) (s2 .loop .inv)
 
 same-length : tie.Need-same-length Inv-loop μ-loop
 same-length c = c .before .loop .inv .same-length
 
 returns : tie.Need-returns Inv-loop μ-loop
-returns c = written-all (c .before .before .before .pre .0) (omega arith) (c .before .loop .inv)
+returns c = written-all (omega arith) (c .before .loop .inv)
 
 pub put-areas-spec : {M : Type 1} → statement M
 put-areas-spec =

@@ -43,13 +43,13 @@ same-length c = search needs
 
 returns : tie.Need-returns
 returns c =
-    let long : length (c .before .before .before .before .before .before .before .before .before .before .before .before .before .before .before .before .before .before .before .before .before .before .before .args .t4) ≡ 32 = search needs in
+    let top = c .before .before .before .before .before .before .before .before .before .before .before .before .before .before .before .before .before .before .before .before .before .before .before in
+    let long : length (top .args .t4) ≡ 32 = search needs in
     let s1 = c .before .before in
     let s2 = s1 .before .before .before .before in
     let s3 = s2 .before .before .before .before .before in
     let s4 = s3 .before .before .before .before in
     let s5 = s4 .before .before .before .before in
-    let top = s5 .before .before .before .before in
     header-written (top .args .size) (top .args .t4) (top .args .base) (top .args .minor) long (top .args .at) _ _ _ _ _ _ _
     (s5 .copy .ensures) (s4 .store64 .ensures) (s3 .store32 .ensures) (s2 .copy2 .ensures) (s1 .store16 .ensures)
 

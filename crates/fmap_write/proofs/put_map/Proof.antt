@@ -1,6 +1,8 @@
-use mathlib.Core.Path.{sym}
+use mathlib.Core.Path.{_≡_, sym}
+use native.Mathlib.Omega.{arith}
+use lib.ListN.{length}
 use borrow.Author.Needs.{needs}
-use Rattle.fmap_write.proofs.Fields.{length-list, map-written}
+use Rattle.fmap_write.proofs.Fields.{length-unmap, length-list, map-written}
 use Rattle.fmap_write.proofs.put_map.Statement.{statement}
 use Rattle.fmap_write.proofs.put_map.Tie as tie
 
@@ -24,11 +26,12 @@ same-length c = search needs
 
 returns : tie.Need-returns
 returns c =
+    let top = c .before .before .before .before .before .before .before .before .before in
+    let full : length (top .args .areas .items) ≡ 128 = search (needs, length-unmap) in
     let s1 = c .before .before in
     let s2 = s1 .before .before .before .before in
-    let top = s2 .before .before .before in
     map-written _ (top .args .name) (top .args .base) (top .args .minor) (search needs) (top .args .at) _ _ _ _
-    (s2 .put-header .ensures _ (sym (length-list _ (top .pre .0)))) (s1 .put-areas .ensures)
+    (s2 .put-header .ensures _ (sym (length-list _ (omega arith)))) (s1 .put-areas .ensures)
 
 pub put-map-spec : {M : Type 1} → statement M
 put-map-spec =
