@@ -19,9 +19,10 @@ use Rattle.fmd_parse.specs.declared.Address.the-variants.{Given, Omitted}
 use Rattle.fmd_check.specs.Check.{Judged, fault, good, checkText}
 use Rattle.fmd_check.specs.Facts.{CheckedFacts}
 use Rattle.fmd_check.proofs.Facts.{check-facts}
+use Rattle.fmd_areas.proofs.Shape.{area-at}
 use Rattle.fmd_areas.proofs.Nested.{areas-nested}
 use Rattle.fmd.specs.Calls.{Said, baseOf, imageOf, saidBy, layoutIn, Written, withMap, writeBy, writeText}
-use Rattle.fmd.specs.Promises.{SectionsNested, SaidIsWritable, Holds, WrittenHolds, RefusedStays}
+use Rattle.fmd.specs.Promises.{SectionsNested, SectionsInOrder, SaidIsWritable, Holds, WrittenHolds, RefusedStays}
 use Rattle.fmd.proofs.Writable.{writable}
 
 -- ---- what an accepted text says
@@ -71,6 +72,11 @@ pub sections-nested : SectionsNested
 unfolding layoutIn imageOf
 sections-nested s i l ps m e =
     let f = subst (CheckedFacts s) e (check-facts s) in rw e (areas-nested s (i .size) l ps (f .tree) (f .fitted))
+
+pub sections-in-order : SectionsInOrder
+unfolding layoutIn
+sections-in-order s i l ps m e k h =
+    let f = subst (CheckedFacts s) e (check-facts s) in rw e (area-at s l ps k (rw (f .fitted .count) h))
 
 said : (s : List ℕ) → layoutIn s .answer ≡ none → Sayable (layoutIn s)
 unfolding layoutIn

@@ -7,13 +7,14 @@ use mathlib.Core.Option.{none, some}
 use Prim.Native.Nat.{ℕ, _+_, _≤_, _<_}
 use lib.ListN.{length, getD}
 use Rattle.octets.specs.Bytes.{rest}
-use Rattle.fmap_rules.specs.Map.{mapSize, areasOf, goodMap}
+use Rattle.fmap_rules.specs.Map.{blank, mapSize, areasOf, goodMap}
 use Rattle.fmap_rules.specs.Written.{Writable, Headed}
 use Rattle.fmap.specs.Find.{accepted, findMap}
 use Rattle.fmd_parse.specs.declared.Section.{Section}
 use Rattle.fmd_parse.specs.declared.Image.{Image as TextImage}
 use Rattle.fmd_plan.specs.declared.Placed.{Placed}
 use Rattle.fmd_check.specs.Check.{good, checkText}
+use Rattle.fmd_areas.specs.Areas.{areaAt}
 use Rattle.fmd_areas.specs.Nested.{Nested}
 use Rattle.fmd.specs.Calls.{Said, layoutIn, writeText}
 
@@ -22,6 +23,12 @@ abbrev pub SectionsNested : Type 0
 SectionsNested =
     (s : List ℕ) (i : TextImage) (l : List Section) (ps : List Placed) (m : ℕ) → checkText s ≡ good i l ps m
     → Nested (layoutIn s .image .size) l (layoutIn s .areas)
+
+-- (L17) what is listed, and written: each section, resolved, in text order; Nested has the count
+abbrev pub SectionsInOrder : Type 0
+SectionsInOrder =
+    (s : List ℕ) (i : TextImage) (l : List Section) (ps : List Placed) (m : ℕ) → checkText s ≡ good i l ps m
+    → (k : ℕ) → k < length l → getD (layoutIn s .areas) k blank ≡ areaAt s l ps k
 
 -- what an accepted text says can be written as a good map
 abbrev pub SaidIsWritable : Type 0
