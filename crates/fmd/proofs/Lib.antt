@@ -1,3 +1,4 @@
 pub mod Filled
-pub mod Writable
 pub mod Layouts
+pub mod Writable
+pub mod Promises
