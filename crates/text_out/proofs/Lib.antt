@@ -1,0 +1,2 @@
+-- Laws of numbers as text.
+pub mod Digits
