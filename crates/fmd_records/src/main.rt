@@ -50,9 +50,9 @@ fn answer_line(out: &mut [u8], r: Reading) -> usize {
     let image = r.image;
     let n = fmd_lines::number(answer);
     if 0 < n {
-        return fmd_lines::numbered(out, b"refused", n);
+        return fmd_lines::numbered(out, 0, b"refused", n);
     }
-    fmd_lines::numbered(out, b"accepted", image.count as u64)
+    fmd_lines::numbered(out, 0, b"accepted", image.count as u64)
 }
 
 fn show(text: &[u8]) {

@@ -11,7 +11,6 @@ use borrow.Author.Tests.{ltb-true, ltb-false}
 use lib.Dec.{ltb}
 use lib.ListN.{length, take, length-append}
 use Rattle.io.specs.Digits.{glyph, digits, Fewest}
-use Rattle.octets.specs.Bytes.{put}
 use Rattle.octets.proofs.Bools.{choice}
 use Rattle.text_out.specs.Text.{hexDigits, decimalDigits}
 
@@ -59,18 +58,7 @@ length-decimal n =
     (λ e. choice (λ (i : ℕ). i ≤ 3) (ltb n 100) 2 3 (λ d. omega arith) (λ d. omega arith)) in
     omega arith
 
-pub hex-put : (width n at r : ℕ) (us xs ys : List ℕ) → us ≡ hexDigits width n → r ≡ at + length us → ys ≡ put at us xs
-    → (r ≡ at + width) × (ys ≡ put at (hexDigits width n) xs)
-hex-put width n at r us xs ys e p q = (p ∙ ap (λ (k : ℕ). at + k) (ap length e ∙ length-hex width n), q ∙ ap (λ (l : List ℕ). put at l xs) e)
-
 -- what `io::decimal` puts
 pub decimal-is : (n k : ℕ) (text : List ℕ) → n < 1000 → Fewest 10 1 n k → take k text ≡ digits 10 k n → take k text ≡ decimalDigits n
 unfolding decimalDigits
 decimal-is n k text h f e = e ∙ ap (λ (j : ℕ). digits 10 j n) (fewest-one 10 1 n k _ (omega arith) f (places-fewest n h))
-
-pub decimal-put : (n at r : ℕ) (us xs ys : List ℕ) → us ≡ decimalDigits n → r ≡ at + length us → ys ≡ put at us xs
-    → (r ≡ at + length (decimalDigits n)) × (r ≤ at + 3) × (ys ≡ put at (decimalDigits n) xs)
-decimal-put n at r us xs ys e p q =
-    let l : r ≡ at + length (decimalDigits n) = p ∙ ap (λ (k : ℕ). at + k) (ap length e) in
-    let m = length-decimal n in
-    (l, omega arith, q ∙ ap (λ (l : List ℕ). put at l xs) e)

@@ -2,7 +2,8 @@ use mathlib.Core.Path.{_≡_, ap}
 use native.Mathlib.Omega.{arith}
 use lib.ListN.{length}
 use borrow.Author.Needs.{needs}
-use Rattle.text_out.proofs.Digits.{decimal-is, length-decimal, decimal-put}
+use Rattle.text_out.proofs.Digits.{decimal-is, length-decimal}
+use Rattle.text_out.proofs.Puts.{puts-as}
 use Rattle.text_out.proofs.decimal.Statement.{statement}
 use Rattle.text_out.proofs.decimal.Tie as tie
 
@@ -29,8 +30,7 @@ returns : tie.Need-returns
 returns c =
     let top = c .before .before .before .before .before .before .before .before in
     let h = c .before .before .before .before .before .decimal in
-    let b = c .before .before .bytes in
-    decimal-put _ _ _ _ _ _ (decimal-is _ _ _ (top .pre .0) (h .ensures .1 .0) (h .ensures .1 .1)) (b .ensures .0) (b .ensures .1)
+    puts-as _ _ _ _ _ _ (decimal-is _ _ _ (top .pre .0) (h .ensures .1 .0) (h .ensures .1 .1)) (c .before .before .bytes .ensures)
 
 pub decimal-spec : {M : Type 1} → statement M
 decimal-spec =

@@ -2,7 +2,8 @@ use mathlib.Core.Path.{_≡_, ap, _∙_}
 use native.Mathlib.Omega.{arith}
 use lib.ListN.{length}
 use borrow.Author.Needs.{needs}
-use Rattle.text_out.proofs.Digits.{hex-is, length-hex, hex-put}
+use Rattle.text_out.proofs.Digits.{hex-is, length-hex}
+use Rattle.text_out.proofs.Puts.{puts-as}
 use Rattle.text_out.proofs.hex.Statement.{statement}
 use Rattle.text_out.proofs.hex.Tie as tie
 
@@ -30,9 +31,7 @@ returns : tie.Need-returns
 returns c =
     let top = c .before .before .before .before .before .before .before .before in
     let h = c .before .before .before .before .before .hex in
-    let b = c .before .before .bytes in
-    hex-put _ _ _ _ _ _ _ (hex-is _ _ _ _ (top .pre .0, top .pre .1, top .pre .2) (h .ensures .1 .0) (h .ensures .1 .1)) (b .ensures .0)
-    (b .ensures .1)
+    puts-as _ _ _ _ _ _ (hex-is _ _ _ _ (top .pre .0, top .pre .1, top .pre .2) (h .ensures .1 .0) (h .ensures .1 .1)) (c .before .before .bytes .ensures)
 
 pub hex-spec : {M : Type 1} → statement M
 hex-spec =
