@@ -1,15 +1,11 @@
 -- Laws of lines: what functions that put text one after the other leave.
-use mathlib.Core.Path.{_≡_, refl, sym, ap, _∙_}
-use mathlib.Core.List.{List, [], _∷_, _++_, map, append-nil, append-assoc}
-use Prim.Native.Nat.{ℕ, zero, suc, _+_, _*_, _≤_, _<_}
-use native.Mathlib.Nat.{add-zero, mul-suc}
-use native.Mathlib.Numerals.{add-one}
+use mathlib.Core.Path.{_≡_, ap}
+use mathlib.Core.List.{List, [], _∷_}
+use Prim.Native.Nat.{ℕ, _+_, _≤_}
 use native.Mathlib.Omega.{arith}
-use lib.ListN.{length, getD, take}
-use lib.Seq.{length-take-le, take-suc}
+use lib.ListN.{length, take}
+use lib.Seq.{length-take-le}
 use Rattle.octets.specs.Ascii.{ascii}
-use Rattle.octets.specs.Bytes.{flat, put}
-use Rattle.octets.proofs.Puts.{length-put}
 use Rattle.text_out.specs.Text.{hexDigits, decimalDigits, Puts}
 use Rattle.text_out.proofs.Digits.{length-hex, length-decimal}
 use Rattle.text_out.proofs.Puts.{puts-then, puts-as}
@@ -60,36 +56,3 @@ numbered-put word n at a b c r xs ys zs us vs p q t u = (
   omega (arith, p .0, q .0, t .0, u .0, length-decimal n),
   puts-then _ _ _ _ _ _ _ _ (puts-then _ _ _ _ _ _ _ _ (puts-then _ _ _ _ _ _ _ _ p q) t) u,
 )
-
--- ---- a line for each of the first sections, of at most w bytes
-module _ (f : Section → List ℕ) (w : ℕ) where
-  flat-snoc : (xs : List Section) (x : Section) → flat (map f (xs ++ (x ∷ []))) ≡ flat (map f xs) ++ f x
-  flat-snoc [] x = append-nil (f x)
-  flat-snoc (y ∷ ys) x = ap (λ (l : List ℕ). f y ++ l) (flat-snoc ys x) ∙ sym (append-assoc (f y) (flat (map f ys)) (f x))
-
-  -- i lines, up to end
-  pub record Lines (sections : List Section) (at : ℕ) (old new : List ℕ) (end i : ℕ) : Type 0 where
-    pub short : end ≤ at + w * i
-    pub puts : Puts at (flat (map f (take i sections))) end old new
-
-  pub lines-none : (sections : List Section) (at : ℕ) (old : List ℕ) → Lines sections at old old at 0
-  unfolding put
-  lines-none sections at old = record { short = omega arith; puts = (sym (add-zero at), refl) }
-
-  pub lines-on : {sections : List Section} {at : ℕ} {old new next : List ℕ} {end r i : ℕ} (d : Section) → i < length sections
-      → (r ≤ end + w) × Puts end (f (getD sections i d)) r new next → Lines sections at old new end i → Lines sections at old next r (i + 1)
-  lines-on {sections} {at} {old} {new} {next} {end} {r} {i} d h p q =
-      record {
-        short = rw (add-one, mul-suc) (omega (arith, p .0, q .short));
-        puts = puts-as _ _ _ _ _ _ (sym (rw (add-one, take-suc sections i d h) (flat-snoc (take i sections) (getD sections i d))))
-            (puts-then _ _ _ _ _ _ _ _ (q .puts) (p .1));
-      }
-
-  pub lines-length : {sections : List Section} {at : ℕ} {old new : List ℕ} {end i : ℕ} → Lines sections at old new end i → length new ≡ length old
-  lines-length q = ap length (q .puts .1) ∙ length-put _ _ _
-
-  pub lines-all : {sections : List Section} {at : ℕ} {old new : List ℕ} {end i : ℕ} (count : ℕ) → i ≤ count → count ≤ i → Lines sections at old new end i
-      → (end ≤ at + w * count) × Puts at (flat (map f (take count sections))) end old new
-  lines-all {sections} {at} {old} {new} {end} {i} count h g q =
-      let e : i ≡ count = omega arith in
-      (rw e at (q .short), rw e at (q .puts))

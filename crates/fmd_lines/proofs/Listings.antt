@@ -8,13 +8,9 @@ use native.Mathlib.Omega.{arith}
 use borrow.Author.Tests.{eq-eqb, ne-eqb}
 use lib.Dec.{eqb}
 use lib.ListN.{length, take, drop, length-map}
-use lib.Seq.{take-at, length-take-le}
-use Rattle.io.specs.Counts.{Counts}
+use lib.Seq.{take-at}
 use Rattle.octets.specs.Ascii.{ascii}
 use Rattle.octets.specs.Bytes.{flat}
-use Rattle.octets.proofs.Puts.{length-put}
-use Rattle.text_out.specs.Text.{Puts}
-use Rattle.text_out.proofs.Puts.{puts-start}
 use Rattle.fmd_check.specs.Check.{Judged, fault, good, checkText}
 use Rattle.fmd_check.specs.Facts.{CheckedFacts}
 use Rattle.fmd_check.proofs.Facts.{check-facts}
@@ -71,10 +67,3 @@ module _ (s : List ℕ) (r : Reading) (ys zs : List Section) (n : length ys ≡ 
         let t : eqb k 0 ≡ true = eq-eqb k 0 (omega arith) in
         ap₂ _++_ (ap imageLine image-is) (ap (λ (xs : List Section). flat (map sectionLine xs)) sections-are)
         ∙ ap (linesOf (layoutIn s)) (rw t at (f ∙ answer-is))
-
--- what stands at the start of the buffer
-pub listing-is : (s us xs ys : List ℕ) (r : ℕ) → us ≡ listingOf s → Puts 0 us r xs ys → r ≤ length xs → Counts r ys × (take r ys ≡ listingOf s)
-listing-is s us xs ys r e p h =
-    let l : length ys ≡ length xs = ap length (p .1) ∙ length-put 0 us xs in
-    let m : r ≤ length ys = omega arith in
-    ((m, sym (length-take-le r ys m)), puts-start us xs ys r p h ∙ e)

@@ -1,33 +1,24 @@
-use Rattle.fmd_lines.proofs.Lines.{name-put}
+use mathlib.Core.Path.{_≡_, sym}
+use native.Mathlib.Omega.{arith}
 use lib.Seq.{length-take-le}
 use lib.ListN.{length}
-use native.Mathlib.Omega.{arith}
-use mathlib.Core.Path.{_≡_, sym}
 use borrow.Author.Needs.{needs}
+use Rattle.fmd_lines.proofs.Lines.{name-put}
 use Rattle.fmd_lines.proofs.name.Statement.{statement}
 use Rattle.fmd_lines.proofs.name.Tie as tie
-use Rattle.fmd_lines.proofs.name.Reads as reads
-use Rattle.fmd_lines.proofs.name.Lts as lts
-use Rattle.fmap_rules.proofs.name_length.Reads as name-length-reads
-use Rattle.text_out.proofs.bytes.Reads as bytes-reads
 
--- src/lib.rt:94:37
 slice-aggregate-name-length : tie.Need-slice-aggregate-name-length
 slice-aggregate-name-length c = search needs
 
--- src/lib.rt:94:9
 name-length-requires : tie.Need-name-length-requires
 name-length-requires c κs = search needs
 
--- src/lib.rt:95:30
 array-share-prefix-stored : tie.Need-array-share-prefix-stored
 array-share-prefix-stored c = search needs
 
--- src/lib.rt:95:30
 slice-aggregate-bytes : tie.Need-slice-aggregate-bytes
 slice-aggregate-bytes c = sym (length-take-le _ _ (c .before .before .name-length .ensures .1))
 
--- src/lib.rt:95:5
 bytes-requires : tie.Need-bytes-requires
 bytes-requires c κs =
     let top = c .before .before .before .before .before in
@@ -38,7 +29,6 @@ bytes-requires c κs =
 same-length : tie.Need-same-length
 same-length c = search needs
 
--- src/lib.rt:90:1
 returns : tie.Need-returns
 returns c = name-put _ _ _ _ _ _ (search needs) (c .before .before .before .before .before .name-length .ensures) (c .before .before .bytes .ensures)
 

@@ -1,45 +1,43 @@
-use Rattle.fmd_lines.proofs.Lines.{numbered-put}
-use Rattle.text_out.proofs.Digits.{length-decimal}
 use native.Mathlib.Omega.{arith}
 use borrow.Author.Needs.{needs}
+use Rattle.text_out.proofs.Digits.{length-decimal}
+use Rattle.fmd_lines.proofs.Lines.{numbered-put}
 use Rattle.fmd_lines.proofs.numbered.Statement.{statement}
 use Rattle.fmd_lines.proofs.numbered.Tie as tie
-use Rattle.fmd_lines.proofs.numbered.Reads as reads
-use Rattle.fmd_lines.proofs.numbered.Lts as lts
-use Rattle.text_out.proofs.bytes.Reads as bytes-reads
-use Rattle.text_out.proofs.decimal.Reads as decimal-reads
 
--- src/lib.rt:65:9
 bytes-requires : tie.Need-bytes-requires
 bytes-requires c κs = search needs
 
--- src/lib.rt:66:37
 slice-aggregate-bytes : tie.Need-slice-aggregate-bytes
 slice-aggregate-bytes c = search needs
 
--- src/lib.rt:66:9
 bytes-requires-2 : tie.Need-bytes-requires-2
 bytes-requires-2 c κs = search needs
 
--- src/lib.rt:67:9
 decimal-requires : tie.Need-decimal-requires
 decimal-requires c κs = search needs
 
--- src/lib.rt:68:29
 slice-aggregate-bytes-2 : tie.Need-slice-aggregate-bytes-2
 slice-aggregate-bytes-2 c = search needs
 
--- src/lib.rt:68:5
 bytes-requires-3 : tie.Need-bytes-requires-3
-bytes-requires-3 c κs = omega (arith, c .before .before .before .before .before .before .before .before .before .before .before .before .before .bytes .ensures .0, c .before .before .before .before .before .before .before .before .bytes2 .ensures .0, c .before .before .before .before .decimal .ensures .0, length-decimal (c .before .before .before .before .before .before .before .before .before .before .before .before .before .before .before .before .before .args .n), (c .before .before .before .before .before .before .before .before .before .before .before .before .before .before .before .before .before .pre) .1)
+bytes-requires-3 c κs =
+    let s1 = c .before .before .before .before in
+    let s2 = s1 .before .before .before .before in
+    let s3 = s2 .before .before .before .before .before in
+    let top = s3 .before .before .before .before in
+    omega (arith, s3 .bytes .ensures .0, s2 .bytes2 .ensures .0, s1 .decimal .ensures .0, length-decimal (top .args .n), (top .pre) .1)
 
--- src/lib.rt:60:1
 same-length : tie.Need-same-length
 same-length c = search needs
 
--- src/lib.rt:60:1
 returns : tie.Need-returns
-returns c = numbered-put _ _ _ _ _ _ _ _ _ _ _ _ (c .before .before .before .before .before .before .before .before .before .before .before .before .before .before .before .before .bytes .ensures) (c .before .before .before .before .before .before .before .before .before .before .before .bytes2 .ensures) (c .before .before .before .before .before .before .before .decimal .ensures) (c .before .before .bytes3 .ensures)
+returns c =
+    let s1 = c .before .before in
+    let s2 = s1 .before .before .before .before .before in
+    let s3 = s2 .before .before .before .before in
+    let s4 = s3 .before .before .before .before .before in
+    numbered-put _ _ _ _ _ _ _ _ _ _ _ _ (s4 .bytes .ensures) (s3 .bytes2 .ensures) (s2 .decimal .ensures) (s1 .bytes3 .ensures)
 
 pub numbered-spec : {M : Type 1} → statement M
 numbered-spec =
