@@ -3,7 +3,7 @@
 
 use crate::disk::Scratch;
 use crate::flash::{map_len, AREA_LEN, HEADER_LEN};
-use crate::layout::{changed_bytes, changed_numbers, changed_tokens, joined, Layout, Wanted};
+use crate::layout::{changed_bytes, changed_numbers, changed_tokens, joined, Calls, Layout, Wanted};
 use crate::peer;
 use crate::random::Random;
 use std::ffi::OsStr;
@@ -16,14 +16,6 @@ const SAME: usize = 400;
 const CHANGED: usize = 2400;
 const FILL: u8 = 0xFF;
 const NUMBER_MAX: u128 = 0xFFFF_FFFF;
-
-/// The implementation that is held to fmaptool.
-pub struct Ours<'a> {
-    /// The stated size, or the number of the refusal.
-    pub read: &'a dyn Fn(&[u8]) -> Result<u64, u32>,
-    /// Writes the map into an image; 0 or the number of the refusal.
-    pub write: &'a dyn Fn(&[u8], &mut [u8]) -> u32,
-}
 
 /// What fmaptool makes of a text.
 struct Compiled {
@@ -51,7 +43,7 @@ fn compiled(text: &[u8]) -> Compiled {
 }
 
 /// At least 300 texts that both accept: the image that is written has fmaptool's map at section FMAP and nothing else.
-pub fn makes_the_same_maps(ours: &Ours) {
+pub fn makes_the_same_maps(ours: &Calls) {
     let mut random = Random::new(11);
     for k in 0..SAME {
         let sections = if k % 20 == 0 { 2 + random.below(127) } else { 2 + random.below(14) };
@@ -69,7 +61,7 @@ pub fn makes_the_same_maps(ours: &Ours) {
 }
 
 /// Each kind of difference shows as it is listed, in docs/DECISIONS.md too.
-pub fn differs_as_listed(ours: &Ours) {
+pub fn differs_as_listed(ours: &Calls) {
     let file = crate::host().join("../docs/DECISIONS.md");
     let decisions = fs::read_to_string(&file).unwrap_or_else(|error| panic!("{}: {error}", file.display()));
     for kind in KINDS {
@@ -77,7 +69,7 @@ pub fn differs_as_listed(ours: &Ours) {
         assert!(decisions.contains(&line), "docs/DECISIONS.md has no line that begins with \"{line}\"");
         for text in (kind.texts)() {
             let theirs = compiled(&text);
-            let number = (ours.read)(&text).err().unwrap_or(0);
+            let number = ours.size(&text).err().unwrap_or(0);
             assert!(kind.numbers.contains(&number), "{}: {number}, {}", kind.name, shown(&text));
             let accepted = theirs.map.is_some();
             assert_eq!(accepted, number != 0, "{}: {}\n{}", kind.name, shown(&text), theirs.said);
@@ -89,7 +81,7 @@ pub fn differs_as_listed(ours: &Ours) {
 }
 
 /// Texts changed at random: where the two differ, the text is of a listed kind.
-pub fn differs_in_nothing_else(ours: &Ours) {
+pub fn differs_in_nothing_else(ours: &Calls) {
     let mut random = Random::new(13);
     let (mut accepted, mut refused, mut differing) = (0, 0, 0);
     for k in 0..CHANGED {
@@ -104,7 +96,7 @@ pub fn differs_in_nothing_else(ours: &Ours) {
         let theirs = compiled(&text);
         match difference(ours, &text, &theirs) {
             Some(UNLISTED) => {
-                let number = (ours.read)(&text).err().unwrap_or(0);
+                let number = ours.size(&text).err().unwrap_or(0);
                 panic!("ours {number}, fmaptool: {}\n{}", theirs.said, shown(&text));
             }
             Some(_) => differing += 1,
@@ -119,8 +111,8 @@ pub fn differs_in_nothing_else(ours: &Ours) {
 const UNLISTED: &str = "unlisted";
 
 /// The kind in which the two differ on the text, if they do.
-fn difference(ours: &Ours, text: &[u8], theirs: &Compiled) -> Option<&'static str> {
-    match ((ours.read)(text), &theirs.map) {
+fn difference(ours: &Calls, text: &[u8], theirs: &Compiled) -> Option<&'static str> {
+    match (ours.size(text), &theirs.map) {
         (Err(_), None) => None,
         (Ok(size), Some(map)) => {
             let mut image = vec![FILL; size as usize];

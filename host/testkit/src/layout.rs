@@ -1,13 +1,34 @@
 //! Layout texts for the tests: good layouts drawn at random and spelled in any of their ways, and texts changed from
 //! such ones.
 
-use crate::flash::map_len;
+use crate::flash::{map_len, NAME_LEN};
 use crate::random::Random;
 use std::collections::BTreeSet;
 
 const IMAGE_MIN: u64 = 98;
 const SIGNS: &[u8] = b"@{}()#";
 const LEVELS: usize = 8;
+
+/// The calls on a layout text, as the C interface has them, of the implementation that is tested.
+pub struct Calls {
+    /// Text and name; size, address and count.
+    pub read: fn(&[u8], &mut [u8], &mut u64, &mut u64, &mut u64) -> u32,
+    /// Text and records; count.
+    pub records: fn(&[u8], &mut [u8], &mut u64) -> u32,
+    /// Text and image.
+    pub write: fn(&[u8], &mut [u8]) -> u32,
+}
+
+impl Calls {
+    /// The stated size, or the number of the refusal.
+    pub fn size(&self, text: &[u8]) -> Result<u64, u32> {
+        let mut size = 0;
+        match (self.read)(text, &mut [0; NAME_LEN], &mut size, &mut 0, &mut 0) {
+            0 => Ok(size),
+            number => Err(number),
+        }
+    }
+}
 
 /// A section, with its place from its parent's start.
 #[derive(Clone, Debug)]

@@ -1,20 +1,10 @@
 //! The library beside fmaptool.
 #![cfg(feature = "fmd")]
 
-use testkit::fmaptool::{self, Ours};
-use testkit::peer;
-use usigrambal::raw;
+mod layout;
 
-const OURS: Ours = Ours {
-    read: &|text| {
-        let mut size = 0;
-        match raw::fmd_read(text, &mut [0; 32], &mut size, &mut 0, &mut 0) {
-            0 => Ok(size),
-            number => Err(number),
-        }
-    },
-    write: &raw::fmd_write,
-};
+use layout::CALLS;
+use testkit::{fmaptool, peer};
 
 fn present() -> bool {
     peer::present(fmaptool::TOOL, fmaptool::PACKAGE)
@@ -23,20 +13,20 @@ fn present() -> bool {
 #[test]
 fn fmaptool_makes_the_same_maps() {
     if present() {
-        fmaptool::makes_the_same_maps(&OURS);
+        fmaptool::makes_the_same_maps(&CALLS);
     }
 }
 
 #[test]
 fn fmaptool_differs_as_listed() {
     if present() {
-        fmaptool::differs_as_listed(&OURS);
+        fmaptool::differs_as_listed(&CALLS);
     }
 }
 
 #[test]
 fn fmaptool_differs_in_nothing_else() {
     if present() {
-        fmaptool::differs_in_nothing_else(&OURS);
+        fmaptool::differs_in_nothing_else(&CALLS);
     }
 }

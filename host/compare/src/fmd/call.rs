@@ -17,7 +17,7 @@ const SHOWN: usize = 600;
 /// All calls with one text, and an image of the size that it states, if that is not large; answers what reading does.
 pub fn all(run: &mut Run, text: &[u8]) -> Result<u32, Difference> {
     let (answer, size) = read(run, text, NAME_LEN)?;
-    let fmap = records(run, text, LIST_LEN)?;
+    let (_, fmap) = records(run, text, LIST_LEN)?;
     let image_len = size.map_or(ANY_IMAGE, |size| size as usize);
     if image_len <= WRITTEN {
         write(run, text, image_len, fmap)?;
@@ -44,8 +44,8 @@ pub fn read(run: &mut Run, text: &[u8], name_len: usize) -> Result<(u32, Option<
     Ok((library, size))
 }
 
-/// Answers the position of section FMAP where the text is accepted.
-pub fn records(run: &mut Run, text: &[u8], list_len: usize) -> Result<Option<usize>, Difference> {
+/// Answers the number, and the position of section FMAP where the text is accepted.
+pub fn records(run: &mut Run, text: &[u8], list_len: usize) -> Result<(u32, Option<usize>), Difference> {
     let text_1 = Lent::holding(text, &mut run.random);
     let mut list_1 = Lent::of_length(list_len, &mut run.random);
     let (text_2, mut list_2) = (text_1.clone(), list_1.clone());
@@ -59,7 +59,7 @@ pub fn records(run: &mut Run, text: &[u8], list_len: usize) -> Result<Option<usi
     let buffers = [Lent::pair("text", &text_1, &text_2), Lent::pair("records", &list_1, &list_2)];
     let answers = (Answers(library, [count_1]), Answers(second, [count_2]));
     run.compare("fmd_records", arguments, answers, &buffers)?;
-    Ok(fmap)
+    Ok((library, fmap))
 }
 
 /// The position in the record of section FMAP.

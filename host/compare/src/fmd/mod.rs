@@ -1,4 +1,5 @@
 mod call;
+mod draft;
 mod edges;
 mod faults;
 mod library;

@@ -5,9 +5,9 @@ use second::rules::{
 };
 
 pub const RULES_TO_BREAK: &[&str] = &[
-    "A2", "Q4", "Q5", "Q6", "R1", "R3", "R4", "R17", "R18", "R19", "R20", "R21", "R22", "R33", "R34", "L1",
-    "L2", "L3", "L4", "L5", "L6", "L7", "L8", "L9", "L10", "L11", "L12", "L13", "L14", "L15", "L16", "L17",
-    "L18", "E3",
+    "A2", "Q4", "Q5", "Q6", "Q7", "R1", "R3", "R4", "R17", "R18", "R19", "R20", "R21", "R22", "R33", "R34",
+    "L1", "L2", "L3", "L4", "L5", "L6", "L7", "L8", "L9", "L10", "L11", "L12", "L13", "L14", "L15", "L16",
+    "L17", "L18", "E3",
 ];
 
 pub fn all() -> Vec<Variant> {
@@ -238,6 +238,7 @@ fn resolution() -> Vec<Variant> {
         variant("size-1-refused", "L14", |r| r.fmd.size_min = 2),
         variant("size-below-0-taken", "L14", |r| r.fmd.size_min = i128::MIN),
         variant("overlap-taken", "L14", |r| r.fmd.overlap_refused = false),
+        variant("descending-taken", "L14", |r| r.fmd.descending_refused = false),
         variant("touching-refused", "L14", |r| r.fmd.touching_refused = true),
         variant("end-within-the-image", "L14", |r| r.fmd.within = Within::Image),
         variant("end-unjudged", "L14", |r| r.fmd.within = Within::Anything),
@@ -275,7 +276,7 @@ fn lists_and_maps() -> Vec<Variant> {
         variant("image-name-at-21", "L17", |r| r.fmap.image_name.at = 21),
         variant("count-of-no-byte", "L17", |r| r.fmap.count.len = 0),
         variant("map-at-the-image-start", "L18", |r| r.fmd.map_at = MapAt::ImageStart),
-        variant("map-at-fmap's-offset", "L18", |r| r.fmd.map_at = MapAt::FmapOffset),
+        variant("map-at-fmap's-offset", "Q7", |r| r.fmd.map_at = MapAt::FmapOffset),
         variant("map-at-fmap's-end", "L18", |r| r.fmd.map_at = MapAt::FmapEnd),
         variant("room-for-top-level", "L18", |r| r.fmd.room_for = Counted::TopLevel),
         variant("room-for-leaves", "L18", |r| r.fmd.room_for = Counted::Leaves),

@@ -125,10 +125,16 @@ impl Layout {
             };
         let place = Place { offset, size, position };
         // L14.
-        let after = before.is_none_or(|before| match offset.cmp(&end(before)) {
-            std::cmp::Ordering::Less => !rules.overlap_refused,
-            std::cmp::Ordering::Equal => !rules.touching_refused,
-            std::cmp::Ordering::Greater => true,
+        let after = before.is_none_or(|before| {
+            if offset > end(before) {
+                true
+            } else if offset == end(before) {
+                !rules.touching_refused
+            } else if end(place) <= before.offset {
+                !rules.descending_refused
+            } else {
+                !rules.overlap_refused
+            }
         });
         let within = match rules.within {
             Within::Parent => end(place) <= parent_size,

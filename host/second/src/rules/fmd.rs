@@ -182,7 +182,7 @@ pub struct FmdRules {
     pub end_before: usize,
     pub lowest_at_one_place: bool,
 
-    /// R18: the rows of a bad number, of a bad name and of what is out of grammar.
+    /// R18.
     pub section_names_judged: bool,
     /// R19.
     pub compared: Compared,
@@ -259,6 +259,7 @@ pub struct FmdRules {
     /// L14.
     pub size_min: i128,
     pub overlap_refused: bool,
+    pub descending_refused: bool,
     pub touching_refused: bool,
     pub within: Within,
     /// L14: the bits in which offset and size are added.
@@ -386,6 +387,7 @@ pub const FMD: FmdRules = FmdRules {
     last_undecided: false,
     size_min: 1,
     overlap_refused: true,
+    descending_refused: true,
     touching_refused: false,
     within: Within::Parent,
     sum_mask: u64::MAX,
