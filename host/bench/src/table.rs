@@ -16,11 +16,20 @@ struct Side<'a> {
     best: f64,
 }
 
+/// How a row is told.
+#[derive(Clone, Copy, PartialEq)]
+enum Told {
+    /// As the speed of both on so many bytes.
+    Speed(usize),
+    /// In units: the peer is the unit, and ours may take at most so many.
+    Units(f64),
+    /// As the time of both; ours may take at most so many times as long as the peer.
+    Times(f64),
+}
+
 struct Row<'a> {
     what: &'static str,
-    size: usize,
-    /// A row in units: the peer is the unit, and ours may take at most so many.
-    most: Option<f64>,
+    told: Told,
     ours: Side<'a>,
     peer: Side<'a>,
 }
@@ -39,7 +48,7 @@ impl<'a> Table<'a> {
         ours: impl FnMut() -> A + 'a,
         peer: impl FnMut() -> B + 'a,
     ) {
-        self.rows.push(Row { what, size, most: None, ours: side(ours), peer: side(peer) });
+        self.rows.push(Row { what, told: Told::Speed(size), ours: side(ours), peer: side(peer) });
     }
 
     /// Adds a row in units: our call, which may take at most `most` times as long as the unit.
@@ -50,7 +59,18 @@ impl<'a> Table<'a> {
         ours: impl FnMut() -> A + 'a,
         unit: impl FnMut() -> B + 'a,
     ) {
-        self.rows.push(Row { what, size: 0, most: Some(most), ours: side(ours), peer: side(unit) });
+        self.rows.push(Row { what, told: Told::Units(most), ours: side(ours), peer: side(unit) });
+    }
+
+    /// Adds a row of times: our work, which may take at most `most` times as long as the peer's.
+    pub fn times<A, B>(
+        &mut self,
+        what: &'static str,
+        most: f64,
+        ours: impl FnMut() -> A + 'a,
+        peer: impl FnMut() -> B + 'a,
+    ) {
+        self.rows.push(Row { what, told: Told::Times(most), ours: side(ours), peer: side(peer) });
     }
 
     /// Times all rows, round by round.
@@ -72,9 +92,11 @@ impl<'a> Table<'a> {
         println!("Speed, best of {ROUNDS}; 1 MB is 10^6 bytes.");
         println!("The ratio is ours / peer: 1.00x the same, above it ours is faster.");
         println!("{:<34} {:>9} {:>15} {:>15} {:>8}", "what / peer", "size", "ours", "peer", "ratio");
-        for row in self.grouped().into_iter().filter(|row| row.most.is_none()) {
-            let (ours, peer) = (row.speed(&row.ours), row.speed(&row.peer));
-            let size = size_text(row.size);
+        for row in self.grouped() {
+            let Told::Speed(size) = row.told else { continue };
+            let speed = |side: &Side| size as f64 / side.best / 1e6;
+            let (ours, peer) = (speed(&row.ours), speed(&row.peer));
+            let size = size_text(size);
             println!("{:<34} {size:>9} {ours:>10.0} MB/s {peer:>10.0} MB/s {:>7.2}x", row.what, ours / peer);
         }
     }
@@ -86,9 +108,19 @@ impl<'a> Table<'a> {
             "what, in units of zlib's crc32 over 16 KiB", "ours", "units", "at most"
         );
         for row in &self.rows {
-            let Some(most) = row.most else { continue };
+            let Told::Units(most) = row.told else { continue };
             let micros = row.ours.best * 1e6;
             println!("{:<44} {micros:>7.1} us {:>8.2} {most:>9.0}", row.what, row.ours.best / row.peer.best);
+        }
+    }
+
+    /// The rows of times.
+    pub fn print_times(&self) {
+        println!("{:<44} {:>10} {:>10} {:>8} {:>9}", "time: what / peer", "ours", "peer", "ratio", "at most");
+        for row in &self.rows {
+            let Told::Times(most) = row.told else { continue };
+            let (ours, peer) = (row.ours.best * 1e6, row.peer.best * 1e6);
+            println!("{:<44} {ours:>7.1} us {peer:>7.1} us {:>8.2} {most:>9.2}", row.what, ours / peer);
         }
     }
 
@@ -98,12 +130,6 @@ impl<'a> Table<'a> {
         let mut rows: Vec<_> = self.rows.iter().collect();
         rows.sort_by_key(|row| first(row));
         rows
-    }
-}
-
-impl Row<'_> {
-    fn speed(&self, side: &Side) -> f64 {
-        self.size as f64 / side.best / 1e6
     }
 }
 

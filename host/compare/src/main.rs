@@ -7,10 +7,10 @@
 mod crc;
 #[cfg(feature = "fmap")]
 mod fmap;
+mod fmd;
 #[cfg(feature = "gpt")]
 mod gpt;
 mod guid;
-#[cfg(any(feature = "gpt", feature = "fmap"))]
 mod number;
 mod run;
 mod topic;
@@ -29,6 +29,7 @@ const TOPICS: &[Topic] = &[
     gpt::TOPIC,
     #[cfg(feature = "fmap")]
     fmap::TOPIC,
+    fmd::TOPIC,
 ];
 
 fn main() -> ExitCode {

@@ -39,7 +39,6 @@ impl Display for Cell {
 pub struct Difference(String);
 
 impl Difference {
-    #[cfg_attr(not(feature = "gpt"), allow(dead_code))]
     pub fn new(what: String) -> Difference {
         Difference(what)
     }

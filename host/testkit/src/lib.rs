@@ -3,6 +3,8 @@
 pub mod disk;
 pub mod fixture;
 pub mod flash;
+pub mod fmaptool;
+pub mod layout;
 pub mod listing;
 pub mod peer;
 pub mod random;

@@ -6,6 +6,8 @@ mod disk;
 #[cfg(feature = "fmap")]
 pub mod flash;
 mod guid;
+#[cfg(feature = "fmd")]
+pub mod layout;
 pub mod raw;
 mod refusal;
 

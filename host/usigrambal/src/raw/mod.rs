@@ -3,11 +3,15 @@
 
 #[cfg(feature = "fmap")]
 mod fmap;
+#[cfg(feature = "fmd")]
+mod fmd;
 #[cfg(feature = "gpt")]
 mod gpt;
 
 #[cfg(feature = "fmap")]
 pub use fmap::*;
+#[cfg(feature = "fmd")]
+pub use fmd::*;
 #[cfg(feature = "gpt")]
 pub use gpt::*;
 
