@@ -7,10 +7,10 @@ ghost use lib.Dec.{eqb};
 ghost use Rattle.octets.specs.Tests.{any, findIx};
 ghost use Rattle.fmap_rules.specs.Map.{signature, areaOf, areasIn, blank, goodMap};
 ghost use Rattle.fmap.specs.Lowest.{firstFrom};
-ghost use Rattle.fmap.specs.Find.{foundReply, signedAt, findMap};
+ghost use Rattle.fmap.specs.Find.{accepted, foundReply, signedAt, findMap};
 ghost use Rattle.fmap_carry.specs.Carry.{judgedNumber};
 ghost use Rattle.fmap.specs.Carry.{carriedNumber, carryTo, carryImages};
-ghost use Rattle.fmap.specs.Areas.{countReply, lookupReply, looked, countAreas, areaIn, areaNumbered, areaNamed, called};
+ghost use Rattle.fmap.specs.Areas.{countReply, lookupReply, indexReply, looked, countAreas, areaIn, areaNumbered, areaNamed, called, indexIn, indexNamed};
 use fmap_carry::Judged;
 use fmap_rules::Area;
 use fmap_rules::Extent;
@@ -33,6 +33,15 @@ pub enum AreaCount {
 
 pub enum Lookup {
     There,
+    Nothing,
+    WrongLength,
+    NoSignature,
+    NoGoodMap,
+}
+
+// The number of an area in the map, from 0.
+pub enum AreaIndex {
+    At(u32),
     Nothing,
     WrongLength,
     NoSignature,
@@ -166,7 +175,7 @@ fn area_in(areas: &[u8], k: usize) -> AreaFound
 }
 
 // Area k of the map, from 0.
-pub fn area(image: &[u8], k: u32) -> AreaFound
+pub fn area(image: &[u8], k: u64) -> AreaFound
     ensures { λ r. ⌜ looked r ≡ areaNumbered (now (image .entry)) k ⌝ }
 {
     match find(image) {
@@ -215,6 +224,29 @@ pub fn area_named(image: &[u8], name: &[u8]) -> AreaFound
         Found::NoSignature => no_area(Lookup::NoSignature),
         Found::NoGoodMap => no_area(Lookup::NoGoodMap),
         Found::At(p) => area_called(fmap_rules::areas_at(image, p), name),
+    }
+}
+
+fn index_called(areas: &[u8], name: &[u8]) -> AreaIndex
+    requires { ⌜ length (now areas) ≤ 5376 ⌝ }
+    ensures { λ r. ⌜ indexReply r ≡ accepted (indexIn (areasIn (now (areas .entry))) (findIx (called (now (name .entry))) (areasIn (now (areas .entry))))) ⌝ }
+{
+    let k = find_called(areas, name);
+    if areas.len() / 42 <= k {
+        return AreaIndex::Nothing;
+    }
+    AreaIndex::At(k as u32)
+}
+
+// The number, from 0, of the area of the map with a name, given without the zeros that follow it there.
+pub fn area_index(image: &[u8], name: &[u8]) -> AreaIndex
+    ensures { λ r. ⌜ indexReply r ≡ indexNamed (now (image .entry)) (now (name .entry)) ⌝ }
+{
+    match find(image) {
+        Found::WrongLength => AreaIndex::WrongLength,
+        Found::NoSignature => AreaIndex::NoSignature,
+        Found::NoGoodMap => AreaIndex::NoGoodMap,
+        Found::At(p) => index_called(fmap_rules::areas_at(image, p), name),
     }
 }
 
