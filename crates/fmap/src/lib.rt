@@ -232,10 +232,10 @@ fn index_called(areas: &[u8], name: &[u8]) -> AreaIndex
     ensures { λ r. ⌜ indexReply r ≡ accepted (indexIn (areasIn (now (areas .entry))) (findIx (called (now (name .entry))) (areasIn (now (areas .entry))))) ⌝ }
 {
     let k = find_called(areas, name);
-    if areas.len() / 42 <= k {
-        return AreaIndex::Nothing;
+    if k < areas.len() / 42 {
+        return AreaIndex::At(k as u32);
     }
-    AreaIndex::At(k as u32)
+    AreaIndex::Nothing
 }
 
 // The number, from 0, of the area of the map with a name, given without the zeros that follow it there.

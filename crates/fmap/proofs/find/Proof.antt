@@ -1,11 +1,11 @@
 use mathlib.Core.Path.{sym, _∙_}
-use Prim.Native.Nat.{_-_, _+_}
+use Prim.Native.Nat.{_-_}
 use native.Mathlib.Omega.{arith}
 use lib.ListN.{length}
 use borrow.Author.Needs.{needs}
 use denote.Ref.{now}
 use Rattle.fmap.specs.Find.{signedAt}
-use Rattle.fmap.proofs.Lowest.{first-least}
+use Rattle.fmap.proofs.Lowest.{first-from}
 use Rattle.fmap.proofs.Finding.{Looking, room, looking-starts, looking-goes, looking-hits, looking-ends, find-40, find-41, find-42, finds, too-short, too-long, in-range, some-below, none-below}
 use Rattle.fmap.proofs.find.Statement.{statement}
 use Rattle.fmap.proofs.find.Tie as tie
@@ -55,14 +55,10 @@ next-signed-requires-2 c κs = omega (arith, room _ _ (c .before .before .before
 
 loop-less : tie.Need-loop-less Inv-loop μ-loop
 loop-less c =
-    let s = now (c .before .before .before .before .before .before .before .before .before .before .args .image) in
     omega (
       arith,
-      (c .next-signed2 .ensures .0),
-      first-least (length s - ((c .before .before .before .before .loop .at) + 6))
-          ((c .before .before .before .before .loop .at) + 6) (signedAt s),
-      room s _ (c .before .before .before .before .loop .inv)
-          (c .before .before .before .loop-test .taken),
+      first-from _ _ _ _ (c .next-signed2 .ensures .0),
+      room _ _ (c .before .before .before .before .loop .inv) (c .before .before .before .loop-test .taken),
     )
 
 loop-again : tie.Need-loop-again Inv-loop μ-loop

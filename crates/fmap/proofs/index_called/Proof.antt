@@ -7,14 +7,14 @@ use Rattle.fmap.proofs.index_called.Tie as tie
 find-called-requires : tie.Need-find-called-requires
 find-called-requires c κs = search needs
 
-returns : tie.Need-returns
-returns c = index-none _ _ _ (c .before .find-called .ensures) (c .if1 .taken)
-
 cast-t7 : tie.Need-cast-t7
 cast-t7 c = search needs
 
+returns : tie.Need-returns
+returns c = index-there _ _ _ (c .before .find-called .ensures) (omega arith)
+
 returns-2 : tie.Need-returns-2
-returns-2 c = index-there _ _ _ (c .before .find-called .ensures) (omega arith)
+returns-2 c = index-none _ _ _ (c .before .find-called .ensures) (omega arith)
 
 pub index-called-spec : {M : Type 1} → statement M
-index-called-spec = tie.close (tie.spec find-called-requires returns cast-t7 returns-2)
+index-called-spec = tie.close (tie.spec find-called-requires cast-t7 returns returns-2)
