@@ -5,12 +5,9 @@
 //! the second implementation and demands that it reports each; `--seed N` sets the random inputs.
 
 mod crc;
-#[cfg(feature = "fmap")]
 mod fmap;
-#[cfg(feature = "gpt")]
 mod gpt;
 mod guid;
-#[cfg(any(feature = "gpt", feature = "fmap"))]
 mod number;
 mod run;
 mod topic;
@@ -25,9 +22,7 @@ const SEED: u64 = 0x5551_4752_414D_4241;
 const TOPICS: &[Topic] = &[
     guid::TOPIC,
     crc::TOPIC,
-    #[cfg(feature = "gpt")]
     gpt::TOPIC,
-    #[cfg(feature = "fmap")]
     fmap::TOPIC,
 ];
 

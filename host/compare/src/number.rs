@@ -12,7 +12,6 @@ impl Number {
         Number { store: [random.number(), random.number(), random.number()] }
     }
 
-    #[cfg_attr(not(feature = "gpt"), allow(dead_code))]
     pub fn value(&self) -> u64 {
         self.store[1]
     }

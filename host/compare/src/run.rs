@@ -16,7 +16,6 @@ pub struct Run<'a> {
 
 /// What a call can be seen to do.
 #[derive(Clone, Copy, Debug, PartialEq, Eq, PartialOrd, Ord)]
-#[cfg_attr(not(feature = "gpt"), allow(dead_code))]
 pub enum Cell {
     /// Answers 0 or the refusal's number.
     Answer(u32),
@@ -39,7 +38,6 @@ impl Display for Cell {
 pub struct Difference(String);
 
 impl Difference {
-    #[cfg_attr(not(feature = "gpt"), allow(dead_code))]
     pub fn new(what: String) -> Difference {
         Difference(what)
     }

@@ -1,5 +1,4 @@
 use crate::run::{Cell, Outcome, Run};
-#[cfg(any(feature = "gpt", feature = "fmap"))]
 use second::rules::Row;
 use second::{Rules, RULES};
 
@@ -35,12 +34,10 @@ pub fn variant(name: impl Into<String>, rule: &'static str, change: impl FnOnce(
 }
 
 /// An order of rows in the rules.
-#[cfg(any(feature = "gpt", feature = "fmap"))]
 pub type Order = fn(&mut Rules) -> &mut &'static [Row];
 
 /// The order with each row left out, and with each two neighbours exchanged, but for the row `alone` and the one
 /// before it, which never hold together.
-#[cfg(any(feature = "gpt", feature = "fmap"))]
 pub fn order_variants(call: &str, rule: &'static str, order: Order, alone: Option<Row>) -> Vec<Variant> {
     let rows = *order(&mut RULES.clone());
     let without = |k: usize| {

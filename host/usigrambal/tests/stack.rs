@@ -1,5 +1,4 @@
 //! Every disk call runs on a thread with a stack of 64 KiB.
-#![cfg(feature = "gpt")]
 
 use std::thread;
 use usigrambal::raw::{self, NewPartition};
