@@ -19,12 +19,7 @@ use topic::{Topic, Variant};
 
 const SEED: u64 = 0x5551_4752_414D_4241;
 
-const TOPICS: &[Topic] = &[
-    guid::TOPIC,
-    crc::TOPIC,
-    gpt::TOPIC,
-    fmap::TOPIC,
-];
+const TOPICS: &[Topic] = &[guid::TOPIC, crc::TOPIC, gpt::TOPIC, fmap::TOPIC];
 
 fn main() -> ExitCode {
     let Some((self_test, seed)) = options() else {
