@@ -1,10 +1,10 @@
 //! The ratio table: every row is measured in one run, ours and the peer in turn, best of several.
 
-use std::time::{Duration, Instant};
+use crate::clock;
 
 const ROUNDS: usize = 15;
-/// One timing lasts at least so long, so that the clock's step does not count.
-const TIMING: Duration = Duration::from_millis(2);
+/// One timing lasts at least so many seconds, so that the clock's step does not count.
+const TIMING: f64 = 0.002;
 
 /// Does the work of a row so many times.
 type Work<'a> = Box<dyn FnMut(u64) + 'a>;
@@ -19,10 +19,18 @@ struct Side<'a> {
 struct Row<'a> {
     what: &'static str,
     size: usize,
-    /// A row in units: the peer is the unit, and ours may take at most so many.
-    most: Option<f64>,
+    shown: Shown,
     ours: Side<'a>,
     peer: Side<'a>,
+}
+
+/// What a row shows of the two times.
+#[derive(Clone, Copy, PartialEq)]
+enum Shown {
+    /// Speeds on `size` bytes; ours should have at least this part of the peer's.
+    Speed(Option<f64>),
+    /// How many units ours takes, where the peer is the unit; it may take at most so many.
+    Units(&'static str, f64),
 }
 
 #[derive(Default)]
@@ -39,18 +47,39 @@ impl<'a> Table<'a> {
         ours: impl FnMut() -> A + 'a,
         peer: impl FnMut() -> B + 'a,
     ) {
-        self.rows.push(Row { what, size, most: None, ours: side(ours), peer: side(peer) });
+        self.add(what, size, Shown::Speed(None), ours, peer);
+    }
+
+    /// The same, where ours should have at least this part of the peer's speed.
+    pub fn row_at_least<A, B>(
+        &mut self,
+        (what, least): (&'static str, f64),
+        size: usize,
+        ours: impl FnMut() -> A + 'a,
+        peer: impl FnMut() -> B + 'a,
+    ) {
+        self.add(what, size, Shown::Speed(Some(least)), ours, peer);
     }
 
     /// Adds a row in units: our call, which may take at most `most` times as long as the unit.
     pub fn units<A, B>(
         &mut self,
-        what: &'static str,
-        most: f64,
+        (what, most): (&'static str, f64),
         ours: impl FnMut() -> A + 'a,
-        unit: impl FnMut() -> B + 'a,
+        (name, unit): (&'static str, impl FnMut() -> B + 'a),
     ) {
-        self.rows.push(Row { what, size: 0, most: Some(most), ours: side(ours), peer: side(unit) });
+        self.add(what, 0, Shown::Units(name, most), ours, unit);
+    }
+
+    fn add<A, B>(
+        &mut self,
+        what: &'static str,
+        size: usize,
+        shown: Shown,
+        ours: impl FnMut() -> A + 'a,
+        peer: impl FnMut() -> B + 'a,
+    ) {
+        self.rows.push(Row { what, size, shown, ours: side(ours), peer: side(peer) });
     }
 
     /// Times all rows, round by round.
@@ -69,26 +98,38 @@ impl<'a> Table<'a> {
     }
 
     pub fn print(&self) {
-        println!("Speed, best of {ROUNDS}; 1 MB is 10^6 bytes.");
+        println!("Speed by processor time, best of {ROUNDS}; 1 MB is 10^6 bytes.");
         println!("The ratio is ours / peer: 1.00x the same, above it ours is faster.");
-        println!("{:<34} {:>9} {:>15} {:>15} {:>8}", "what / peer", "size", "ours", "peer", "ratio");
-        for row in self.grouped().into_iter().filter(|row| row.most.is_none()) {
+        println!(
+            "{:<34} {:>9} {:>15} {:>15} {:>8} {:>9}",
+            "what / peer", "size", "ours", "peer", "ratio", "at least"
+        );
+        for row in self.grouped() {
+            let Shown::Speed(least) = row.shown else { continue };
             let (ours, peer) = (row.speed(&row.ours), row.speed(&row.peer));
-            let size = size_text(row.size);
-            println!("{:<34} {size:>9} {ours:>10.0} MB/s {peer:>10.0} MB/s {:>7.2}x", row.what, ours / peer);
+            let least = least.map_or(String::new(), |least| format!("{least:.2}x"));
+            print!("{:<34} {:>9} {ours:>10.0} MB/s {peer:>10.0} MB/s", row.what, size_text(row.size));
+            println!(" {:>7.2}x {least:>9}", ours / peer);
         }
     }
 
-    /// The rows in units; the unit is the time of zlib's crc32 over 16 KiB.
+    /// The rows in units, by unit.
     pub fn print_units(&self) {
-        println!(
-            "{:<44} {:>10} {:>8} {:>9}",
-            "what, in units of zlib's crc32 over 16 KiB", "ours", "units", "at most"
-        );
+        let mut units = Vec::new();
         for row in &self.rows {
-            let Some(most) = row.most else { continue };
+            let Shown::Units(unit, most) = row.shown else { continue };
+            if !units.contains(&unit) {
+                units.push(unit);
+                println!(
+                    "\n{:<60} {:>10} {:>8} {:>9}",
+                    format!("in units of {unit}"),
+                    "ours",
+                    "units",
+                    "at most"
+                );
+            }
             let micros = row.ours.best * 1e6;
-            println!("{:<44} {micros:>7.1} us {:>8.2} {most:>9.0}", row.what, row.ours.best / row.peer.best);
+            println!("{:<60} {micros:>7.1} us {:>8.2} {most:>9.1}", row.what, row.ours.best / row.peer.best);
         }
     }
 
@@ -109,9 +150,9 @@ impl Row<'_> {
 
 impl Side<'_> {
     fn time(&mut self) {
-        let start = Instant::now();
+        let start = clock::seconds();
         (self.work)(self.repeats);
-        self.best = self.best.min(start.elapsed().as_secs_f64() / self.repeats as f64);
+        self.best = self.best.min((clock::seconds() - start) / self.repeats as f64);
     }
 }
 
@@ -128,9 +169,9 @@ fn side<'a, A>(mut call: impl FnMut() -> A + 'a) -> Side<'a> {
 fn enough_repeats(work: &mut Work) -> u64 {
     let mut repeats = 1;
     loop {
-        let start = Instant::now();
+        let start = clock::seconds();
         work(repeats);
-        if start.elapsed() >= TIMING {
+        if clock::seconds() - start >= TIMING {
             return repeats;
         }
         repeats *= 2;
