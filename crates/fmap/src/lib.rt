@@ -78,22 +78,22 @@ fn is_letter(b: u8) -> bool
 
 // The lowest position from `from` on where the signature stands, or the length. Eight bytes whose last is no byte of the
 // signature hold no start of one.
-fn next_signed(image: &[u8], from: usize) -> usize
-    requires { ⌜ from ≤ length (now image) ⌝ }
-    ensures { λ r. ⌜ (r ≡ firstFrom (length (now (image .entry)) - from) from (signedAt (now (image .entry)))) × (r ≤ length (now (image .entry))) ⌝ }
+fn next_signed(image: &[u8], from: ImagePosition) -> ImagePosition
+    requires { ⌜ (from .0 ≤ length (now image)) × (length (now image) ≤ 16777216) ⌝ }
+    ensures { λ r. ⌜ (r .0 ≡ firstFrom (length (now (image .entry)) - from .0) (from .0) (signedAt (now (image .entry)))) × (r .0 ≤ length (now (image .entry))) ⌝ }
 {
-    let mut i = from;
+    let mut i = from.0 as usize;
     while i + 8 <= image.len() {
         if is_letter(image[i + 7]) {
-            if fmap_rules::is_signed(image, i) {
-                return i;
+            if fmap_rules::is_signed(&image[i..]) {
+                return ImagePosition(i as u32);
             }
             i += 1;
         } else {
             i += 8;
         }
     }
-    image.len()
+    ImagePosition(image.len() as u32)
 }
 
 // Finds the lowest good map. Two signatures share two bytes at most, so the next one starts six bytes on or later.
@@ -106,15 +106,15 @@ pub fn find(image: &[u8]) -> Found
     if 16777216 < image.len() {
         return Found::WrongLength;
     }
-    let mut at = next_signed(image, 0);
-    if image.len() <= at {
+    let mut at = next_signed(image, ImagePosition(0));
+    if image.len() <= at.0 as usize {
         return Found::NoSignature;
     }
-    while at < image.len() {
+    while (at.0 as usize) < image.len() {
         if fmap_rules::good_at(image, at) {
-            return Found::At(ImagePosition(at as u32));
+            return Found::At(at);
         }
-        at = next_signed(image, at + 6);
+        at = next_signed(image, ImagePosition(at.0 + 6));
     }
     Found::NoGoodMap
 }

@@ -23,8 +23,9 @@ same-length c = search needs
 
 returns : tie.Need-returns
 returns c =
-    area-stored _ _ _ _ _ _ _ _ (c .before .before .before .before .before .before .before .before .before .before .before .before .before .before .before .before .before .before .pre) (search needs) (c .before .before .before .before .before .before .before .before .before .before .before .before .before .before .before .store32 .ensures) (c .before .before .before .before .before .before .before .before .before .before .before .store322 .ensures)
-    (c .before .before .before .before .before .before .copy .ensures) (c .before .before .store16 .ensures)
+    let stores = c .before .before .before .before .before .before .before .before .before .before .before in
+    area-stored _ _ _ _ _ _ _ _ (stores .before .before .before .before .before .before .before .pre) (search needs) (stores .before .before .before .before .store32 .ensures)
+    (stores .store322 .ensures) (c .before .before .before .before .before .before .copy .ensures) (c .before .before .store16 .ensures)
 
 pub write-area-spec : {M : Type 1} → statement M
 write-area-spec =
