@@ -30,15 +30,28 @@ uint32_t usi_type_read(const uint8_t *text, size_t text_len, uint8_t *guid, size
  * Refusal: 1 guid_len is not 16 or text_len is not 36. On a refusal text is as it was. */
 uint32_t usi_guid_write(const uint8_t *guid, size_t guid_len, uint8_t *text, size_t text_len);
 
-/* Finds the lowest good flash map of an image of 98 to 16,777,216 bytes and answers its position.
- * Refusals in order: 40 image length outside its range; 41 the eight signature bytes stand nowhere; 42 they do, but no good map.
- * On a refusal *position is as it was. */
+/* The flash map of an image of 98 to 16,777,216 bytes: the lowest good one is found.
+ *
+ * Refusals of finding, in order: 40 image length outside its range; 41 the eight signature bytes stand nowhere; 42 they do, but no good map.
+ *
+ * On a refusal every buffer and every number behind a pointer for an answer is as it was. A pointer for an answer must be valid and point into no buffer. */
+
+/* Answers the position of the map. Refusals in order: 40, 41, 42. */
 uint32_t usi_fmap_find(const uint8_t *image, size_t image_len, uint64_t *position);
+
+/* Writes the 42 bytes of area k of the map, counted from 0, as the map has them: offset (4), size (4), name (32), flags (2), numbers little-endian.
+ * Refusals in order: 1 area_len is not 42; 40, 41, 42; 255 the map has no area k. */
+uint32_t usi_fmap_area(const uint8_t *image, size_t image_len, uint64_t k, uint8_t *area, size_t area_len);
+
+/* Answers the number, counted from 0, of the area with a name, given without the zeros that follow it in the map.
+ * Refusals in order: 40, 41, 42; 255 no area has that name (none has a name of 0 bytes or of more than 31). */
+uint32_t usi_fmap_named(const uint8_t *image, size_t image_len, const uint8_t *name, size_t name_len, uint64_t *k);
 
 /* Carries each area that the old image's map marks PRESERVE, byte for byte, into the same-named area of the new image; every other byte of it stays.
  * Refusals in order: 40, 41, 42 of the old image, then of the new one; 60 a preserved area is missing in the new map; 61 it has another size there;
- * 62 areas to be carried share a byte in either map; 63 one shares a byte with area FMAP of the new map. On a refusal the new image is as it was. */
+ * 62 areas to be carried share a byte in either map; 63 one shares a byte with area FMAP of the new map. */
 uint32_t usi_fmap_carry(const uint8_t *old, size_t old_len, uint8_t *image, size_t image_len);
+
 /* The GPT of a disk of n blocks of 512 bytes. The caller lends the head (blocks 0 to 33, 17,408 bytes) and the tail (the last 33 blocks, 16,896 bytes).
  * A GUID is 16 stored bytes, a name 36 UTF-16 units (name_units counts units, not bytes), a slot a number from 1 to 128.
  *

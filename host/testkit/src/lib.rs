@@ -3,6 +3,7 @@
 pub mod disk;
 pub mod fixture;
 pub mod flash;
+pub mod flash_calls;
 pub mod fmaptool;
 pub mod layout;
 pub mod listing;
