@@ -39,8 +39,6 @@ fn main() {
     if let Err(why) = &programs {
         println!("{why}");
     }
-    #[cfg(not(feature = "fmd"))]
-    println!("skipped: fmd: read (feature fmd is off)");
 }
 
 fn crc_rows(t: &mut Table, size: usize) {
@@ -85,7 +83,6 @@ fn fmd_rows<'a>(t: &mut Table<'a>, programs: Option<&'a Programs>) {
     if let Some(programs) = programs {
         t.times(("fmd_list / fmaptool, 128 sections", 1.0), || programs.list(), || programs.compile());
     }
-    #[cfg(feature = "fmd")]
     for (what, most, text, unit) in layout::growing() {
         t.times((what, most), of(text, layout::read), of(unit, layout::read));
     }

@@ -4,7 +4,6 @@
 mod disk;
 pub mod flash;
 mod guid;
-#[cfg(feature = "fmd")]
 pub mod layout;
 pub mod raw;
 mod refusal;

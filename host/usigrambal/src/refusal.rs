@@ -9,7 +9,6 @@ pub struct Refusal {
 }
 
 /// The argument that a refusal is about.
-#[cfg_attr(not(feature = "fmd"), allow(dead_code))]
 #[derive(Clone, Copy, Debug, PartialEq, Eq)]
 pub(crate) enum Detail {
     /// A disk of so many blocks.
