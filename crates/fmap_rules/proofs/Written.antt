@@ -2,7 +2,7 @@
 use mathlib.Core.Path.{_≡_, refl, sym, ap, ap₂, _∙_}
 use mathlib.Core.Bool.{true}
 use mathlib.Core.List.{List, [], _∷_, _++_, map, append-assoc}
-use Prim.Native.Nat.{ℕ, zero, suc, _+_, _-_, _*_, _/_, _≤_, _<_, suc-le-suc}
+use Prim.Native.Nat.{ℕ, zero, suc, _+_, _-_, _*_, _/_, _^_, _≤_, _<_, suc-le-suc}
 use native.Mathlib.Nat.{zero-lt-suc}
 use native.Mathlib.Omega.{arith}
 use lib.ListN.{length, getD, take, drop, length-append}
@@ -14,15 +14,18 @@ use Rattle.octets.proofs.Bools.{and-i, and-l, and-r}
 use Rattle.octets.proofs.Tests.{any-get}
 use Rattle.octets.proofs.Numbers.{length-le, unle-le}
 use Rattle.octets.proofs.Parts.{part-here, part-skip, part-from, part-in, part-whole, rest-at, length-rest}
-use Rattle.octets.proofs.Puts.{put-eq, length-put, put-all, then}
+use Rattle.octets.proofs.Puts.{put-eq, length-put}
 use Rattle.octets.proofs.Equal.{same-refl}
-use Rattle.fmap_rules.specs.declared.Extent.{Extent}
 use Rattle.fmap_rules.specs.declared.Area.{Area}
-use Rattle.fmap_rules.specs.Map.{signature, signed, majorOf, minorOf, sizeOf, nameOf, countOf, mapSize, areaOf, areasIn, areasOf, blank, legalName, goodHeader, goodAreas, goodMap, holdsMap}
-use Rattle.fmap_rules.specs.Written.{areaBytes, mapBytes, Stored, Writable, WrittenIsGood}
+use Rattle.fmap_rules.specs.Map.{signature, signed, majorOf, minorOf, baseOf, sizeOf, nameOf, countOf, mapSize, areaOf, areasIn, areasOf, blank, legalName, goodHeader, goodAreas, goodMap, holdsMap}
+use Rattle.fmap_rules.specs.Written.{areaBytes, mapBytes, Stored, Writable, WrittenIsGood, WrittenHeader}
 use Rattle.fmap_rules.proofs.Good.{ends-in, holder}
 
 -- ---- one area
+
+pub length-area : (a : Area) → length (a .name) ≡ 32 → length (areaBytes a) ≡ 42
+unfolding areaBytes
+length-area a e = simp (length-append, length-le) (omega arith)
 
 module _ (a : Area) (s : Stored a) where
   abbrev t3 : List ℕ
@@ -33,10 +36,6 @@ module _ (a : Area) (s : Stored a) where
 
   abbrev t1 : List ℕ
   t1 = le 4 (a .place .size) ++ t2
-
-  length-area : length (areaBytes a) ≡ 42
-  unfolding areaBytes
-  length-area = simp (length-append, length-le) (omega (arith, s .name))
 
   start-is : field 0 4 (areaBytes a) ≡ a .place .start .0
   unfolding areaBytes
@@ -68,24 +67,6 @@ module _ (a : Area) (s : Stored a) where
   unfolding areaOf
   area-is = rw (start-is, size-is, name-is, flags-is)
 
--- an area's fields, stored one after the other into 42 bytes
-pub area-stored : (x : Extent) (n : List ℕ) (f : ℕ) (s0 s1 s2 s3 s4 : List ℕ) → length s0 ≡ 42 → length n ≡ 32
-    → s1 ≡ put 0 (le 4 (x .start .0)) s0 → s2 ≡ put 4 (le 4 (x .size)) s1 → s3 ≡ put 8 n s2 → s4 ≡ put 40 (le 2 f) s3
-    → s4 ≡ areaBytes (record { place = x; name = n; flags = f })
-unfolding areaBytes
-area-stored x n f s0 s1 s2 s3 s4 l k p q r t =
-    let a = le 4 (x .start .0) in
-    let b = le 4 (x .size) in
-    let d = le 2 f in
-    let la = length-le 4 (x .start .0) in
-    let lb = length-le 4 (x .size) in
-    let ld = length-le 2 f in
-    then s0 ((a ++ b) ++ n) s3 d s4 0 40
-    (then s0 (a ++ b) s2 n s3 0 8 (then s0 a s1 b s2 0 4 p q (omega arith)) r (simp length-append (omega arith)))
-    t (simp length-append (omega arith))
-    ∙ put-all (((a ++ b) ++ n) ++ d) s0 (simp length-append (omega arith))
-    ∙ simp append-assoc
-
 -- ---- all areas
 
 abbrev StoredAll : List Area → Type 0
@@ -95,14 +76,14 @@ length-flat : (areas : List Area) → StoredAll areas → length (flat (map area
 length-flat [] f = refl
 length-flat (a ∷ areas) f =
     length-append (areaBytes a) (flat (map areaBytes areas))
-    ∙ omega (arith, length-area a (f zero (zero-lt-suc _)), length-flat areas (λ i h. f (suc i) (suc-le-suc h)))
+    ∙ omega (arith, length-area a (f zero (zero-lt-suc _) .name), length-flat areas (λ i h. f (suc i) (suc-le-suc h)))
 
 chunks-flat : (areas : List Area) → StoredAll areas → map areaOf (chunks 42 (length areas) (flat (map areaBytes areas))) ≡ areas
 unfolding chunks
 chunks-flat [] f = refl
 chunks-flat (a ∷ areas) f =
     let s = f zero (zero-lt-suc _) in
-    let l = length-area a s in
+    let l = length-area a (s .name) in
     ap₂ _∷_ (ap areaOf (take-at (areaBytes a) (flat (map areaBytes areas)) 42 l) ∙ area-is a s)
     (ap (λ (xs : List ℕ). map areaOf (chunks 42 (length areas) xs)) (drop-at (areaBytes a) (flat (map areaBytes areas)) 42 l)
     ∙ chunks-flat areas (λ i h. f (suc i) (suc-le-suc h)))
@@ -156,6 +137,9 @@ module _ (len : ℕ) (name : List ℕ) (base minor : ℕ) (areas : List Area) (w
   unfolding mapBytes
   cut k n = part-skip (95 ∷ 95 ∷ 70 ∷ 77 ∷ 65 ∷ 80 ∷ 95 ∷ 95 ∷ 1 ∷ minor ∷ []) r2 10 k n refl
 
+  base-at : part 10 8 mb ≡ le 8 base
+  base-at = cut 0 8 ∙ part-here (le 8 base) r3 8 (length-le 8 _)
+
   size-at : part 18 4 mb ≡ le 4 len
   size-at = cut 8 4 ∙ part-from (le 8 base) r3 8 4 (length-le 8 _) ∙ part-here (le 4 len) r4 4 (length-le 4 _)
 
@@ -190,7 +174,7 @@ module _ (image : List ℕ) (at : ℕ) (name : List ℕ) (base minor : ℕ) (are
   abbrev written : List ℕ
   written = put at bytes image
 
-  bytes-length : length bytes ≡ mapSize (length areas)
+  pub bytes-length : length bytes ≡ mapSize (length areas)
   bytes-length = length-map (length image) name base minor areas (w .name-fits) (w .stored)
 
   -- the area FMAP ends in the image, so the map does
@@ -235,29 +219,43 @@ module _ (image : List ℕ) (at : ℕ) (name : List ℕ) (base minor : ℕ) (are
       ∙ ap areasIn (look 56 (42 * length areas) (omega arith) ∙ areas-at (length image) name base minor areas (w .name-fits) (w .stored))
       ∙ areas-are areas (w .stored)
 
+  field-same : (k n : ℕ) (vs : List ℕ) → k + n ≤ 56 → part k n bytes ≡ vs → field k n (rest at written) ≡ unle vs
+  field-same k n vs h e = ap unle (look k n (omega arith) ∙ e)
+
+  major-same : majorOf (rest at written) ≡ 1
+  unfolding unle
+  major-same = field-same 8 1 _ (omega arith) (major-at (length image) name base minor areas (w .name-fits) (w .stored))
+
+  minor-same : minorOf (rest at written) ≡ minor
+  unfolding unle
+  minor-same = field-same 9 1 _ (omega arith) (minor-at (length image) name base minor areas (w .name-fits) (w .stored)) ∙ omega arith
+
+  base-same : base < 256 ^ 8 → baseOf (rest at written) ≡ base
+  base-same h = field-same 10 8 _ (omega arith) (base-at (length image) name base minor areas (w .name-fits) (w .stored)) ∙ unle-le 8 base h
+
+  size-same : sizeOf (rest at written) ≡ length image
+  size-same =
+      field-same 18 4 _ (omega arith) (size-at (length image) name base minor areas (w .name-fits) (w .stored)) ∙ unle-le 4 (length image) (w .len-fits)
+
+  name-same : nameOf (rest at written) ≡ name
+  name-same = look 22 32 (omega arith) ∙ name-at (length image) name base minor areas (w .name-fits) (w .stored)
+
   header : goodHeader (length written) (rest at written) ≡ true
-  unfolding goodHeader signed unle
+  unfolding goodHeader signed
   header =
-      let p = w .name-fits in
-      let s = w .stored in
       let c = count-is in
       let l = length-from in
-      let sig : part 0 8 (rest at written) ≡ signature = look 0 8 (omega arith) ∙ sig-at (length image) name base minor areas p s in
-      let major : majorOf (rest at written) ≡ 1 = ap unle (look 8 1 (omega arith) ∙ major-at (length image) name base minor areas p s) in
-      let minor-is : minorOf (rest at written) ≡ minor + 256 * 0 = ap unle (look 9 1 (omega arith) ∙ minor-at (length image) name base minor areas p s) in
-      let size : sizeOf (rest at written) ≡ length written =
-      ap unle (look 18 4 (omega arith) ∙ size-at (length image) name base minor areas p s) ∙ unle-le 4 (length image) (w .len-fits) ∙ sym length-written in
-      let name-same : nameOf (rest at written) ≡ name = look 22 32 (omega arith) ∙ name-at (length image) name base minor areas p s in
+      let sig : part 0 8 (rest at written) ≡ signature = look 0 8 (omega arith) ∙ sig-at (length image) name base minor areas (w .name-fits) (w .stored) in
       let h1 : 56 ≤ length (rest at written) = omega arith in
-      let h2 : minorOf (rest at written) ≤ 1 = omega (arith, w .version) in
+      let h2 : minorOf (rest at written) ≤ 1 = omega (arith, minor-same, w .version) in
       let h3 : 1 ≤ countOf (rest at written) = omega (arith, w .some) in
       let h4 : countOf (rest at written) ≤ 128 = omega (arith, w .few) in
       let h5 : mapSize (countOf (rest at written)) ≤ length (rest at written) = omega arith in
       and-i _ _ (le-leb _ _ h1)
       (and-i _ _ (ap (λ (x : List ℕ). same x signature) sig ∙ same-refl signature)
-      (and-i _ _ (eq-eqb _ _ major)
+      (and-i _ _ (eq-eqb _ _ major-same)
       (and-i _ _ (le-leb _ _ h2)
-      (and-i _ _ (eq-eqb _ _ size)
+      (and-i _ _ (eq-eqb _ _ (size-same ∙ sym length-written))
       (and-i _ _ (le-leb _ _ h3)
       (and-i _ _ (le-leb _ _ h4) (and-i _ _ (le-leb _ _ h5) (ap legalName name-same ∙ w .legal))))))))
 
@@ -270,3 +268,13 @@ module _ (image : List ℕ) (at : ℕ) (name : List ℕ) (base minor : ℕ) (are
 pub written-is-good : WrittenIsGood
 written-is-good image at name base minor areas w =
     record { good = is-good image at name base minor areas w; same-areas = areas-same image at name base minor areas w }
+
+pub written-header : WrittenHeader
+written-header image at name base minor areas w h =
+    record {
+      major-is = major-same image at name base minor areas w;
+      minor-is = minor-same image at name base minor areas w;
+      base-is = base-same image at name base minor areas w h;
+      size-is = size-same image at name base minor areas w;
+      name-is = name-same image at name base minor areas w;
+    }

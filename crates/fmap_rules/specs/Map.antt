@@ -29,6 +29,9 @@ majorOf m = field 8 1 m
 abbrev pub minorOf : List ℕ → ℕ
 minorOf m = field 9 1 m
 
+abbrev pub baseOf : List ℕ → ℕ
+baseOf m = field 10 8 m
+
 abbrev pub sizeOf : List ℕ → ℕ
 sizeOf m = field 18 4 m
 

@@ -6,7 +6,7 @@ use Prim.Native.Nat.{ℕ, _≤_, _<_, _^_}
 use lib.ListN.{length, getD}
 use Rattle.octets.specs.Bytes.{le, rest, put, flat}
 use Rattle.fmap_rules.specs.declared.Area.{Area}
-use Rattle.fmap_rules.specs.Map.{signature, legalName, blank, goodAreas, goodMap, areasOf}
+use Rattle.fmap_rules.specs.Map.{signature, majorOf, minorOf, baseOf, sizeOf, nameOf, areasOf, legalName, blank, goodAreas, goodMap}
 
 -- (M2) the 42 bytes of an area
 unfoldable pub areaBytes : Area → List ℕ
@@ -44,3 +44,16 @@ abbrev pub WrittenIsGood : Type 0
 WrittenIsGood =
     (image : List ℕ) (at : ℕ) (name : List ℕ) (base minor : ℕ) (areas : List Area) → Writable (length image) at name minor areas
     → WrittenThere (put at (mapBytes (length image) name base minor areas) image) at areas
+
+-- (M1) its header; m is the image's bytes from the map's position on
+pub record Headed (m : List ℕ) (len : ℕ) (name : List ℕ) (base minor : ℕ) : Type 0 where
+  pub major-is : majorOf m ≡ 1
+  pub minor-is : minorOf m ≡ minor
+  pub base-is : baseOf m ≡ base
+  pub size-is : sizeOf m ≡ len
+  pub name-is : nameOf m ≡ name
+
+abbrev pub WrittenHeader : Type 0
+WrittenHeader =
+    (image : List ℕ) (at : ℕ) (name : List ℕ) (base minor : ℕ) (areas : List Area) → Writable (length image) at name minor areas → base < 256 ^ 8
+    → Headed (rest at (put at (mapBytes (length image) name base minor areas) image)) (length image) name base minor

@@ -8,9 +8,11 @@ use native.Mathlib.Numerals.{add-one}
 use native.Mathlib.Omega.{arith}
 use lib.ListN.{length, drop, getD, drop-of-length-le}
 use lib.Seq.{drop-cons}
-use lib.Dec.{ltb, eqb}
-use borrow.Author.Tests.{eq-eqb, ne-eqb, lt-ltb, le-ltb, le-leb, lt-leb, eqb-false}
+use lib.Dec.{ltb, leb, eqb}
+use borrow.Author.Tests.{eq-eqb, ne-eqb, lt-ltb, le-ltb, le-leb, lt-leb, leb-true, eqb-false}
+use Rattle.octets.proofs.Bools.{choice}
 use Rattle.fmd_lex.specs.Numbers.{digitOf, unitOf, capped, scaled, digits, someDigits, afterZero, numberOf}
+use Rattle.fmd_lex.specs.declared.Number.{Number}
 use Rattle.fmd_lex.specs.declared.Number.the-variants.{Value, Wrong}
 
 pub capped-in : (n : ℕ) → n ≤ 4294967295 → Value n ≡ capped n
@@ -108,3 +110,40 @@ unfolding numberOf afterZero
 num-unit [] h e f = absurd (omega arith)
 num-unit (x ∷ []) h e f = absurd (omega arith)
 num-unit (x ∷ y ∷ ys) h e f = rw (eq-eqb x 48 e, ne-eqb y 120 f)
+
+-- ---- every number is at most 4,294,967,295
+
+abbrev pub NumberFits : Number → Type 0
+NumberFits (Value n) = n ≤ 4294967295
+NumberFits Wrong = Unit {0}
+
+capped-fits : (n : ℕ) → NumberFits (capped n)
+unfolding capped
+capped-fits n = choice NumberFits (leb n 4294967295) (Value n) Wrong (λ e. leb-true n 4294967295 e) (λ e. tt)
+
+scaled-fits : (n : ℕ) (xs : List ℕ) → NumberFits (scaled n xs)
+unfolding scaled
+scaled-fits n [] = capped-fits n
+scaled-fits n (x ∷ []) = choice NumberFits (eqb (unitOf x) 0) Wrong _ (λ e. tt) (λ e. capped-fits (n * unitOf x))
+scaled-fits n (x ∷ y ∷ ys) = tt
+
+digits-fits : (base n : ℕ) (xs : List ℕ) → NumberFits (digits base n xs)
+unfolding digits
+digits-fits base n [] = capped-fits n
+digits-fits base n (x ∷ xs) =
+    choice NumberFits (ltb (digitOf x) base) _ _ (λ e. digits-fits base (n * base + digitOf x) xs) (λ e. scaled-fits n (x ∷ xs))
+
+some-fits : (base : ℕ) (xs : List ℕ) → NumberFits (someDigits base xs)
+unfolding someDigits
+some-fits base [] = tt
+some-fits base (x ∷ xs) = choice NumberFits (ltb (digitOf x) base) _ Wrong (λ e. digits-fits base (digitOf x) xs) (λ e. tt)
+
+zero-fits : (xs : List ℕ) → NumberFits (afterZero xs)
+unfolding afterZero
+zero-fits [] = omega arith
+zero-fits (x ∷ xs) = choice NumberFits (eqb x 120) _ _ (λ e. some-fits 16 xs) (λ e. scaled-fits 0 (x ∷ xs))
+
+pub number-fits : (w : List ℕ) → NumberFits (numberOf w)
+unfolding numberOf
+number-fits [] = tt
+number-fits (x ∷ xs) = choice NumberFits (eqb x 48) _ _ (λ e. zero-fits xs) (λ e. some-fits 10 (x ∷ xs))

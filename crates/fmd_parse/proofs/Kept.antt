@@ -20,6 +20,7 @@ use Rattle.fmd_lex.specs.declared.Number.{Number}
 use Rattle.fmd_lex.specs.declared.Number.the-variants.{Value, Wrong}
 use Rattle.fmd_lex.specs.declared.Flag.{Flag}
 use Rattle.fmd_lex.specs.declared.Flag.the-variants.{Cbfs, Preserve, Unknown}
+use Rattle.fmd_lex.proofs.Numbers.{NumberFits, number-fits}
 use Rattle.fmd_lex.proofs.Tokens.{earlier}
 use Rattle.fmd_lex.proofs.Places.{token-within, word-bytes}
 use Rattle.fmd_parse.specs.Heads.{next, isWord, isSign, counted, amountAt, onward, judged, namedAt, marked, flagAt, lastAt, otherAt, flagsAt, withOffset, offsetAt, withSize, sizeAt, headAt}
@@ -67,17 +68,17 @@ module _ {s : List ℕ} {a : ℕ} {t : Token} (w : From s a t) where
 -- ---- numbers
 
 abbrev pub AmountFrom : List ℕ → ℕ → Amount → Type 0
-AmountFrom s a (Counted n u) = From s a u
+AmountFrom s a (Counted n u) = From s a u × (n ≤ 4294967295)
 AmountFrom s a (Uncounted k p) = Faulty s k p
 
 pub amount-from : {s : List ℕ} {a : ℕ} {t : Token} → From s a t → AmountFrom s (t .end) (amountAt s t)
 unfolding amountAt _or_
 amount-from {s} {a} {t} w =
-    choice (AmountFrom s (t .end)) (isWord t) _ _ (λ e. by-number (numberOf (bytesOf s t))) (λ e. fault-here w 51 refl)
+    choice (AmountFrom s (t .end)) (isWord t) _ _ (λ e. by-number (numberOf (bytesOf s t)) (number-fits (bytesOf s t))) (λ e. fault-here w 51 refl)
   where
-    by-number : (n : Number) → AmountFrom s (t .end) (counted s t n)
-    by-number (Value n) = next-from w
-    by-number Wrong = fault-here w 52 refl
+    by-number : (n : Number) → NumberFits n → AmountFrom s (t .end) (counted s t n)
+    by-number (Value n) h = (next-from w, h)
+    by-number Wrong h = fault-here w 52 refl
 
 -- ---- parts after the name
 
@@ -138,7 +139,7 @@ module _ {s : List ℕ} {a : ℕ} {t : Token} (w : From s a t) (h : Section) whe
       by-amount : (m : Amount) → AmountFrom s (next s t .end) m → Keeps s (t .start) h (withOffset h m)
       by-amount (Counted n u) v =
           let x = next-from w in
-          (from-earlier v (omega arith), record { place = refl; length = refl; parent = refl; level = refl })
+          (from-earlier (v .0) (omega arith), record { place = refl; length = refl; parent = refl; level = refl })
       by-amount (Uncounted k p) v = v
 
   pub size-keeps : Keeps s (t .start) h (sizeAt s t h)
@@ -149,7 +150,7 @@ module _ {s : List ℕ} {a : ℕ} {t : Token} (w : From s a t) (h : Section) whe
       (λ e. (own-from w, kept h))
     where
       by-amount : (m : Amount) → AmountFrom s (t .end) m → Keeps s (t .start) h (withSize h m)
-      by-amount (Counted n u) v = (from-earlier v (omega arith), record { place = refl; length = refl; parent = refl; level = refl })
+      by-amount (Counted n u) v = (from-earlier (v .0) (omega arith), record { place = refl; length = refl; parent = refl; level = refl })
       by-amount (Uncounted k p) v = v
 
 pub flags-keeps : {s : List ℕ} {a : ℕ} {t : Token} → From s a t → (h : Section) → Keeps s (t .start) h (flagsAt s t h)

@@ -19,7 +19,7 @@ use Rattle.fmd_lex.specs.declared.Token.{Token}
 use Rattle.fmd_parse.specs.Heads.{next, isWord, isSign, amountAt, headAt}
 use Rattle.fmd_parse.specs.Images.{onward, titleAt, withAddress, addressAt, withLength, lengthAt, openAt, imageAt}
 use Rattle.fmd_parse.specs.Layouts.{Parsed, fault, parsed, afterHead, afterSection, sectionFrom, listFrom, afterImage, afterList, endOf, layoutOf}
-use Rattle.fmd_parse.specs.Trees.{Named, blank, Under, Standing, Tree, Imaged, LayoutFacts}
+use Rattle.fmd_parse.specs.Trees.{Named, blank, Under, Standing, Tree, AddressFits, Imaged, LayoutFacts}
 use Rattle.fmd_parse.specs.declared.Section.{Section}
 use Rattle.fmd_parse.specs.declared.Part.{Part}
 use Rattle.fmd_parse.specs.declared.Part.the-variants.{Read, Fault}
@@ -149,7 +149,7 @@ mutual
 -- ---- the image
 
 abbrev Titled : List ℕ → Heading → Type 0
-Titled s (ReadImage i u) = From s 0 u × Named s (i .place) (i .length)
+Titled s (ReadImage i u) = From s 0 u × Named s (i .place) (i .length) × AddressFits (i .address)
 Titled s (FaultImage n p) = Faulty s n p
 
 abbrev Measured : List ℕ → Heading → Type 0
@@ -162,16 +162,16 @@ module _ {s : List ℕ} {a : ℕ} {t : Token} (w : From s a t) where
   title-facts =
       row-choice (Titled s) (not (isWord t)) 51 _ _ _ (λ e. fault-here w 51 refl)
       (λ e. row-choice (Titled s) (not (goodName (bytesOf s t))) 53 _ _ _ (λ f. fault-here w 53 refl)
-      (λ f. (from-earlier (next-from w) (omega arith), name-here w (eqb-true (t .kind) wordKind (not-f (isWord t) e)) (not-f _ f))))
+      (λ f. (from-earlier (next-from w) (omega arith), name-here w (eqb-true (t .kind) wordKind (not-f (isWord t) e)) (not-f _ f), tt)))
 
-  module _ (i : Image) (d : Named s (i .place) (i .length)) where
+  module _ (i : Image) (d : Named s (i .place) (i .length)) (f : AddressFits (i .address)) where
     address-facts : Titled s (addressAt s t i)
     unfolding addressAt
     address-facts =
-        choice (Titled s) (isSign 64 t) _ _ (λ e. by-amount (amountAt s (next s t)) (amount-from (next-from w))) (λ e. (from-earlier (own-from w) (omega arith), d))
+        choice (Titled s) (isSign 64 t) _ _ (λ e. by-amount (amountAt s (next s t)) (amount-from (next-from w))) (λ e. (from-earlier (own-from w) (omega arith), d, f))
       where
         by-amount : (m : Amount) → AmountFrom s (next s t .end) m → Titled s (withAddress i m)
-        by-amount (Counted n u) v = (from-earlier v (omega arith), d)
+        by-amount (Counted n u) v = (from-earlier (v .0) (omega arith), d, v .1)
         by-amount (Uncounted k p) v = v
 
     length-facts : Measured s (lengthAt s t i)
@@ -181,7 +181,7 @@ module _ {s : List ℕ} {a : ℕ} {t : Token} (w : From s a t) where
         by-amount : (m : Amount) → AmountFrom s (t .end) m → Measured s (withLength i t m)
         by-amount (Counted n u) v =
             choice (Measured s) (leb 98 n and leb n 16777216) _ _
-            (λ e. (from-earlier v (omega arith), record { named = d; low = leb-true 98 n (and-l _ _ e); high = leb-true n 16777216 (and-r _ _ e) }))
+            (λ e. (from-earlier (v .0) (omega arith), record { named = d; address = f; low = leb-true 98 n (and-l _ _ e); high = leb-true n 16777216 (and-r _ _ e) }))
             (λ e. fault-here w 52 refl)
         by-amount (Uncounted k p) v = v
 
@@ -190,8 +190,8 @@ module _ {s : List ℕ} {a : ℕ} {t : Token} (w : From s a t) where
   open-facts i d = choice (Measured s) (isSign 123 t) _ _ (λ e. (from-earlier (next-from w) (omega arith), d)) (λ e. fault-here w 51 refl)
 
 titled-on : (s : List ℕ) (P : Heading → Type 0) (p : Heading) (f : Image → Token → Heading) → Titled s p
-    → ((n k : ℕ) → Faulty s n k → P (FaultImage n k)) → ((i : Image) (u : Token) → From s 0 u → Named s (i .place) (i .length) → P (f i u)) → P (onward p f)
-titled-on s P (ReadImage i u) f w k g = g i u (w .0) (w .1)
+    → ((n k : ℕ) → Faulty s n k → P (FaultImage n k)) → ((i : Image) (u : Token) → From s 0 u → Named s (i .place) (i .length) → AddressFits (i .address) → P (f i u)) → P (onward p f)
+titled-on s P (ReadImage i u) f w k g = g i u (w .0) (w .1) (w .2)
 titled-on s P (FaultImage n p) f w k g = k n p w
 
 measured-on : (s : List ℕ) (p : Heading) (f : Image → Token → Heading) → Measured s p
@@ -203,8 +203,8 @@ image-facts : {s : List ℕ} {a : ℕ} {t : Token} → From s a t → Measured s
 unfolding imageAt
 image-facts {s} {a} {t} w =
     titled-on s (Measured s) (titleAt s t) _ (title-facts w) (λ n p f. f)
-    (λ i u v d. titled-on s (Measured s) (addressAt s u i) _ (address-facts v i d) (λ n p f. f)
-    (λ j x y e. measured-on s (lengthAt s x j) _ (length-facts y j e) (λ k z o q. open-facts o k q)))
+    (λ i u v d b. titled-on s (Measured s) (addressAt s u i) _ (address-facts v i d b) (λ n p f. f)
+    (λ j x y e c. measured-on s (lengthAt s x j) _ (length-facts y j e c) (λ k z o q. open-facts o k q)))
 
 -- ---- the whole text
 

@@ -13,6 +13,8 @@ use Rattle.fmd_lex.specs.Names.{goodName}
 use Rattle.fmd_parse.specs.Layouts.{Layout, layout, refused}
 use Rattle.fmd_parse.specs.declared.Offset.the-variants.{Given as GivenOffset}
 use Rattle.fmd_parse.specs.declared.Size.the-variants.{Given as GivenSize}
+use Rattle.fmd_parse.specs.declared.Address.{Address}
+use Rattle.fmd_parse.specs.declared.Address.the-variants.{Given, Omitted}
 use Rattle.fmd_parse.specs.declared.Section.{Section}
 use Rattle.fmd_parse.specs.declared.Image.{Image}
 
@@ -45,9 +47,15 @@ pub record Tree (s : List ℕ) (l : List Section) : Type 0 where
   pub room : length l ≤ 128
   pub each : (k : ℕ) → k < length l → Standing s l k (getD l k blank)
 
+-- (L8) at most 4,294,967,295
+abbrev pub AddressFits : Address → Type 0
+AddressFits (Given a) = a ≤ 4294967295
+AddressFits Omitted = Unit {0}
+
 -- L1: size (an image length in range); Q4: A flash image is 98 to 16,777,216 bytes.
 pub record Imaged (s : List ℕ) (i : Image) : Type 0 where
   pub named : Named s (i .place) (i .length)
+  pub address : AddressFits (i .address)
   pub low : 98 ≤ i .size
   pub high : i .size ≤ 16777216
 

@@ -104,7 +104,7 @@ pub struct Outcome {
 }
 
 // A list of no sections.
-fn empty() -> Sections
+pub fn empty() -> Sections
     ensures { λ r. ⌜ Sound r × (listOf r ≡ []) ⌝ }
 {
     let h = Section {

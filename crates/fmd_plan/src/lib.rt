@@ -159,7 +159,7 @@ fn place_at(l: Sections, k: usize, p: Plan, size: u32) -> Spot
 }
 
 // A plan of no sections.
-fn nothing() -> Plan
+pub fn nothing() -> Plan
     ensures { λ r. ⌜ Sound r × (r .count ≡ 0) ⌝ }
 {
     let q = Placed {

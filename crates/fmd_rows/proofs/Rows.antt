@@ -1,17 +1,19 @@
 -- Laws of the rows' loops over the places of a section list.
 use mathlib.Core.Path.{_≡_, sym, _∙_}
 use mathlib.Core.Bool.{Bool, true, false}
+use mathlib.Core.Logic.{_⊎_, inl, inr}
 use mathlib.Core.List.{List}
-use Prim.Native.Nat.{ℕ, suc, _+_, _-_, _≤_, _<_}
+use Prim.Native.Nat.{ℕ, zero, suc, _+_, _-_, _≤_, _<_}
 use native.Mathlib.Nat.{sub-zero}
 use native.Mathlib.Numerals.{add-one}
 use native.Mathlib.Omega.{arith}
 use lib.Dec.{eqb}
 use lib.ListN.{length, getD, take, drop, drop-of-length-le}
 use lib.Seq.{drop-cons, getD-take, length-take-le}
-use borrow.Author.Tests.{eq-eqb, ne-eqb}
+use borrow.Author.Tests.{eq-eqb, ne-eqb, eqb-true, eqb-false}
 use Rattle.octets.specs.Tests.{any}
 use Rattle.octets.specs.Bytes.{part, same}
+use Rattle.octets.proofs.Bools.{choice, bool-cases}
 use Rattle.octets.proofs.Tests.{any-on, any-stop, any-done}
 use Rattle.fmd_parse.specs.Layouts.{listOf, Sound}
 use Rattle.fmd_parse.specs.Trees.{blank, Tree}
@@ -19,6 +21,7 @@ use Rattle.fmd_parse.specs.declared.Section.{Section}
 use Rattle.fmd_parse.specs.declared.Sections.{Sections}
 use Rattle.fmd_parse.proofs.Layouts.{counted}
 use Rattle.fmd_rows.specs.Rows.{firstFrom, nameOf, repeats, siblingIn, Inside}
+use Rattle.fmd_rows.specs.declared.Found.{Found}
 use Rattle.fmd_rows.specs.declared.Found.the-variants.{At, Nowhere}
 use Rattle.fmd_rows.specs.declared.Sibling.the-variants.{Next, Last}
 
@@ -40,6 +43,25 @@ module _ (p : ℕ → Bool) (n k : ℕ) where
   pub first-done : n ≤ k → Nowhere ≡ firstFrom p (n - k) k
   unfolding firstFrom
   first-done h = let m : n - k ≡ 0 = omega arith in rw m
+
+-- of the n indices from k on, the one found passes; where none is found, none does
+abbrev pub FirstFacts : (ℕ → Bool) → ℕ → ℕ → Found → Type 0
+FirstFacts p n k (At j) = (j < k + n) × (p j ≡ true)
+FirstFacts p n k Nowhere = (j : ℕ) → k ≤ j → j < k + n → p j ≡ false
+
+later : (p : ℕ → Bool) (n k : ℕ) → p k ≡ false → (r : Found) → FirstFacts p n (suc k) r → FirstFacts p (suc n) k r
+later p n k e (At j) w = (omega (arith, w .0), w .1)
+later p n k e Nowhere w = λ j a b. cases j a b (bool-cases (eqb j k))
+  where
+    cases : (j : ℕ) → k ≤ j → j < k + suc n → (eqb j k ≡ true) ⊎ (eqb j k ≡ false) → p j ≡ false
+    cases j a b (inl q) = rw (eqb-true j k q) e
+    cases j a b (inr q) = let d : j ≡ k → ⊥ = eqb-false j k q in w j (omega arith) (omega arith)
+
+pub first-facts : (p : ℕ → Bool) (n k : ℕ) → FirstFacts p n k (firstFrom p n k)
+unfolding firstFrom
+first-facts p zero k = λ j a b. absurd (omega arith)
+first-facts p (suc n) k =
+    choice (FirstFacts p (suc n) k) (p k) (At k) (firstFrom p n (suc k)) (λ e. (omega arith, e)) (λ e. later p n k e (firstFrom p n (suc k)) (first-facts p n (suc k)))
 
 module _ (l : Sections) (g : Sound l) where
   pub first-start : (p : ℕ → Bool) → firstFrom p (l .count - 0) 0 ≡ firstFrom p (length (listOf l)) 0

@@ -10,8 +10,8 @@ use Rattle.octets.specs.Bytes.{put}
 use lib.ListN.{length, take}
 use mathlib.Core.Path.{_≡_, refl, sym, ap, _∙_}
 use Prim.Native.Nat.{ℕ, _≤_, _<_, _-_, _+_}
-use Rattle.octets.proofs.copy.Statement.{statement}
-use Rattle.octets.proofs.copy.Tie as tie
+use Rattle.octets.proofs.copy_bytes.Statement.{statement}
+use Rattle.octets.proofs.copy_bytes.Tie as tie
 
 abbrev Inv-loop : tie.InvT-loop
 Inv-loop dst₀ at src i₀ dst i = (i ≤ length src) × (length dst ≡ length dst₀) × (dst ≡ put at (take i src) dst₀)
@@ -57,8 +57,8 @@ returns c =
     let l = c .before .loop in
     (l .inv .2) ∙ ap (λ (l : List ℕ). put (t .at) l (now (t .dst))) (take-all (l .i) (now (t .src)) (omega arith))
 
-pub copy-spec : {M : Type 1} → statement M
-copy-spec =
+pub copy-bytes-spec : {M : Type 1} → statement M
+copy-bytes-spec =
     tie.close
     (tie.spec
     Inv-loop

@@ -1,0 +1,2 @@
+-- A list of areas by value.
+pub mod Areas

@@ -1,0 +1,4 @@
+pub mod Filled
+pub mod Layouts
+pub mod Writable
+pub mod Promises

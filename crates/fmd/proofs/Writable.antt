@@ -1,0 +1,108 @@
+-- What an accepted text says can be written as a good map.
+use mathlib.Core.Path.{_≡_, refl, sym, ap, subst, _∙_}
+use mathlib.Core.Bool.{Bool, true, false, not}
+use mathlib.Core.List.{List}
+use Prim.Native.Nat.{ℕ, _≤_, _<_, _^_}
+use native.Mathlib.Omega.{arith}
+use lib.ListN.{length, getD}
+use borrow.Author.Tests.{le-leb, eq-eqb}
+use Rattle.octets.specs.Tests.{all, any, pairs}
+use Rattle.octets.specs.Bytes.{same}
+use Rattle.octets.proofs.Bools.{and-i}
+use Rattle.octets.proofs.Tests.{all-make, any-make, pairs-make}
+use Rattle.octets.proofs.Equal.{same-refl}
+use Rattle.fmap_rules.specs.Map.{blank as blankArea, legalName, fmapName, named, mapSize, goodArea, goodPair, goodAreas, holdsMap}
+use Rattle.fmap_rules.specs.Written.{Stored, Writable}
+use Rattle.fmap_rules.specs.declared.Area.{Area}
+use Rattle.fmd_parse.specs.Trees.{blank as blankSection}
+use Rattle.fmd_parse.specs.declared.Section.{Section}
+use Rattle.fmd_parse.specs.declared.Image.{Image}
+use Rattle.fmd_plan.specs.declared.Placed.{Placed}
+use Rattle.fmd_check.specs.Facts.{Accepted}
+use Rattle.fmd_areas.specs.Areas.{storedName, flagsOf, areaFrom, areaAt, areasOf}
+use Rattle.fmd_areas.specs.Nested.{Nested}
+use Rattle.fmd_areas.proofs.Shape.{length-areas, area-at}
+use Rattle.fmd_areas.proofs.Nested.{areas-nested}
+use Rattle.fmd_areas.proofs.Names.{length-stored, stored-legal, area-legal, area-name-length, area-fmap, area-names-differ}
+
+flags-small : (b : Bool) → flagsOf b < 256 ^ 2
+flags-small true = omega arith
+flags-small false = omega arith
+
+module _ (s : List ℕ) (i : Image) (l : List Section) (ps : List Placed) (m : ℕ) (a : Accepted s i l ps m) where
+  abbrev areas : List Area
+  areas = areasOf s l ps
+
+  -- the position of section FMAP
+  abbrev at : ℕ
+  at = areaAt s l ps m .place .start .0
+
+  nested : Nested (i .size) l areas
+  nested = areas-nested s (i .size) l ps (a .tree) (a .fitted)
+
+  there : (k : ℕ) → k < length areas → (k < length l)
+  there k h = rw (nested .count) at h
+
+  area-is : (k : ℕ) → k < length areas → getD areas k blankArea ≡ areaAt s l ps k
+  area-is k h = area-at s l ps k (rw (length-areas s l ps) at h)
+
+  legal-at : (k : ℕ) → k < length areas → legalName (getD areas k blankArea .name) ≡ true
+  legal-at k h = rw (area-is k h) (area-legal s l ps (a .tree) k (there k h))
+
+  each-good : all (goodArea (i .size)) areas ≡ true
+  unfolding goodArea
+  each-good =
+      all-make (goodArea (i .size)) areas blankArea
+      (λ k h. and-i _ _ (le-leb _ _ (nested .some k h)) (and-i _ _ (le-leb _ _ (nested .within k h)) (legal-at k h)))
+
+  stored : (k : ℕ) → k < length areas → Stored (getD areas k blankArea)
+  unfolding areaAt areaFrom
+  stored k h =
+      let e = nested .within k h in
+      let b = a .image .high in
+      record {
+        start = omega arith;
+        size = omega arith;
+        name = ap (λ (x : Area). length (x .name)) (area-is k h) ∙ area-name-length s l ps (a .tree) k (there k h);
+        flags = subst (λ (x : Area). x .flags < 256 ^ 2) (sym (area-is k h)) (flags-small (getD l k blankSection .preserve));
+      }
+
+  two-good : pairs goodPair areas ≡ true
+  unfolding goodPair
+  two-good =
+      pairs-make goodPair areas blankArea
+      (λ j k g h.
+      let f : j < length areas = omega arith in
+      and-i _ _ (rw (area-is j f, area-is k h) (ap not (area-names-differ s l ps (a .tree) j k g (there k h) (a .differ k (there k h)))))
+      (nested .apart j k f h))
+
+  large : mapSize (length areas) ≤ areaAt s l ps m .place .size
+  unfolding areaAt areaFrom
+  large = rw (nested .count) (a .room)
+
+  holder : any (holdsMap at (length areas)) areas ≡ true
+  unfolding holdsMap named
+  holder =
+      let h : m < length areas = rw (nested .count) (a .there) in
+      any-make (holdsMap at (length areas)) areas blankArea m h
+      (rw (area-is m h)
+      (and-i _ _ (ap (same fmapName) (area-fmap s l ps (a .tree) m (a .there) (a .called)) ∙ same-refl fmapName)
+      (and-i _ _ (eq-eqb at at refl) (le-leb _ _ large))))
+
+  pub good-areas : goodAreas (i .size) at areas ≡ true
+  unfolding goodAreas
+  good-areas = and-i _ _ each-good (and-i _ _ holder two-good)
+
+  pub writable : Writable (i .size) at (storedName s (i .place) (i .length)) 1 areas
+  writable =
+      let c = nested .count in
+      record {
+        len-fits = omega (arith, a .image .high);
+        version = omega arith;
+        some = omega (arith, a .some);
+        few = omega (arith, a .tree .room);
+        name-fits = length-stored (a .image .named);
+        legal = stored-legal (a .image .named);
+        stored = stored;
+        good = good-areas;
+      }

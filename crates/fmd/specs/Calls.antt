@@ -1,0 +1,140 @@
+-- What each call answers and leaves behind.
+use mathlib.Core.Bool.{cond}
+use mathlib.Core.List.{List, [], _++_, map}
+use mathlib.Core.Option.{Option, none, some}
+use Prim.Native.Nat.{ℕ}
+use lib.Dec.{eqb}
+use lib.ListN.{length, drop}
+use Rattle.octets.specs.Bytes.{zeros, put}
+use Rattle.fmap_rules.specs.Map.{position}
+use Rattle.fmap_rules.specs.Written.{mapBytes}
+use Rattle.fmap_rules.specs.declared.ImagePosition.{ImagePosition}
+use Rattle.fmap_rules.specs.declared.Area.{Area}
+use Rattle.fmap_write.specs.Areas.{listOf}
+use Rattle.fmd_parse.specs.declared.Address.{Address}
+use Rattle.fmd_parse.specs.declared.Address.the-variants.{Given, Omitted}
+use Rattle.fmd_parse.specs.declared.Image.{Image as TextImage}
+use Rattle.fmd_check.specs.Check.{Judged, fault, good, checkText}
+use Rattle.fmd_areas.specs.Areas.{storedName, areaAt, areasOf}
+use Rattle.fmd.specs.declared.Answer.{Answer}
+use Rattle.fmd.specs.declared.Answer.the-variants.{Accepted, WrongLength, TooLong, OutOfGrammar, BadNumber, BadName, NameTwice, TooMany, BadFlag, Undecided, Unfit, NoMapSection}
+use Rattle.fmd.specs.declared.Image.{Image}
+use Rattle.fmd.specs.declared.Reading.{Reading}
+use Rattle.fmd.specs.declared.Section.{Section}
+use Rattle.fmd.specs.declared.Layout.{Layout}
+
+-- (W15) the number of each answer
+abbrev pub numberOf : Answer → Option ℕ
+numberOf Accepted = none
+numberOf WrongLength = some 1
+numberOf TooLong = some 50
+numberOf OutOfGrammar = some 51
+numberOf BadNumber = some 52
+numberOf BadName = some 53
+numberOf NameTwice = some 54
+numberOf TooMany = some 55
+numberOf BadFlag = some 56
+numberOf Undecided = some 57
+numberOf Unfit = some 58
+numberOf NoMapSection = some 59
+
+-- ---- what a layout text says
+
+-- no image, where a text is refused
+abbrev pub blank : Image
+blank = record { name = zeros 32; size = 0; address = 0; count = 0 }
+
+-- a refusal's number or none; the image; its sections as areas of a map; the position of section FMAP
+pub record Said : Type 0 where
+  pub answer : Option ℕ
+  pub image : Image
+  pub areas : List Area
+  pub at : ImagePosition
+
+-- (R1) a refusal's number alone
+abbrev pub refusedWith : Option ℕ → Said
+refusedWith n = record { answer = n; image = blank; areas = []; at = position 0 }
+
+-- L17: .. base the address or 0
+abbrev pub baseOf : Address → ℕ
+baseOf (Given a) = a
+baseOf Omitted = 0
+
+-- (R3) name, size, address and section count
+unfoldable pub imageOf : List ℕ → TextImage → ℕ → Image
+imageOf s i count = record { name = storedName s (i .place) (i .length); size = i .size; address = baseOf (i .address); count = count }
+
+abbrev pub saidBy : List ℕ → Judged → Said
+saidBy s (fault n p) = refusedWith (some n)
+saidBy s (good i l ps m) =
+    record { answer = none; image = imageOf s i (length l); areas = areasOf s l ps; at = areaAt s l ps m .place .start }
+
+unfoldable pub layoutIn : List ℕ → Said
+layoutIn s = saidBy s (checkText s)
+
+-- ---- reading
+
+pub record Read : Type 0 where
+  pub answer : Option ℕ
+  pub image : Image
+
+unfoldable pub readText : List ℕ → Read
+readText s = record { answer = layoutIn s .answer; image = layoutIn s .image }
+
+-- ---- listing
+
+pub record Listed : Type 0 where
+  pub answer : Option ℕ
+  pub image : Image
+  pub sections : List Section
+
+-- an area as a section of the list
+abbrev pub sectionOf : Area → Section
+sectionOf a = record { position = a .place .start; size = a .place .size; flags = a .flags; name = a .name }
+
+-- L16: .. filled one record at a time (position, size, flags as in the map, name), children after parents; unused records stay.
+abbrev pub filled : List Section → List Section → List Section
+filled xs ys = xs ++ drop (length xs) ys
+
+abbrev pub listBy : Said → List Section → Listed
+listBy x ys = record { answer = x .answer; image = x .image; sections = filled (map sectionOf (x .areas)) ys }
+
+-- R33: FMD: 1 (section list not 128 records)
+unfoldable pub layoutFor : List ℕ → ℕ → Said
+layoutFor s places = cond (eqb places 128) (layoutIn s) (refusedWith (some 1))
+
+unfoldable pub listText : List ℕ → List Section → Listed
+listText s ys = listBy (layoutFor s (length ys)) ys
+
+-- ---- writing
+
+pub record Written : Type 0 where
+  pub answer : Option ℕ
+  pub image : List ℕ
+
+-- L18: It is written at the start of section FMAP. L17: version 1.1, base the address or 0
+abbrev pub withMap : Said → List ℕ → List ℕ
+withMap x image = put (x .at .0) (mapBytes (length image) (x .image .name) (x .image .address) 1 (x .areas)) image
+
+-- R34: Writing a map into an image: FMD's refusals, then 1 where the image length is not the stated size.
+abbrev pub writeBy : Said → List ℕ → Option ℕ → Written
+writeBy x image (some n) = record { answer = some n; image = image }
+writeBy x image none =
+    cond (eqb (length image) (x .image .size)) (record { answer = none; image = withMap x image }) (record { answer = some 1; image = image })
+
+unfoldable pub writeText : List ℕ → List ℕ → Written
+writeText s image = writeBy (layoutIn s) image (layoutIn s .answer)
+
+-- ---- what the values of the code say
+
+abbrev pub said : Layout → Said
+said r = record { answer = numberOf (r .reading .answer); image = r .reading .image; areas = listOf (r .areas); at = r .at }
+
+abbrev pub reading : Reading → Read
+reading r = record { answer = numberOf (r .answer); image = r .image }
+
+abbrev pub listed : Reading → List Section → Listed
+listed r ys = record { answer = numberOf (r .answer); image = r .image; sections = ys }
+
+abbrev pub written : Answer → List ℕ → Written
+written r image = record { answer = numberOf r; image = image }

@@ -1,0 +1,3 @@
+-- The layout language: its calls, and what users rely on besides.
+pub mod Calls
+pub mod Promises

@@ -1,0 +1,262 @@
+// The layout language: a layout text read, listed as sections, and written as a map into an image.
+ghost use mathlib.Core.List.{map};
+ghost use mathlib.Core.Option.{none, some};
+ghost use mathlib.Core.Path.{_≡_};
+ghost use Prim.Native.Nat.{_+_, _≤_, _<_};
+ghost use lib.ListN.{length, getD};
+ghost use Rattle.fmap_rules.specs.Map.{blank, mapSize};
+ghost use Rattle.fmap_write.specs.Areas.{listOf, Sound};
+ghost use Rattle.fmd_parse.specs.Layouts.{listOf as sectionsOf, Sound as SoundList};
+ghost use Rattle.fmd_plan.specs.Plans.{planOf, Sound as SoundPlan};
+ghost use Rattle.fmd_check.specs.Check.{good};
+ghost use Rattle.fmd_check.specs.Facts.{Numbered, Accepted};
+ghost use Rattle.fmd.specs.Calls.{numberOf, said, refusedWith, baseOf, imageOf, saidBy, layoutIn, layoutFor, reading, readText, sectionOf, filled, listed, listText, written, writeBy, writeText};
+use fmap_rules::Area;
+use fmap_rules::Extent;
+use fmap_rules::ImagePosition;
+use fmap_write::Areas;
+use fmd_check::Verdict;
+use fmd_parse::Address;
+use fmd_parse::Image as TextImage;
+use fmd_parse::Sections;
+use fmd_plan::Plan;
+
+// What a call answers.
+pub enum Answer {
+    Accepted,
+    WrongLength,
+    TooLong,
+    OutOfGrammar,
+    BadNumber,
+    BadName,
+    NameTwice,
+    TooMany,
+    BadFlag,
+    Undecided,
+    Unfit,
+    NoMapSection,
+}
+
+// The image that a layout text describes: its name as a map holds it, its size, its address or 0, and how many sections it has.
+pub struct Image {
+    pub name: [u8; 32],
+    pub size: u32,
+    pub address: u32,
+    pub count: u32,
+}
+
+// An answer with its image, which is blank unless the answer is Accepted.
+pub struct Reading {
+    pub answer: Answer,
+    pub image: Image,
+}
+
+// A section of the image.
+pub struct Section {
+    pub position: ImagePosition,
+    pub size: u32,
+    pub flags: u16,
+    pub name: [u8; 32],
+}
+
+// A reading with the sections as areas of a map, and the position of section FMAP; blank unless the answer is Accepted.
+pub struct Layout {
+    pub reading: Reading,
+    pub areas: Areas,
+    pub at: ImagePosition,
+}
+
+// No layout.
+fn refused(answer: Answer) -> Layout
+    ensures { λ r. ⌜ Sound (r .areas) × (said r ≡ refusedWith (numberOf answer)) ⌝ }
+{
+    let image = Image {
+        name: [0u8; 32],
+        size: 0,
+        address: 0,
+        count: 0,
+    };
+    let a = Area {
+        place: Extent {
+            start: ImagePosition(0),
+            size: 0,
+        },
+        name: [0u8; 32],
+        flags: 0,
+    };
+    Layout {
+        reading: Reading {
+            answer: answer,
+            image: image,
+        },
+        areas: Areas {
+            items: [a; 128],
+            count: 0,
+        },
+        at: ImagePosition(0),
+    }
+}
+
+// The answer of a refusal's number.
+fn answer_of(n: u16) -> Answer
+    requires { ⌜ Numbered n ⌝ }
+    ensures { λ r. ⌜ numberOf r ≡ some n ⌝ }
+{
+    match n {
+        50 => Answer::TooLong,
+        51 => Answer::OutOfGrammar,
+        52 => Answer::BadNumber,
+        53 => Answer::BadName,
+        54 => Answer::NameTwice,
+        55 => Answer::TooMany,
+        56 => Answer::BadFlag,
+        57 => Answer::Undecided,
+        58 => Answer::Unfit,
+        _ => Answer::NoMapSection,
+    }
+}
+
+fn base_of(a: Address) -> u32
+    ensures { λ r. ⌜ r ≡ baseOf a ⌝ }
+{
+    match a {
+        Address::Given(n) => n,
+        Address::Omitted => 0,
+    }
+}
+
+fn image_of(text: &[u8], i: TextImage, count: usize) -> Image
+    requires { ⌜ (i .place + i .length ≤ length (now text)) × (i .length ≤ 32) × (count ≤ 128) ⌝ }
+    ensures { λ r. ⌜ r ≡ imageOf (now (text .entry)) i count ⌝ }
+{
+    let address = i.address;
+    let name = fmd_areas::stored_name(text, i.place, i.length);
+    Image {
+        name: name,
+        size: i.size,
+        address: base_of(address),
+        count: count as u32,
+    }
+}
+
+// The layout of a text that is accepted; section m is FMAP.
+fn accepted(text: &[u8], i: TextImage, m: usize, l: Sections, p: Plan) -> Layout
+    requires { ⌜ SoundList l × SoundPlan p × Accepted (now text) i (sectionsOf l) (planOf p) m ⌝ }
+    ensures { λ r. ⌜ Sound (r .areas) × (said r ≡ saidBy (now (text .entry)) (good i (sectionsOf l) (planOf p) m)) ⌝ }
+{
+    let areas = fmd_areas::areas_of(text, l, p);
+    let image = image_of(text, i, l.count);
+    let a = areas.items[m];
+    let place = a.place;
+    let start = place.start;
+    Layout {
+        reading: Reading {
+            answer: Answer::Accepted,
+            image: image,
+        },
+        areas: areas,
+        at: start,
+    }
+}
+
+// Reads a layout text, whole.
+fn layout_in(text: &[u8]) -> Layout
+    ensures { λ r. ⌜ Sound (r .areas) × (said r ≡ layoutIn (now (text .entry))) ⌝ }
+{
+    let c = fmd_check::check(text);
+    let verdict = c.verdict;
+    match verdict {
+        Verdict::Good(i, m) => accepted(text, i, m, c.list, c.plan),
+        Verdict::Fault(n, _) => refused(answer_of(n)),
+    }
+}
+
+// Reads a layout text.
+pub fn read(text: &[u8]) -> Reading
+    ensures { λ r. ⌜ reading r ≡ readText (now (text .entry)) ⌝ }
+{
+    let l = layout_in(text);
+    l.reading
+}
+
+// Reads a layout text, for a list of so many places.
+fn layout_for(text: &[u8], places: usize) -> Layout
+    ensures { λ r. ⌜ Sound (r .areas) × (r .areas .count ≤ places) × (said r ≡ layoutFor (now (text .entry)) places) ⌝ }
+{
+    if places == 128 {
+        return layout_in(text);
+    }
+    refused(Answer::WrongLength)
+}
+
+// Area i as a section of the list.
+fn section_at(areas: Areas, i: usize) -> Section
+    requires { ⌜ Sound areas × (i < areas .count) ⌝ }
+    ensures { λ r. ⌜ r ≡ sectionOf (getD (areas .items) i blank) ⌝ }
+{
+    let a = areas.items[i];
+    let place = a.place;
+    let start = place.start;
+    let name = a.name;
+    Section {
+        position: start,
+        size: place.size,
+        flags: a.flags,
+        name: name,
+    }
+}
+
+// The areas as sections, one at a time, from the start of the list on.
+fn fill(sections: &mut [Section], areas: Areas)
+    requires { ⌜ Sound areas × (areas .count ≤ length (now sections)) ⌝ }
+    ensures { λ _. ⌜ now (sections .exit) ≡ filled (map sectionOf (listOf areas)) (now (sections .entry)) ⌝ }
+{
+    let n = areas.count;
+    let mut i: usize = 0;
+    while i < n {
+        sections[i] = section_at(areas, i);
+        i += 1;
+    }
+}
+
+// Reads a layout text into the list of sections that the caller lends.
+pub fn list<'a, 'b>(text: &'a [u8], sections: &'b mut [Section]) -> Reading
+    ensures { λ r. ⌜ listed r (now (sections .exit)) ≡ listText (now (text .entry)) (now (sections .entry)) ⌝ }
+{
+    let l = layout_for(text, sections.len());
+    let areas = l.areas;
+    fill(sections, areas);
+    l.reading
+}
+
+// Writes the map of a layout into an image.
+fn put_layout(image: &mut [u8], l: Layout) -> Answer
+    requires { ⌜ (l .areas .count ≤ 128) × (l .at .0 + mapSize (l .areas .count) ≤ l .reading .image .size) × (l .reading .image .size ≤ 16777216) ⌝ }
+    ensures { λ r. ⌜ written r (now (image .exit)) ≡ writeBy (said l) (now (image .entry)) none ⌝ }
+{
+    let reading = l.reading;
+    let i = reading.image;
+    if image.len() != i.size as usize {
+        return Answer::WrongLength;
+    }
+    let at = l.at;
+    let name = i.name;
+    let areas = l.areas;
+    fmap_write::put_map(image, at.0 as usize, name, i.address as u64, 1, areas);
+    Answer::Accepted
+}
+
+// Writes the map of a layout text into an image.
+pub fn write_map(text: &[u8], image: &mut [u8]) -> Answer
+    ensures { λ r. ⌜ written r (now (image .exit)) ≡ writeText (now (text .entry)) (now (image .entry)) ⌝ }
+{
+    let c = fmd_check::check(text);
+    let verdict = c.verdict;
+    match verdict {
+        Verdict::Good(i, m) => {
+            let l = accepted(text, i, m, c.list, c.plan);
+            put_layout(image, l)
+        }
+        Verdict::Fault(n, _) => answer_of(n),
+    }
+}

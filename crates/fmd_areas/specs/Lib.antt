@@ -1,0 +1,3 @@
+-- The sections of a layout as areas of a map.
+pub mod Areas
+pub mod Nested

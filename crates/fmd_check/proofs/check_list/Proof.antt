@@ -1,0 +1,46 @@
+use Rattle.fmd_check.proofs.Found.{found-below}
+use Rattle.fmd_check.specs.Check.{checkList}
+use Rattle.fmd_parse.specs.Layouts.{listOf}
+use Rattle.fmd_rows.specs.Rows.{firstRepeat, repeats}
+use mathlib.Core.Path.{sym, _∙_}
+use borrow.Author.Needs.{needs}
+use Rattle.fmd_check.proofs.check_list.Statement.{statement}
+use Rattle.fmd_check.proofs.check_list.Tie as tie
+
+first-repeat-requires : tie.Need-first-repeat-requires
+first-repeat-requires c κs = search needs
+
+enum-known-k : tie.Need-enum-known-k
+enum-known-k c = search needs
+
+fault-at-requires : tie.Need-fault-at-requires
+unfolding firstRepeat
+fault-at-requires c κs =
+    let start = c .before .before .before .before .before in
+    (start .pre .0, found-below (start .args .l) (start .pre .0) (repeats (start .args .text .now) (listOf (start .args .l))) (c .before .k .given .0 .0) (sym (c .before .before .before .first-repeat .ensures) ∙ c .before .k .given .1))
+
+enum-told : tie.Need-enum-told
+enum-told c = search needs
+
+check-marks-requires : tie.Need-check-marks-requires
+check-marks-requires c κs = search needs
+
+returns : tie.Need-returns
+unfolding checkList
+returns c = rw (sym (c .before .before .before .before .first-repeat .ensures) ∙ c .before .before .k .given .1) (c .fault-at .ensures)
+
+returns-2 : tie.Need-returns-2
+unfolding checkList
+returns-2 c = rw (sym (c .before .before .before .first-repeat .ensures) ∙ c .before .enum-told .given .1) (c .check-marks .ensures)
+
+pub check-list-spec : {M : Type 1} → statement M
+check-list-spec =
+    tie.close
+    (tie.spec
+    first-repeat-requires
+    enum-known-k
+    fault-at-requires
+    enum-told
+    check-marks-requires
+    returns
+    returns-2)

@@ -1,0 +1,46 @@
+use Rattle.fmd_check.proofs.Found.{found-below}
+use Rattle.fmd_check.specs.Check.{checkMarks}
+use Rattle.fmd_parse.specs.Layouts.{listOf}
+use Rattle.fmd_rows.specs.Rows.{firstCbfs, holdsCbfs}
+use mathlib.Core.Path.{sym, _∙_}
+use borrow.Author.Needs.{needs}
+use Rattle.fmd_check.proofs.check_marks.Statement.{statement}
+use Rattle.fmd_check.proofs.check_marks.Tie as tie
+
+first-cbfs-requires : tie.Need-first-cbfs-requires
+first-cbfs-requires c κs = search needs
+
+enum-known-k : tie.Need-enum-known-k
+enum-known-k c = search needs
+
+fault-at-requires : tie.Need-fault-at-requires
+unfolding firstCbfs
+fault-at-requires c κs =
+    let start = c .before .before .before .before .before in
+    (start .pre .0, found-below (start .args .l) (start .pre .0) (holdsCbfs (listOf (start .args .l))) (c .before .k .given .0 .0) (sym (c .before .before .before .first-cbfs .ensures) ∙ c .before .k .given .1))
+
+enum-told : tie.Need-enum-told
+enum-told c = search needs
+
+check-sizes-requires : tie.Need-check-sizes-requires
+check-sizes-requires c κs = search needs
+
+returns : tie.Need-returns
+unfolding checkMarks
+returns c = rw (sym (c .before .before .before .before .first-cbfs .ensures) ∙ c .before .before .k .given .1) (c .fault-at .ensures)
+
+returns-2 : tie.Need-returns-2
+unfolding checkMarks
+returns-2 c = rw (sym (c .before .before .before .first-cbfs .ensures) ∙ c .before .enum-told .given .1) (c .check-sizes .ensures)
+
+pub check-marks-spec : {M : Type 1} → statement M
+check-marks-spec =
+    tie.close
+    (tie.spec
+    first-cbfs-requires
+    enum-known-k
+    fault-at-requires
+    enum-told
+    check-sizes-requires
+    returns
+    returns-2)

@@ -1,0 +1,36 @@
+-- What holds of every refusal, and of every text that is accepted: the statement of a theorem (proofs/Facts: check-facts).
+use mathlib.Core.Path.{_≡_}
+use mathlib.Core.Bool.{true, false}
+use mathlib.Core.List.{List}
+use Prim.Native.Nat.{ℕ, _≤_, _<_}
+use lib.ListN.{length, getD}
+use Rattle.fmap_rules.specs.Map.{mapSize}
+use Rattle.fmd_parse.specs.Trees.{Tree, Imaged}
+use Rattle.fmd_parse.specs.declared.Section.{Section}
+use Rattle.fmd_parse.specs.declared.Image.{Image}
+use Rattle.fmd_rows.specs.Rows.{isFmap, hasChild, repeats}
+use Rattle.fmd_plan.specs.Plans.{blank}
+use Rattle.fmd_plan.specs.Fitted.{Fitted}
+use Rattle.fmd_plan.specs.declared.Placed.{Placed}
+use Rattle.fmd_check.specs.Check.{Judged, fault, good}
+
+-- (R33) a layout text is refused with one of the numbers 50 to 59
+abbrev pub Numbered : ℕ → Type 0
+Numbered n = (50 ≤ n) × (n ≤ 59)
+
+-- image, sections, their places, and the index of section FMAP
+pub record Accepted (s : List ℕ) (i : Image) (l : List Section) (ps : List Placed) (m : ℕ) : Type 0 where
+  pub short : length s ≤ 32768
+  pub image : Imaged s i
+  pub tree : Tree s l
+  pub some : 0 < length l
+  pub fitted : Fitted (i .size) l ps
+  pub differ : (k : ℕ) → k < length l → repeats s l k ≡ false
+  pub there : m < length l
+  pub called : isFmap s l m ≡ true
+  pub leaf : hasChild l m ≡ false
+  pub room : mapSize (length l) ≤ getD ps m blank .size
+
+abbrev pub CheckedFacts : List ℕ → Judged → Type 0
+CheckedFacts s (fault n p) = Numbered n × (p ≤ length s)
+CheckedFacts s (good i l ps m) = Accepted s i l ps m

@@ -1,0 +1,3 @@
+-- All refusals of a layout text, in their order.
+pub mod Check
+pub mod Facts
