@@ -19,3 +19,9 @@ pub fn seconds() -> f64 {
     assert_eq!(unsafe { clock_gettime(THREAD_CPUTIME, &mut time) }, 0, "no clock");
     time.seconds as f64 + time.nanoseconds as f64 * 1e-9
 }
+
+/// Seconds on the wall since the first call.
+pub fn wall_seconds() -> f64 {
+    static START: std::sync::OnceLock<std::time::Instant> = std::sync::OnceLock::new();
+    START.get_or_init(std::time::Instant::now).elapsed().as_secs_f64()
+}

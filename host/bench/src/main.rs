@@ -4,12 +4,14 @@ mod check;
 mod clock;
 mod disk;
 mod flash;
+mod layout;
 mod ours;
 mod peers;
 mod table;
 mod work;
 
 use disk::Disk;
+use layout::Programs;
 use table::Table;
 use usigrambal::raw;
 use work::{loads, of, of_two, onto, stores};
@@ -23,14 +25,22 @@ fn main() {
     CRC_SIZES.into_iter().for_each(check::crc);
     OCTETS_SIZES.into_iter().for_each(check::octets);
     let (full, room) = (Disk::with_gaps(128), Disk::with_gaps(127));
+    let programs = Programs::ready();
     let mut table = Table::default();
     CRC_SIZES.into_iter().for_each(|size| crc_rows(&mut table, size));
     OCTETS_SIZES.into_iter().for_each(|size| octets_rows(&mut table, size));
     gpt_rows(&mut table, &full, &room);
     flash::rows(&mut table);
+    fmd_rows(&mut table, programs.as_ref().ok());
     table.measure();
     table.print();
     table.print_units();
+    table.print_times();
+    if let Err(why) = &programs {
+        println!("{why}");
+    }
+    #[cfg(not(feature = "fmd"))]
+    println!("skipped: fmd: read (feature fmd is off)");
 }
 
 fn crc_rows(t: &mut Table, size: usize) {
@@ -68,4 +78,15 @@ fn gpt_rows<'a>(t: &mut Table<'a>, full: &'a Disk, room: &'a Disk) {
     let mut copy = room.clone();
     t.units(("gpt: add, 127 partitions", 14.0), move || room.add_to(&mut copy), unit());
     t.units(("gpt: free counts, 128 partitions", 14.0), || full.free(), unit());
+}
+
+/// A layout of 128 sections in two processes, and texts of one shape and of growing length.
+fn fmd_rows<'a>(t: &mut Table<'a>, programs: Option<&'a Programs>) {
+    if let Some(programs) = programs {
+        t.times(("fmd_list / fmaptool, 128 sections", 1.0), || programs.list(), || programs.compile());
+    }
+    #[cfg(feature = "fmd")]
+    for (what, most, text, unit) in layout::growing() {
+        t.times((what, most), of(text, layout::read), of(unit, layout::read));
+    }
 }

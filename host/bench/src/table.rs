@@ -6,12 +6,16 @@ const ROUNDS: usize = 15;
 /// One timing lasts at least so many seconds, so that the clock's step does not count.
 const TIMING: f64 = 0.002;
 
+/// Seconds since some moment.
+type Clock = fn() -> f64;
+
 /// Does the work of a row so many times.
 type Work<'a> = Box<dyn FnMut(u64) + 'a>;
 
 struct Side<'a> {
     work: Work<'a>,
     repeats: u64,
+    clock: Clock,
     /// Seconds for one repeat, the best so far.
     best: f64,
 }
@@ -31,6 +35,8 @@ enum Shown {
     Speed(Option<f64>),
     /// How many units ours takes, where the peer is the unit; it may take at most so many.
     Units(&'static str, f64),
+    /// The times of both; ours may take at most so many times as long as the peer.
+    Times(f64),
 }
 
 #[derive(Default)]
@@ -79,7 +85,21 @@ impl<'a> Table<'a> {
         ours: impl FnMut() -> A + 'a,
         peer: impl FnMut() -> B + 'a,
     ) {
-        self.rows.push(Row { what, size, shown, ours: side(ours), peer: side(peer) });
+        let clock = clock::seconds;
+        self.rows.push(Row { what, size, shown, ours: side(ours, clock), peer: side(peer, clock) });
+    }
+
+    /// Adds a row of times by the wall's clock, since a process's own does not count its children: our work, which may
+    /// take at most `most` times as long as the peer's.
+    pub fn times<A, B>(
+        &mut self,
+        (what, most): (&'static str, f64),
+        ours: impl FnMut() -> A + 'a,
+        peer: impl FnMut() -> B + 'a,
+    ) {
+        let clock = clock::wall_seconds;
+        let (ours, peer) = (side(ours, clock), side(peer, clock));
+        self.rows.push(Row { what, size: 0, shown: Shown::Times(most), ours, peer });
     }
 
     /// Times all rows, round by round.
@@ -133,6 +153,16 @@ impl<'a> Table<'a> {
         }
     }
 
+    /// The rows of times.
+    pub fn print_times(&self) {
+        println!("\n{:<60} {:>10} {:>10} {:>8} {:>9}", "time: what / peer", "ours", "peer", "ratio", "at most");
+        for row in &self.rows {
+            let Shown::Times(most) = row.shown else { continue };
+            let (ours, peer) = (row.ours.best * 1e6, row.peer.best * 1e6);
+            println!("{:<60} {ours:>7.1} us {peer:>7.1} us {:>8.2} {most:>9.2}", row.what, ours / peer);
+        }
+    }
+
     /// Rows of the same name together, in the order in which the names were added.
     fn grouped(&self) -> Vec<&Row<'a>> {
         let first = |row: &Row| self.rows.iter().position(|other| other.what == row.what);
@@ -150,28 +180,28 @@ impl Row<'_> {
 
 impl Side<'_> {
     fn time(&mut self) {
-        let start = clock::seconds();
+        let start = (self.clock)();
         (self.work)(self.repeats);
-        self.best = self.best.min((clock::seconds() - start) / self.repeats as f64);
+        self.best = self.best.min(((self.clock)() - start) / self.repeats as f64);
     }
 }
 
-fn side<'a, A>(mut call: impl FnMut() -> A + 'a) -> Side<'a> {
+fn side<'a, A>(mut call: impl FnMut() -> A + 'a, clock: Clock) -> Side<'a> {
     let mut work: Work<'a> = Box::new(move |repeats| {
         for _ in 0..repeats {
             std::hint::black_box(call());
         }
     });
-    let repeats = enough_repeats(&mut work);
-    Side { work, repeats, best: f64::INFINITY }
+    let repeats = enough_repeats(&mut work, clock);
+    Side { work, repeats, clock, best: f64::INFINITY }
 }
 
-fn enough_repeats(work: &mut Work) -> u64 {
+fn enough_repeats(work: &mut Work, clock: Clock) -> u64 {
     let mut repeats = 1;
     loop {
-        let start = clock::seconds();
+        let start = clock();
         work(repeats);
-        if clock::seconds() - start >= TIMING {
+        if clock() - start >= TIMING {
             return repeats;
         }
         repeats *= 2;

@@ -6,6 +6,7 @@
 
 mod crc;
 mod fmap;
+mod fmd;
 mod gpt;
 mod guid;
 mod number;
@@ -19,7 +20,7 @@ use topic::{Topic, Variant};
 
 const SEED: u64 = 0x5551_4752_414D_4241;
 
-const TOPICS: &[Topic] = &[guid::TOPIC, crc::TOPIC, gpt::TOPIC, fmap::TOPIC];
+const TOPICS: &[Topic] = &[guid::TOPIC, crc::TOPIC, gpt::TOPIC, fmap::TOPIC, fmd::TOPIC];
 
 fn main() -> ExitCode {
     let Some((self_test, seed)) = options() else {

@@ -2,11 +2,14 @@ use crate::rules::{Row, Rules};
 
 /// R2: the number of the first row of `order` that holds.
 pub fn first_refusal(rules: &Rules, order: &[Row], holds: impl Fn(Row) -> bool) -> Option<u32> {
-    let row = order.iter().find(|row| holds(**row))?;
-    Some(number(rules, *row))
+    first_row(order, holds).map(|row| number(rules, row))
 }
 
-fn number(rules: &Rules, row: Row) -> u32 {
+pub fn first_row(order: &[Row], holds: impl Fn(Row) -> bool) -> Option<Row> {
+    order.iter().copied().find(|row| holds(*row))
+}
+
+pub fn number(rules: &Rules, row: Row) -> u32 {
     let numbers = rules.refusals.numbers;
     numbers.iter().find(|(of, _)| *of == row).map_or(0, |(_, number)| *number)
 }

@@ -18,8 +18,20 @@
 //! preserve NAME
 //! image OFFSET BYTES
 //! ```
+//!
+//! and for a layout text
+//!
+//! ```text
+//! text LINE            a line of it, which LF ends
+//! bytes BYTES          in hex
+//! reads NAME SIZE ADDRESS COUNT    or "refused" and the number
+//! section POSITION SIZE FLAGS NAME
+//! map OFFSET BYTES     the bytes of the image that are written
+//! ```
 
 use crate::disk::{Disk, HEAD_LEN, TAIL_LEN};
+use crate::flash::{self, AREA_LEN, NAME_LEN};
+use crate::layout::Calls;
 use crate::listing::{self, Area, Partition};
 use std::path::{Path, PathBuf};
 use std::{fs, io};
@@ -92,14 +104,106 @@ pub fn flash(path: &Path) -> io::Result<FlashFixture> {
     Ok(FlashFixture { image, reads_as, areas, preserved })
 }
 
+/// A layout text, and what its tool made of it.
+pub struct LayoutFixture {
+    pub text: Vec<u8>,
+    pub reads_as: Result<ReadsAs, u32>,
+    pub sections: Vec<flash::Area>,
+    /// Pieces of the map, with their places in the image.
+    pub map: Vec<(usize, Vec<u8>)>,
+}
+
+/// What a layout text says of its image.
+#[derive(Debug, PartialEq, Eq)]
+pub struct ReadsAs {
+    pub name: String,
+    pub size: u64,
+    pub address: u64,
+    pub count: u64,
+}
+
+pub fn layout(path: &Path) -> io::Result<LayoutFixture> {
+    let file = fs::read_to_string(path)?;
+    let mut fixture =
+        LayoutFixture { text: Vec::new(), reads_as: Err(0), sections: Vec::new(), map: Vec::new() };
+    for line in file.lines().filter(|line| !line.is_empty() && !line.starts_with('#')) {
+        let wrong = || io::Error::other(format!("{}: {line}", path.display()));
+        let (word, rest) = line.split_once(' ').unwrap_or((line, ""));
+        match word {
+            "text" => fixture.text.extend([rest.as_bytes(), b"\n"].concat()),
+            "bytes" => fixture.text.extend(hex(rest).ok_or_else(wrong)?),
+            "reads" => fixture.reads_as = Ok(reads_as(rest).ok_or_else(wrong)?),
+            "refused" => fixture.reads_as = Err(rest.parse().map_err(|_| wrong())?),
+            "section" => fixture.sections.push(section(rest).ok_or_else(wrong)?),
+            "map" => fixture.map.push(piece(rest).ok_or_else(wrong)?),
+            _ => return Err(wrong()),
+        }
+    }
+    Ok(fixture)
+}
+
+fn reads_as(line: &str) -> Option<ReadsAs> {
+    let mut words = line.split(' ');
+    let name = words.next()?.to_string();
+    let mut number = || words.next()?.parse().ok();
+    Some(ReadsAs { name, size: number()?, address: number()?, count: number()? })
+}
+
+fn section(line: &str) -> Option<flash::Area> {
+    let mut words = line.splitn(4, ' ');
+    let (offset, size) = (words.next()?.parse().ok()?, words.next()?.parse().ok()?);
+    let flags = words.next()?.parse().ok()?;
+    Some(flash::Area { offset, size, flags, name: words.next()?.as_bytes().to_vec() })
+}
+
+fn piece(line: &str) -> Option<(usize, Vec<u8>)> {
+    let (offset, bytes) = line.split_once(' ')?;
+    Some((usize::from_str_radix(offset, 16).ok()?, hex(bytes)?))
+}
+
+fn hex(digits: &str) -> Option<Vec<u8>> {
+    let pairs = digits.as_bytes().chunks(2).map(|pair| std::str::from_utf8(pair).ok());
+    pairs.map(|pair| u8::from_str_radix(pair?, 16).ok()).collect()
+}
+
+impl LayoutFixture {
+    /// The calls do with the text what the tool did.
+    pub fn holds(&self, calls: &Calls, name: &str) {
+        let mut image_name = [0xAA; NAME_LEN];
+        let (mut size, mut address, mut count) = (0, 0, 0);
+        let number = (calls.read)(&self.text, &mut image_name, &mut size, &mut address, &mut count);
+        let found = match number {
+            0 => Ok(ReadsAs { name: text_of(&image_name), size, address, count }),
+            number => Err(number),
+        };
+        assert_eq!(found, self.reads_as, "{name}");
+        let mut records = vec![0xA5; 128 * AREA_LEN];
+        let mut listed = 0;
+        assert_eq!((calls.records)(&self.text, &mut records, &mut listed), number, "{name}");
+        assert_eq!(listed, self.sections.len() as u64, "{name}");
+        let expected: Vec<u8> = self.sections.iter().flat_map(flash::Area::to_bytes).collect();
+        let (filled, unused) = records.split_at(expected.len());
+        assert!(filled == expected && unused.iter().all(|byte| *byte == 0xA5), "{name}");
+        for fill in [0x00, 0xFF] {
+            let mut image = vec![fill; size as usize];
+            assert_eq!((calls.write)(&self.text, &mut image), number, "{name}");
+            let mut expected = vec![fill; size as usize];
+            for (at, bytes) in &self.map {
+                expected[*at..at + bytes.len()].copy_from_slice(bytes);
+            }
+            assert!(image == expected, "{name}: the image is another one");
+        }
+    }
+}
+
+fn text_of(name: &[u8]) -> String {
+    name.iter().take_while(|byte| **byte != 0).map(|byte| char::from(*byte)).collect()
+}
+
 /// Puts `OFFSET BYTES` into the buffer.
 pub fn put(buffer: &mut [u8], line: &str) -> Option<()> {
-    let (offset, hex) = line.split_once(' ')?;
-    let offset = usize::from_str_radix(offset, 16).ok()?;
-    let digits = hex.as_bytes().chunks(2).map(|pair| std::str::from_utf8(pair).ok());
-    for (place, pair) in digits.enumerate() {
-        *buffer.get_mut(offset + place)? = u8::from_str_radix(pair?, 16).ok()?;
-    }
+    let (offset, bytes) = piece(line)?;
+    buffer.get_mut(offset..offset + bytes.len())?.copy_from_slice(&bytes);
     Some(())
 }
 

@@ -21,6 +21,11 @@ impl Area {
         u64::from(self.offset) + u64::from(self.size)
     }
 
+    pub fn to_bytes(&self) -> Vec<u8> {
+        let numbers = [self.offset.to_le_bytes(), self.size.to_le_bytes()].concat();
+        [&numbers[..], &padded(&self.name), &self.flags.to_le_bytes()].concat()
+    }
+
     /// Whether the two have a byte in common, neither holding the other.
     fn crosses(&self, other: &Area) -> bool {
         let (low, high) = if self.offset <= other.offset { (self, other) } else { (other, self) };
@@ -56,12 +61,7 @@ impl Map {
         bytes.extend(self.size.to_le_bytes());
         bytes.extend(padded(&self.name));
         bytes.extend((self.areas.len() as u16).to_le_bytes());
-        for area in &self.areas {
-            bytes.extend(area.offset.to_le_bytes());
-            bytes.extend(area.size.to_le_bytes());
-            bytes.extend(padded(&area.name));
-            bytes.extend(area.flags.to_le_bytes());
-        }
+        bytes.extend(self.areas.iter().flat_map(Area::to_bytes));
         bytes
     }
 

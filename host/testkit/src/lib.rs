@@ -4,6 +4,8 @@ pub mod disk;
 pub mod fixture;
 pub mod flash;
 pub mod flash_calls;
+pub mod fmaptool;
+pub mod layout;
 pub mod listing;
 pub mod peer;
 pub mod random;

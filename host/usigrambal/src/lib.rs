@@ -4,6 +4,8 @@
 mod disk;
 pub mod flash;
 mod guid;
+#[cfg(feature = "fmd")]
+pub mod layout;
 pub mod raw;
 mod refusal;
 

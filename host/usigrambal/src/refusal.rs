@@ -9,6 +9,7 @@ pub struct Refusal {
 }
 
 /// The argument that a refusal is about.
+#[cfg_attr(not(feature = "fmd"), allow(dead_code))]
 #[derive(Clone, Copy, Debug, PartialEq, Eq)]
 pub(crate) enum Detail {
     /// A disk of so many blocks.
@@ -18,6 +19,8 @@ pub(crate) enum Detail {
     Bytes(usize),
     /// One of two images.
     Image(&'static str),
+    /// A layout text of so many bytes.
+    Text(usize),
     /// A partition of so many blocks to be placed.
     NewSize(u64),
     /// A partition to be given so many blocks.
@@ -25,7 +28,7 @@ pub(crate) enum Detail {
 }
 
 /// What each number says.
-const WORDS: [(u32, &str); 21] = [
+const WORDS: [(u32, &str); 31] = [
     (1, "a lent buffer has a wrong length"),
     (2, "the number of blocks is outside its range"),
     (3, "the disk GUID is all zero"),
@@ -43,6 +46,16 @@ const WORDS: [(u32, &str); 21] = [
     (40, "the image length is outside its range"),
     (41, "the signature of a map stands nowhere"),
     (42, "no good map"),
+    (50, "the layout text is too long"),
+    (51, "the text is out of grammar"),
+    (52, "a bad number"),
+    (53, "a bad name"),
+    (54, "a section name is used twice"),
+    (55, "too many sections or levels"),
+    (56, "an unknown or repeated flag, or CBFS on a section with children"),
+    (57, "the size of a section is undecided"),
+    (58, "a section does not fit"),
+    (59, "no section FMAP, or it has children or is too small"),
     (60, "a preserved area is missing in the new map"),
     (61, "a preserved area has another size in the new map"),
     (62, "areas to be carried share a byte"),
@@ -73,6 +86,7 @@ impl Detail {
         match self {
             Detail::Blocks(_) => number == 2,
             Detail::Bytes(_) => number == 40,
+            Detail::Text(_) => number == 50,
             Detail::Image(_) => (40..=42).contains(&number),
             Detail::Slot(_) => number == 12 || number == 13,
             Detail::NewSize(_) | Detail::SlotSize(..) => number == 25,
@@ -84,7 +98,7 @@ impl fmt::Display for Detail {
     fn fmt(&self, f: &mut fmt::Formatter<'_>) -> fmt::Result {
         match self {
             Detail::Blocks(n) => write!(f, "{n} blocks"),
-            Detail::Bytes(len) => write!(f, "{len} bytes"),
+            Detail::Bytes(len) | Detail::Text(len) => write!(f, "{len} bytes"),
             Detail::Image(which) => write!(f, "the {which} image"),
             Detail::Slot(slot) => write!(f, "slot {slot}"),
             Detail::NewSize(size) => write!(f, "no run of {size} free blocks"),

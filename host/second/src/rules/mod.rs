@@ -1,11 +1,13 @@
 mod crc;
 mod fmap;
+mod fmd;
 mod gpt;
 mod guid;
 mod refusal;
 
 pub use crc::{CrcRules, CRC};
 pub use fmap::*;
+pub use fmd::*;
 pub use gpt::*;
 pub use guid::{DigitRange, GuidRules, GUID};
 pub use refusal::{RefusalRules, Row, REFUSALS};
@@ -18,6 +20,7 @@ pub struct Rules {
     pub guid: GuidRules,
     pub gpt: GptRules,
     pub fmap: FmapRules,
+    pub fmd: FmdRules,
 }
 
-pub const RULES: Rules = Rules { refusals: REFUSALS, crc: CRC, guid: GUID, gpt: GPT, fmap: FMAP };
+pub const RULES: Rules = Rules { refusals: REFUSALS, crc: CRC, guid: GUID, gpt: GPT, fmap: FMAP, fmd: FMD };

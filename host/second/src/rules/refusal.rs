@@ -26,6 +26,19 @@ pub enum Row {
     OtherSize,
     SharedByte,
     OnFmap,
+    TextTooLong,
+    /// The first fault in a layout text; it is one of the next five, which has the number.
+    InText,
+    OutOfGrammar,
+    BadNumber,
+    BadLayoutName,
+    TooMany,
+    BadFlag,
+    NameTwice,
+    CbfsOnParent,
+    Undecided,
+    DoesNotFit,
+    NoFmap,
     /// No row of the table: no such area.
     Nothing,
 }
@@ -33,8 +46,8 @@ pub enum Row {
 /// What a refusal returns and leaves.
 #[derive(Clone, Copy, Debug)]
 pub struct RefusalRules {
-    /// R4 to R16, R23, R24; 255 for the answer that no area is there.
-    pub numbers: [(Row, u32); 25],
+    /// R4 to R24; 255 for the answer that no area is there.
+    pub numbers: [(Row, u32); 36],
     /// R1: how many bytes of an output buffer a refusal zeroes.
     pub zeroes: usize,
     /// R1, "its number alone": a refusal sets the other answers to zero.
@@ -74,6 +87,17 @@ pub const REFUSALS: RefusalRules = RefusalRules {
         (Row::OtherSize, 61),
         (Row::SharedByte, 62),
         (Row::OnFmap, 63),
+        (Row::TextTooLong, 50),
+        (Row::OutOfGrammar, 51),
+        (Row::BadNumber, 52),
+        (Row::BadLayoutName, 53),
+        (Row::NameTwice, 54),
+        (Row::TooMany, 55),
+        (Row::BadFlag, 56),
+        (Row::CbfsOnParent, 56),
+        (Row::Undecided, 57),
+        (Row::DoesNotFit, 58),
+        (Row::NoFmap, 59),
         (Row::Nothing, 255),
     ],
     zeroes: 0,

@@ -2,9 +2,13 @@
 //! of the refusal (the CRC for `crc32`). A wrong length is for the library to refuse (rule R4).
 
 mod fmap;
+#[cfg(feature = "fmd")]
+mod fmd;
 mod gpt;
 
 pub use fmap::*;
+#[cfg(feature = "fmd")]
+pub use fmd::*;
 pub use gpt::*;
 
 mod c {

@@ -8,7 +8,7 @@
 //! text BYTES TEXT     stored bytes and the text written for them
 //! ```
 //!
-//! The lines of `disk` follow.
+//! The lines of `disk` follow. `second_samples 10` prints sample 10 alone, as it stands in the rules.
 
 mod disk;
 
@@ -85,6 +85,10 @@ const STORED: [[u8; 16]; 7] = [
 
 fn main() -> io::Result<()> {
     let mut out = io::stdout().lock();
+    if std::env::args().nth(1).as_deref() == Some("10") {
+        let lines = second::listing::listing(second::listing::SAMPLE_10.as_bytes());
+        return out.write_all(lines.as_bytes());
+    }
     for (label, input) in CRC_INPUTS {
         writeln!(out, "crc32 {label} {:08X}", second::crc32(&RULES, input))?;
     }

@@ -1,0 +1,128 @@
+//! A layout of 128 sections, listed by our program `fmd_list` and compiled by fmaptool, each in a process of its own;
+//! and texts of growing length.
+
+use std::fs::{self, File};
+use std::path::{Path, PathBuf};
+use std::process::{Command, Stdio};
+use testkit::disk::Scratch;
+use testkit::{fmaptool, peer};
+
+const SECTIONS: usize = 128;
+const HEADER_LEN: usize = 56;
+const AREA_LEN: usize = 42;
+
+/// Both programs, with the same text in a file.
+pub struct Programs {
+    list: PathBuf,
+    text: Scratch,
+    map: Scratch,
+}
+
+impl Programs {
+    /// Both are there and say the same of the text; or why the row is skipped.
+    pub fn ready() -> Result<Programs, String> {
+        let list = Path::new(env!("CARGO_MANIFEST_DIR")).join("../../target/bin/fmd_list");
+        if !list.is_file() {
+            return Err(
+                "skipped: fmd_list / fmaptool (target/bin/fmd_list is not built: run `rt check fmd_list`)"
+                    .into(),
+            );
+        }
+        if !peer::present(fmaptool::TOOL, fmaptool::PACKAGE) {
+            return Err("skipped: fmd_list / fmaptool (no fmaptool)".into());
+        }
+        let programs = Programs { list, text: Scratch::new(), map: Scratch::new() };
+        fs::write(&programs.text.path, text()).expect("a file for the text");
+        programs.compile();
+        let map = fs::read(&programs.map.path).expect("the map that fmaptool wrote");
+        assert_eq!(programs.listed(), sections(&map), "fmd_list and fmaptool differ");
+        assert_eq!(programs.listed().len(), SECTIONS);
+        Ok(programs)
+    }
+
+    fn lister(&self) -> Command {
+        let mut command = Command::new(&self.list);
+        command.stdin(File::open(&self.text.path).expect("the text"));
+        command
+    }
+
+    pub fn list(&self) {
+        let status = self.lister().stdout(Stdio::null()).status().expect("fmd_list runs");
+        assert!(status.success(), "fmd_list: {status}");
+    }
+
+    pub fn compile(&self) {
+        let mut command = Command::new(fmaptool::TOOL);
+        command.arg(&self.text.path).arg(&self.map.path).stdout(Stdio::null()).stderr(Stdio::null());
+        let status = command.status().expect("fmaptool runs");
+        assert!(status.success(), "fmaptool: {status}");
+    }
+
+    /// The lines of the sections.
+    fn listed(&self) -> Vec<String> {
+        let output = self.lister().output().expect("fmd_list runs");
+        let lines = String::from_utf8(output.stdout).expect("lines of ASCII");
+        lines.lines().skip(1).map(str::to_string).collect()
+    }
+}
+
+/// What a listing says of the areas of a map.
+fn sections(map: &[u8]) -> Vec<String> {
+    let number = |bytes: &[u8]| bytes.iter().rev().fold(0, |value, byte| value << 8 | u64::from(*byte));
+    let section = |area: &[u8]| {
+        let name: String =
+            area[8..40].iter().take_while(|byte| **byte != 0).map(|b| char::from(*b)).collect();
+        format!("{:08x} {:08x} {:04x} {name}", number(&area[..4]), number(&area[4..8]), number(&area[40..]))
+    };
+    map[HEADER_LEN..].chunks(AREA_LEN).map(section).collect()
+}
+
+/// 128 sections on three levels, with a leaf COREBOOT(CBFS), which fmaptool demands.
+fn text() -> String {
+    let parent = |p: usize| {
+        let child = |c: usize| format!("    RW_{p}_{c}(PRESERVE)@{:#x} {} # kept\n", 0x1000 * c, 2048);
+        let children: String = (0..13).map(child).collect();
+        format!("  PART_{p} 64K {{\n{children}  }}\n")
+    };
+    let parents: String = (0..9).map(parent).collect();
+    format!("CHIP@0xff000000 16M {{\n  FMAP 8K\n  COREBOOT(CBFS) 1M\n{parents}}}\n")
+}
+
+/// A row for a text of 16 and of 32 KiB, with the one of 8 KiB as its unit, for two ways to grow: 128 sections with
+/// longer comments, and more sections. Linear is twice and four times as long.
+#[cfg(feature = "fmd")]
+pub fn growing() -> Vec<(&'static str, f64, &'static [u8], &'static [u8])> {
+    let longer = |kib: usize| long_text(SECTIONS, kib * 1024);
+    let more = |kib: usize| long_text(4 * kib, kib * 1024);
+    vec![
+        ("fmd: read 16 KiB / 8 KiB, 128 sections", 2.5, longer(16), longer(8)),
+        ("fmd: read 32 KiB / 8 KiB, 128 sections", 5.0, longer(32), longer(8)),
+        ("fmd: read 16 KiB / 8 KiB, 64 / 32 sections", 2.5, more(16), more(8)),
+        ("fmd: read 32 KiB / 8 KiB, 128 / 32 sections", 5.0, more(32), more(8)),
+    ]
+}
+
+/// So many sections in exactly so many bytes.
+#[cfg(feature = "fmd")]
+fn long_text(sections: usize, len: usize) -> &'static [u8] {
+    let each = (len - 40) / sections;
+    let mut text = b"CHIP 64K{FMAP 8K\n".to_vec();
+    for k in 1..sections {
+        let section = format!("S{k} 9#");
+        text.extend(section.as_bytes());
+        text.extend(b"c".repeat(each - section.len() - 1));
+        text.push(b'\n');
+    }
+    text.push(b'}');
+    assert!(text.len() <= len);
+    text.resize(len, b' ');
+    text.leak()
+}
+
+#[cfg(feature = "fmd")]
+pub fn read(text: &[u8]) -> u64 {
+    let (mut name, mut size, mut address, mut count) = ([0; 32], 0, 0, 0);
+    let refusal = usigrambal::raw::fmd_read(text, &mut name, &mut size, &mut address, &mut count);
+    assert_eq!(refusal, 0);
+    count
+}
