@@ -7,6 +7,8 @@ use Prim.Native.Nat.{ℕ}
 use native.Mathlib.Omega.{arith}
 use lib.ListN.{length}
 use borrow.Author.Tests.{eq-eqb, ne-eqb}
+use Rattle.octets.specs.Bytes.{put}
+use Rattle.octets.proofs.Puts.{put-all}
 use Rattle.fmap_rules.specs.Written.{areaBytes}
 use Rattle.fmap_rules.specs.declared.ImagePosition.{ImagePosition}
 use Rattle.fmap_carry.specs.Carry.{Outcome}
@@ -35,8 +37,10 @@ named-tells f x old r p q = ap (namedTold old) (sym (ap indexReply p) ∙ q)
 pub looked-tells : (old : List ℕ) (a : AreaFound) (x : Lookup) → a .answer ≡ x → answerTold old (a .area) (lookupReply x) ≡ lookedTold old (looked a)
 looked-tells old a x p = ap (λ (y : Lookup). answerTold old (a .area) (lookupReply y)) (sym p)
 
-pub area-tells : (old new : List ℕ) (a : AreaFound) → a .answer ≡ lookup.There → new ≡ areaBytes (a .area) → record { result = 0; area = new } ≡ lookedTold old (looked a)
-area-tells old new a p q = ap (λ (b : List ℕ). record { result = 0; area = b }) q ∙ looked-tells old a lookup.There p
+pub area-tells : (old new : List ℕ) (a : AreaFound) → a .answer ≡ lookup.There → length old ≡ 42
+    → (new ≡ put 0 (areaBytes (a .area)) old) × (length (areaBytes (a .area)) ≡ 42) → record { result = 0; area = new } ≡ lookedTold old (looked a)
+area-tells old new a p h (q, l) =
+    ap (λ (b : List ℕ). record { result = 0; area = b }) (q ∙ put-all (areaBytes (a .area)) old (l ∙ sym h)) ∙ looked-tells old a lookup.There p
 
 pub area-wrong : (old : List ℕ) (l : Looked) → length old ≢ 42 → record { result = 1; area = old } ≡ areaTold old l
 unfolding areaTold

@@ -35,9 +35,8 @@ fn area_found(a: AreaFound, area: &mut [u8]) -> u32
     let answer = a.answer;
     match answer {
         Lookup::There => {
-            let place = a.area.place;
-            let name = a.area.name;
-            fmap_rules::write_area(area, place, name, a.area.flags);
+            let found = a.area;
+            fmap_write::put_area(area, 0, found);
             0
         }
         Lookup::Nothing => 255,

@@ -14,9 +14,8 @@ use Rattle.octets.proofs.Bools.{and-i, and-l, and-r}
 use Rattle.octets.proofs.Tests.{any-get}
 use Rattle.octets.proofs.Numbers.{length-le, unle-le}
 use Rattle.octets.proofs.Parts.{part-here, part-skip, part-from, part-in, part-whole, rest-at, length-rest}
-use Rattle.octets.proofs.Puts.{put-eq, length-put, put-all, then}
+use Rattle.octets.proofs.Puts.{put-eq, length-put}
 use Rattle.octets.proofs.Equal.{same-refl}
-use Rattle.fmap_rules.specs.declared.Extent.{Extent}
 use Rattle.fmap_rules.specs.declared.Area.{Area}
 use Rattle.fmap_rules.specs.Map.{signature, signed, majorOf, minorOf, baseOf, sizeOf, nameOf, countOf, mapSize, areaOf, areasIn, areasOf, blank, legalName, goodHeader, goodAreas, goodMap, holdsMap}
 use Rattle.fmap_rules.specs.Written.{areaBytes, mapBytes, Stored, Writable, WrittenIsGood, WrittenHeader}
@@ -67,24 +66,6 @@ module _ (a : Area) (s : Stored a) where
   area-is : areaOf (areaBytes a) ≡ a
   unfolding areaOf
   area-is = rw (start-is, size-is, name-is, flags-is)
-
--- an area's fields, stored one after the other into 42 bytes
-pub area-stored : (x : Extent) (n : List ℕ) (f : ℕ) (s0 s1 s2 s3 s4 : List ℕ) → length s0 ≡ 42 → length n ≡ 32
-    → s1 ≡ put 0 (le 4 (x .start .0)) s0 → s2 ≡ put 4 (le 4 (x .size)) s1 → s3 ≡ put 8 n s2 → s4 ≡ put 40 (le 2 f) s3
-    → s4 ≡ areaBytes (record { place = x; name = n; flags = f })
-unfolding areaBytes
-area-stored x n f s0 s1 s2 s3 s4 l k p q r t =
-    let a = le 4 (x .start .0) in
-    let b = le 4 (x .size) in
-    let d = le 2 f in
-    let la = length-le 4 (x .start .0) in
-    let lb = length-le 4 (x .size) in
-    let ld = length-le 2 f in
-    then s0 ((a ++ b) ++ n) s3 d s4 0 40
-    (then s0 (a ++ b) s2 n s3 0 8 (then s0 a s1 b s2 0 4 p q (omega arith)) r (simp length-append (omega arith)))
-    t (simp length-append (omega arith))
-    ∙ put-all (((a ++ b) ++ n) ++ d) s0 (simp length-append (omega arith))
-    ∙ simp append-assoc
 
 -- ---- all areas
 

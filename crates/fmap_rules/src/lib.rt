@@ -7,7 +7,6 @@ ghost use lib.ListN.{length, getD, drop};
 ghost use Rattle.octets.specs.Tests.{all, any, pairs, findIx};
 ghost use Rattle.octets.specs.Bytes.{part, rest};
 ghost use Rattle.fmap_rules.specs.Map.{signed, nameLength, legalName, areaOf, areasIn, areasOf, blank, named, endOf, disjoint, inside, disjointOrNested, mapSize, countOf, goodHeader, goodArea, goodPair, holdsMap, goodAreas, goodMap};
-ghost use Rattle.fmap_rules.specs.Written.{areaBytes};
 
 // A byte's position in a flash image.
 pub struct ImagePosition(pub u32);
@@ -73,17 +72,6 @@ pub fn extent_of(a: &[u8]) -> Extent
         start: ImagePosition(octets::load32(a, 0)),
         size: octets::load32(a, 4),
     }
-}
-
-// Writes the 42 bytes of an area, as a map holds them.
-pub fn write_area(to: &mut [u8], place: Extent, name: [u8; 32], flags: u16)
-    requires { ⌜ length (now to) ≡ 42 ⌝ }
-    ensures { λ _. ⌜ now (to .exit) ≡ areaBytes (record { place = place; name = name; flags = flags }) ⌝ }
-{
-    octets::store32(to, 0, place.start.0);
-    octets::store32(to, 4, place.size);
-    octets::copy(to, 8, &name);
-    octets::store16(to, 40, flags);
 }
 
 // One past the last byte.

@@ -17,7 +17,7 @@ pub struct Areas {
 }
 
 // An area's 42 bytes.
-fn put_area(to: &mut [u8], at: usize, a: Area)
+pub fn put_area(to: &mut [u8], at: usize, a: Area)
     requires { ⌜ at + 42 ≤ length (now to) ⌝ }
     ensures { λ _. ⌜ (now (to .exit) ≡ put at (areaBytes a) (now (to .entry))) × (length (areaBytes a) ≡ 42) ⌝ }
 {

@@ -7,8 +7,8 @@ use Rattle.capi.proofs.flash.area_found.Tie as tie
 enum-told : tie.Need-enum-told
 enum-told c = search needs
 
-write-area-requires : tie.Need-write-area-requires
-write-area-requires c κs = search needs
+put-area-requires : tie.Need-put-area-requires
+put-area-requires c κs = search needs
 
 enum-told-2 : tie.Need-enum-told-2
 enum-told-2 c = search needs
@@ -26,7 +26,8 @@ same-length : tie.Need-same-length
 same-length c = search needs
 
 returns : tie.Need-returns
-returns c = area-tells _ _ _ (c .before .before .before .before .before .before .enum-told .given .1) (c .before .before .write-area .ensures)
+returns c = area-tells _ _ _ (c .before .before .before .before .before .enum-told .given .1) (c .before .before .before .before .before .before .before .before .pre)
+    (c .before .before .put-area .ensures)
 
 returns-2 : tie.Need-returns-2
 returns-2 c = looked-tells _ _ Nothing (c .enum-told2 .given .1)
@@ -45,7 +46,7 @@ area-found-spec =
     tie.close
     (tie.spec
     enum-told
-    write-area-requires
+    put-area-requires
     enum-told-2
     enum-told-3
     enum-told-4
