@@ -1,17 +1,16 @@
 // The layout language: a layout text read, listed as sections, and written as a map into an image.
 ghost use mathlib.Core.List.{map};
-ghost use mathlib.Core.Option.{some};
+ghost use mathlib.Core.Option.{none, some};
 ghost use mathlib.Core.Path.{_≡_};
 ghost use Prim.Native.Nat.{_+_, _≤_, _<_};
 ghost use lib.ListN.{length, getD};
-ghost use Rattle.octets.specs.Rows.{isNone};
-ghost use Rattle.fmap_rules.specs.Map.{blank};
+ghost use Rattle.fmap_rules.specs.Map.{blank, mapSize};
 ghost use Rattle.fmap_write.specs.Areas.{listOf, Sound};
 ghost use Rattle.fmd_parse.specs.Layouts.{listOf as sectionsOf, Sound as SoundList};
 ghost use Rattle.fmd_plan.specs.Plans.{planOf, Sound as SoundPlan};
 ghost use Rattle.fmd_check.specs.Check.{good};
 ghost use Rattle.fmd_check.specs.Facts.{Numbered, Accepted};
-ghost use Rattle.fmd.specs.Calls.{numberOf, said, refusedWith, baseOf, imageOf, saidBy, layoutIn, layoutFor, reading, readText, sectionOf, filled, listed, listText, recorded, recordText, written, writeText};
+ghost use Rattle.fmd.specs.Calls.{numberOf, said, refusedWith, baseOf, imageOf, saidBy, layoutIn, layoutFor, reading, readText, sectionOf, filled, listed, listText, recorded, recordText, written, writeBy, writeText};
 use fmap_rules::Area;
 use fmap_rules::Extent;
 use fmap_rules::ImagePosition;
@@ -230,36 +229,6 @@ pub fn list<'a, 'b>(text: &'a [u8], sections: &'b mut [Section]) -> Reading
     l.reading
 }
 
-fn is_accepted(a: Answer) -> bool
-    ensures { λ r. ⌜ r ≡ isNone (numberOf a) ⌝ }
-{
-    match a {
-        Answer::Accepted => true,
-        _ => false,
-    }
-}
-
-// Writes the map of a layout text into an image.
-pub fn write_map(text: &[u8], image: &mut [u8]) -> Answer
-    ensures { λ r. ⌜ written r (now (image .exit)) ≡ writeText (now (text .entry)) (now (image .entry)) ⌝ }
-{
-    let l = layout_in(text);
-    let reading = l.reading;
-    let answer = reading.answer;
-    if !is_accepted(answer) {
-        return answer;
-    }
-    let i = reading.image;
-    if image.len() != i.size as usize {
-        return Answer::WrongLength;
-    }
-    let at = l.at;
-    let name = i.name;
-    let areas = l.areas;
-    fmap_write::put_map(image, at.0 as usize, name, i.address as u64, 1, areas);
-    Answer::Accepted
-}
-
 // Reads a layout text into the bytes that the caller lends: 128 records of 42 bytes, each as an area of a map.
 pub fn put_records(text: &[u8], records: &mut [u8]) -> Reading
     ensures { λ r. ⌜ recorded r (now (records .exit)) ≡ recordText (now (text .entry)) (now (records .entry)) ⌝ }
@@ -272,4 +241,36 @@ pub fn put_records(text: &[u8], records: &mut [u8]) -> Reading
     let areas = l.areas;
     fmap_write::put_areas(records, 0, areas);
     l.reading
+}
+
+// Writes the map of a layout into an image.
+fn put_layout(image: &mut [u8], l: Layout) -> Answer
+    requires { ⌜ (l .areas .count ≤ 128) × (l .at .0 + mapSize (l .areas .count) ≤ l .reading .image .size) × (l .reading .image .size ≤ 16777216) ⌝ }
+    ensures { λ r. ⌜ written r (now (image .exit)) ≡ writeBy (said l) (now (image .entry)) none ⌝ }
+{
+    let reading = l.reading;
+    let i = reading.image;
+    if image.len() != i.size as usize {
+        return Answer::WrongLength;
+    }
+    let at = l.at;
+    let name = i.name;
+    let areas = l.areas;
+    fmap_write::put_map(image, at.0 as usize, name, i.address as u64, 1, areas);
+    Answer::Accepted
+}
+
+// Writes the map of a layout text into an image.
+pub fn write_map(text: &[u8], image: &mut [u8]) -> Answer
+    ensures { λ r. ⌜ written r (now (image .exit)) ≡ writeText (now (text .entry)) (now (image .entry)) ⌝ }
+{
+    let c = fmd_check::check(text);
+    let verdict = c.verdict;
+    match verdict {
+        Verdict::Good(i, m) => {
+            let l = accepted(text, i, m, c.list, c.plan);
+            put_layout(image, l)
+        }
+        Verdict::Fault(n, _) => answer_of(n),
+    }
 }

@@ -1,5 +1,5 @@
 pub mod Places
 pub mod Shape
-pub mod Listed
 pub mod Nested
 pub mod Names
+pub mod Listed

@@ -6,22 +6,19 @@ use Prim.Native.Nat.{ℕ, zero, suc, _+_, _-_, _≤_, _<_}
 use native.Mathlib.Nat.{sub-zero}
 use native.Mathlib.Numerals.{add-one, sub-one}
 use native.Mathlib.Omega.{arith}
-use lib.Dec.{ltb, leb}
-use lib.ListN.{length, getD, set, take, drop, length-append, length-drop}
+use lib.Dec.{ltb}
+use lib.ListN.{length, getD, set, take, drop, length-drop}
 use lib.Seq.{take-all, getD-set-same, getD-set-other}
-use borrow.Author.Tests.{ltb-true, ltb-false, leb-true}
-use Rattle.octets.specs.Tests.{_and_}
+use borrow.Author.Tests.{ltb-true, ltb-false}
 use Rattle.octets.specs.Bytes.{part, put, zeros}
-use Rattle.octets.proofs.Bools.{and-l, and-r}
 use Rattle.octets.proofs.Parts.{length-part, length-zeros, part-zeros}
 use Rattle.octets.proofs.Puts.{put-eq}
 use Rattle.fmap_rules.specs.Map.{blank as blankArea}
 use Rattle.fmap_rules.specs.declared.Area.{Area}
 use Rattle.fmap_write.specs.Areas.{listOf}
 use Rattle.fmap_write.specs.declared.Areas.{Areas}
-use Rattle.fmd_lex.specs.Names.{goodName}
 use Rattle.fmd_parse.specs.Layouts.{listOf as sectionsOf, Sound as SoundList}
-use Rattle.fmd_parse.specs.Trees.{Named, Tree, blank as blankSection}
+use Rattle.fmd_parse.specs.Trees.{Tree, blank as blankSection}
 use Rattle.fmd_parse.specs.declared.Sections.{Sections}
 use Rattle.fmd_parse.proofs.Layouts.{counted as countedList}
 use Rattle.fmd_rows.proofs.Rows.{item as itemOf}
@@ -32,6 +29,7 @@ use Rattle.fmd_plan.specs.declared.Plan.{Plan}
 use Rattle.fmd_plan.proofs.Plans.{counted, item}
 use Rattle.fmd_areas.specs.Areas.{positionIn, Climbs, storedName, areaFrom, areaAt, areasFrom, areasOf}
 use Rattle.fmd_areas.proofs.Places.{climbs, ends}
+use Rattle.fmd_areas.proofs.Names.{length-name, name-short}
 
 -- ---- names
 
@@ -52,11 +50,6 @@ name-stored s name place n h g e =
     let c : 0 + length (take n (drop place s)) ≡ n = omega arith in
     e ∙ rw (k, put-eq 0 (take n (drop place s)) (zeros 32) (omega arith), c, rest-zeros n 32 g)
 
-pub length-name : (s : List ℕ) (place n : ℕ) → place + n ≤ length s → n ≤ 32 → length (storedName s place n) ≡ 32
-unfolding storedName
-length-name s place n h g =
-    omega (arith, length-append (part place n s) (zeros (32 - n)), length-part s place n h, length-zeros (32 - n))
-
 -- the names of a list with one area more
 pub names-push : (l : List Area) (n : ℕ) (a : Area) → n < length l → ((k : ℕ) → k < n → length (getD l k blankArea .name) ≡ 32) → length (a .name) ≡ 32
     → (k : ℕ) → k < n + 1 → length (getD (set l n a) k blankArea .name) ≡ 32
@@ -65,14 +58,6 @@ names-push l n a h f e k q = by-place (ltb k n) refl
     by-place : (b : Bool) → ltb k n ≡ b → length (getD (set l n a) k blankArea .name) ≡ 32
     by-place true t = let x = ltb-true k n t in rw (getD-set-other l n k a blankArea (λ i. omega arith)) (f k x)
     by-place false t = let x : k ≡ n = omega (arith, ltb-false k n t) in rw (x, getD-set-same l n a blankArea h) e
-
--- a name of a text has at most 31 bytes
-pub name-short : (s : List ℕ) (place n : ℕ) → Named s place n → (place + n ≤ length s) × (n ≤ 32)
-unfolding goodName
-name-short s place n q =
-    let w = length-part s place n (q .inside) in
-    let a = and-l (leb 1 (length (part place n s)) and leb (length (part place n s)) 31) _ (q .good) in
-    (q .inside, omega (arith, leb-true (length (part place n s)) 31 (and-r (leb 1 (length (part place n s))) _ a)))
 
 -- ---- a section of a level and its parent
 
@@ -129,7 +114,7 @@ module _ (s : List ℕ) (l : Sections) (p : Plan) (g : Ready s l p) where
 
     pub name-fits : (getD (l .items) k blankSection .place + getD (l .items) k blankSection .length ≤ length s) × (getD (l .items) k blankSection .length ≤ 32)
     name-fits =
-        rw (itemOf l (g .0) k in-list) at (name-short s _ _ (g .2 .each k (omega (arith, countedList l (g .0), in-list)) .named))
+        rw (itemOf l (g .0) k in-list) at (name-short (g .2 .each k (omega (arith, countedList l (g .0), in-list)) .named))
 
     module _ (a : Area) (at : ℕ) (e : a ≡ areaFrom s (getD (l .items) k blankSection) (getD (p .items) k blank) at) where
       pub name-full : length (a .name) ≡ 32

@@ -2,7 +2,7 @@
 use mathlib.Core.Path.{_≡_, sym, ap, _∙_}
 use mathlib.Core.Bool.{true, false}
 use mathlib.Core.List.{List, [], _∷_, _++_}
-use Prim.Native.Nat.{ℕ, suc, _-_, _≤_, _<_}
+use Prim.Native.Nat.{ℕ, suc, _+_, _-_, _≤_, _<_}
 use native.Mathlib.Omega.{arith}
 use lib.ListN.{length, take, length-append}
 use lib.Seq.{take-at, getD-take, length-take-le}
@@ -23,6 +23,10 @@ use Rattle.fmd_rows.specs.Rows.{repeats, fmap, isFmap}
 use Rattle.fmd_plan.specs.declared.Placed.{Placed}
 use Rattle.fmd_areas.specs.Areas.{storedName, areaFrom, areaAt}
 
+pub length-name : (s : List ℕ) (p n : ℕ) → p + n ≤ length s → n ≤ 32 → length (storedName s p n) ≡ 32
+unfolding storedName
+length-name s p n h g = simp (length-append, length-zeros) (omega (arith, length-part s p n h))
+
 -- a byte of a word is a byte of a name
 word-goes : (b : ℕ) → isWord b ≡ true → stops b ≡ false
 unfolding isWord stops
@@ -35,31 +39,33 @@ word-ends [] m e = rw (below 0 (omega arith), findIx)
 word-ends (b ∷ w) m e = rw (word-goes b (and-l _ _ e), findIx) (ap suc (word-ends w m (and-r _ _ e)))
 
 module _ {s : List ℕ} {p n : ℕ} (d : Named s p n) where
-  length-name : length (part p n s) ≡ n
-  length-name = length-part s p n (d .inside)
+  length-text : length (part p n s) ≡ n
+  length-text = length-part s p n (d .inside)
 
   short : n ≤ 31
   unfolding goodName
-  short = rw length-name at (leb-true (length (part p n s)) 31 (and-r _ _ (and-l _ _ (d .good))))
+  short = rw length-text at (leb-true (length (part p n s)) 31 (and-r _ _ (and-l _ _ (d .good))))
 
   some : 1 ≤ n
   unfolding goodName
-  some = rw length-name at (leb-true 1 (length (part p n s)) (and-l _ _ (and-l _ _ (d .good))))
+  some = rw length-text at (leb-true 1 (length (part p n s)) (and-l _ _ (and-l _ _ (d .good))))
 
   ends-at : nameLength (storedName s p n) ≡ n
   unfolding nameLength storedName
   ends-at =
       let h = short in
       let e : 32 - n ≡ suc (31 - n) = omega arith in
-      rw e (word-ends (part p n s) (31 - n) (d .word) ∙ length-name)
+      rw e (word-ends (part p n s) (31 - n) (d .word) ∙ length-text)
 
   zeros-after : rest n (storedName s p n) ≡ zeros (32 - n)
   unfolding storedName
-  zeros-after = rest-at (part p n s) (zeros (32 - n)) n length-name
+  zeros-after = rest-at (part p n s) (zeros (32 - n)) n length-text
+
+  pub name-short : (p + n ≤ length s) × (n ≤ 32)
+  name-short = (d .inside, omega (arith, short))
 
   pub length-stored : length (storedName s p n) ≡ 32
-  unfolding storedName
-  length-stored = simp (length-append, length-zeros) (omega (arith, length-name, short))
+  length-stored = length-name s p n (d .inside) (name-short .1)
 
   pub stored-legal : legalName (storedName s p n) ≡ true
   unfolding legalName
@@ -70,13 +76,13 @@ module _ {s : List ℕ} {p n : ℕ} (d : Named s p n) where
   -- the text's name, of the stored one
   taken : take (nameLength (storedName s p n)) (storedName s p n) ≡ part p n s
   unfolding storedName
-  taken = rw ends-at (take-at (part p n s) (zeros (32 - n)) n length-name)
+  taken = rw ends-at (take-at (part p n s) (zeros (32 - n)) n length-text)
 
   pub stored-fmap : same (part p n s) fmap ≡ true → storedName s p n ≡ fmapName
   unfolding storedName
   stored-fmap e =
       let q = same-true (part p n s) fmap e in
-      let l : n ≡ 4 = sym length-name ∙ ap length q in
+      let l : n ≡ 4 = sym length-text ∙ ap length q in
       ap (λ (w : List ℕ). w ++ zeros (32 - n)) q ∙ ap (λ (k : ℕ). fmap ++ zeros (32 - k)) l
 
 pub stored-differ : {s : List ℕ} {p n q m : ℕ} → Named s p n → Named s q m → same (part p n s) (part q m s) ≡ false

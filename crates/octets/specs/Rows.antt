@@ -19,8 +19,3 @@ pickRow false k r = r
 abbrev pub refusal : List Row → Option ℕ
 refusal [] = none
 refusal (r ∷ rs) = pickRow (r .holds) (r .number) (refusal rs)
-
--- accepted: no number
-abbrev pub isNone : Option ℕ → Bool
-isNone none = true
-isNone (some k) = false
