@@ -1,30 +1,35 @@
+use Rattle.fmd.proofs.Layouts.{said-is}
+use Rattle.fmd.specs.Calls.{imageOf}
+use Rattle.fmd.proofs.Layouts.{map-area}
+use Rattle.fmd_areas.proofs.Names.{name-short}
+use Rattle.fmd_plan.specs.Plans.{planOf}
+use Rattle.fmd_parse.proofs.Layouts.{counted as countedList}
+use Rattle.fmd_parse.specs.Layouts.{listOf as sectionsOf}
+use Rattle.fmap_rules.specs.declared.Area.{Area}
+use native.Mathlib.Omega.{arith}
+use mathlib.Core.Path.{sym, ap, _∙_}
 use borrow.Author.Needs.{needs}
 use Rattle.fmd.proofs.accepted.Statement.{statement}
 use Rattle.fmd.proofs.accepted.Tie as tie
-use Rattle.fmd.proofs.accepted.Reads as reads
-use Rattle.fmd.proofs.accepted.Lts as lts
-use Rattle.fmd.proofs.image_of.Reads as image-of-reads
-use Rattle.fmd_areas.proofs.areas_of.Reads as areas-of-reads
 
--- src/lib.rt:148:17
 areas-of-requires : tie.Need-areas-of-requires
-areas-of-requires c κs = ?
+areas-of-requires c κs =
+    let start = c .before in
+    (start .pre .0, start .pre .1, start .pre .2 .tree, (start .args .i .size, omega (arith, start .pre .2 .image .high), start .pre .2 .fitted))
 
--- src/lib.rt:149:9
 image-of-requires : tie.Need-image-of-requires
-image-of-requires c κs = ?
+image-of-requires c κs = let n = name-short (c .before .before .pre .2 .image .named) in (n .0, n .1, (c .before .before .pre) .0 .room)
 
--- src/lib.rt:150:13
 mul-a : tie.Need-mul-a
 mul-a c = search needs
 
--- src/lib.rt:150:13
 element-copy-out-a : tie.Need-element-copy-out-a
 element-copy-out-a c = search needs
 
--- src/lib.rt:144:1
 returns : tie.Need-returns
-returns c = ?
+returns c =
+    let start = c .before .before .before .before .before .before in
+    let w = c .before .before .before .before .areas-of .ensures in (w .0, said-is (start .args .text .now) (start .args .i) (sectionsOf (start .args .l)) (planOf (start .args .p)) (start .args .m) (start .pre .2) (c .before .before .before .image-of .result) _ _ (c .before .before .before .image-of .ensures ∙ ap (imageOf (start .args .text .now) (start .args .i)) (sym (countedList (start .args .l) (start .pre .0)))) (w .1) (ap (λ (x : Area). x .place .start) (map-area (start .args .text .now) (start .args .i) (sectionsOf (start .args .l)) (planOf (start .args .p)) (start .args .m) (start .pre .2) (c .before .before .before .before .areas-of .result) (w .0) (w .1) _)))
 
 pub accepted-spec : {M : Type 1} → statement M
 accepted-spec =

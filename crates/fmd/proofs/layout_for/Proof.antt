@@ -1,26 +1,30 @@
+use Rattle.fmd.proofs.Layouts.{no-areas}
+use Rattle.fmd.specs.Calls.{Said}
+use Rattle.fmd.specs.Calls.{layoutFor}
+use borrow.Author.Tests.{eq-eqb, ne-eqb}
+use native.Mathlib.Omega.{arith}
+use mathlib.Core.Path.{ap}
 use borrow.Author.Needs.{needs}
 use Rattle.fmd.proofs.layout_for.Statement.{statement}
 use Rattle.fmd.proofs.layout_for.Tie as tie
-use Rattle.fmd.proofs.layout_for.Reads as reads
-use Rattle.fmd.proofs.layout_for.Lts as lts
-use Rattle.fmd.proofs.layout_in.Reads as layout-in-reads
-use Rattle.fmd.proofs.refused.Reads as refused-reads
 
--- src/lib.rt:188:9
 layout-in-requires : tie.Need-layout-in-requires
 layout-in-requires c κs = search needs
 
--- src/lib.rt:188:9
 returns : tie.Need-returns
-returns c = ?
+unfolding layoutFor
+returns c =
+    let start = c .before .before .before in
+    (c .layout-in .ensures .0, omega (arith, c .layout-in .ensures .0 .room, c .before .if1 .taken), rw (eq-eqb (start .args .places) 128 (c .before .if1 .taken)) (c .layout-in .ensures .1))
 
--- src/lib.rt:190:5
 refused-requires : tie.Need-refused-requires
 refused-requires c κs = search needs
 
--- src/lib.rt:184:1
 returns-2 : tie.Need-returns-2
-returns-2 c = ?
+unfolding layoutFor
+returns-2 c =
+    let start = c .before .before .before in
+    (c .refused .ensures .0, omega (arith, no-areas (c .refused .result .areas) (c .refused .ensures .0) (ap (λ (x : Said). x .areas) (c .refused .ensures .1))), rw (ne-eqb (start .args .places) 128 (c .before .if1 .left)) (c .refused .ensures .1))
 
 pub layout-for-spec : {M : Type 1} → statement M
 layout-for-spec = tie.close (tie.spec layout-in-requires returns refused-requires returns-2)

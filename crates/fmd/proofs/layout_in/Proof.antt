@@ -1,44 +1,39 @@
+use Rattle.fmd.specs.Calls.{layoutIn, refusedWith}
+use Rattle.fmd_check.proofs.Facts.{check-facts}
+use mathlib.Core.Path.{sym, ap, _∙_}
 use borrow.Author.Needs.{needs}
 use Rattle.fmd.proofs.layout_in.Statement.{statement}
 use Rattle.fmd.proofs.layout_in.Tie as tie
-use Rattle.fmd.proofs.layout_in.Reads as reads
-use Rattle.fmd.proofs.layout_in.Lts as lts
-use Rattle.fmd.proofs.accepted.Reads as accepted-reads
-use Rattle.fmd.proofs.answer_of.Reads as answer-of-reads
-use Rattle.fmd.proofs.refused.Reads as refused-reads
-use Rattle.fmd_check.proofs.check.Reads as check-reads
 
--- src/lib.rt:167:9
 check-requires : tie.Need-check-requires
 check-requires c κs = search needs
 
--- src/lib.rt:170:23
 enum-known-verdict : tie.Need-enum-known-verdict
 enum-known-verdict c = search needs
 
--- src/lib.rt:170:32
 accepted-requires : tie.Need-accepted-requires
-accepted-requires c κs = ?
+accepted-requires c κs =
+    let start = c .before .before .before .before .before in
+    (c .before .before .before .check .ensures .list, c .before .before .before .check .ensures .plan, rw (sym (rw (c .before .verdict .given .1) at (c .before .before .before .check .ensures .same))) at (check-facts (start .args .text .now)))
 
--- src/lib.rt:171:24
 enum-known-verdict-2 : tie.Need-enum-known-verdict-2
 enum-known-verdict-2 c = search needs
 
--- src/lib.rt:171:41
 answer-of-requires : tie.Need-answer-of-requires
-answer-of-requires c κs = ?
+answer-of-requires c κs =
+    let start = c .before .before .before .before .before in
+    (rw (sym (rw (c .before .verdict2 .given .1) at (c .before .before .before .check .ensures .same))) at (check-facts (start .args .text .now))) .0
 
--- src/lib.rt:171:33
 refused-requires : tie.Need-refused-requires
 refused-requires c κs = search needs
 
--- src/lib.rt:164:1
 returns : tie.Need-returns
-returns c = ?
+unfolding layoutIn
+returns c = (c .accepted .ensures .0, rw (sym (rw (c .before .before .verdict .given .1) at (c .before .before .before .before .check .ensures .same))) (c .accepted .ensures .1))
 
--- src/lib.rt:164:1
 returns-2 : tie.Need-returns-2
-returns-2 c = ?
+unfolding layoutIn
+returns-2 c = (c .refused .ensures .0, rw (sym (rw (c .before .before .before .verdict2 .given .1) at (c .before .before .before .before .before .check .ensures .same))) (c .refused .ensures .1 ∙ ap refusedWith (c .before .answer-of .ensures)))
 
 pub layout-in-spec : {M : Type 1} → statement M
 layout-in-spec =

@@ -1,37 +1,36 @@
+use Rattle.fmd.specs.Calls.{Written}
+use Prim.Native.Nat.{ℕ}
+use mathlib.Core.Option.{none}
+use mathlib.Core.List.{List}
+use borrow.Author.Tests.{eq-eqb, ne-eqb}
+use native.Mathlib.Omega.{arith}
+use mathlib.Core.Path.{ap}
 use borrow.Author.Needs.{needs}
 use Rattle.fmd.proofs.put_layout.Statement.{statement}
 use Rattle.fmd.proofs.put_layout.Tie as tie
-use Rattle.fmd.proofs.put_layout.Reads as reads
-use Rattle.fmd.proofs.put_layout.Lts as lts
-use Rattle.fmap_write.proofs.put_map.Reads as put-map-reads
 
--- src/lib.rt:239:23
 cast-if1 : tie.Need-cast-if1
 cast-if1 c = search needs
 
--- src/lib.rt:240:9
 returns : tie.Need-returns
-returns c = ?
+returns c = rw (ne-eqb _ _ (c .if1 .taken))
 
--- src/lib.rt:245:32
 cast-put-map : tie.Need-cast-put-map
 cast-put-map c = search needs
 
--- src/lib.rt:245:53
 cast-put-map-2 : tie.Need-cast-put-map-2
 cast-put-map-2 c = search needs
 
--- src/lib.rt:245:5
 put-map-requires : tie.Need-put-map-requires
-put-map-requires c κs = search needs
+put-map-requires c κs =
+    let start = c .before .before .before .before .before .before .before .before .before .before .before in
+    (start .pre .0, omega (arith, start .pre .1, c .before .before .before .before .before .before .if1 .left), omega (arith, start .pre .2, c .before .before .before .before .before .before .if1 .left))
 
--- src/lib.rt:233:1
 same-length : tie.Need-same-length
 same-length c = search needs
 
--- src/lib.rt:233:1
 returns-2 : tie.Need-returns-2
-returns-2 c = ?
+returns-2 c = rw (eq-eqb _ _ (c .before .before .before .before .before .before .before .before .before .if1 .left)) (ap {B = Written} (λ (x : List ℕ). record { answer = none; image = x }) (c .before .before .put-map .ensures))
 
 pub put-layout-spec : {M : Type 1} → statement M
 put-layout-spec =

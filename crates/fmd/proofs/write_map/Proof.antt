@@ -1,48 +1,53 @@
+use Rattle.fmd.proofs.Layouts.{put-room}
+use Rattle.fmd.specs.Calls.{Said, Written, layoutIn, writeBy, writeText}
+use Rattle.fmd_plan.specs.Plans.{planOf}
+use Rattle.fmd_parse.specs.Layouts.{listOf as sectionsOf}
+use Rattle.fmd_check.proofs.Facts.{check-facts}
+use Prim.Native.Nat.{ℕ}
+use mathlib.Core.Option.{Option, none}
+use mathlib.Core.Path.{sym, ap, _∙_}
 use borrow.Author.Needs.{needs}
 use Rattle.fmd.proofs.write_map.Statement.{statement}
 use Rattle.fmd.proofs.write_map.Tie as tie
-use Rattle.fmd.proofs.write_map.Reads as reads
-use Rattle.fmd.proofs.write_map.Lts as lts
-use Rattle.fmd.proofs.accepted.Reads as accepted-reads
-use Rattle.fmd.proofs.answer_of.Reads as answer-of-reads
-use Rattle.fmd.proofs.put_layout.Reads as put-layout-reads
-use Rattle.fmd_check.proofs.check.Reads as check-reads
 
--- src/lib.rt:253:9
 check-requires : tie.Need-check-requires
 check-requires c κs = search needs
 
--- src/lib.rt:256:23
 enum-known-verdict : tie.Need-enum-known-verdict
 enum-known-verdict c = search needs
 
--- src/lib.rt:257:17
 accepted-requires : tie.Need-accepted-requires
-accepted-requires c κs = ?
+accepted-requires c κs =
+    let start = c .before .before .before .before .before .before in
+    (c .before .before .before .check .ensures .list, c .before .before .before .check .ensures .plan, rw (sym (rw (c .before .verdict .given .1) at (c .before .before .before .check .ensures .same))) at (check-facts (start .args .text .now)))
 
--- src/lib.rt:258:13
 put-layout-requires : tie.Need-put-layout-requires
-put-layout-requires c κs = ?
+put-layout-requires c κs =
+    let start = c .before .before .before .before .before .before .before .before in
+    put-room (start .args .text .now) (c .before .before .before .verdict .given .0 .0) (sectionsOf (c .before .before .before .before .before .check .result .list)) (planOf (c .before .before .before .before .before .check .result .plan)) (c .before .before .before .verdict .given .0 .1 .0) (rw (sym (rw (c .before .before .before .verdict .given .1) at (c .before .before .before .before .before .check .ensures .same))) at (check-facts (start .args .text .now))) (c .before .accepted .result) (c .before .accepted .ensures .0) (c .before .accepted .ensures .1)
 
--- src/lib.rt:260:24
 enum-known-verdict-2 : tie.Need-enum-known-verdict-2
 enum-known-verdict-2 c = search needs
 
--- src/lib.rt:260:33
 answer-of-requires : tie.Need-answer-of-requires
-answer-of-requires c κs = ?
+answer-of-requires c κs =
+    let start = c .before .before .before .before .before .before in
+    (rw (sym (rw (c .before .verdict2 .given .1) at (c .before .before .before .check .ensures .same))) at (check-facts (start .args .text .now))) .0
 
--- src/lib.rt:250:1
 same-length : tie.Need-same-length
 same-length c = search needs
 
--- src/lib.rt:250:1
 returns : tie.Need-returns
-returns c = ?
+unfolding writeText layoutIn
+returns c =
+    let start = c .before .before .before .before .before .before .before .before .before .before .before in
+    rw (sym (rw (c .before .before .before .before .before .before .verdict .given .1) at (c .before .before .before .before .before .before .before .before .check .ensures .same))) (c .before .before .put-layout .ensures ∙ ap (λ (x : Said). writeBy x (start .args .image .now) none) (c .before .before .before .before .accepted .ensures .1))
 
--- src/lib.rt:250:1
 returns-2 : tie.Need-returns-2
-returns-2 c = ?
+unfolding writeText layoutIn
+returns-2 c =
+    let start = c .before .before .before .before .before .before .before in
+    rw (sym (rw (c .before .before .verdict2 .given .1) at (c .before .before .before .before .check .ensures .same))) (ap {B = Written} (λ (x : Option ℕ). record { answer = x; image = start .args .image .now }) (c .answer-of .ensures))
 
 pub write-map-spec : {M : Type 1} → statement M
 write-map-spec =
