@@ -7,10 +7,10 @@ use Prim.Native.Nat.{ℕ}
 use native.Mathlib.Omega.{arith}
 use lib.ListN.{length}
 use borrow.Author.Tests.{eq-eqb, ne-eqb}
-use Rattle.fmd.specs.Calls.{numberOf, Read, Recorded, Written}
+use Rattle.fmd.specs.Calls.{numberOf, reading, Read, Recorded, Written}
 use Rattle.fmd.specs.declared.Answer.{Answer}
 use Rattle.fmd.specs.declared.Answer.the-variants.{Accepted, WrongLength, TooLong, OutOfGrammar, BadNumber, BadName, NameTwice, TooMany, BadFlag, Undecided, Unfit, NoMapSection}
-use Rattle.fmd.specs.declared.Image.{Image}
+use Rattle.fmd.specs.declared.Reading.{Reading}
 use Rattle.octets.specs.Bytes.{put}
 use Rattle.octets.proofs.Puts.{put-all}
 use Rattle.capi.specs.Told.{codeOf}
@@ -34,26 +34,32 @@ no-answer-is-zero Undecided e = omega (arith, ap number-of e)
 no-answer-is-zero Unfit e = omega (arith, ap number-of e)
 no-answer-is-zero NoMapSection e = omega (arith, ap number-of e)
 
--- the result 0 is told of an accepted call alone
-zero-is-none : (n : Option ℕ) → (n ≡ some 0 → ⊥) → codeOf n ≡ 0 → n ≡ none
-zero-is-none none h e = refl
-zero-is-none (some k) h e = absurd (h (ap some e))
+-- ---- a refusal's number is told as it is; 0 is told of an accepted call alone
 
-pub accepted-none : (a : Answer) (k : ℕ) → k ≡ codeOf (numberOf a) → k ≡ 0 → numberOf a ≡ none
-accepted-none a k p q = zero-is-none (numberOf a) (no-answer-is-zero a) (sym p ∙ q)
+told-refused : (n : Option ℕ) (k : ℕ) → k ≡ codeOf n → k ≢ 0 → n ≡ some k
+told-refused none k p q = absurd (q p)
+told-refused (some j) k p q = ap some (sym p)
+
+told-zero : (n : Option ℕ) → (n ≡ some 0 → ⊥) → codeOf n ≡ 0 → n ≡ none
+told-zero none h e = refl
+told-zero (some k) h e = absurd (h (ap some e))
+
+told-accepted : (a : Answer) (k : ℕ) → k ≡ codeOf (numberOf a) → k ≡ 0 → numberOf a ≡ none
+told-accepted a k p q = told-zero (numberOf a) (no-answer-is-zero a) (sym p ∙ q)
 
 -- ---- reading
 
-pub image-refused : (name old : List ℕ) (i : Image) (n : Option ℕ) (k : ℕ) → k ≡ codeOf n → k ≢ 0
-    → _≡_ {A = ReadTold} (record { result = k; name = name; values = old }) (replied name old i n)
-image-refused name old i none k p q = absurd (q p)
-image-refused name old i (some j) k p q = ap (λ (r : ℕ). record { result = r; name = name; values = old }) p
+pub image-refused : (name old : List ℕ) (r : Reading) (k : ℕ) → k ≡ codeOf (numberOf (r .answer)) → k ≢ 0
+    → record { result = k; name = name; values = old } ≡ imageTold name old (reading r)
+image-refused name old r k p q = ap (replied name old (r .image)) (sym (told-refused (numberOf (r .answer)) k p q))
 
-pub image-accepted : (name new old : List ℕ) (i : Image) (n : Option ℕ) → length name ≡ 32 → length (i .name) ≡ 32 → n ≡ none → new ≡ put 0 (i .name) name
-    → _≡_ {A = ReadTold} (record { result = 0; name = new; values = i .size ∷ i .address ∷ i .count ∷ [] }) (replied name old i n)
-image-accepted name new old i n l w e p =
-    ap (λ (b : List ℕ). record { result = 0; name = b; values = i .size ∷ i .address ∷ i .count ∷ [] }) (p ∙ put-all (i .name) name (w ∙ sym l))
-    ∙ ap (replied name old i) (sym e)
+pub image-accepted : (name new old : List ℕ) (r : Reading) (k : ℕ) → length name ≡ 32 → length (r .image .name) ≡ 32 → k ≡ codeOf (numberOf (r .answer)) → k ≡ 0
+    → new ≡ put 0 (r .image .name) name
+    → record { result = 0; name = new; values = r .image .size ∷ r .image .address ∷ r .image .count ∷ [] } ≡ imageTold name old (reading r)
+image-accepted name new old r k l w p q e =
+    ap (λ (b : List ℕ). record { result = 0; name = b; values = r .image .size ∷ r .image .address ∷ r .image .count ∷ [] })
+    (e ∙ put-all (r .image .name) name (w ∙ sym l))
+    ∙ ap (replied name old (r .image)) (sym (told-accepted (r .answer) k p q))
 
 pub read-wrong : (name old : List ℕ) (r : Read) → length name ≢ 32 → record { result = 1; name = name; values = old } ≡ readTold name old r
 unfolding readTold
@@ -65,12 +71,13 @@ read-right name old r s t h p q = rw (eq-eqb (length name) 32 h) (p ∙ ap (imag
 
 -- ---- listing
 
-pub count-refused : (old : ℕ) (i : Image) (n : Option ℕ) (k : ℕ) → k ≡ codeOf n → k ≢ 0 → (k ≡ codeOf n) × (old ≡ countOf old i n)
-count-refused old i none k p q = absurd (q p)
-count-refused old i (some j) k p q = (p, refl)
+pub count-refused : (old : ℕ) (r : Reading) (k : ℕ) → k ≡ codeOf (numberOf (r .answer)) → k ≢ 0
+    → (k ≡ codeOf (numberOf (r .answer))) × (old ≡ countOf old (r .image) (numberOf (r .answer)))
+count-refused old r k p q = (p, ap (countOf old (r .image)) (sym (told-refused (numberOf (r .answer)) k p q)))
 
-pub count-accepted : (old : ℕ) (i : Image) (n : Option ℕ) → n ≡ none → (0 ≡ codeOf n) × (i .count ≡ countOf old i n)
-count-accepted old i n e = (ap codeOf (sym e), ap (countOf old i) (sym e))
+pub count-accepted : (old : ℕ) (r : Reading) (k : ℕ) → k ≡ codeOf (numberOf (r .answer)) → k ≡ 0
+    → (0 ≡ codeOf (numberOf (r .answer))) × (r .image .count ≡ countOf old (r .image) (numberOf (r .answer)))
+count-accepted old r k p q = (sym q ∙ p, ap (countOf old (r .image)) (sym (told-accepted (r .answer) k p q)))
 
 pub records-tell : (x o : Recorded) (r old count : ℕ) → x ≡ o → r ≡ codeOf (x .answer) → count ≡ countOf old (x .image) (x .answer)
     → _≡_ {A = RecordsTold} (record { result = r; records = x .records; count = count }) (recordsTold old o)

@@ -73,8 +73,8 @@ fn counted(a: Reading, count: &mut u64) -> u32
     if k != 0 {
         return k;
     }
-    let i = a.image;
-    *count = i.count as u64;
+    let image = a.image;
+    *count = image.count as u64;
     0
 }
 
