@@ -35,10 +35,11 @@ same-length c = search needs
 
 returns-2 : tie.Need-returns-2
 returns-2 c =
+    let top = c .before .before .before .before .before .before .before .before .before .before .before .before .before in
+    let wide : length (top .args .a .image .name) ≡ 32 = search needs in
     let s1 = c .before .before .before .before .before in
     let s2 = s1 .before .before .before .before .before in
-    let top = s2 .before .before .before in
-    image-accepted _ _ _ (top .args .a) _ (top .pre) (search needs) (s2 .before .number .ensures) (s2 .if1 .left) (s1 .copy .ensures)
+    image-accepted _ _ _ (top .args .a) _ (top .pre) wide (s2 .before .number .ensures) (s2 .if1 .left) (s1 .copy .ensures)
 
 pub image-spec : {M : Type 1} → statement M
 image-spec =
