@@ -95,6 +95,27 @@ uint32_t usi_gpt_rename(uint8_t *head, size_t head_len, uint8_t *tail, size_t ta
  * Refusals in order: 1, 2, 10. */
 uint32_t usi_gpt_repair(uint8_t *head, size_t head_len, uint8_t *tail, size_t tail_len, uint64_t n, uint64_t *state);
 
+/* The layout language. A text of at most 32,768 bytes describes an image and its sections, at most 128 of them on at most 8 levels.
+ *
+ * Refusals of a text, in order: 50 text_len is over 32,768; then the first fault from left to right, 51 the text is out of grammar, 52 a bad number, 53 a bad name,
+ * 55 too many sections or levels, 56 an unknown or repeated flag; then over all sections 54 a name is used twice, 56 CBFS on a section with children,
+ * 57 a size is undecided, 58 a section does not fit, 59 no section FMAP, or it has children or is too small for the map.
+ *
+ * On a refusal every buffer and every number behind a pointer for an answer is as it was. Pointers for answers must be valid and differ, and point into no buffer. */
+
+/* Reads a text: the image's name (32 bytes, zeros after the name), its size, its address or 0, and how many sections it has.
+ * Refusals in order: 1 name_len is not 32; then those of a text. */
+uint32_t usi_fmd_read(const uint8_t *text, size_t text_len, uint8_t *name, size_t name_len, uint64_t *size, uint64_t *address, uint64_t *count);
+
+/* Lists the sections in text order, each in 42 bytes as an area of the flash map: position in the image (4), size (4), name (32), flags (2; 8 is PRESERVE),
+ * numbers little-endian; answers how many there are. The records that follow them are as they were.
+ * Refusals in order: 1 records_len is not 5,376, which is 128 records; then those of a text. */
+uint32_t usi_fmd_records(const uint8_t *text, size_t text_len, uint8_t *records, size_t records_len, uint64_t *count);
+
+/* Writes the flash map of a text into an image, at the start of section FMAP; no other byte changes. usi_fmap_find finds it unless there is a lower good map.
+ * Refusals in order: those of a text; 1 image_len is not the size that the text states. */
+uint32_t usi_fmd_write(const uint8_t *text, size_t text_len, uint8_t *image, size_t image_len);
+
 #ifdef __cplusplus
 }
 #endif
