@@ -1,6 +1,7 @@
 pub mod Entries
 pub mod Names
 pub mod Used
+pub mod Exchanges
 pub mod Ahead
 pub mod Walks
 pub mod Good
