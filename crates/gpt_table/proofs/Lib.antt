@@ -2,6 +2,7 @@ pub mod Entries
 pub mod Names
 pub mod Used
 pub mod Exchanges
+pub mod Reorders
 pub mod Ahead
 pub mod Walks
 pub mod Good

@@ -16,6 +16,8 @@ used (e ∷ es) = elim (unused e) [ true ↦ used es | false ↦ e ∷ used es ]
 pub record Decoded (es : List (List ℕ)) (at : ℕ) (x y : List ℕ) (n : ℕ) : Type 0 where
   pub most : n ≤ 128
   pub count : length es ≡ n
+  pub long-x : length x ≡ 128
+  pub long-y : length y ≡ 128
   pub low : take n x ≡ map (field at 8) es
   pub high : take n y ≡ map (field (at + 8) 8) es
 
