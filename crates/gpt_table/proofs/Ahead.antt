@@ -72,7 +72,7 @@ module _ (f l : List ℕ) (n a : ℕ) where
 
 -- ---- what begins at a, where range i is the next
 
-ascends : (n : ℕ) (f : List ℕ) → Ascending 1 n f → (i d : ℕ) → i + d < n → getD f i 0 ≤ getD f (i + d) 0
+pub ascends : (n : ℕ) (f : List ℕ) → Ascending 1 n f → (i d : ℕ) → i + d < n → getD f i 0 ≤ getD f (i + d) 0
 ascends n f w i zero h = rw (add-zero i) (le-refl (getD f i 0))
 ascends n f w i (suc d) h =
     let u = ascends n f w i d (omega arith) in

@@ -60,7 +60,14 @@ fn next(firsts: &[u64; SLOTS], lasts: &[u64; SLOTS], count: usize, i: usize, a: 
 }
 
 // What begins at block a, where range i is the next.
-fn look(firsts: &[u64; SLOTS], lasts: &[u64; SLOTS], count: usize, i: usize, a: u64, last: u64) -> Ahead
+fn look(
+    firsts: &[u64; SLOTS],
+    lasts: &[u64; SLOTS],
+    count: usize,
+    i: usize,
+    a: u64,
+    last: u64,
+) -> Ahead
     requires { ⌜ (count ≤ slotCount) × Ascending 1 count (now firsts) × Next (now firsts) (now lasts) count a i × (a ≤ last) × (last < 18446744073709551615) ⌝ }
     ensures { λ r. ⌜ Stands (ranges (now (firsts .entry)) (now (lasts .entry)) count) a last r ⌝ }
 {

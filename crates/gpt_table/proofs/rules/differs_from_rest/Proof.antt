@@ -1,0 +1,105 @@
+use borrow.Author.Needs.{needs}
+use Rattle.gpt_table.proofs.Good.{differ-at}
+use Rattle.gpt_table.specs.Decoded.{differ, Guids}
+use Rattle.octets.specs.Tests.{all}
+use Rattle.octets.proofs.Tests.{all-on, all-stop, all-done}
+use borrow.Author.Tests.{not-true, not-false}
+use lib.ListN.{getD, drop}
+use native.Mathlib.Omega.{arith}
+use Prim.Native.Nat.{ℕ, _≤_, _<_, _+_, _-_}
+use mathlib.Core.Path.{_≡_, refl, sym, _∙_}
+use mathlib.Core.List.{List, []}
+use Rattle.gpt_table.proofs.rules.differs_from_rest.Statement.{statement}
+use Rattle.gpt_table.proofs.rules.differs_from_rest.Tie as tie
+
+abbrev Inv-loop : tie.InvT-loop
+Inv-loop u v n i x y j₀ j = (j ≤ n) × (i < j) × ((es : List (List ℕ)) → Guids es u v n → all (differ (getD es i [])) (drop j es) ≡ all (differ (getD es i [])) (drop (i + 1) es))
+
+abbrev μ-loop : tie.MeasureT-loop
+μ-loop u v n i x y j₀ j = n - j
+
+mul-x : tie.Need-mul-x Inv-loop μ-loop
+mul-x c = search needs
+
+element-copy-out-x : tie.Need-element-copy-out-x Inv-loop μ-loop
+element-copy-out-x c = search needs
+
+mul-y : tie.Need-mul-y Inv-loop μ-loop
+mul-y c = search needs
+
+element-copy-out-y : tie.Need-element-copy-out-y Inv-loop μ-loop
+element-copy-out-y c = search needs
+
+add-j : tie.Need-add-j Inv-loop μ-loop
+add-j c = search needs
+
+loop-holds : tie.Need-loop-holds Inv-loop μ-loop
+loop-holds c = (omega arith, omega arith, λ es w. refl)
+
+mul-differ : tie.Need-mul-differ Inv-loop μ-loop
+mul-differ c = search needs
+
+element-copy-out-differ : tie.Need-element-copy-out-differ Inv-loop μ-loop
+element-copy-out-differ c = search needs
+
+mul-differ-2 : tie.Need-mul-differ-2 Inv-loop μ-loop
+mul-differ-2 c = search needs
+
+element-copy-out-differ-2 : tie.Need-element-copy-out-differ-2 Inv-loop μ-loop
+element-copy-out-differ-2 c = search needs
+
+differ-requires : tie.Need-differ-requires Inv-loop μ-loop
+differ-requires c κs = search needs
+
+returns : tie.Need-returns Inv-loop μ-loop
+returns c = λ es w.
+    let i = c .before .before .before .before .before .before .before .before .args .i in
+    let l = c .before .before .before .before .before .loop in
+    let k = w .halves .count in
+    sym (sym (l .inv .2 es w) ∙ all-stop (differ (getD es i [])) es [] (l .j) (omega arith) (differ-at w i (l .j) (omega arith) (omega arith) ∙ sym (c .before .differ .ensures) ∙ not-true _ (c .if1 .taken)))
+
+add-j-2 : tie.Need-add-j-2 Inv-loop μ-loop
+add-j-2 c = search needs
+
+loop-less : tie.Need-loop-less Inv-loop μ-loop
+loop-less c = search needs
+
+loop-again : tie.Need-loop-again Inv-loop μ-loop
+loop-again c = (
+  omega arith,
+  omega arith,
+  λ es w.
+      let i = c .before .before .before .before .before .before .before .before .args .i in
+      let l = c .before .before .before .before .before .loop in
+      let k = w .halves .count in
+      sym (all-on (differ (getD es i [])) es [] (l .j) (omega arith) (differ-at w i (l .j) (omega arith) (omega arith) ∙ sym (c .before .differ .ensures) ∙ not-false _ (c .if1 .left))) ∙ l .inv .2 es w,
+)
+
+returns-2 : tie.Need-returns-2 Inv-loop μ-loop
+returns-2 c = λ es w.
+    let l = c .before .loop in
+    let k = w .halves .count in
+    sym (sym (l .inv .2 es w) ∙ all-done (differ (getD es (c .before .before .before .before .args .i) [])) es (l .j) (omega arith))
+
+pub differs-from-rest-spec : {M : Type 1} → statement M
+differs-from-rest-spec =
+    tie.close
+    (tie.spec
+    Inv-loop
+    μ-loop
+    mul-x
+    element-copy-out-x
+    mul-y
+    element-copy-out-y
+    add-j
+    loop-holds
+    mul-differ
+    element-copy-out-differ
+    mul-differ-2
+    element-copy-out-differ-2
+    differ-requires
+    returns
+    add-j-2
+    loop-less
+    loop-again
+    returns-2)
