@@ -1,18 +1,19 @@
 -- Laws of the table's rules, over used entries decoded into numbers.
 use mathlib.Core.Path.{_≡_, refl, sym, ap, ap₂, subst, _∙_}
 use mathlib.Core.Logic.{_⊎_, inl, inr, ⊎-elim}
-use mathlib.Core.Bool.{Bool, true, false, not}
+use mathlib.Core.Bool.{Bool, true, false, not, _&&_, _||_}
 use mathlib.Core.List.{List, [], _∷_, _++_, map}
-use Prim.Native.Nat.{ℕ, _+_, _-_, _*_, _≤_, _<_}
+use Prim.Native.Nat.{ℕ, suc, _+_, _-_, _*_, _≤_, _<_}
+use native.Mathlib.Numerals.{add-one}
 use native.Mathlib.Omega.{arith}
 use lib.Dec.{eqb, leb, ltb}
 use lib.ListN.{length, getD, set, take, drop, length-map}
-use lib.Seq.{set-out, take-add, drop-drop}
+use lib.Seq.{set-out, take-add, drop-drop, drop-cons}
 use borrow.Author.Tests.{leb-true, eqb-true, eq-eqb, ne-eqb, lt-leb, le-leb, lt-ltb, le-ltb}
 use Rattle.octets.specs.Tests.{_and_, _or_, all, pairs}
 use Rattle.octets.specs.Bytes.{unle, part, field, isZero, same}
 use Rattle.octets.proofs.Bools.{and-l, and-r, and-i, bool-cases, clash}
-use Rattle.octets.proofs.Tests.{pairs-get, pairs-make, all-get, all-make, getD-map}
+use Rattle.octets.proofs.Tests.{pairs-get, pairs-make, all-get, all-make, all-done, getD-map}
 use Rattle.octets.proofs.Parts.{getD-part, part-part}
 use Rattle.octets.proofs.Equal.{same-true, same-refl, field-same}
 use Rattle.octets.proofs.Chunks.{chunk-part, length-chunk}
@@ -79,14 +80,30 @@ module _ (a b f l : ℕ) where
   unfolding apart _or_
   apart-behind h = rw (le-ltb b f h)
 
-module _ (x y u v : ℕ) where
-  pub differ-low : (x ≡ u → ⊥) → not (eqb x u and eqb y v) ≡ true
-  unfolding _and_
-  differ-low h = rw (ne-eqb x u h)
+pub or-nots : (a b : Bool) → (not a || not b) ≡ not (a and b)
+unfolding _and_
+or-nots true true = refl
+or-nots true false = refl
+or-nots false b = refl
 
-  pub differ-high : x ≡ u → not (eqb x u and eqb y v) ≡ not (eqb y v)
+-- ---- `all` gathered without a stop: b is what the elements before i gave
+
+module _ {A : Type 0} (p : A → Bool) (xs : List A) (b : Bool) (i : ℕ) where
+  pub gathered-on : (d : A) → i < length xs → {r : Bool} → r ≡ p (getD xs i d) → (b && r and all p (drop (i + 1) xs)) ≡ (b and all p (drop i xs))
   unfolding _and_
-  differ-high h = rw (eq-eqb x u h)
+  gathered-on d h {r} e = rw (drop-cons xs i d, e, add-one) (go b)
+    where
+      go : (b : Bool) → (b && p (getD xs i d) and all p (drop (suc i) xs)) ≡ (b and (p (getD xs i d) and all p (drop (suc i) xs)))
+      go true = refl
+      go false = refl
+
+  pub gathered-done : length xs ≤ i → (b and all p (drop i xs)) ≡ b
+  unfolding _and_
+  gathered-done h = rw (all-done p xs i h) (go b)
+    where
+      go : (b : Bool) → (b and true) ≡ b
+      go true = refl
+      go false = refl
 
 -- ---- two entries
 

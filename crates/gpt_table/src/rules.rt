@@ -67,10 +67,7 @@ fn entries_ok(t: &[u8], first: u64, last: u64) -> bool
 fn differ(x: u64, y: u64, u: u64, v: u64) -> bool
     ensures { λ r. ⌜ r ≡ not (eqb x u and eqb y v) ⌝ }
 {
-    if x != u {
-        return true;
-    }
-    y != v
+    (x != u) | (y != v)
 }
 
 // GUID i differs from each behind it; lows and highs are the halves of the GUIDs.
@@ -80,14 +77,13 @@ fn differs_from_rest(lows: &[u64; SLOTS], highs: &[u64; SLOTS], count: usize, i:
 {
     let x = lows[i];
     let y = highs[i];
+    let mut all = true;
     let mut j = i + 1;
     while j < count {
-        if !differ(x, y, lows[j], highs[j]) {
-            return false;
-        }
+        all = all & differ(x, y, lows[j], highs[j]);
         j += 1;
     }
-    true
+    all
 }
 
 fn guids_differ(lows: &[u64; SLOTS], highs: &[u64; SLOTS], count: usize) -> bool

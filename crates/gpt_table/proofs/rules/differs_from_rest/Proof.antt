@@ -1,9 +1,7 @@
 use borrow.Author.Needs.{needs}
-use Rattle.gpt_table.proofs.Good.{differ-at}
+use Rattle.gpt_table.proofs.Good.{differ-at, gathered-on, gathered-done}
 use Rattle.gpt_table.specs.Decoded.{differ, Guids}
-use Rattle.octets.specs.Tests.{all}
-use Rattle.octets.proofs.Tests.{all-on, all-stop, all-done}
-use borrow.Author.Tests.{not-true, not-false}
+use Rattle.octets.specs.Tests.{_and_, all}
 use lib.ListN.{getD, drop}
 use native.Mathlib.Omega.{arith}
 use Prim.Native.Nat.{ℕ, _≤_, _<_, _+_, _-_}
@@ -13,10 +11,10 @@ use Rattle.gpt_table.proofs.rules.differs_from_rest.Statement.{statemen
 use Rattle.gpt_table.proofs.rules.differs_from_rest.Tie as tie
 
 abbrev Inv-loop : tie.InvT-loop
-Inv-loop u v n i x y j₀ j = (j ≤ n) × (i < j) × ((es : List (List ℕ)) → Guids es u v n → all (differ (getD es i [])) (drop j es) ≡ all (differ (getD es i [])) (drop (i + 1) es))
+Inv-loop u v n i x y all₀ j₀ b j = (j ≤ n) × (i < j) × ((es : List (List ℕ)) → Guids es u v n → (b and all (differ (getD es i [])) (drop j es)) ≡ all (differ (getD es i [])) (drop (i + 1) es))
 
 abbrev μ-loop : tie.MeasureT-loop
-μ-loop u v n i x y j₀ j = n - j
+μ-loop u v n i x y all₀ j₀ b j = n - j
 
 mul-x : tie.Need-mul-x Inv-loop μ-loop
 mul-x c = search needs
@@ -34,6 +32,7 @@ add-j : tie.Need-add-j Inv-loop μ-loop
 add-j c = search needs
 
 loop-holds : tie.Need-loop-holds Inv-loop μ-loop
+unfolding _and_
 loop-holds c = (omega arith, omega arith, λ es w. refl)
 
 mul-differ : tie.Need-mul-differ Inv-loop μ-loop
@@ -51,13 +50,6 @@ element-copy-out-differ-2 c = search needs
 differ-requires : tie.Need-differ-requires Inv-loop μ-loop
 differ-requires c κs = search needs
 
-returns : tie.Need-returns Inv-loop μ-loop
-returns c = λ es w.
-    let i = c .before .before .before .before .before .before .before .before .args .i in
-    let l = c .before .before .before .before .before .loop in
-    let k = w .halves .count in
-    sym (sym (l .inv .2 es w) ∙ all-stop (differ (getD es i [])) es [] (l .j) (omega arith) (differ-at w i (l .j) (omega arith) (omega arith) ∙ sym (c .before .differ .ensures) ∙ not-true _ (c .if1 .taken)))
-
 add-j-2 : tie.Need-add-j-2 Inv-loop μ-loop
 add-j-2 c = search needs
 
@@ -69,17 +61,17 @@ loop-again c = (
   omega arith,
   omega arith,
   λ es w.
-      let i = c .before .before .before .before .before .before .before .before .args .i in
-      let l = c .before .before .before .before .before .loop in
+      let i = c .before .before .before .before .before .before .before .args .i in
+      let l = c .before .before .before .before .loop in
       let k = w .halves .count in
-      sym (all-on (differ (getD es i [])) es [] (l .j) (omega arith) (differ-at w i (l .j) (omega arith) (omega arith) ∙ sym (c .before .differ .ensures) ∙ not-false _ (c .if1 .left))) ∙ l .inv .2 es w,
+      gathered-on (differ (getD es i [])) es (l .all) (l .j) [] (omega arith) (c .differ .ensures ∙ sym (differ-at w i (l .j) (omega arith) (omega arith))) ∙ l .inv .2 es w,
 )
 
-returns-2 : tie.Need-returns-2 Inv-loop μ-loop
-returns-2 c = λ es w.
+returns : tie.Need-returns Inv-loop μ-loop
+returns c = λ es w.
     let l = c .before .loop in
     let k = w .halves .count in
-    sym (sym (l .inv .2 es w) ∙ all-done (differ (getD es (c .before .before .before .before .args .i) [])) es (l .j) (omega arith))
+    sym (gathered-done (differ (getD es (c .before .before .before .before .args .i) [])) es (l .all) (l .j) (omega arith)) ∙ l .inv .2 es w
 
 pub differs-from-rest-spec : {M : Type 1} → statement M
 differs-from-rest-spec =
@@ -98,8 +90,7 @@ differs-from-rest-spec =
     mul-differ-2
     element-copy-out-differ-2
     differ-requires
-    returns
     add-j-2
     loop-less
     loop-again
-    returns-2)
+    returns)
