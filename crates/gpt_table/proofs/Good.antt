@@ -1,9 +1,11 @@
 -- Laws of the table's rules, over used entries decoded into numbers.
 use mathlib.Core.Path.{_≡_, refl, sym, ap, ap₂, subst, _∙_}
 use mathlib.Core.Logic.{_⊎_, inl, inr, ⊎-elim}
-use mathlib.Core.Bool.{Bool, true, false, not, _&&_, _||_}
+use mathlib.Core.Bool.{Bool, true, false, not, _||_}
 use mathlib.Core.List.{List, [], _∷_, _++_, map}
-use Prim.Native.Nat.{ℕ, suc, _+_, _-_, _*_, _≤_, _<_}
+use Prim.Native.Nat.{ℕ, _+_, _-_, _*_, _≤_, _<_}
+use native.Mathlib.Nat.{zero-add}
+use native.Mathlib.Decide.{ℕ-discrete}
 use native.Mathlib.Numerals.{add-one}
 use native.Mathlib.Omega.{arith}
 use lib.Dec.{eqb, leb, ltb}
@@ -80,26 +82,36 @@ module _ (a b f l : ℕ) where
   unfolding apart _or_
   apart-behind h = rw (le-ltb b f h)
 
-pub or-nots : (a b : Bool) → (not a || not b) ≡ not (a and b)
+-- ---- equal GUIDs counted: n of the elements before i
+
+pub nots : (a b : Bool) → (not a || not b) ≡ not (a and b)
 unfolding _and_
-or-nots true true = refl
-or-nots true false = refl
-or-nots false b = refl
+nots true true = refl
+nots true false = refl
+nots false b = refl
 
--- ---- `all` gathered without a stop: b is what the elements before i gave
+none-sum : (n m : ℕ) → eqb (n + m) 0 ≡ (eqb n 0 and eqb m 0)
+unfolding _and_
+none-sum n m = go (ℕ-discrete n 0)
+  where
+    go : Dec (n ≡ 0) → eqb (n + m) 0 ≡ (eqb n 0 and eqb m 0)
+    go (yes e) = rw (e, zero-add m)
+    go (no e) = rw (ne-eqb n 0 e) (ne-eqb (n + m) 0 (λ q. e (omega arith)))
 
-module _ {A : Type 0} (p : A → Bool) (xs : List A) (b : Bool) (i : ℕ) where
-  pub gathered-on : (d : A) → i < length xs → {r : Bool} → r ≡ p (getD xs i d) → (b && r and all p (drop (i + 1) xs)) ≡ (b and all p (drop i xs))
+and-join : (a b c : Bool) → (a and b and c) ≡ (a and (b and c))
+unfolding _and_
+and-join true b c = refl
+and-join false b c = refl
+
+module _ {A : Type 0} (p : A → Bool) (xs : List A) (n i : ℕ) where
+  pub none-on : (d : A) → i < length xs → (m : ℕ) → eqb m 0 ≡ p (getD xs i d) → (eqb (n + m) 0 and all p (drop (i + 1) xs)) ≡ (eqb n 0 and all p (drop i xs))
+  none-on d h m e =
+      ap (λ (b : Bool). b and all p (drop (i + 1) xs)) (none-sum n m) ∙ and-join _ _ _
+      ∙ ap (λ (b : Bool). eqb n 0 and b) (ap₂ (λ (b : Bool) (k : ℕ). b and all p (drop k xs)) e (add-one i) ∙ sym (ap (all p) (drop-cons xs i d h)))
+
+  pub none-done : length xs ≤ i → (eqb n 0 and all p (drop i xs)) ≡ eqb n 0
   unfolding _and_
-  gathered-on d h {r} e = rw (drop-cons xs i d, e, add-one) (go b)
-    where
-      go : (b : Bool) → (b && p (getD xs i d) and all p (drop (suc i) xs)) ≡ (b and (p (getD xs i d) and all p (drop (suc i) xs)))
-      go true = refl
-      go false = refl
-
-  pub gathered-done : length xs ≤ i → (b and all p (drop i xs)) ≡ b
-  unfolding _and_
-  gathered-done h = rw (all-done p xs i h) (go b)
+  none-done h = rw (all-done p xs i h) (go (eqb n 0))
     where
       go : (b : Bool) → (b and true) ≡ b
       go true = refl

@@ -13,7 +13,7 @@ ghost use lib.Dec.{eqb};
 ghost use lib.ListN.{length, getD, drop};
 ghost use Rattle.octets.specs.Tests.{_and_, all, pairs};
 ghost use Rattle.gpt_model.specs.Table.{spans, bounded as boundedIn, apart, entryBytes, slotCount, tableBytes, entries, entryOk, goodTable};
-ghost use Rattle.gpt_table.specs.Decoded.{differ as differIn, Guids, ranges};
+ghost use Rattle.gpt_table.specs.Decoded.{differ, Guids, ranges};
 ghost use Rattle.gpt_table.specs.Sorted.{Ascending};
 
 fn bounded(f: u64, l: u64, first: u64, last: u64) -> bool
@@ -63,32 +63,36 @@ fn entries_ok(t: &[u8], first: u64, last: u64) -> bool
     true
 }
 
-// Two unique GUIDs, as two numbers each, differ.
-fn differ(x: u64, y: u64, u: u64, v: u64) -> bool
-    ensures { λ r. ⌜ r ≡ not (eqb x u and eqb y v) ⌝ }
+// 0 where two unique GUIDs, as two numbers each, differ, else 1.
+fn same(x: u64, y: u64, u: u64, v: u64) -> u64
+    ensures { λ r. ⌜ (eqb r 0 ≡ not (eqb x u and eqb y v)) × (r ≤ 1) ⌝ }
 {
-    (x != u) | (y != v)
+    if (x != u) | (y != v) {
+        return 0;
+    }
+    1
 }
 
-// GUID i differs from each behind it; lows and highs are the halves of the GUIDs.
+// GUID i differs from each behind it; lows and highs are the halves of the GUIDs. Those that are the same are counted: with no way out of the loop, two are
+// compared at once.
 fn differs_from_rest(lows: &[u64; SLOTS], highs: &[u64; SLOTS], count: usize, i: usize) -> bool
     requires { ⌜ (i < count) × (count ≤ slotCount) ⌝ }
-    ensures { λ r. ⌜ ((es : List (List ℕ)) → Guids es (now (lows .entry)) (now (highs .entry)) count → r ≡ all (differIn (getD es i [])) (drop (i + 1) es)) ⌝ }
+    ensures { λ r. ⌜ ((es : List (List ℕ)) → Guids es (now (lows .entry)) (now (highs .entry)) count → r ≡ all (differ (getD es i [])) (drop (i + 1) es)) ⌝ }
 {
     let x = lows[i];
     let y = highs[i];
-    let mut all = true;
+    let mut found: u64 = 0;
     let mut j = i + 1;
     while j < count {
-        all = all & differ(x, y, lows[j], highs[j]);
+        found += same(x, y, lows[j], highs[j]);
         j += 1;
     }
-    all
+    found == 0
 }
 
 fn guids_differ(lows: &[u64; SLOTS], highs: &[u64; SLOTS], count: usize) -> bool
     requires { ⌜ count ≤ slotCount ⌝ }
-    ensures { λ r. ⌜ ((es : List (List ℕ)) → Guids es (now (lows .entry)) (now (highs .entry)) count → r ≡ pairs differIn es) ⌝ }
+    ensures { λ r. ⌜ ((es : List (List ℕ)) → Guids es (now (lows .entry)) (now (highs .entry)) count → r ≡ pairs differ es) ⌝ }
 {
     let mut i = 0;
     while i < count {

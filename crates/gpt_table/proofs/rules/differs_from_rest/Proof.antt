@@ -1,8 +1,9 @@
 use borrow.Author.Needs.{needs}
-use Rattle.gpt_table.proofs.Good.{differ-at, gathered-on, gathered-done}
+use Rattle.gpt_table.proofs.Good.{differ-at, none-on, none-done}
 use Rattle.gpt_table.specs.Decoded.{differ, Guids}
 use Rattle.octets.specs.Tests.{_and_, all}
 use lib.ListN.{getD, drop}
+use lib.Dec.{eqb}
 use native.Mathlib.Omega.{arith}
 use Prim.Native.Nat.{ℕ, _≤_, _<_, _+_, _-_}
 use mathlib.Core.Path.{_≡_, refl, sym, _∙_}
@@ -11,10 +12,10 @@ use Rattle.gpt_table.proofs.rules.differs_from_rest.Statement.{statemen
 use Rattle.gpt_table.proofs.rules.differs_from_rest.Tie as tie
 
 abbrev Inv-loop : tie.InvT-loop
-Inv-loop u v n i x y all₀ j₀ b j = (j ≤ n) × (i < j) × ((es : List (List ℕ)) → Guids es u v n → (b and all (differ (getD es i [])) (drop j es)) ≡ all (differ (getD es i [])) (drop (i + 1) es))
+Inv-loop u v n i x y found₀ j₀ found j = (j ≤ n) × (i < j) × (found ≤ j) × ((es : List (List ℕ)) → Guids es u v n → (eqb found 0 and all (differ (getD es i [])) (drop j es)) ≡ all (differ (getD es i [])) (drop (i + 1) es))
 
 abbrev μ-loop : tie.MeasureT-loop
-μ-loop u v n i x y all₀ j₀ b j = n - j
+μ-loop u v n i x y found₀ j₀ found j = n - j
 
 mul-x : tie.Need-mul-x Inv-loop μ-loop
 mul-x c = search needs
@@ -33,22 +34,25 @@ add-j c = search needs
 
 loop-holds : tie.Need-loop-holds Inv-loop μ-loop
 unfolding _and_
-loop-holds c = (omega arith, omega arith, λ es w. refl)
+loop-holds c = (omega arith, omega arith, omega arith, λ es w. refl)
 
-mul-differ : tie.Need-mul-differ Inv-loop μ-loop
-mul-differ c = search needs
+mul-same : tie.Need-mul-same Inv-loop μ-loop
+mul-same c = search needs
 
-element-copy-out-differ : tie.Need-element-copy-out-differ Inv-loop μ-loop
-element-copy-out-differ c = search needs
+element-copy-out-same : tie.Need-element-copy-out-same Inv-loop μ-loop
+element-copy-out-same c = search needs
 
-mul-differ-2 : tie.Need-mul-differ-2 Inv-loop μ-loop
-mul-differ-2 c = search needs
+mul-same-2 : tie.Need-mul-same-2 Inv-loop μ-loop
+mul-same-2 c = search needs
 
-element-copy-out-differ-2 : tie.Need-element-copy-out-differ-2 Inv-loop μ-loop
-element-copy-out-differ-2 c = search needs
+element-copy-out-same-2 : tie.Need-element-copy-out-same-2 Inv-loop μ-loop
+element-copy-out-same-2 c = search needs
 
-differ-requires : tie.Need-differ-requires Inv-loop μ-loop
-differ-requires c κs = search needs
+same-requires : tie.Need-same-requires Inv-loop μ-loop
+same-requires c κs = search needs
+
+add-found : tie.Need-add-found Inv-loop μ-loop
+add-found c = search needs
 
 add-j-2 : tie.Need-add-j-2 Inv-loop μ-loop
 add-j-2 c = search needs
@@ -60,18 +64,19 @@ loop-again : tie.Need-loop-again Inv-loop μ-loop
 loop-again c = (
   omega arith,
   omega arith,
+  omega arith,
   λ es w.
       let i = c .before .before .before .before .before .before .before .args .i in
       let l = c .before .before .before .before .loop in
       let k = w .halves .count in
-      gathered-on (differ (getD es i [])) es (l .all) (l .j) [] (omega arith) (c .differ .ensures ∙ sym (differ-at w i (l .j) (omega arith) (omega arith))) ∙ l .inv .2 es w,
+      none-on (differ (getD es i [])) es (l .found) (l .j) [] (omega arith) (c .same .result) (c .same .ensures .0 ∙ sym (differ-at w i (l .j) (omega arith) (omega arith))) ∙ l .inv .3 es w,
 )
 
 returns : tie.Need-returns Inv-loop μ-loop
 returns c = λ es w.
     let l = c .before .loop in
     let k = w .halves .count in
-    sym (gathered-done (differ (getD es (c .before .before .before .before .args .i) [])) es (l .all) (l .j) (omega arith)) ∙ l .inv .2 es w
+    sym (none-done (differ (getD es (c .before .before .before .before .args .i) [])) es (l .found) (l .j) (omega arith)) ∙ l .inv .3 es w
 
 pub differs-from-rest-spec : {M : Type 1} → statement M
 differs-from-rest-spec =
@@ -85,11 +90,12 @@ differs-from-rest-spec =
     element-copy-out-y
     add-j
     loop-holds
-    mul-differ
-    element-copy-out-differ
-    mul-differ-2
-    element-copy-out-differ-2
-    differ-requires
+    mul-same
+    element-copy-out-same
+    mul-same-2
+    element-copy-out-same-2
+    same-requires
+    add-found
     add-j-2
     loop-less
     loop-again
