@@ -1,5 +1,6 @@
 // The judges over the 16,384 entry bytes of a GPT table: reading entries here, room for partitions in `room`, the table's rules in `rules`.
 // An inner crate: no user calls it, so its functions may have a `requires`, which each caller meets.
+pub mod order;
 pub mod room;
 pub mod rules;
 

@@ -24,12 +24,12 @@ const OCTETS_SIZES: [usize; 4] = [16, 128, 16 << 10, 1 << 20];
 fn main() {
     CRC_SIZES.into_iter().for_each(check::crc);
     OCTETS_SIZES.into_iter().for_each(check::octets);
-    let (full, room) = (Disk::with_gaps(128), Disk::with_gaps(127));
+    let disks = Disks::new();
     let programs = Programs::ready();
     let mut table = Table::default();
     CRC_SIZES.into_iter().for_each(|size| crc_rows(&mut table, size));
     OCTETS_SIZES.into_iter().for_each(|size| octets_rows(&mut table, size));
-    gpt_rows(&mut table, &full, &room);
+    gpt_rows(&mut table, &disks);
     flash::rows(&mut table);
     fmd_rows(&mut table, programs.as_ref().ok());
     table.measure();
@@ -68,14 +68,35 @@ fn octets_rows(t: &mut Table, size: usize) {
     );
 }
 
-/// Both copies the same (state 1), a gap behind each partition: 128 partitions, and 127 with room for one more behind the last gap.
-/// Not timed here: state 2 with two full tables, where each copy is judged by itself.
-fn gpt_rows<'a>(t: &mut Table<'a>, full: &'a Disk, room: &'a Disk) {
+/// A gap behind each partition: 128 partitions, in the slots' order and against it; and 127 with room for one more behind the last gap.
+struct Disks {
+    full: Disk,
+    descending: Disk,
+    room: Disk,
+    /// The first two with two good copies that differ, so that each table is judged by itself (state 2).
+    differ: Disk,
+    descending_differ: Disk,
+}
+
+impl Disks {
+    fn new() -> Disks {
+        let (full, descending) = (Disk::with_gaps(128), Disk::with_gaps_descending(128));
+        let (differ, descending_differ) = (full.with_another_tail(), descending.with_another_tail());
+        Disks { full, descending, room: Disk::with_gaps(127), differ, descending_differ }
+    }
+}
+
+fn gpt_rows<'a>(t: &mut Table<'a>, disks: &'a Disks) {
     let unit = || ("zlib's crc32 over 16 KiB", of(work::bytes(16 << 10), peers::zlib_crc32));
+    let Disks { full, descending, room, differ, descending_differ } = disks;
     t.units(("gpt: read, 128 partitions", 6.0), || full.read(), unit());
+    t.units(("gpt: read, 128 in descending order", 6.0), || descending.read(), unit());
+    t.units(("gpt: read, 128, copies differ", 6.0), || differ.read(), unit());
+    t.units(("gpt: read, 128 descending, copies differ", 6.0), || descending_differ.read(), unit());
     let mut copy = room.clone();
     t.units(("gpt: add, 127 partitions", 14.0), move || room.add_to(&mut copy), unit());
     t.units(("gpt: free counts, 128 partitions", 14.0), || full.free(), unit());
+    t.units(("gpt: free counts, 128, copies differ", 14.0), || differ.free(), unit());
 }
 
 /// A layout of 128 sections in two processes, and texts of one shape and of growing length.
