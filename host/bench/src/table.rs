@@ -155,7 +155,10 @@ impl<'a> Table<'a> {
 
     /// The rows of times.
     pub fn print_times(&self) {
-        println!("\n{:<60} {:>10} {:>10} {:>8} {:>9}", "time: what / peer", "ours", "peer", "ratio", "at most");
+        println!(
+            "\n{:<60} {:>10} {:>10} {:>8} {:>9}",
+            "time: what / peer", "ours", "peer", "ratio", "at most"
+        );
         for row in &self.rows {
             let Shown::Times(most) = row.shown else { continue };
             let (ours, peer) = (row.ours.best * 1e6, row.peer.best * 1e6);
