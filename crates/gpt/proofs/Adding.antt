@@ -1,17 +1,16 @@
 -- Adding: its rows from 20 on, the start and the slot that it takes, the entry that it writes.
-use mathlib.Core.Path.{_≡_, refl, sym, ap, ap₂, subst, _∙_}
+use mathlib.Core.Path.{_≡_, sym, ap, subst, _∙_}
 use mathlib.Core.Logic.{_≢_}
-use mathlib.Core.Bool.{Bool, true, false, not}
-use mathlib.Core.List.{List, [], _∷_, _++_}
+use mathlib.Core.Bool.{true}
+use mathlib.Core.List.{List, [], _∷_}
 use mathlib.Core.Option.{Option, none, some}
-use Prim.Native.Nat.{ℕ, suc, _+_, _-_, _≤_, _<_}
+use Prim.Native.Nat.{ℕ, _+_, _-_, _≤_, _<_}
 use native.Mathlib.Numerals.{add-one}
 use native.Mathlib.Omega.{arith}
-use lib.Dec.{eqb}
 use lib.ListN.{length}
 use borrow.Author.Tests.{eqb-false, eq-eqb}
 use Rattle.octets.specs.Tests.{findIx}
-use Rattle.octets.specs.Rows.{Row, row, refusal}
+use Rattle.octets.specs.Rows.{row, refusal}
 use Rattle.octets.proofs.Bools.{and-i, not-f}
 use Rattle.octets.proofs.Tests.{findIx-get}
 use Rattle.octets.proofs.Rows.{passes, pick-true, pick-false, refusal-append, refusal-first}
@@ -19,7 +18,7 @@ use Rattle.octets.proofs.Chunks.{length-chunks}
 use Rattle.gpt_model.specs.Ranges.{place}
 use Rattle.gpt_model.specs.Table.{entryWith, unused, entries, slots}
 use Rattle.gpt_model.specs.Disk.{disk512, lastUsable}
-use Rattle.gpt_model.specs.Calls.{Edit, add, addRows, tableRows, isNone, valueOf, Change, change, lengthsOf}
+use Rattle.gpt_model.specs.Calls.{Edit, add, addRows, tableRows, isNone, valueOf, change, lengthsOf}
 use Rattle.gpt_model.proofs.Room.{place-some}
 use Rattle.gpt_table.specs.Answers.{placed}
 use Rattle.gpt_table.specs.declared.Block.{Block}

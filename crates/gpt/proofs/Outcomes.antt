@@ -1,9 +1,9 @@
 -- The ways out of an edit.
-use mathlib.Core.Path.{_≡_, refl, sym, ap, ap₂, subst, _∙_}
+use mathlib.Core.Path.{_≡_, sym, ap, ap₂, subst, _∙_}
 use mathlib.Core.Logic.{_≢_}
 use mathlib.Core.Bool.{Bool, true, false, not}
 use mathlib.Core.List.{List, [], _∷_, _++_}
-use mathlib.Core.Option.{Option, none, some}
+use mathlib.Core.Option.{none, some}
 use Prim.Native.Nat.{ℕ, _+_, _-_, _≤_, _<_}
 use native.Mathlib.Omega.{arith}
 use lib.ListN.{length, getD}
@@ -14,7 +14,7 @@ use lib.Dec.{eqb}
 use Rattle.octets.specs.Bytes.{le, put, putChunk}
 use Rattle.octets.specs.Rows.{Row, row, refusal}
 use Rattle.gpt_model.specs.Disk.{disk512, lastUsable, primary, backup, guidIn, entriesIn, state, tableOf, withTable}
-use Rattle.gpt_model.specs.Calls.{Edit, add, resize, rename, edit, badName, slotRows, addRows, fitsAt, Answer, refused, accepted, Out, out, openRows, tableRows, Change, change, lengthsOf, readRows, edited, rowsOf, step}
+use Rattle.gpt_model.specs.Calls.{Edit, resize, rename, edit, badName, slotRows, fitsAt, refused, accepted, out, openRows, tableRows, Change, change, lengthsOf, readRows, edited, rowsOf, step}
 use Rattle.gpt_model.specs.Table.{firstOf, nameBytes, entries}
 use Rattle.gpt_model.proofs.Room.{room-get}
 use Rattle.gpt_model.proofs.Ways.{step-refused, step-made, edit-decides, edit-stops, row11}

@@ -5,7 +5,6 @@ use gpt_copies::BLOCK;
 use gpt_copies::SLOTS;
 use gpt_copies::TABLE;
 ghost use mathlib.Core.Path.{_≡_};
-ghost use Prim.Native.Nat.{_≤_};
 ghost use lib.ListN.{length};
 ghost use Rattle.octets.specs.Rows.{refusal};
 ghost use Rattle.gpt_model.specs.Table.{tableBytes};

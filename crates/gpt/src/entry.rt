@@ -4,7 +4,6 @@ use gpt_table::FIRST_AT;
 use gpt_table::LAST_AT;
 use gpt_table::UNIQUE_AT;
 ghost use mathlib.Core.Path.{_≡_};
-ghost use Prim.Native.Nat.{_≤_};
 ghost use lib.ListN.{length};
 ghost use Rattle.octets.specs.Bytes.{le, put};
 ghost use Rattle.gpt_model.specs.Table.{entryBytes, nameBytes, entryWith};

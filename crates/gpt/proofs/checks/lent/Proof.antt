@@ -1,4 +1,3 @@
-use borrow.Author.Needs.{needs}
 use native.Mathlib.Omega.{arith}
 use denote.Ref.{now}
 use Rattle.gpt.proofs.Rows.{head-wrong, tail-wrong, n-low, n-high, lent-right}
