@@ -1,5 +1,5 @@
 -- Laws of used entries decoded into numbers.
-use mathlib.Core.Path.{_≡_, refl, sym, ap, ap₂, subst, fun-ext, _∙_}
+use mathlib.Core.Path.{_≡_, refl, sym, ap, ap₂, subst, _∙_}
 use mathlib.Core.Logic.{_⊎_, inl, inr}
 use mathlib.Core.Bool.{Bool, true, false, not}
 use mathlib.Core.List.{List, [], _∷_, _++_, map, append-nil}
@@ -8,14 +8,14 @@ use native.Mathlib.Nat.{not-suc-le-zero, le-of-suc-le-suc}
 use native.Mathlib.Numerals.{add-one}
 use native.Mathlib.Omega.{arith}
 use lib.ListN.{length, getD, set, take, drop, length-append, length-map, length-set, List·getD-map}
-use lib.Seq.{take-suc, take-suc-set, take-all, getD-take, ext-getD, set-out}
+use lib.Seq.{take-suc, take-suc-set, take-all, getD-take, ext-getD}
 use Rattle.octets.specs.Tests.{_or_}
 use Rattle.octets.specs.Bytes.{field}
 use Rattle.octets.proofs.Bools.{bool-cases}
-use Rattle.gpt_model.specs.Ranges.{inside, lies, free}
-use Rattle.gpt_model.specs.Table.{vacant, spans, unused, slotOf, entries, slots}
+use Rattle.gpt_model.specs.Ranges.{inside, lies}
+use Rattle.gpt_model.specs.Table.{vacant, spans, unused, slotOf, entries}
 use Rattle.gpt_model.proofs.Walk.{getD-map}
-use Rattle.gpt_model.proofs.Entries.{map-set, zero-unused, slot-unused, slot-used, length-slots}
+use Rattle.gpt_model.proofs.Entries.{zero-unused, slot-unused, slot-used}
 use Rattle.gpt_table.specs.Decoded.{used, Decoded, ranges}
 
 -- ---- the used ones of a list

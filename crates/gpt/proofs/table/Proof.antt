@@ -47,9 +47,10 @@ enum-told-4 c = search needs
 entries-in-requires-4 : tie.Need-entries-in-requires-4
 entries-in-requires-4 c κs =
     let a = c .before .before .before .before .before .args in
-    let h = now (a .head) in
-    let t = now (a .tail) in
-    found-lent (a .n) h t _ BackupOnly (c .before .before .read .ensures) (c .enum-told4 .given .1) 4 refl .tail
+    let w = found-lent (a .n) (now (a .head)) (now (a .tail)) _ BackupOnly (c .before .before .read .ensures) (c .enum-told4 .given .1) 4 refl in
+    let h = w .head in
+    let t = w .tail in
+    search needs
 
 enum-told-5 : tie.Need-enum-told-5
 enum-told-5 c = search needs

@@ -31,8 +31,7 @@ add-added c =
     let a = c .before .before .before .before .before .before .before .before .args in
     let h = now (a .head) in
     let T = entriesIn disk512 primary h in
-    record
-    { fits = add-bound (a .n) T (now (a .kind)) (now (a .unique)) (a .size) (a .attributes) (now (a .name)) (open-facts (a .n) h (now (a .tail)) (c .before .before .before .before .before .before .before .before .pre .0) .most) (c .before .before .before .before .before .before .before .before .pre .4) _ (c .before .before .before .before .before .before .before .before .pre .5) }
+    record { fits = omega (arith, add-bound (a .n) T (now (a .kind)) (now (a .unique)) (a .size) (a .attributes) (now (a .name)) (open-facts (a .n) h (now (a .tail)) (c .before .before .before .before .before .before .before .before .pre .0) .most) (c .before .before .before .before .before .before .before .before .pre .4) _ (c .before .before .before .before .before .before .before .before .pre .5)) }
 
 added-requires : tie.Need-added-requires
 added-requires c κs = search needs
@@ -62,12 +61,11 @@ returns c =
     let a = c .before .before .before .before .before .before .before .before .before .before .before .before .before .before .before .before .before .args in
     let h = now (a .head) in
     let T = entriesIn disk512 primary h in
+    let pos = add-size (a .n) T (now (a .kind)) (now (a .unique)) (a .size) (a .attributes) (now (a .name)) (c .before .before .before .before .before .before .before .before .before .before .before .before .before .before .before .before .before .pre .4) in
     made-at (a .n) h (now (a .tail)) (add (now (a .kind)) (now (a .unique)) (a .size) (a .attributes) (now (a .name)))
-    (add-lengths (now (a .kind)) (now (a .unique)) (a .size) (a .attributes) (now (a .name)) (c .before .before .before .before .before .before .before .before .before .before .before .before .before .before .before .before .before .pre .1) (c .before .before .before .before .before .before .before .before .before .before .before .before .before .before .before .before .before .pre .2) (c .before .before .before .before .before .before .before .before .before .before .before .before .before .before .before .before .before .pre .3))
-    (c .before .before .before .before .before .before .before .before .before .before .before .before .before .before .before .before .before .pre .0)
-    T refl _ _ _
+    (add-lengths (now (a .kind)) (now (a .unique)) (a .size) (a .attributes) (now (a .name)) (c .before .before .before .before .before .before .before .before .before .before .before .before .before .before .before .before .before .pre .1) (c .before .before .before .before .before .before .before .before .before .before .before .before .before .before .before .before .before .pre .2) (c .before .before .before .before .before .before .before .before .before .before .before .before .before .before .before .before .before .pre .3)) (c .before .before .before .before .before .before .before .before .before .before .before .before .before .before .before .before .before .pre .0) T refl _ _ _
     (add-right (a .n) T (now (a .kind)) (now (a .unique)) (a .size) (a .attributes) (now (a .name)) (c .before .before .before .before .before .before .before .before .before .before .before .before .before .before .before .before .before .pre .4) _ (c .before .before .before .before .before .before .before .before .before .before .before .before .before .before .before .before .before .pre .5))
-    (add-is (a .n) T (now (a .kind)) (now (a .unique)) (a .size) (a .attributes) (now (a .name)) (c .before .before .before .before .before .before .before .before .before .before .before .before .before .before .before .before .before .pre .4) _ _ _ _ (c .before .before .before .before .before .before .before .before .before .before .entries-in .ensures .0) (c .before .before .before .before .before .before .before .before .before .first-unused .ensures .0) (c .before .before .before .before .before .before .before .before .before .before .before .before .before .before .before .before .before .pre .5) (c .before .before .before .before .before .before .before .before .added .ensures .0))
+    (add-is (a .n) T (now (a .kind)) (now (a .unique)) (a .size) (a .attributes) (now (a .name)) (c .before .before .before .before .before .before .before .before .before .before .before .before .before .before .before .before .before .pre .4) _ _ _ _ _ (c .before .before .before .before .before .before .before .before .before .before .entries-in .ensures .0) (c .before .before .before .before .before .before .before .before .before .first-unused .ensures .0) (c .before .before .before .before .before .before .before .before .before .before .before .before .before .before .before .before .before .pre .5) (c .before .before .before .before .before .before .before .before .added .ensures .0) (omega arith))
     (c .before .before .before .before .put-both .ensures .0) (c .before .before .before .before .put-both .ensures .1)
 
 pub add-at-spec : {M : Type 1} → statement M

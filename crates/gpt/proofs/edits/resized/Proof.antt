@@ -1,5 +1,6 @@
 use Rattle.gpt_model.specs.Disk.{disk512, primary, entriesIn}
-use Rattle.gpt.proofs.Outcomes.{resized-fits, resized-is}
+use Rattle.gpt.proofs.Outcomes.{first-is, resized-is}
+use native.Mathlib.Omega.{arith}
 use denote.Ref.{now}
 use borrow.Author.Needs.{needs}
 use Rattle.gpt.proofs.edits.resized.Statement.{statement}
@@ -22,8 +23,7 @@ add-resized c =
     let a = c .before .before .before .before .args in
     let h = now (a .head) in
     let T = entriesIn disk512 primary h in
-    record
-    { fits = resized-fits T _ _ (a .i) _ (a .size) (c .before .before .entries-in .ensures .0) (c .before .entry .ensures .0) (c .load64 .ensures) (c .before .before .before .before .pre .2) (c .before .before .before .before .pre .3) }
+    record { fits = omega (arith, first-is T _ _ (a .i) _ (a .size) (c .before .before .entries-in .ensures .0) (c .before .entry .ensures .0) (c .load64 .ensures), c .before .before .before .before .pre .3) }
 
 resized-requires : tie.Need-resized-requires
 resized-requires c κs = search needs
@@ -33,8 +33,8 @@ returns c =
     let a = c .before .before .before .before .before .args in
     let h = now (a .head) in
     let T = entriesIn disk512 primary h in
-    resized-is T _ _ (a .i) _ (a .size) (c .before .before .before .entries-in .ensures .0) (c .before .before .entry .ensures .0)
-    (c .before .load64 .ensures) (c .before .before .before .before .before .pre .2) _ (c .resized .ensures)
+    let pos = c .before .before .before .before .before .pre .2 in
+    resized-is T _ _ (a .i) _ (a .size) (c .before .before .before .entries-in .ensures .0) (c .before .before .entry .ensures .0) (c .before .load64 .ensures) _ _ (c .resized .ensures) (omega arith)
 
 pub resized-spec : {M : Type 1} → statement M
 resized-spec =

@@ -1,4 +1,3 @@
-use borrow.Author.Needs.{needs}
 use Rattle.gpt_table.proofs.Ahead.{reaches-empty, reaches-last}
 use Rattle.gpt_table.proofs.room.reaches.Statement.{statement}
 use Rattle.gpt_table.proofs.room.reaches.Tie as tie

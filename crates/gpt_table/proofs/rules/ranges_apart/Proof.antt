@@ -37,7 +37,7 @@ element-copy-out-if1-2 : tie.Need-element-copy-out-if1-2 Inv-loop μ-loop
 element-copy-out-if1-2 c = search needs
 
 returns : tie.Need-returns Inv-loop μ-loop
-returns c = let a = c .before .before .before .before .before .args in sym (apart-not (now (a .firsts)) (now (a .lasts)) (a .count) (c .before .before .before .before .before .pre .1) (c .before .before .before .before .loop .i) (omega arith) (c .before .before .before .before .before .pre .2 _ (omega arith)) (c .if1 .taken))
+returns c = let a = c .before .before .before .before .before .args in sym (apart-not (now (a .firsts)) (now (a .lasts)) (a .count) (c .before .before .before .before .before .pre .1) (c .before .before .before .before .loop .i) (omega arith) (c .before .before .before .before .before .pre .2 _ (omega arith)) (omega arith))
 
 add-i : tie.Need-add-i Inv-loop μ-loop
 add-i c = search needs
@@ -48,7 +48,7 @@ loop-less c = search needs
 loop-again : tie.Need-loop-again Inv-loop μ-loop
 loop-again c =
     let a = c .before .before .before .before .before .args in
-    (omega arith, below-more (λ (k : ℕ). getD (now (a .lasts)) k 0 < getD (now (a .firsts)) (k + 1) 0) (c .before .before .before .before .loop .i) (c .before .before .before .before .loop .inv .1) (c .if1 .left))
+    (omega arith, below-more (λ (k : ℕ). getD (now (a .lasts)) k 0 < getD (now (a .firsts)) (k + 1) 0) (c .before .before .before .before .loop .i) (c .before .before .before .before .loop .inv .1) (omega arith))
 
 returns-2 : tie.Need-returns-2 Inv-loop μ-loop
 returns-2 c = let a = c .before .before .args in sym (apart-all (now (a .firsts)) (now (a .lasts)) (a .count) (c .before .before .pre .1) (λ k h. c .before .loop .inv .1 k (omega arith)))
