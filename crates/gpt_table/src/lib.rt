@@ -21,7 +21,7 @@ const SLOTS: usize = 128;
 
 const ENTRY_BYTES: usize = 128;
 
-// D5: where an entry has its unique GUID, behind the type GUID, and its first and last block.
+// Where an entry has its unique GUID, behind the type GUID, and its first and last block (D5).
 pub const UNIQUE_AT: usize = 16;
 
 pub const FIRST_AT: usize = 32;

@@ -1,12 +1,12 @@
-use Rattle.gpt_table.specs.declared.room.Free.{Free}
-use Rattle.gpt_model.specs.Calls.{accepted}
 use mathlib.Core.List.{[], _∷_}
 use mathlib.Core.Path.{ap, ap₂, _∙_}
 use Prim.Native.Nat.{ℕ}
 use denote.Ref.{now}
-use Rattle.gpt_model.specs.Table.{slots}
-use Rattle.gpt_model.specs.Ranges.{freeCount, longestFree}
 use borrow.Author.Needs.{needs}
+use Rattle.gpt_model.specs.Calls.{accepted}
+use Rattle.gpt_model.specs.Ranges.{freeCount, longestFree}
+use Rattle.gpt_model.specs.Table.{slots}
+use Rattle.gpt_table.specs.declared.room.Free.{Free}
 use Rattle.gpt.proofs.count_in.Statement.{statement}
 use Rattle.gpt.proofs.count_in.Tie as tie
 
@@ -21,8 +21,9 @@ free-counts-requires c κs = search needs
 
 returns : tie.Need-returns
 returns c =
+    let t = now (c .before .before .before .before .args .table) in
     ap (λ (f : Free). accepted (f .blocks ∷ f .longest ∷ [])) (c .free-counts .ensures)
-    ∙ ap₂ (λ (f l : ℕ). accepted (freeCount (slots (now (c .before .before .before .before .args .table))) f l ∷ longestFree (slots (now (c .before .before .before .before .args .table))) f l ∷ [])) (c .before .before .first-usable .ensures) (c .before .last-usable .ensures)
+    ∙ ap₂ (λ (f l : ℕ). accepted (freeCount (slots t) f l ∷ longestFree (slots t) f l ∷ [])) (c .before .before .first-usable .ensures) (c .before .last-usable .ensures)
 
 pub count-in-spec : {M : Type 1} → statement M
 count-in-spec =

@@ -1,8 +1,8 @@
-use native.Mathlib.Omega.{arith}
 use mathlib.Core.Path.{sym, _∙_}
+use native.Mathlib.Omega.{arith}
 use denote.Ref.{now}
-use Rattle.gpt.proofs.Rows.{size-zero, type-zero, unique-zero, unique-carried, name-bad, slots-full, add-passes, none-unused, one-unused}
 use borrow.Author.Needs.{needs}
+use Rattle.gpt.proofs.Rows.{size-zero, type-zero, unique-zero, unique-carried, name-bad, slots-full, add-passes, none-unused, one-unused}
 use Rattle.gpt.proofs.checks.add.Statement.{statement}
 use Rattle.gpt.proofs.checks.add.Tie as tie
 

@@ -1,11 +1,11 @@
+use mathlib.Core.Path.{refl}
+use native.Mathlib.Omega.{arith}
+use denote.Ref.{now}
+use borrow.Author.Needs.{needs}
+use Rattle.gpt_model.specs.Calls.{add}
+use Rattle.gpt_model.specs.Disk.{disk512, primary, entriesIn}
 use Rattle.gpt.proofs.Adding.{add-lengths, add-size, add-full, placed-none, placed-at}
 use Rattle.gpt.proofs.Outcomes.{open-facts, refused-at}
-use Rattle.gpt_model.specs.Calls.{add}
-use mathlib.Core.Path.{refl}
-use Rattle.gpt_model.specs.Disk.{disk512, primary, entriesIn}
-use denote.Ref.{now}
-use native.Mathlib.Omega.{arith}
-use borrow.Author.Needs.{needs}
 use Rattle.gpt.proofs.edits.add_placed.Statement.{statement}
 use Rattle.gpt.proofs.edits.add_placed.Tie as tie
 
@@ -42,9 +42,12 @@ enum-known-first c = search needs
 add-at-requires : tie.Need-add-at-requires
 add-at-requires c κs =
     let a = c .before .before .before .before .before .before .before .before .before .before .before .before .before .before .before .args in
-    let h = now (a .head) in
-    let T = entriesIn disk512 primary h in
-    (c .before .before .before .before .before .before .before .before .before .before .before .before .before .before .before .pre .0, c .before .before .before .before .before .before .before .before .before .before .before .before .before .before .before .pre .1, c .before .before .before .before .before .before .before .before .before .before .before .before .before .before .before .pre .2, c .before .before .before .before .before .before .before .before .before .before .before .before .before .before .before .pre .3, c .before .before .before .before .before .before .before .before .before .before .before .before .before .before .before .pre .4, placed-at (a .n) T (now (a .kind)) (now (a .unique)) (a .size) (a .attributes) (now (a .name)) _ _ _ _ (c .before .before .before .before .before .before .before .before .entries-in .ensures .0) (c .before .before .before .before .before .before .before .first-usable .ensures) (c .before .before .before .before .before .before .last-usable .ensures) (c .before .before .before .before .before .lowest .ensures) _ (c .before .before .before .first .given .1))
+    let p = c .before .before .before .before .before .before .before .before .before .before .before .before .before .before .before .pre in
+    let T = entriesIn disk512 primary (now (a .head)) in
+    let at =
+    placed-at (a .n) T (now (a .kind)) (now (a .unique)) (a .size) (a .attributes) (now (a .name)) _ _ _ _ (c .before .before .before .before .before .before .before .before .entries-in .ensures .0)
+    (c .before .before .before .before .before .before .before .first-usable .ensures) (c .before .before .before .before .before .before .last-usable .ensures) (c .before .before .before .before .before .lowest .ensures) _ (c .before .before .before .first .given .1) in
+    (p .0, p .1, p .2, p .3, p .4, at)
 
 same-length : tie.Need-same-length
 same-length c = search needs
@@ -52,12 +55,15 @@ same-length c = search needs
 returns : tie.Need-returns
 returns c =
     let a = c .before .before .before .before .before .before .before .before .before .before .before .before .args in
+    let p = c .before .before .before .before .before .before .before .before .before .before .before .before .pre in
     let h = now (a .head) in
     let T = entriesIn disk512 primary h in
+    let full =
+    placed-none (a .n) T (now (a .kind)) (now (a .unique)) (a .size) (a .attributes) (now (a .name)) _ _ _ _ (c .before .before .before .before .before .entries-in .ensures .0)
+    (c .before .before .before .before .first-usable .ensures) (c .before .before .before .last-usable .ensures) (c .before .before .lowest .ensures) (c .enum-told .given .1) in
     refused-at (a .n) h (now (a .tail)) (add (now (a .kind)) (now (a .unique)) (a .size) (a .attributes) (now (a .name)))
-    (add-lengths (now (a .kind)) (now (a .unique)) (a .size) (a .attributes) (now (a .name)) (c .before .before .before .before .before .before .before .before .before .before .before .before .pre .1) (c .before .before .before .before .before .before .before .before .before .before .before .before .pre .2) (c .before .before .before .before .before .before .before .before .before .before .before .before .pre .3))
-    (c .before .before .before .before .before .before .before .before .before .before .before .before .pre .0) T refl 25
-    (add-full (a .n) T (now (a .kind)) (now (a .unique)) (a .size) (a .attributes) (now (a .name)) (c .before .before .before .before .before .before .before .before .before .before .before .before .pre .4) (placed-none (a .n) T (now (a .kind)) (now (a .unique)) (a .size) (a .attributes) (now (a .name)) _ _ _ _ (c .before .before .before .before .before .entries-in .ensures .0) (c .before .before .before .before .first-usable .ensures) (c .before .before .before .last-usable .ensures) (c .before .before .lowest .ensures) (c .enum-told .given .1)))
+    (add-lengths (now (a .kind)) (now (a .unique)) (a .size) (a .attributes) (now (a .name)) (p .1) (p .2) (p .3)) (p .0) T refl 25
+    (add-full (a .n) T (now (a .kind)) (now (a .unique)) (a .size) (a .attributes) (now (a .name)) (p .4) full)
 
 same-length-2 : tie.Need-same-length-2
 same-length-2 c = search needs

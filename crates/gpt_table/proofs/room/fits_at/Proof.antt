@@ -1,4 +1,3 @@
-use Rattle.gpt_table.proofs.Reorders.{free-but}
 use mathlib.Core.Path.{ap, _∙_}
 use Prim.Native.Nat.{_-_}
 use lib.ListN.{set}
@@ -7,6 +6,7 @@ use borrow.Author.Needs.{needs}
 use Rattle.octets.specs.Bytes.{field}
 use Rattle.gpt_model.specs.Table.{slots}
 use Rattle.gpt_model.specs.Table.{vacant}
+use Rattle.gpt_table.proofs.Reorders.{free-but}
 use Rattle.gpt_table.proofs.Walks.{room-same}
 use Rattle.gpt_table.proofs.room.fits_at.Statement.{statement}
 use Rattle.gpt_table.proofs.room.fits_at.Tie as tie

@@ -1,8 +1,8 @@
-use Rattle.gpt_table.proofs.Reorders.{free-all}
 use mathlib.Core.Path.{_∙_}
 use denote.Ref.{now}
 use borrow.Author.Needs.{needs}
 use Rattle.gpt_model.specs.Table.{slots}
+use Rattle.gpt_table.proofs.Reorders.{free-all}
 use Rattle.gpt_table.proofs.Walks.{counts-same}
 use Rattle.gpt_table.proofs.room.free_counts.Statement.{statement}
 use Rattle.gpt_table.proofs.room.free_counts.Tie as tie

@@ -1,12 +1,12 @@
-use denote.Ref.{now}
 use native.Mathlib.Omega.{arith}
+use denote.Ref.{now}
+use borrow.Author.Needs.{needs}
 use Rattle.gpt_table.specs.Gaps.{taken, gap}
 use Rattle.gpt_table.proofs.Ahead.{clear-none, clear-far, full, clear-gap}
-use borrow.Author.Needs.{needs}
+use Rattle.gpt_table.proofs.room.look.Lts as lts
+use Rattle.gpt_table.proofs.room.look.Reads as reads
 use Rattle.gpt_table.proofs.room.look.Statement.{statement}
 use Rattle.gpt_table.proofs.room.look.Tie as tie
-use Rattle.gpt_table.proofs.room.look.Reads as reads
-use Rattle.gpt_table.proofs.room.look.Lts as lts
 
 -- src/room.rt:68:27
 add-t8 : tie.Need-add-t8
@@ -14,7 +14,10 @@ add-t8 c = search needs
 
 -- src/room.rt:68:9
 returns : tie.Need-returns
-returns c = let a = c .before .args in gap (clear-none (now (a .firsts)) (now (a .lasts)) (a .count) (a .i) (a .a) (a .last) (c .before .pre .1) (c .before .pre .2) (c .before .pre .3) (omega arith))
+returns c =
+    let a = c .before .args in
+    let p = c .before .pre in
+    gap (clear-none (now (a .firsts)) (now (a .lasts)) (a .count) (a .i) (a .a) (a .last) (p .1) (p .2) (p .3) (omega arith))
 
 -- src/room.rt:70:8
 mul-if2 : tie.Need-mul-if2
@@ -34,7 +37,11 @@ element-copy-out-t16 c = search needs
 
 -- src/room.rt:71:9
 returns-2 : tie.Need-returns-2
-returns-2 c = let a = c .before .before .before .before .args in let m = c .before .before .before .before .pre .2 .most in taken (full (now (a .firsts)) (now (a .lasts)) (a .count) (a .i) (a .a) (a .last) (c .before .before .before .before .pre .1) (c .before .before .before .before .pre .2) (omega arith) (c .before .if2 .taken))
+returns-2 c =
+    let a = c .before .before .before .before .args in
+    let p = c .before .before .before .before .pre in
+    let m = p .2 .most in
+    taken (full (now (a .firsts)) (now (a .lasts)) (a .count) (a .i) (a .a) (a .last) (p .1) (p .2) (omega arith) (c .before .if2 .taken))
 
 -- src/room.rt:73:15
 mul-if3 : tie.Need-mul-if3
@@ -50,7 +57,10 @@ add-t19 c = search needs
 
 -- src/room.rt:74:9
 returns-3 : tie.Need-returns-3
-returns-3 c = let a = c .before .before .before .before .before .args in gap (clear-far (now (a .firsts)) (now (a .lasts)) (a .count) (a .i) (a .a) (a .last) (c .before .before .before .before .before .pre .1) (c .before .before .before .before .before .pre .2) (c .before .before .before .before .before .pre .3) (c .if3 .taken))
+returns-3 c =
+    let a = c .before .before .before .before .before .args in
+    let p = c .before .before .before .before .before .pre in
+    gap (clear-far (now (a .firsts)) (now (a .lasts)) (a .count) (a .i) (a .a) (a .last) (p .1) (p .2) (p .3) (omega arith))
 
 -- src/room.rt:76:16
 mul-t9 : tie.Need-mul-t9
@@ -62,7 +72,11 @@ element-copy-out-t12 c = search needs
 
 -- src/room.rt:63:1
 returns-4 : tie.Need-returns-4
-returns-4 c = let a = c .before .before .before .before .before .before .args in let m = c .before .before .before .before .before .before .pre .2 .most in gap (clear-gap (now (a .firsts)) (now (a .lasts)) (a .count) (a .i) (a .a) (a .last) (c .before .before .before .before .before .before .pre .1) (c .before .before .before .before .before .before .pre .2) (omega arith) (c .before .before .before .if2 .left) (c .before .if3 .left))
+returns-4 c =
+    let a = c .before .before .before .before .before .before .args in
+    let p = c .before .before .before .before .before .before .pre in
+    let m = p .2 .most in
+    gap (clear-gap (now (a .firsts)) (now (a .lasts)) (a .count) (a .i) (a .a) (a .last) (p .1) (p .2) (omega arith) (omega arith) (omega arith))
 
 pub look-spec : {M : Type 1} → statement M
 look-spec =

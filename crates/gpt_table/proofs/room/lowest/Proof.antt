@@ -1,8 +1,8 @@
-use Rattle.gpt_table.proofs.Reorders.{free-all}
 use mathlib.Core.Path.{_∙_}
 use denote.Ref.{now}
 use borrow.Author.Needs.{needs}
 use Rattle.gpt_model.specs.Table.{slots}
+use Rattle.gpt_table.proofs.Reorders.{free-all}
 use Rattle.gpt_table.proofs.Walks.{place-same}
 use Rattle.gpt_table.proofs.room.lowest.Statement.{statement}
 use Rattle.gpt_table.proofs.room.lowest.Tie as tie

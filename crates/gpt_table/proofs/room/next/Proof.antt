@@ -1,16 +1,16 @@
-use borrow.Author.Needs.{needs}
-use denote.Ref.{now}
-use native.Mathlib.Omega.{arith}
-use Prim.Native.Nat.{_-_, _≤_}
 use mathlib.Core.Path.{sym, _∙_}
+use Prim.Native.Nat.{_-_, _≤_}
+use native.Mathlib.Omega.{arith}
+use denote.Ref.{now}
+use borrow.Author.Needs.{needs}
 use Rattle.gpt_table.specs.Decoded.{ranges}
 use Rattle.gpt_table.specs.Gaps.{Passed}
 use Rattle.gpt_table.proofs.Ahead.{next-over, next-found, next-none}
+use Rattle.gpt_table.proofs.room.next.Lts as lts
+use Rattle.gpt_table.proofs.room.next.Reads as reads
+use Rattle.gpt_table.proofs.room.reaches.Reads as reaches-reads
 use Rattle.gpt_table.proofs.room.next.Statement.{statement}
 use Rattle.gpt_table.proofs.room.next.Tie as tie
-use Rattle.gpt_table.proofs.room.next.Reads as reads
-use Rattle.gpt_table.proofs.room.next.Lts as lts
-use Rattle.gpt_table.proofs.room.reaches.Reads as reaches-reads
 
 abbrev Inv-loop : tie.InvT-loop
 Inv-loop f l n i a j₀ j = (j ≤ n) × Passed (ranges f l n) a j
@@ -44,7 +44,10 @@ reaches-requires c κs = search needs
 
 -- src/room.rt:55:13
 returns : tie.Need-returns Inv-loop μ-loop
-returns c = let a = c .before .before .before .before .before .before .args in next-found (now (a .firsts)) (now (a .lasts)) (a .count) (a .a) (c .before .before .before .before .before .loop .j) (omega arith) (c .before .before .before .before .before .loop .inv .1) (sym (c .before .reaches .ensures) ∙ c .if1 .taken)
+returns c =
+    let a = c .before .before .before .before .before .before .args in
+    let l = c .before .before .before .before .before .loop in
+    next-found (now (a .firsts)) (now (a .lasts)) (a .count) (a .a) (l .j) (omega arith) (l .inv .1) (sym (c .before .reaches .ensures) ∙ c .if1 .taken)
 
 -- src/room.rt:57:9
 add-j : tie.Need-add-j Inv-loop μ-loop
@@ -56,11 +59,17 @@ loop-less c = search needs
 
 -- src/room.rt:53:5
 loop-again : tie.Need-loop-again Inv-loop μ-loop
-loop-again c = let a = c .before .before .before .before .before .before .args in (omega arith, next-over (now (a .firsts)) (now (a .lasts)) (a .count) (a .a) (c .before .before .before .before .before .loop .j) (omega arith) (c .before .before .before .before .before .loop .inv .1) (sym (c .before .reaches .ensures) ∙ c .if1 .left))
+loop-again c =
+    let a = c .before .before .before .before .before .before .args in
+    let l = c .before .before .before .before .before .loop in
+    (omega arith, next-over (now (a .firsts)) (now (a .lasts)) (a .count) (a .a) (l .j) (omega arith) (l .inv .1) (sym (c .before .reaches .ensures) ∙ c .if1 .left))
 
 -- src/room.rt:48:1
 returns-2 : tie.Need-returns-2 Inv-loop μ-loop
-returns-2 c = let a = c .before .before .args in next-none (now (a .firsts)) (now (a .lasts)) (a .count) (a .a) (c .before .loop .j) (omega arith) (omega arith) (c .before .loop .inv .1)
+returns-2 c =
+    let a = c .before .before .args in
+    let l = c .before .loop in
+    next-none (now (a .firsts)) (now (a .lasts)) (a .count) (a .a) (l .j) (omega arith) (omega arith) (l .inv .1)
 
 pub next-spec : {M : Type 1} → statement M
 next-spec =

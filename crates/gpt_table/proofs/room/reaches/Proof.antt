@@ -1,8 +1,8 @@
 use Rattle.gpt_table.proofs.Ahead.{reaches-empty, reaches-last}
+use Rattle.gpt_table.proofs.room.reaches.Lts as lts
+use Rattle.gpt_table.proofs.room.reaches.Reads as reads
 use Rattle.gpt_table.proofs.room.reaches.Statement.{statement}
 use Rattle.gpt_table.proofs.room.reaches.Tie as tie
-use Rattle.gpt_table.proofs.room.reaches.Reads as reads
-use Rattle.gpt_table.proofs.room.reaches.Lts as lts
 
 -- src/room.rt:42:9
 returns : tie.Need-returns

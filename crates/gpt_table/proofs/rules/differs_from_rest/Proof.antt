@@ -1,13 +1,13 @@
-use borrow.Author.Needs.{needs}
-use Rattle.gpt_table.proofs.Good.{differ-at, none-on, none-done}
-use Rattle.gpt_table.specs.Decoded.{differ, Guids}
-use Rattle.octets.specs.Tests.{_and_, all}
-use lib.ListN.{getD, drop}
-use lib.Dec.{eqb}
-use native.Mathlib.Omega.{arith}
-use Prim.Native.Nat.{ℕ, _≤_, _<_, _+_, _-_}
-use mathlib.Core.Path.{_≡_, refl, sym, _∙_}
 use mathlib.Core.List.{List, []}
+use mathlib.Core.Path.{_≡_, refl, sym, _∙_}
+use Prim.Native.Nat.{ℕ, _+_, _-_, _≤_, _<_}
+use native.Mathlib.Omega.{arith}
+use lib.Dec.{eqb}
+use lib.ListN.{getD, drop}
+use borrow.Author.Needs.{needs}
+use Rattle.octets.specs.Tests.{_and_, all}
+use Rattle.gpt_table.specs.Decoded.{differ, Guids}
+use Rattle.gpt_table.proofs.Good.{differ-at, none-on, none-done}
 use Rattle.gpt_table.proofs.rules.differs_from_rest.Statement.{statement}
 use Rattle.gpt_table.proofs.rules.differs_from_rest.Tie as tie
 

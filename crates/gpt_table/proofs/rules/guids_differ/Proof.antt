@@ -1,13 +1,13 @@
+use mathlib.Core.List.{List, []}
+use mathlib.Core.Path.{_≡_, refl, sym, _∙_}
+use Prim.Native.Nat.{ℕ, _≤_, _-_}
+use native.Mathlib.Omega.{arith}
+use lib.ListN.{drop}
 use borrow.Author.Needs.{needs}
-use Rattle.gpt_table.specs.Decoded.{differ, Guids}
+use borrow.Author.Tests.{not-true, not-false}
 use Rattle.octets.specs.Tests.{pairs}
 use Rattle.octets.proofs.Tests.{pairs-on, pairs-stop, pairs-done}
-use borrow.Author.Tests.{not-true, not-false}
-use lib.ListN.{drop}
-use native.Mathlib.Omega.{arith}
-use Prim.Native.Nat.{ℕ, _≤_, _-_}
-use mathlib.Core.Path.{_≡_, refl, sym, _∙_}
-use mathlib.Core.List.{List, []}
+use Rattle.gpt_table.specs.Decoded.{differ, Guids}
 use Rattle.gpt_table.proofs.rules.guids_differ.Statement.{statement}
 use Rattle.gpt_table.proofs.rules.guids_differ.Tie as tie
 

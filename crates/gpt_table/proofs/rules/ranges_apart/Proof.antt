@@ -1,11 +1,11 @@
+use mathlib.Core.Path.{sym}
+use Prim.Native.Nat.{ℕ, _+_, _-_, _≤_, _<_}
+use native.Mathlib.Omega.{arith}
+use lib.ListN.{getD}
+use denote.Ref.{now}
+use borrow.Author.Count.{below-more}
 use borrow.Author.Needs.{needs}
 use Rattle.gpt_table.proofs.Good.{apart-all, apart-not}
-use borrow.Author.Count.{below-more}
-use denote.Ref.{now}
-use lib.ListN.{getD}
-use native.Mathlib.Omega.{arith}
-use Prim.Native.Nat.{ℕ, _≤_, _<_, _+_, _-_}
-use mathlib.Core.Path.{sym}
 use Rattle.gpt_table.proofs.rules.ranges_apart.Statement.{statement}
 use Rattle.gpt_table.proofs.rules.ranges_apart.Tie as tie
 
@@ -37,7 +37,10 @@ element-copy-out-if1-2 : tie.Need-element-copy-out-if1-2 Inv-loop μ-loop
 element-copy-out-if1-2 c = search needs
 
 returns : tie.Need-returns Inv-loop μ-loop
-returns c = let a = c .before .before .before .before .before .args in sym (apart-not (now (a .firsts)) (now (a .lasts)) (a .count) (c .before .before .before .before .before .pre .1) (c .before .before .before .before .loop .i) (omega arith) (c .before .before .before .before .before .pre .2 _ (omega arith)) (omega arith))
+returns c =
+    let a = c .before .before .before .before .before .args in
+    let i = c .before .before .before .before .loop .i in
+    sym (apart-not (now (a .firsts)) (now (a .lasts)) (a .count) (c .before .before .before .before .before .pre .1) i (omega arith) (c .before .before .before .before .before .pre .2 (i + 1) (omega arith)) (omega arith))
 
 add-i : tie.Need-add-i Inv-loop μ-loop
 add-i c = search needs
@@ -47,11 +50,15 @@ loop-less c = search needs
 
 loop-again : tie.Need-loop-again Inv-loop μ-loop
 loop-again c =
-    let a = c .before .before .before .before .before .args in
-    (omega arith, below-more (λ (k : ℕ). getD (now (a .lasts)) k 0 < getD (now (a .firsts)) (k + 1) 0) (c .before .before .before .before .loop .i) (c .before .before .before .before .loop .inv .1) (omega arith))
+    let f = now (c .before .before .before .before .before .args .firsts) in
+    let l = now (c .before .before .before .before .before .args .lasts) in
+    (omega arith, below-more (λ (k : ℕ). getD l k 0 < getD f (k + 1) 0) (c .before .before .before .before .loop .i) (c .before .before .before .before .loop .inv .1) (omega arith))
 
 returns-2 : tie.Need-returns-2 Inv-loop μ-loop
-returns-2 c = let a = c .before .before .args in sym (apart-all (now (a .firsts)) (now (a .lasts)) (a .count) (c .before .before .pre .1) (λ k h. c .before .loop .inv .1 k (omega arith)))
+returns-2 c =
+    let a = c .before .before .args in
+    let l = c .before .loop in
+    sym (apart-all (now (a .firsts)) (now (a .lasts)) (a .count) (c .before .before .pre .1) (λ k h. l .inv .1 k (omega arith)))
 
 pub ranges-apart-spec : {M : Type 1} → statement M
 ranges-apart-spec =

@@ -1,5 +1,5 @@
-use native.Mathlib.Omega.{arith}
 use mathlib.Core.Path.{sym, _∙_}
+use native.Mathlib.Omega.{arith}
 use Rattle.gpt_table.proofs.Good.{nots}
 use Rattle.gpt_table.proofs.rules.same.Statement.{statement}
 use Rattle.gpt_table.proofs.rules.same.Tie as tie

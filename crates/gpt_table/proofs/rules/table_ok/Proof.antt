@@ -1,8 +1,8 @@
-use Rattle.gpt_table.proofs.Good.{good-not, good-guids, good-ranges, ranges-proper, used-guids}
-use borrow.Author.Tests.{not-true, not-false}
-use denote.Ref.{now}
 use mathlib.Core.Path.{sym, _∙_}
+use denote.Ref.{now}
 use borrow.Author.Needs.{needs}
+use borrow.Author.Tests.{not-true, not-false}
+use Rattle.gpt_table.proofs.Good.{good-not, good-guids, good-ranges, ranges-proper, used-guids}
 use Rattle.gpt_table.proofs.rules.table_ok.Statement.{statement}
 use Rattle.gpt_table.proofs.rules.table_ok.Tie as tie
 
@@ -21,7 +21,9 @@ guids-differ-requires c κs = search needs
 returns-2 : tie.Need-returns-2
 returns-2 c =
     let a = c .before .before .before .before .before .before .before .before .before .before .args in
-    sym (good-guids (a .first .0) (a .last .0) (now (a .t)) (sym (c .before .before .before .before .before .before .before .before .entries-ok .ensures) ∙ not-false _ (c .before .before .before .before .before .before .before .if1 .left)) (sym (c .before .guids-differ .ensures _ (used-guids (now (a .t)) (c .before .before .before .before .before .before .before .before .before .before .pre) (λ j. c .before .before .before .before .before .before .before .before .before .shared-slice-known .given j .fits) (c .before .before .before .before .decode .ensures))) ∙ not-true _ (c .if2 .taken)))
+    let ok = sym (c .before .before .before .before .before .before .before .before .entries-ok .ensures) ∙ not-false _ (c .before .before .before .before .before .before .before .if1 .left) in
+    let g = used-guids (now (a .t)) (c .before .before .before .before .before .before .before .before .before .before .pre) (λ j. c .before .before .before .before .before .before .before .before .before .shared-slice-known .given j .fits) (c .before .before .before .before .decode .ensures) in
+    sym (good-guids (a .first .0) (a .last .0) (now (a .t)) ok (sym (c .before .guids-differ .ensures _ g) ∙ not-true _ (c .if2 .taken)))
 
 ranges-requires : tie.Need-ranges-requires
 ranges-requires c κs = search needs
@@ -30,14 +32,16 @@ ranges-apart-requires : tie.Need-ranges-apart-requires
 ranges-apart-requires c κs =
     let a = c .before .before .before .before .before .before .before .before .before .before .before .before .before .before .before .args in
     let w = c .before .before .ranges .ensures in
-    (w .most, w .ascending, ranges-proper (a .first .0) (a .last .0) (now (a .t)) (sym (c .before .before .before .before .before .before .before .before .before .before .before .before .before .entries-ok .ensures) ∙ not-false _ (c .before .before .before .before .before .before .before .before .before .before .before .before .if1 .left)) w)
+    let ok = sym (c .before .before .before .before .before .before .before .before .before .before .before .before .before .entries-ok .ensures) ∙ not-false _ (c .before .before .before .before .before .before .before .before .before .before .before .before .if1 .left) in
+    (w .most, w .ascending, ranges-proper (a .first .0) (a .last .0) (now (a .t)) ok w)
 
 returns-3 : tie.Need-returns-3
 returns-3 c =
     let a = c .before .before .before .before .before .before .before .before .before .before .before .before .before .before .before .before .args in
+    let ok = sym (c .before .before .before .before .before .before .before .before .before .before .before .before .before .before .entries-ok .ensures) ∙ not-false _ (c .before .before .before .before .before .before .before .before .before .before .before .before .before .if1 .left) in
+    let g = used-guids (now (a .t)) (c .before .before .before .before .before .before .before .before .before .before .before .before .before .before .before .before .pre) (λ j. c .before .before .before .before .before .before .before .before .before .before .before .before .before .before .before .shared-slice-known .given j .fits) (c .before .before .before .before .before .before .before .before .before .before .decode .ensures) in
     c .ranges-apart .ensures
-    ∙ good-ranges (a .first .0) (a .last .0) (now (a .t)) (sym (c .before .before .before .before .before .before .before .before .before .before .before .before .before .before .entries-ok .ensures) ∙ not-false _ (c .before .before .before .before .before .before .before .before .before .before .before .before .before .if1 .left)) (c .before .before .before .ranges .ensures)
-    (sym (c .before .before .before .before .before .before .before .guids-differ .ensures _ (used-guids (now (a .t)) (c .before .before .before .before .before .before .before .before .before .before .before .before .before .before .before .before .pre) (λ j. c .before .before .before .before .before .before .before .before .before .before .before .before .before .before .before .shared-slice-known .given j .fits) (c .before .before .before .before .before .before .before .before .before .before .decode .ensures))) ∙ not-false _ (c .before .before .before .before .before .before .if2 .left))
+    ∙ good-ranges (a .first .0) (a .last .0) (now (a .t)) ok (c .before .before .before .ranges .ensures) (sym (c .before .before .before .before .before .before .before .guids-differ .ensures _ g) ∙ not-false _ (c .before .before .before .before .before .before .if2 .left))
 
 pub table-ok-spec : {M : Type 1} → statement M
 table-ok-spec =
