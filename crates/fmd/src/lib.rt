@@ -256,7 +256,7 @@ fn put_layout(image: &mut [u8], l: Layout) -> Answer
     let at = l.at;
     let name = i.name;
     let areas = l.areas;
-    fmap_write::put_map(image, at.0 as usize, name, i.address as u64, 1, areas);
+    fmap_write::put_map(image, at, name, i.address as u64, 1, areas);
     Answer::Accepted
 }
 
