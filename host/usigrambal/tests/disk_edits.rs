@@ -8,7 +8,7 @@ use testkit::disk::Disk;
 use testkit::edit::{self as tool, Edit};
 use testkit::peer;
 use testkit::random::Random;
-use usigrambal::Guid;
+use usigrambal::{Guid, Name};
 
 /// The attributes that sfdisk and cgpt can set.
 const SFDISK_BITS: u64 = 0xFFFF_0000_0000_0007;
@@ -31,6 +31,10 @@ struct Plan {
 fn compared(tool: &Tool, plan: &Plan, seed: u64, changed: bool) -> Option<String> {
     let mut random = Random::new(seed);
     let mut ours = formatted(plan.n, Guid([0x77; 16]));
+    // Bytes that no edit touches: block 0 before its record, and the rest of the header blocks.
+    ours.head[..440].copy_from_slice(&random.bytes(440));
+    ours.head[604..1024].copy_from_slice(&random.bytes(420));
+    ours.tail[16_476..].copy_from_slice(&random.bytes(420));
     disk::add(&mut ours, 1, &mut random).expect("room");
     let mut theirs = ours.clone();
     if changed {
@@ -107,5 +111,83 @@ fn cgpt_likewise(disk: &Disk, edit: &Edit) -> bool {
         Edit::Delete(_) => false,
         Edit::Rename(slot, name) => units(name) < 36 && units(name) >= units(&disk::row_of(disk, *slot).name),
         Edit::Resize(_) => true,
+    }
+}
+
+/// The disk after an edit by a tool.
+fn after(disk: &Disk, edit: impl Fn(&Path)) -> Disk {
+    let image = disk.image();
+    edit(&image.path);
+    Disk::read(&image.path).expect("an image")
+}
+
+/// Blocks 34 to 43 and 60 to 69 of 5000 in slots 1 and 3, the first named `name`.
+fn two_partitions(name: &str) -> Disk {
+    let mut random = Random::new(1);
+    let mut disk = formatted(5000, Guid([0x77; 16]));
+    for size in [10, 16, 10] {
+        disk::add(&mut disk, size, &mut random).expect("room");
+    }
+    disk::delete(&mut disk, 2);
+    disk::on(&mut disk, |disk| disk.rename(1, &Name::new(name).expect("a name"))).expect("a used slot");
+    disk
+}
+
+/// Name bytes of slot 1, in the head.
+const NAME: std::ops::Range<usize> = 1024 + 56..1024 + 128;
+
+fn units(name: &str) -> Vec<u8> {
+    name.encode_utf16().flat_map(u16::to_le_bytes).collect()
+}
+
+#[test]
+fn cgpt_differs_as_listed() {
+    if !peer::present("cgpt", "cgpt") {
+        return;
+    }
+    let disk = two_partitions("EFI System");
+    let mut deleted = after(&disk, |image| tool::cgpt(image, &Edit::Delete(1)));
+    assert_eq!(deleted.head[1024..1040], [0; 16]);
+    assert_eq!(deleted.head[1040..1152], disk.head[1040..1152]);
+    assert_eq!(disk::on(&mut deleted, |disk| disk.state()).map_err(|refusal| refusal.number()), Err(10));
+    let renamed = after(&disk, |image| tool::cgpt(image, &Edit::Rename(1, "boot".into())));
+    assert_eq!(renamed.head[NAME][..20], units("boot\0ystem"));
+    let long = "x".repeat(36);
+    let renamed = after(&disk, |image| tool::cgpt(image, &Edit::Rename(1, long.clone())));
+    assert_eq!(renamed.head[NAME], units(&format!("{}\0", &long[..35])));
+    let image = disk.image();
+    let placed = peer::run("cgpt", ["add", "-s", "5", "-t", "data", image.path.to_str().expect("a path")]);
+    assert!(!placed.status.success());
+}
+
+/// Where the library puts a new partition of 5 blocks, and where the tool does when it is told no place.
+fn placed(by: impl Fn(&Path)) -> [(u64, u64); 2] {
+    let disk = two_partitions("boot");
+    let new = |disk: &Disk| {
+        let row = disk::rows(disk).into_iter().find(|row| row.last == row.first + 4).expect("a new one");
+        (row.slot, row.first)
+    };
+    let mut ours = disk.clone();
+    disk::add(&mut ours, 5, &mut Random::new(2)).expect("room");
+    [new(&ours), new(&after(&disk, by))]
+}
+
+#[test]
+fn sgdisk_starts_at_the_longest_run() {
+    if peer::present("sgdisk", "gdisk") {
+        let by = |image: &Path| {
+            peer::printed("sgdisk", ["-a", "1", "-n", "0:0:+5", image.to_str().expect("a path")]);
+        };
+        assert_eq!(placed(by), [(2, 44), (2, 70)]);
+    }
+}
+
+#[test]
+fn sfdisk_starts_after_the_last_partition() {
+    if peer::present("sfdisk", "fdisk") {
+        let by = |image: &Path| {
+            peer::feed("sfdisk", ["-q", "--append", image.to_str().expect("a path")], "size=5\n");
+        };
+        assert_eq!(placed(by), [(2, 44), (2, 70)]);
     }
 }
