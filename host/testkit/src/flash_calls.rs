@@ -150,6 +150,10 @@ pub fn flashrom_lists_the_same_areas(calls: &Calls) {
     let at = (calls.find)(&image).expect("a map") as usize + 56 + AREA_LEN * other;
     changed[at + 8] ^= 2;
     assert_ne!(listed(&changed), areas);
+    // It looks at multiples of large powers of two first.
+    let mut two = written(&map(CHIP_LEN as u32, 1001, &[("LOW", 0, 1)]), &mut random);
+    map(CHIP_LEN as u32, 65_536, &[("HIGH", 0, 1)]).write(&mut two);
+    assert_eq!((calls.areas(&two).0[0].name.as_str(), listed(&two)[0].name.as_str()), ("LOW", "HIGH"));
 }
 
 /// The bytes of the chip that flashrom plays.

@@ -6,9 +6,10 @@ use disk::{change, edit, formatted};
 use std::path::Path;
 use testkit::disk::Disk;
 use testkit::edit::{self as tool, Edit};
+use testkit::listing::Partition;
 use testkit::peer;
 use testkit::random::Random;
-use usigrambal::{Guid, Name};
+use usigrambal::{Guid, Name, NewPartition};
 
 /// The attributes that sfdisk and cgpt can set.
 const SFDISK_BITS: u64 = 0xFFFF_0000_0000_0007;
@@ -189,5 +190,67 @@ fn sfdisk_starts_after_the_last_partition() {
             peer::feed("sfdisk", ["-q", "--append", image.to_str().expect("a path")], "size=5\n");
         };
         assert_eq!(placed(by), [(2, 44), (2, 70)]);
+    }
+}
+
+/// Edits that the library refuses, with the number.
+fn refused(disk: &Disk) -> Vec<(u32, Edit)> {
+    let (one, three) = (disk::row_of(disk, 1), disk::row_of(disk, 3));
+    let twin = Partition { slot: 2, first: 44, last: 45, attributes: 0, ..one.clone() };
+    vec![
+        (12, Edit::Delete(129)),
+        (13, Edit::Delete(2)),
+        (13, Edit::Rename(2, "boot".into())),
+        (22, Edit::Add(twin)),
+        (25, Edit::Resize(Partition { last: 60, ..one })),
+        (25, Edit::Resize(Partition { last: 4967, ..three })),
+    ]
+}
+
+/// The number with which the library refuses an edit of two partitions.
+fn number(disk: &Disk, edit: &Edit) -> u32 {
+    let name = |text: &str| Name::new(text).expect("a name");
+    let answer = disk::on(&mut disk.clone(), |disk| match edit {
+        Edit::Add(Partition { first, last, kind, unique, attributes, name: text, .. }) => {
+            let (kind, unique) = (kind.parse().expect("a GUID"), unique.parse().expect("a GUID"));
+            let (size, attributes) = (last - first + 1, *attributes);
+            disk.add(&NewPartition { kind, unique, size, attributes, name: name(text) }).map(drop)
+        }
+        Edit::Delete(slot) => disk.delete(*slot),
+        Edit::Rename(slot, text) => disk.rename(*slot, &name(text)),
+        Edit::Resize(new) => disk.resize(new.slot, new.last - new.first + 1),
+    });
+    answer.expect_err("a refusal").number()
+}
+
+/// The tool leaves the disk alone where the library refuses, but for the numbers that it does not know.
+fn refuses_likewise(by: fn(&Path, &Edit), unknown: &[u32]) {
+    let disk = two_partitions("boot");
+    for (expected, edit) in refused(&disk) {
+        assert_eq!(number(&disk, &edit), expected, "{edit:?}");
+        // It may end in failure or not.
+        let theirs = after(&disk, |image| drop(std::panic::catch_unwind(|| by(image, &edit))));
+        assert_eq!(disk.difference(&theirs).is_some(), unknown.contains(&expected), "{edit:?}");
+    }
+}
+
+#[test]
+fn sgdisk_refuses_the_same() {
+    if peer::present("sgdisk", "gdisk") {
+        refuses_likewise(|image, edit| tool::sgdisk(image, std::slice::from_ref(edit)), &[22]);
+    }
+}
+
+#[test]
+fn sfdisk_refuses_the_same() {
+    if peer::present("sfdisk", "fdisk") {
+        refuses_likewise(tool::sfdisk, &[22]);
+    }
+}
+
+#[test]
+fn cgpt_refuses_the_same() {
+    if peer::present("cgpt", "cgpt") {
+        refuses_likewise(tool::cgpt, &[]);
     }
 }
