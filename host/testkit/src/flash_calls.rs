@@ -90,6 +90,82 @@ pub fn dump_fmap_lists_the_same_areas(calls: &Calls) {
     assert_ne!(listing::dump_fmap(&file(&changed).path), calls.areas(&image).0);
 }
 
+/// `cbfstool layout` (Debian: coreboot-utils) lists the same areas and tells which are preserved.
+pub fn cbfstool_lists_the_same_areas(calls: &Calls) {
+    if !peer::present("cbfstool", "coreboot-utils") {
+        return;
+    }
+    let mut random = Random::new(11);
+    let mut told = 0;
+    for _ in 0..IMAGES {
+        let image = aligned_image(&mut random);
+        let theirs = listing::cbfstool(&file(&image).path);
+        told += theirs.iter().filter(|(_, preserved)| preserved.is_some()).count();
+        assert!(same_areas(calls.areas(&image), theirs.clone()), "{:?}\n{theirs:?}", calls.areas(&image));
+    }
+    assert!(told > IMAGES, "{told}");
+    let image =
+        written(&map(4096, 0, &[("CAL", 1000, 300), ("SERIAL", 2000, 1), ("LOG", 2001, 99)]), &mut random);
+    // Offset, size, name and flags of the first area.
+    for (place, bit) in [(0, 1), (4, 1), (8, 1), (40, PRESERVE as u8)] {
+        let mut changed = image.clone();
+        changed[56 + place] ^= bit;
+        assert!(!same_areas(calls.areas(&image), listing::cbfstool(&file(&changed).path)), "byte {place}");
+    }
+    // In an image whose length is a power of two it looks at multiples of 16 alone.
+    let odd = written(&map(4096, 1001, &[("CAL", 0, 300)]), &mut random);
+    assert_eq!((calls.find)(&odd), Ok(1001));
+    assert!(!peer::run("cbfstool", [&file(&odd).path, Path::new("layout")]).status.success());
+}
+
+/// In any order.
+fn same_areas(ours: (Vec<listing::Area>, Vec<String>), theirs: Vec<(listing::Area, Option<bool>)>) -> bool {
+    let (areas, preserved) = ours;
+    let agrees = |(area, mark): &(listing::Area, Option<bool>)| {
+        areas.contains(area) && mark.is_none_or(|mark| mark == preserved.contains(&area.name))
+    };
+    areas.len() == theirs.len() && theirs.iter().all(agrees)
+}
+
+/// `flashrom --fmap` (Debian: flashrom) lists the same areas of a chip, and reads an area's bytes.
+pub fn flashrom_lists_the_same_areas(calls: &Calls) {
+    if !peer::present("flashrom", "flashrom") {
+        return;
+    }
+    let part = Scratch::new();
+    let listed = |image: &[u8]| listing::flashrom(&file(image).path, &part.path);
+    let mut random = Random::new(13);
+    for _ in 0..CHIPS {
+        let image = chip_image(&mut random);
+        let areas = calls.areas(&image).0;
+        assert_eq!(listed(&image), areas);
+        let fmap = areas.iter().find(|area| area.name == "FMAP").expect("area FMAP");
+        let bytes = &image[fmap.offset as usize..][..fmap.size as usize];
+        assert!(fs::read(&part.path).expect("the area's bytes") == bytes);
+    }
+    let image = chip_image(&mut random);
+    let areas = calls.areas(&image).0;
+    let other = areas.iter().position(|area| area.name != "FMAP").expect("another area");
+    let mut changed = image.clone();
+    let at = (calls.find)(&image).expect("a map") as usize + 56 + AREA_LEN * other;
+    changed[at + 8] ^= 2;
+    assert_ne!(listed(&changed), areas);
+    // It looks at multiples of large powers of two first.
+    let mut two = written(&map(CHIP_LEN as u32, 1001, &[("LOW", 0, 1)]), &mut random);
+    map(CHIP_LEN as u32, 65_536, &[("HIGH", 0, 1)]).write(&mut two);
+    assert_eq!((calls.areas(&two).0[0].name.as_str(), listed(&two)[0].name.as_str()), ("LOW", "HIGH"));
+}
+
+/// The bytes of the chip that flashrom plays.
+const CHIP_LEN: usize = 128 << 10;
+const CHIPS: usize = 20;
+
+fn chip_image(random: &mut Random) -> Vec<u8> {
+    let count = 2 + random.below(30);
+    let position = random.below(CHIP_LEN - map_len(count) + 1);
+    written(&good_map(CHIP_LEN, position, count, random), random)
+}
+
 /// A good map at a multiple of 4, in an image with no signature below it.
 fn aligned_image(random: &mut Random) -> Vec<u8> {
     loop {

@@ -1,6 +1,7 @@
 //! What the tests are made of: other tools, bytes that they made (`fixtures/`), drawn inputs.
 
 pub mod disk;
+pub mod edit;
 pub mod fixture;
 pub mod flash;
 pub mod flash_calls;

@@ -30,6 +30,16 @@ fn dump_fmap_lists_the_same_areas() {
 }
 
 #[test]
+fn cbfstool_lists_the_same_areas() {
+    flash_calls::cbfstool_lists_the_same_areas(&CALLS);
+}
+
+#[test]
+fn flashrom_lists_the_same_areas() {
+    flash_calls::flashrom_lists_the_same_areas(&CALLS);
+}
+
+#[test]
 fn a_carry_is_what_dump_fmap_and_futility_make() {
     flash_calls::a_carry_is_what_dump_fmap_and_futility_make(&CALLS);
 }
