@@ -1,8 +1,10 @@
 //! A disk by a script: a formatted one, or zeros, and changes to it; the CRCs are made right again or not.
+//! The library makes it, being the faster one; were it wrong there, the two would differ on the disk.
 
 use crate::input::{number, Input};
-use second::{crc32, gpt_format, RULES};
 use testkit::disk::{Disk, HEAD_LEN, TAIL_LEN};
+use usigrambal::crc32;
+use usigrambal::raw::gpt_format;
 
 const ENTRY_LEN: usize = 128;
 const ENTRIES_LEN: usize = 128 * ENTRY_LEN;
@@ -70,7 +72,7 @@ pub fn script(lengths: &Lengths, input: &mut Input) -> [Vec<u8>; 2] {
     let flags = input.byte();
     let mut disk = Disk { head: vec![0; HEAD_LEN], tail: vec![0; TAIL_LEN], n: lengths.n };
     if flags & ZEROS == 0 {
-        gpt_format(&RULES, &mut disk.head, &mut disk.tail, disk.n.clamp(68, 1 << 32), &[0xD1; 16]);
+        gpt_format(&mut disk.head, &mut disk.tail, disk.n.clamp(68, 1 << 32), &[0xD1; 16]);
     }
     while !input.is_empty() {
         step(&mut disk, input);
@@ -187,11 +189,11 @@ fn copy_entry(disk: &mut Disk, input: &mut Input) {
 fn seal(disk: &mut Disk, which: Side) {
     let (header_at, entries_at) = (which.header_at(), which.entries_at());
     let buffer = side(disk, which);
-    let entries_crc = crc32(&RULES, &buffer[entries_at..entries_at + ENTRIES_LEN]);
+    let entries_crc = crc32(&buffer[entries_at..entries_at + ENTRIES_LEN]);
     let header = &mut buffer[header_at..header_at + HEADER_LEN];
     header[88..92].copy_from_slice(&entries_crc.to_le_bytes());
     header[16..20].fill(0);
-    let header_crc = crc32(&RULES, header);
+    let header_crc = crc32(header);
     header[16..20].copy_from_slice(&header_crc.to_le_bytes());
 }
 
