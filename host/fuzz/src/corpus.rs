@@ -43,10 +43,11 @@ fn disks(call: &str) -> Vec<Vec<u8>> {
     inputs
 }
 
-/// Images of a few hundred bytes by steps of a script: areas FMAP, A and B, the latter two preserved; B elsewhere, another size, none.
-fn small_images() -> Vec<Vec<u8>> {
-    let map =
-        |count: u8, b: &[u8]| [&[220, 0x11, 1, 0, 0, count, 0, 182, 0, 184, 8, 0x81], b, &[0xFF]].concat();
+/// Images of 220 bytes by steps of a script, with areas FMAP, A and B, the latter two preserved; then B elsewhere, of another size, none.
+fn small_images(seed: u8) -> Vec<Vec<u8>> {
+    let map = |count: u8, b: &[u8]| {
+        [&[220, 0, 5, seed, 1, 0, 0, count, 0, 182, 0, 184, 8, 0x81], b, &[0xFF]].concat()
+    };
     vec![map(3, &[200, 10, 0x82]), map(3, &[210, 10, 0x82]), map(3, &[200, 9, 0x82]), map(2, &[])]
 }
 
@@ -54,12 +55,12 @@ fn images(call: &str) -> Vec<Vec<u8>> {
     let mut inputs = Vec::new();
     let files = fixture::files("fmap", "flash");
     let fixtures: Vec<_> = files.iter().map(|path| fixture::flash(path).expect("an image")).collect();
-    for one in small_images() {
+    for one in small_images(0x11) {
         match call {
             "usi_fmap_area" => inputs.push([&[1, 0], &one[..]].concat()),
             "usi_fmap_named" => inputs.push([&[1, b'A'], &one[..]].concat()),
             "usi_fmap_carry" => {
-                inputs.extend(small_images().iter().map(|other| [&one[..], other].concat()));
+                inputs.extend(small_images(0xEE).iter().map(|other| [&one[..], other].concat()));
             }
             _ => inputs.push(one),
         }

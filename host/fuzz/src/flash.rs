@@ -16,7 +16,7 @@ pub fn image(input: &mut Input) -> Vec<u8> {
     let mut image = vec![input.byte(); len as usize];
     while !input.is_empty() {
         let step = input.byte();
-        match step % 5 {
+        match step % 6 {
             _ if step == END => break,
             PUT => {
                 let (at, len) = (input.number(len) as usize, usize::from(input.byte()));
@@ -29,10 +29,16 @@ pub fn image(input: &mut Input) -> Vec<u8> {
                     *byte ^= 1 << bit;
                 }
             }
-            _ => put(&mut image, input.number(len) as usize, b"__FMAP__"),
+            4 => put(&mut image, input.number(len) as usize, b"__FMAP__"),
+            _ => pattern(&mut image, input.byte()),
         }
     }
     image
+}
+
+/// Another byte in each place near by, so that a byte carried from or to a wrong place shows.
+fn pattern(image: &mut [u8], seed: u8) {
+    image.iter_mut().enumerate().for_each(|(place, byte)| *byte = seed ^ (place % 251) as u8);
 }
 
 /// A map of a few areas, good but for its numbers.
