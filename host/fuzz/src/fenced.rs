@@ -61,3 +61,40 @@ impl Drop for Fenced {
         unsafe { munmap(self.start.cast(), self.pages + PAGE) };
     }
 }
+
+#[cfg(test)]
+mod tests {
+    use super::Fenced;
+    use std::env;
+    use std::os::unix::process::ExitStatusExt;
+    use std::process::Command;
+
+    const SIGSEGV: i32 = 11;
+
+    #[test]
+    fn a_byte_past_the_end_cannot_be_read() {
+        const CHILD: &str = "READ_PAST_THE_END";
+        let mut fenced = Fenced::holding(&[1, 2, 3]);
+        assert_eq!(fenced.bytes(), [1, 2, 3]);
+        let end = fenced.bytes().as_ptr_range().end;
+        if env::var_os(CHILD).is_some() {
+            // Safety: none; the program ends here.
+            println!("{}", unsafe { end.read_volatile() });
+            return;
+        }
+        let program = env::current_exe().expect("this test");
+        let name = "fenced::tests::a_byte_past_the_end_cannot_be_read";
+        let child = Command::new(program).args(["--exact", name]).env(CHILD, "1").output().expect("a run");
+        assert_eq!(child.status.signal(), Some(SIGSEGV));
+    }
+
+    #[test]
+    fn a_write_before_the_start_shows() {
+        let mut fenced = Fenced::holding(&[1, 2, 3]);
+        assert!(fenced.start_is_whole());
+        let start = fenced.bytes().as_mut_ptr();
+        // Safety: the byte before is in the same page, and no one else's.
+        unsafe { start.sub(1).write(1) };
+        assert!(!fenced.start_is_whole());
+    }
+}
