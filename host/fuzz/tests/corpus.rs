@@ -6,6 +6,18 @@ use second::rules::{CarrySlip, Row, Which};
 use second::{Rules, RULES};
 
 #[test]
+fn every_call_of_the_header_has_a_target() {
+    let header = testkit::host().join("../include/usigrambal.h");
+    let text = std::fs::read_to_string(&header).expect("the header");
+    let prototypes = text.lines().filter_map(|line| line.strip_prefix("uint32_t ")?.split_once('('));
+    let mut calls: Vec<_> = prototypes.map(|(call, _)| call).collect();
+    let mut targets: Vec<_> = TARGETS.iter().map(|target| target.call).collect();
+    calls.sort();
+    targets.sort();
+    assert_eq!(targets, calls);
+}
+
+#[test]
 fn library_and_second_implementation_agree() {
     for target in TARGETS {
         let inputs = corpus(target.call);
