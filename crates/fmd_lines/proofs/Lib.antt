@@ -1,0 +1,3 @@
+-- Laws of the lines that the programs print.
+pub mod Lines
+pub mod Listings

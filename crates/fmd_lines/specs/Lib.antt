@@ -1,0 +1,2 @@
+-- What the programs print of a layout text.
+pub mod Lines

@@ -1,0 +1,2 @@
+-- What is known of a text that was read.
+pub mod Inputs

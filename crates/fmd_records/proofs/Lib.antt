@@ -1,0 +1,2 @@
+-- Laws of the lines that the program prints.
+pub mod Shown
