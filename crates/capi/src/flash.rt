@@ -2,7 +2,7 @@
 ghost use mathlib.Core.Path.{_≡_};
 ghost use lib.ListN.{length};
 ghost use Rattle.fmap.specs.Find.{findMap};
-ghost use Rattle.fmap.specs.Areas.{looked, areaNumbered, indexReply, indexNamed};
+ghost use Rattle.fmap.specs.Areas.{looked, areaNumbered, indexNamed};
 ghost use Rattle.fmap.specs.Carry.{carriedNumber, carryImages};
 ghost use Rattle.capi.specs.Told.{codeOf};
 ghost use Rattle.capi.specs.FlashTold.{findTold, areaTold, lookedTold, namedTold, carryTold};
