@@ -1,7 +1,10 @@
 # make run     prove and build what the main job needs, and run it
 # make test    the gate: format, every proof, every test
 # make bench   the table of ratios, all rows measured in one run
-.PHONY: run test bench
+# make fuzz    each call of the C interface against the second implementation under libFuzzer, 30 s a call; longer: make fuzz SECONDS_PER_CALL=600
+.PHONY: run test bench fuzz
+
+SECONDS_PER_CALL = 30
 
 run:
 	rt check samples
@@ -16,3 +19,7 @@ bench:
 	tests/peer zlib zlib1g-dev
 	tests/moves
 	cd host && cargo run --release --quiet -p bench
+
+fuzz:
+	rt staticlib capi >/dev/null
+	SECONDS_PER_CALL=$(SECONDS_PER_CALL) fuzz/run

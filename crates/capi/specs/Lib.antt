@@ -2,3 +2,4 @@
 pub mod Told
 pub mod FlashTold
 pub mod GptTold
+pub mod LayoutTold

@@ -1,6 +1,7 @@
 // The library's calls for C (include/usigrambal.h): numbers, slices, and 0 or the refusal's number.
 mod disk;
 mod flash;
+mod layout;
 
 ghost use mathlib.Core.Path.{_≡_};
 ghost use Rattle.crc_lanes.specs.Crc.{crc32 as crcOf};

@@ -6,19 +6,19 @@ use mathlib.Core.Option.{Option, none, some}
 use Prim.Native.Nat.{ℕ, _+_, _-_, _≤_, _<_}
 use native.Mathlib.Nat.{sub-zero}
 use native.Mathlib.Omega.{arith}
-use lib.ListN.{length, getD, drop, length-take, length-drop}
+use lib.ListN.{length, getD, take, drop, length-take, length-drop}
 use lib.Dec.{eqb, leb}
 use borrow.Author.Tests.{lt-ltb, le-ltb, ltb-true, leb-true, leb-false, eqb-true, eqb-false}
 use Rattle.octets.specs.Tests.{any}
 use Rattle.octets.specs.Rows.{refusal}
 use Rattle.octets.specs.Bytes.{part, same}
 use Rattle.octets.proofs.Tests.{any-none}
-use Rattle.octets.proofs.Parts.{getD-part}
+use Rattle.octets.proofs.Parts.{getD-part, rest-slice}
 use Rattle.octets.proofs.Equal.{same-true, same-length}
 use Rattle.octets.proofs.Rows.{pick-true, pick-false, passes}
 use Rattle.octets.proofs.Bools.{or-il, or-ir, or-false-i, not-f}
 use Rattle.fmap_rules.specs.declared.ImagePosition.{ImagePosition}
-use Rattle.fmap_rules.specs.Map.{position, signature, goodMap}
+use Rattle.fmap_rules.specs.Map.{position, signature, signed, goodMap}
 use Rattle.fmap_rules.proofs.Good.{unsigned-bad}
 use Rattle.fmap_rules.proofs.Signature.{signed-part}
 use Rattle.fmap.specs.Lowest.{firstFrom, lowest, someBelow}
@@ -32,6 +32,11 @@ unfolding signedAt part
 signed-short image at h =
     signed-part image at
     ∙ same-length (part at 8 image) signature (λ e. let l = length-take 8 (drop at image) in let d = length-drop at image in omega (arith, e, l, d))
+
+-- by the image's bytes from a position on, as a lent part
+pub signed-slice : (image : List ℕ) (at : ℕ) (r t : Bool) → r ≡ signed (take (length image - at) (drop at image)) → r ≡ t → signedAt image at ≡ t
+unfolding signedAt
+signed-slice image at r t e q = sym (e ∙ ap signed (rest-slice at image)) ∙ q
 
 -- eight bytes whose last is no byte of the signature hold no start of one
 pub unsigned : (image : List ℕ) (i j : ℕ) → any (eqb (getD image (i + 7) 0)) signature ≡ false → i ≤ j → j < i + 8 → signedAt image j ≡ false

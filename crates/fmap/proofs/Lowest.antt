@@ -60,6 +60,9 @@ first-least (suc k) i p = go (p i) (first-least k (suc i) p)
     go true h = omega arith
     go false h = omega arith
 
+pub first-from : (k i r : ℕ) (p : ℕ → Bool) → r ≡ firstFrom k i p → i ≤ r
+first-from k i r p e = omega (arith, first-least k i p)
+
 -- where the first is in range, the test holds there
 pub first-hit : (k i : ℕ) (p : ℕ → Bool) → firstFrom k i p < i + k → p (firstFrom k i p) ≡ true
 unfolding firstFrom

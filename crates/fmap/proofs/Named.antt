@@ -1,8 +1,9 @@
--- No area is found by a name of more than 31 bytes.
-use mathlib.Core.Path.{_≡_, refl, ap}
+-- What is found by a name: no area by one of more than 31 bytes, and the area's number.
+use mathlib.Core.Path.{_≡_, refl, sym, ap}
 use mathlib.Core.Logic.{_⊎_, inl, inr}
-use mathlib.Core.Bool.{Bool, true, false}
+use mathlib.Core.Bool.{Bool, true, false, cond}
 use mathlib.Core.List.{List, [], _∷_}
+use mathlib.Core.Option.{Option, none, some}
 use Prim.Native.Nat.{ℕ, suc, _≤_, _<_}
 use native.Mathlib.Nat.{le-of-suc-le-suc, not-suc-le-zero}
 use native.Mathlib.Omega.{arith}
@@ -19,8 +20,8 @@ use Rattle.fmap_rules.specs.declared.Area.{Area}
 use Rattle.fmap_rules.specs.Map.{areasOf, blank, nameLength, legalName, goodArea}
 use Rattle.fmap_rules.proofs.Good.{good-areas, each}
 use Rattle.fmap.specs.Find.{Reply, accepted, refused, findMap}
-use Rattle.fmap.specs.Areas.{called, areaBy, areaNamed}
-use Rattle.fmap.specs.Promises.{LongNameIsNothing}
+use Rattle.fmap.specs.Areas.{called, areaIn, areaBy, areaNumbered, areaNamed, indexBy, indexNamed}
+use Rattle.fmap.specs.Promises.{LongNameIsNothing, IndexIsNamed}
 use Rattle.fmap.proofs.Finding.{found-good}
 
 -- where the first is in range, the test holds there
@@ -55,3 +56,26 @@ module _ (image name : List ℕ) where
 pub long-name-is-nothing : LongNameIsNothing
 unfolding areaNamed
 long-name-is-nothing image name e = by-find image name (findMap image) refl e
+
+picked : (i n k : ℕ) → _≡_ {A = Reply (Option ℕ)} (accepted (cond (ltb i n) (some i) none)) (accepted (some k)) → (ltb i n ≡ true) × (i ≡ k)
+picked i n k e = go (bool-cases (ltb i n)) e
+  where
+    go : (ltb i n ≡ true) ⊎ (ltb i n ≡ false) → _≡_ {A = Reply (Option ℕ)} (accepted (cond (ltb i n) (some i) none)) (accepted (some k)) → (ltb i n ≡ true) × (i ≡ k)
+    go (inl t) e = let q : _≡_ {A = Reply (Option ℕ)} (accepted (some i)) (accepted (some k)) = rw t at e in (t, (cc))
+    go (inr t) e =
+        let q : _≡_ {A = Reply (Option ℕ)} (accepted none) (accepted (some k)) = rw t at e in
+        let z : _≡_ {A = ℕ} 0 1 = cc in
+        absurd (omega arith)
+
+module _ (image name : List ℕ) (k : ℕ) where
+  by-index : (g : Reply ImagePosition) → indexBy image (findIx (called name)) g ≡ accepted (some k)
+      → (areaBy image (findIx (called name)) g .answer ≡ accepted true) × (areaBy image (λ areas. k) g ≡ areaBy image (findIx (called name)) g)
+  by-index (accepted p) e =
+      let areas = areasOf (rest (p .0) image) in
+      let x = picked (findIx (called name) areas) (length areas) k e in
+      (ap (λ (b : Bool). accepted b) (x .0), ap (areaIn areas) (sym (x .1)))
+  by-index (refused m) e = let z : _≡_ {A = ℕ} 0 1 = cc in absurd (omega arith)
+
+pub index-is-named : IndexIsNamed
+unfolding indexNamed areaNamed areaNumbered
+index-is-named image name k e = by-index image name k (findMap image) e

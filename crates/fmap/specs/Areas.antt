@@ -1,6 +1,7 @@
 -- The areas of the map that is found. Definitions only.
-use mathlib.Core.Bool.{Bool, true, false}
+use mathlib.Core.Bool.{Bool, true, false, cond}
 use mathlib.Core.List.{List}
+use mathlib.Core.Option.{Option, none, some}
 use Prim.Native.Nat.{ℕ}
 use lib.ListN.{length, getD}
 use lib.Dec.{ltb}
@@ -14,9 +15,11 @@ use Rattle.fmap.specs.declared.AreaCount.{AreaCount}
 use Rattle.fmap.specs.declared.AreaCount.the-variants.{Count, WrongLength, NoSignature, NoGoodMap}
 use Rattle.fmap.specs.declared.Lookup.{Lookup}
 use Rattle.fmap.specs.declared.Lookup.the-variants.{There, Nothing, WrongLength as LengthToo, NoSignature as SignatureToo, NoGoodMap as MapToo}
+use Rattle.fmap.specs.declared.AreaIndex.{AreaIndex}
+use Rattle.fmap.specs.declared.AreaIndex.the-variants.{At as IndexAt, Nothing as NoIndex, WrongLength as IndexLength, NoSignature as IndexSignature, NoGoodMap as IndexMap}
 use Rattle.fmap.specs.declared.AreaFound.{AreaFound}
 
--- (W15) the number and the value of each answer; accepted false: no such area, to which the rules give no number
+-- (W15) the number and the value of each answer; accepted false or none: no such area, to which the rules give no number
 abbrev pub countReply : AreaCount → Reply ℕ
 countReply (Count n) = accepted n
 countReply WrongLength = refused 40
@@ -30,6 +33,13 @@ lookupReply LengthToo = refused 40
 lookupReply SignatureToo = refused 41
 lookupReply MapToo = refused 42
 
+abbrev pub indexReply : AreaIndex → Reply (Option ℕ)
+indexReply (IndexAt k) = accepted (some k)
+indexReply NoIndex = accepted none
+indexReply IndexLength = refused 40
+indexReply IndexSignature = refused 41
+indexReply IndexMap = refused 42
+
 -- an outcome whole: the answer, and the area, blank where there is none
 pub record Looked : Type 0 where
   pub answer : Reply Bool
@@ -41,6 +51,10 @@ looked r = record { answer = lookupReply (r .answer); area = r .area }
 -- area k of a list, from 0
 abbrev pub areaIn : List Area → ℕ → Looked
 areaIn areas k = record { answer = accepted (ltb k (length areas)); area = getD areas k blank }
+
+-- k, where a list has an area k
+abbrev pub indexIn : List Area → ℕ → Option ℕ
+indexIn areas k = cond (ltb k (length areas)) (some k) none
 
 -- the bytes of the area's name before the zeros are these
 unfoldable pub called : List ℕ → Area → Bool
@@ -55,6 +69,10 @@ abbrev pub areaBy : List ℕ → (List Area → ℕ) → Reply ImagePosition →
 areaBy image k (accepted p) = areaIn (areasOf (rest (p .0) image)) (k (areasOf (rest (p .0) image)))
 areaBy image k (refused n) = record { answer = refused n; area = blank }
 
+abbrev pub indexBy : List ℕ → (List Area → ℕ) → Reply ImagePosition → Reply (Option ℕ)
+indexBy image k (accepted p) = accepted (indexIn (areasOf (rest (p .0) image)) (k (areasOf (rest (p .0) image))))
+indexBy image k (refused n) = refused n
+
 unfoldable pub countAreas : List ℕ → Reply ℕ
 countAreas image = countBy image (findMap image)
 
@@ -65,3 +83,7 @@ areaNumbered image k = areaBy image (λ areas. k) (findMap image)
 -- the area of the map with that name
 unfoldable pub areaNamed : List ℕ → List ℕ → Looked
 areaNamed image name = areaBy image (findIx (called name)) (findMap image)
+
+-- its number
+unfoldable pub indexNamed : List ℕ → List ℕ → Reply (Option ℕ)
+indexNamed image name = indexBy image (findIx (called name)) (findMap image)

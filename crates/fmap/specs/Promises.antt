@@ -2,7 +2,7 @@
 use mathlib.Core.Path.{_≡_}
 use mathlib.Core.Bool.{true, false}
 use mathlib.Core.List.{List}
-use mathlib.Core.Option.{none}
+use mathlib.Core.Option.{none, some}
 use Prim.Native.Nat.{ℕ, _≤_, _<_}
 use lib.ListN.{length}
 use Rattle.octets.specs.Bytes.{rest, put}
@@ -12,7 +12,7 @@ use Rattle.fmap_rules.specs.Map.{position, areasOf, goodMap}
 use Rattle.fmap_rules.specs.Written.{mapBytes, Writable}
 use Rattle.fmap_carry.specs.Arrived.{Arrived}
 use Rattle.fmap.specs.Find.{accepted, findMap}
-use Rattle.fmap.specs.Areas.{areaNamed}
+use Rattle.fmap.specs.Areas.{areaNumbered, areaNamed, indexNamed}
 use Rattle.fmap.specs.Carry.{carryImages}
 
 -- (M10) what is found is a good map, and no lower position has one
@@ -45,3 +45,9 @@ WrittenIsFound =
 -- no area is found by a name of more than 31 bytes
 abbrev pub LongNameIsNothing : Type 0
 LongNameIsNothing = (image name : List ℕ) → areaNamed image name .answer ≡ accepted true → length name ≤ 31
+
+-- the number that is found by a name is that of the area that is found by it
+abbrev pub IndexIsNamed : Type 0
+IndexIsNamed =
+    (image name : List ℕ) (k : ℕ) → indexNamed image name ≡ accepted (some k)
+    → (areaNamed image name .answer ≡ accepted true) × (areaNumbered image k ≡ areaNamed image name)

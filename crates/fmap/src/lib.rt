@@ -7,10 +7,10 @@ ghost use lib.Dec.{eqb};
 ghost use Rattle.octets.specs.Tests.{any, findIx};
 ghost use Rattle.fmap_rules.specs.Map.{signature, areaOf, areasIn, blank, goodMap};
 ghost use Rattle.fmap.specs.Lowest.{firstFrom};
-ghost use Rattle.fmap.specs.Find.{foundReply, signedAt, findMap};
+ghost use Rattle.fmap.specs.Find.{accepted, foundReply, signedAt, findMap};
 ghost use Rattle.fmap_carry.specs.Carry.{judgedNumber};
 ghost use Rattle.fmap.specs.Carry.{carriedNumber, carryTo, carryImages};
-ghost use Rattle.fmap.specs.Areas.{countReply, lookupReply, looked, countAreas, areaIn, areaNumbered, areaNamed, called};
+ghost use Rattle.fmap.specs.Areas.{countReply, lookupReply, indexReply, looked, countAreas, areaIn, areaNumbered, areaNamed, called, indexIn, indexNamed};
 use fmap_carry::Judged;
 use fmap_rules::Area;
 use fmap_rules::Extent;
@@ -33,6 +33,15 @@ pub enum AreaCount {
 
 pub enum Lookup {
     There,
+    Nothing,
+    WrongLength,
+    NoSignature,
+    NoGoodMap,
+}
+
+// The number of an area in the map, from 0.
+pub enum AreaIndex {
+    At(u32),
     Nothing,
     WrongLength,
     NoSignature,
@@ -69,22 +78,22 @@ fn is_letter(b: u8) -> bool
 
 // The lowest position from `from` on where the signature stands, or the length. Eight bytes whose last is no byte of the
 // signature hold no start of one.
-fn next_signed(image: &[u8], from: usize) -> usize
-    requires { ⌜ from ≤ length (now image) ⌝ }
-    ensures { λ r. ⌜ (r ≡ firstFrom (length (now (image .entry)) - from) from (signedAt (now (image .entry)))) × (r ≤ length (now (image .entry))) ⌝ }
+fn next_signed(image: &[u8], from: ImagePosition) -> ImagePosition
+    requires { ⌜ (from .0 ≤ length (now image)) × (length (now image) ≤ 16777216) ⌝ }
+    ensures { λ r. ⌜ (r .0 ≡ firstFrom (length (now (image .entry)) - from .0) (from .0) (signedAt (now (image .entry)))) × (r .0 ≤ length (now (image .entry))) ⌝ }
 {
-    let mut i = from;
+    let mut i = from.0 as usize;
     while i + 8 <= image.len() {
         if is_letter(image[i + 7]) {
-            if fmap_rules::is_signed(image, i) {
-                return i;
+            if fmap_rules::is_signed(&image[i..]) {
+                return ImagePosition(i as u32);
             }
             i += 1;
         } else {
             i += 8;
         }
     }
-    image.len()
+    ImagePosition(image.len() as u32)
 }
 
 // Finds the lowest good map. Two signatures share two bytes at most, so the next one starts six bytes on or later.
@@ -97,15 +106,15 @@ pub fn find(image: &[u8]) -> Found
     if 16777216 < image.len() {
         return Found::WrongLength;
     }
-    let mut at = next_signed(image, 0);
-    if image.len() <= at {
+    let mut at = next_signed(image, ImagePosition(0));
+    if image.len() <= at.0 as usize {
         return Found::NoSignature;
     }
-    while at < image.len() {
+    while (at.0 as usize) < image.len() {
         if fmap_rules::good_at(image, at) {
-            return Found::At(ImagePosition(at as u32));
+            return Found::At(at);
         }
-        at = next_signed(image, at + 6);
+        at = next_signed(image, ImagePosition(at.0 + 6));
     }
     Found::NoGoodMap
 }
@@ -166,7 +175,7 @@ fn area_in(areas: &[u8], k: usize) -> AreaFound
 }
 
 // Area k of the map, from 0.
-pub fn area(image: &[u8], k: u32) -> AreaFound
+pub fn area(image: &[u8], k: u64) -> AreaFound
     ensures { λ r. ⌜ looked r ≡ areaNumbered (now (image .entry)) k ⌝ }
 {
     match find(image) {
@@ -215,6 +224,29 @@ pub fn area_named(image: &[u8], name: &[u8]) -> AreaFound
         Found::NoSignature => no_area(Lookup::NoSignature),
         Found::NoGoodMap => no_area(Lookup::NoGoodMap),
         Found::At(p) => area_called(fmap_rules::areas_at(image, p), name),
+    }
+}
+
+fn index_called(areas: &[u8], name: &[u8]) -> AreaIndex
+    requires { ⌜ length (now areas) ≤ 5376 ⌝ }
+    ensures { λ r. ⌜ indexReply r ≡ accepted (indexIn (areasIn (now (areas .entry))) (findIx (called (now (name .entry))) (areasIn (now (areas .entry))))) ⌝ }
+{
+    let k = find_called(areas, name);
+    if k < areas.len() / 42 {
+        return AreaIndex::At(k as u32);
+    }
+    AreaIndex::Nothing
+}
+
+// The number, from 0, of the area of the map with a name, given without the zeros that follow it there.
+pub fn area_index(image: &[u8], name: &[u8]) -> AreaIndex
+    ensures { λ r. ⌜ indexReply r ≡ indexNamed (now (image .entry)) (now (name .entry)) ⌝ }
+{
+    match find(image) {
+        Found::WrongLength => AreaIndex::WrongLength,
+        Found::NoSignature => AreaIndex::NoSignature,
+        Found::NoGoodMap => AreaIndex::NoGoodMap,
+        Found::At(p) => index_called(fmap_rules::areas_at(image, p), name),
     }
 }
 

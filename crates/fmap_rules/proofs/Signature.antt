@@ -28,15 +28,15 @@ letters : (k : ℕ) → k < 8 → getD signature k 0 < 256
 unfolding _and_
 letters k h = ltb-true _ _ (all-get (λ (b : ℕ). ltb b 256) signature 0 refl k h)
 
-module _ (image : List ℕ) (at r : ℕ) (h : at + 8 ≤ length image) (f : (j : ℕ) → getD image j 0 < 256) (e : r ≡ field at 8 image) where
-  pub signed-number : eqb r 6872299797790220127 ≡ signed (rest at image)
-  signed-number = go (eqb r 6872299797790220127) refl ∙ sym (signed-part image at)
+module _ (m : List ℕ) (r : ℕ) (h : 8 ≤ length m) (f : (j : ℕ) → getD m j 0 < 256) (e : r ≡ field 0 8 m) where
+  pub signed-number : eqb r 6872299797790220127 ≡ signed m
+  unfolding signed
+  signed-number = go (eqb r 6872299797790220127) refl
     where
-      go : (t : Bool) → eqb r 6872299797790220127 ≡ t → t ≡ same (part at 8 image) signature
+      go : (t : Bool) → eqb r 6872299797790220127 ≡ t → t ≡ same (part 0 8 m) signature
       go true w =
-          let l = length-part image at 8 h in
-          let q : part at 8 image ≡ signature =
-          unle-inj (part at 8 image) signature l (λ j k. rw (getD-part image at 8 j (omega (arith, k, l))) (f (at + j))) letters
-          (sym e ∙ eqb-true _ _ w ∙ sym number) in
+          let l = length-part m 0 8 h in
+          let q : part 0 8 m ≡ signature =
+          unle-inj (part 0 8 m) signature l (λ j k. rw (getD-part m 0 8 j (omega (arith, k, l))) (f (0 + j))) letters (sym e ∙ eqb-true _ _ w ∙ sym number) in
           sym (ap (λ (l : List ℕ). same l signature) q ∙ same-refl signature)
       go false w = sym (same-false _ _ (λ q. eqb-false _ _ w (e ∙ ap unle q ∙ number)))

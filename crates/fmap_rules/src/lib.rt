@@ -179,9 +179,9 @@ fn pairs_good(areas: &[u8]) -> bool
     true
 }
 
-fn is_holder(a: &[u8], at: usize, count: usize) -> bool
+fn is_holder(a: &[u8], at: ImagePosition, count: usize) -> bool
     requires { ⌜ (length (now a) ≡ 42) × (count ≤ 128) ⌝ }
-    ensures { λ r. ⌜ r ≡ holdsMap at count (areaOf (now (a .entry))) ⌝ }
+    ensures { λ r. ⌜ r ≡ holdsMap (at .0) count (areaOf (now (a .entry))) ⌝ }
 {
     if !octets::same(
         b"FMAP\0\0\0\0\0\0\0\0\0\0\0\0\0\0\0\0\0\0\0\0\0\0\0\0\0\0\0\0",
@@ -190,15 +190,15 @@ fn is_holder(a: &[u8], at: usize, count: usize) -> bool
         return false;
     }
     let x = extent_of(a);
-    if x.start.0 as u64 != at as u64 {
+    if x.start.0 != at.0 {
         return false;
     }
     56 + 42 * (count as u64) <= x.size as u64
 }
 
-fn some_holder(areas: &[u8], at: usize) -> bool
+fn some_holder(areas: &[u8], at: ImagePosition) -> bool
     requires { ⌜ length (now areas) / 42 ≤ 128 ⌝ }
-    ensures { λ r. ⌜ r ≡ any (holdsMap at (length (areasIn (now (areas .entry))))) (areasIn (now (areas .entry))) ⌝ }
+    ensures { λ r. ⌜ r ≡ any (holdsMap (at .0) (length (areasIn (now (areas .entry))))) (areasIn (now (areas .entry))) ⌝ }
 {
     let n = areas.len() / 42;
     let mut i = 0;
@@ -212,9 +212,9 @@ fn some_holder(areas: &[u8], at: usize) -> bool
 }
 
 // Each area, the area FMAP, then each two: what costs least comes first.
-pub fn good_areas(areas: &[u8], len: usize, at: usize) -> bool
+pub fn good_areas(areas: &[u8], len: usize, at: ImagePosition) -> bool
     requires { ⌜ length (now areas) / 42 ≤ 128 ⌝ }
-    ensures { λ r. ⌜ r ≡ goodAreas len at (areasIn (now (areas .entry))) ⌝ }
+    ensures { λ r. ⌜ r ≡ goodAreas len (at .0) (areasIn (now (areas .entry))) ⌝ }
 {
     if !each_good(areas, len) {
         return false;
@@ -257,12 +257,12 @@ fn areas_of<'a>(m: &'a [u8]) -> &'a [u8]
     &m[56..e]
 }
 
-// The signature stands at a position: its eight bytes as one number.
-pub fn is_signed(image: &[u8], at: usize) -> bool
-    requires { ⌜ at + 8 ≤ length (now image) ⌝ }
-    ensures { λ r. ⌜ r ≡ signed (rest at (now (image .entry))) ⌝ }
+// The bytes begin with the signature: its eight bytes as one number.
+pub fn is_signed(m: &[u8]) -> bool
+    requires { ⌜ 8 ≤ length (now m) ⌝ }
+    ensures { λ r. ⌜ r ≡ signed (now (m .entry)) ⌝ }
 {
-    octets::load64(image, at) == 0x5f5f50414d465f5f
+    octets::load64(m, 0) == 0x5f5f50414d465f5f
 }
 
 // The fields that are compared with a number come before the name.
@@ -272,7 +272,7 @@ fn good_header(m: &[u8], len: usize) -> bool
     if m.len() < 56 {
         return false;
     }
-    if !is_signed(m, 0) {
+    if !is_signed(m) {
         return false;
     }
     if m[8] != 1 {
@@ -298,11 +298,12 @@ fn good_header(m: &[u8], len: usize) -> bool
 }
 
 // A good map stands at a position.
-pub fn good_at(image: &[u8], at: usize) -> bool
-    requires { ⌜ at ≤ length (now image) ⌝ }
-    ensures { λ r. ⌜ r ≡ goodMap (now (image .entry)) at ⌝ }
+pub fn good_at(image: &[u8], at: ImagePosition) -> bool
+    requires { ⌜ at .0 ≤ length (now image) ⌝ }
+    ensures { λ r. ⌜ r ≡ goodMap (now (image .entry)) (at .0) ⌝ }
 {
-    let m = &image[at..];
+    let a = at.0 as usize;
+    let m = &image[a..];
     if !good_header(m, image.len()) {
         return false;
     }

@@ -9,6 +9,7 @@ ghost use Rattle.fmap_rules.specs.Map.{mapSize};
 ghost use Rattle.fmap_rules.specs.Written.{areaBytes, mapBytes};
 ghost use Rattle.fmap_write.specs.Areas.{listOf};
 use fmap_rules::Area;
+use fmap_rules::ImagePosition;
 
 // Up to 128 areas, in the map's order.
 pub struct Areas {
@@ -17,7 +18,7 @@ pub struct Areas {
 }
 
 // An area's 42 bytes.
-fn put_area(to: &mut [u8], at: usize, a: Area)
+pub fn put_area(to: &mut [u8], at: usize, a: Area)
     requires { ⌜ at + 42 ≤ length (now to) ⌝ }
     ensures { λ _. ⌜ (now (to .exit) ≡ put at (areaBytes a) (now (to .entry))) × (length (areaBytes a) ≡ 42) ⌝ }
 {
@@ -56,12 +57,20 @@ fn put_header(to: &mut [u8], at: usize, size: u32, name: [u8; 32], base: u64, mi
 }
 
 // The map of the areas at a position, for version 1.minor.
-pub fn put_map(image: &mut [u8], at: usize, name: [u8; 32], base: u64, minor: u8, areas: Areas)
-    requires { ⌜ (areas .count ≤ 128) × (at + mapSize (areas .count) ≤ length (now image)) × (length (now image) < 2 ^ 32) ⌝ }
-    ensures { λ _. ⌜ now (image .exit) ≡ put at (mapBytes (length (now (image .entry))) name base minor (listOf areas)) (now (image .entry)) ⌝ }
+pub fn put_map(
+    image: &mut [u8],
+    at: ImagePosition,
+    name: [u8; 32],
+    base: u64,
+    minor: u8,
+    areas: Areas,
+)
+    requires { ⌜ (areas .count ≤ 128) × (at .0 + mapSize (areas .count) ≤ length (now image)) × (length (now image) < 2 ^ 32) ⌝ }
+    ensures { λ _. ⌜ now (image .exit) ≡ put (at .0) (mapBytes (length (now (image .entry))) name base minor (listOf areas)) (now (image .entry)) ⌝ }
 {
     let size = image.len() as u32;
     let n = areas.count;
-    put_header(image, at, size, name, base, minor, n as u16);
-    put_areas(image, at + 56, areas);
+    let start = at.0 as usize;
+    put_header(image, start, size, name, base, minor, n as u16);
+    put_areas(image, start + 56, areas);
 }

@@ -1,4 +1,5 @@
 pub mod Filled
+pub mod Records
 pub mod Layouts
 pub mod Writable
 pub mod Promises

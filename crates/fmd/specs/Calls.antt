@@ -5,9 +5,9 @@ use mathlib.Core.Option.{Option, none, some}
 use Prim.Native.Nat.{ℕ}
 use lib.Dec.{eqb}
 use lib.ListN.{length, drop}
-use Rattle.octets.specs.Bytes.{zeros, put}
+use Rattle.octets.specs.Bytes.{zeros, put, flat}
 use Rattle.fmap_rules.specs.Map.{position}
-use Rattle.fmap_rules.specs.Written.{mapBytes}
+use Rattle.fmap_rules.specs.Written.{areaBytes, mapBytes}
 use Rattle.fmap_rules.specs.declared.ImagePosition.{ImagePosition}
 use Rattle.fmap_rules.specs.declared.Area.{Area}
 use Rattle.fmap_write.specs.Areas.{listOf}
@@ -106,6 +106,21 @@ layoutFor s places = cond (eqb places 128) (layoutIn s) (refusedWith (some 1))
 unfoldable pub listText : List ℕ → List Section → Listed
 listText s ys = listBy (layoutFor s (length ys)) ys
 
+-- ---- listing as bytes
+
+pub record Recorded : Type 0 where
+  pub answer : Option ℕ
+  pub image : Image
+  pub records : List ℕ
+
+-- (L16) the bytes of each section as an area of the map, from the first record on; unused records stay
+abbrev pub recordBy : Said → List ℕ → Recorded
+recordBy x bs = record { answer = x .answer; image = x .image; records = put 0 (flat (map areaBytes (x .areas))) bs }
+
+-- (R33) 128 records of 42 bytes
+unfoldable pub recordText : List ℕ → List ℕ → Recorded
+recordText s bs = cond (eqb (length bs) 5376) (recordBy (layoutIn s) bs) (record { answer = some 1; image = blank; records = bs })
+
 -- ---- writing
 
 pub record Written : Type 0 where
@@ -135,6 +150,9 @@ reading r = record { answer = numberOf (r .answer); image = r .image }
 
 abbrev pub listed : Reading → List Section → Listed
 listed r ys = record { answer = numberOf (r .answer); image = r .image; sections = ys }
+
+abbrev pub recorded : Reading → List ℕ → Recorded
+recorded r bs = record { answer = numberOf (r .answer); image = r .image; records = bs }
 
 abbrev pub written : Answer → List ℕ → Written
 written r image = record { answer = numberOf r; image = image }

@@ -10,7 +10,7 @@ ghost use Rattle.fmd_parse.specs.Layouts.{listOf as sectionsOf, Sound as SoundL
 ghost use Rattle.fmd_plan.specs.Plans.{planOf, Sound as SoundPlan};
 ghost use Rattle.fmd_check.specs.Check.{good};
 ghost use Rattle.fmd_check.specs.Facts.{Numbered, Accepted};
-ghost use Rattle.fmd.specs.Calls.{numberOf, said, refusedWith, baseOf, imageOf, saidBy, layoutIn, layoutFor, reading, readText, sectionOf, filled, listed, listText, written, writeBy, writeText};
+ghost use Rattle.fmd.specs.Calls.{numberOf, said, refusedWith, baseOf, imageOf, saidBy, layoutIn, layoutFor, reading, readText, sectionOf, filled, listed, listText, recorded, recordText, written, writeBy, writeText};
 use fmap_rules::Area;
 use fmap_rules::Extent;
 use fmap_rules::ImagePosition;
@@ -229,6 +229,20 @@ pub fn list<'a, 'b>(text: &'a [u8], sections: &'b mut [Section]) -> Reading
     l.reading
 }
 
+// Reads a layout text into the bytes that the caller lends: 128 records of 42 bytes, each as an area of a map.
+pub fn put_records(text: &[u8], records: &mut [u8]) -> Reading
+    ensures { λ r. ⌜ recorded r (now (records .exit)) ≡ recordText (now (text .entry)) (now (records .entry)) ⌝ }
+{
+    if records.len() != 5376 {
+        let l = refused(Answer::WrongLength);
+        return l.reading;
+    }
+    let l = layout_in(text);
+    let areas = l.areas;
+    fmap_write::put_areas(records, 0, areas);
+    l.reading
+}
+
 // Writes the map of a layout into an image.
 fn put_layout(image: &mut [u8], l: Layout) -> Answer
     requires { ⌜ (l .areas .count ≤ 128) × (l .at .0 + mapSize (l .areas .count) ≤ l .reading .image .size) × (l .reading .image .size ≤ 16777216) ⌝ }
@@ -242,7 +256,7 @@ fn put_layout(image: &mut [u8], l: Layout) -> Answer
     let at = l.at;
     let name = i.name;
     let areas = l.areas;
-    fmap_write::put_map(image, at.0 as usize, name, i.address as u64, 1, areas);
+    fmap_write::put_map(image, at, name, i.address as u64, 1, areas);
     Answer::Accepted
 }
 

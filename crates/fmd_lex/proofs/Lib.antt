@@ -2,4 +2,3 @@ pub mod Tokens
 pub mod Numbers
 pub mod Places
 pub mod Names
-pub mod Samples

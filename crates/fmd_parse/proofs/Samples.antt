@@ -29,16 +29,21 @@ abbrev section : ℕ → Size → Section
 section p z = record { offset = OmittedOffset; size = z; place = p; length = 1; cbfs = false; preserve = false; parent = 128; level = 1 }
 
 -- S7: "A 10 K" is section A of size 10, then section K. The text: I 98{A 10 K}
-pub size-then-section : layoutOf (73 ∷ 32 ∷ 57 ∷ 56 ∷ 123 ∷ 65 ∷ 32 ∷ 49 ∷ 48 ∷ 32 ∷ 75 ∷ 125 ∷ [])
+abbrev pub Sample7 : Type 0
+Sample7 =
+    layoutOf (73 ∷ 32 ∷ 57 ∷ 56 ∷ 123 ∷ 65 ∷ 32 ∷ 49 ∷ 48 ∷ 32 ∷ 75 ∷ 125 ∷ [])
     ≡ layout image (section 5 (GivenSize 10) ∷ section 10 OmittedSize ∷ [])
+
+pub sample7 : Sample7
 unfolding layoutOf imageAt titleAt addressAt lengthAt openAt listFrom sectionFrom headAt namedAt flagsAt offsetAt sizeAt amountAt numberOf someDigits digits digitOf capped goodName isDigit tokenAt tokenHere skipFrom wordFrom isBlank isSign isWord part pickRow _and_ _or_
-size-then-section = refl
+sample7 = refl
 
 -- S8: 010 is 52; 0x10 is 16. The texts: I 010{A} and I 98{A 0x10}
-pub leading-zero : layoutOf (73 ∷ 32 ∷ 48 ∷ 49 ∷ 48 ∷ 123 ∷ 65 ∷ 125 ∷ []) ≡ refused 52 2
-unfolding layoutOf imageAt titleAt addressAt lengthAt amountAt numberOf afterZero scaled goodName isDigit tokenAt tokenHere skipFrom wordFrom isBlank isSign isWord part pickRow _and_ _or_
-leading-zero = refl
+abbrev pub Sample8 : Type 0
+Sample8 =
+    (layoutOf (73 ∷ 32 ∷ 48 ∷ 49 ∷ 48 ∷ 123 ∷ 65 ∷ 125 ∷ []) ≡ refused 52 2)
+    × (layoutOf (73 ∷ 32 ∷ 57 ∷ 56 ∷ 123 ∷ 65 ∷ 32 ∷ 48 ∷ 120 ∷ 49 ∷ 48 ∷ 125 ∷ []) ≡ layout image (section 5 (GivenSize 16) ∷ []))
 
-pub hex : layoutOf (73 ∷ 32 ∷ 57 ∷ 56 ∷ 123 ∷ 65 ∷ 32 ∷ 48 ∷ 120 ∷ 49 ∷ 48 ∷ 125 ∷ []) ≡ layout image (section 5 (GivenSize 16) ∷ [])
-unfolding layoutOf imageAt titleAt addressAt lengthAt openAt listFrom sectionFrom headAt namedAt flagsAt offsetAt sizeAt amountAt numberOf afterZero someDigits digits digitOf capped goodName isDigit tokenAt tokenHere skipFrom wordFrom isBlank isSign isWord part pickRow _and_ _or_
-hex = refl
+pub sample8 : Sample8
+unfolding layoutOf imageAt titleAt addressAt lengthAt openAt listFrom sectionFrom headAt namedAt flagsAt offsetAt sizeAt amountAt numberOf afterZero scaled someDigits digits digitOf capped goodName isDigit tokenAt tokenHere skipFrom wordFrom isBlank isSign isWord part pickRow _and_ _or_
+sample8 = (refl, refl)

@@ -1,17 +1,16 @@
 -- Adding: its rows from 20 on, the start and the slot that it takes, the entry that it writes.
-use mathlib.Core.Path.{_≡_, refl, sym, ap, ap₂, subst, _∙_}
+use mathlib.Core.Path.{_≡_, sym, ap, subst, _∙_}
 use mathlib.Core.Logic.{_≢_}
-use mathlib.Core.Bool.{Bool, true, false, not}
-use mathlib.Core.List.{List, [], _∷_, _++_}
+use mathlib.Core.Bool.{true}
+use mathlib.Core.List.{List, [], _∷_}
 use mathlib.Core.Option.{Option, none, some}
-use Prim.Native.Nat.{ℕ, suc, _+_, _-_, _≤_, _<_}
+use Prim.Native.Nat.{ℕ, _+_, _-_, _≤_, _<_}
 use native.Mathlib.Numerals.{add-one}
 use native.Mathlib.Omega.{arith}
-use lib.Dec.{eqb}
 use lib.ListN.{length}
 use borrow.Author.Tests.{eqb-false, eq-eqb}
 use Rattle.octets.specs.Tests.{findIx}
-use Rattle.octets.specs.Rows.{Row, row, refusal}
+use Rattle.octets.specs.Rows.{row, refusal}
 use Rattle.octets.proofs.Bools.{and-i, not-f}
 use Rattle.octets.proofs.Tests.{findIx-get}
 use Rattle.octets.proofs.Rows.{passes, pick-true, pick-false, refusal-append, refusal-first}
@@ -19,7 +18,7 @@ use Rattle.octets.proofs.Chunks.{length-chunks}
 use Rattle.gpt_model.specs.Ranges.{place}
 use Rattle.gpt_model.specs.Table.{entryWith, unused, entries, slots}
 use Rattle.gpt_model.specs.Disk.{disk512, lastUsable}
-use Rattle.gpt_model.specs.Calls.{Edit, add, addRows, tableRows, isNone, valueOf, Change, change, lengthsOf}
+use Rattle.gpt_model.specs.Calls.{Edit, add, addRows, tableRows, isNone, valueOf, change, lengthsOf}
 use Rattle.gpt_model.proofs.Room.{place-some}
 use Rattle.gpt_table.specs.Answers.{placed}
 use Rattle.gpt_table.specs.declared.Block.{Block}
@@ -47,12 +46,16 @@ module _ (n : ℕ) (es type unique : List ℕ) (size attributes : ℕ) (name : L
   pub add-stops : (j : ℕ) → refusal (addRows 0 0 es type unique size name) ≡ some j → refusal (tableRows 34 last es d) ≡ some j
   add-stops j e = refusal-first (addRows 0 0 es type unique size name) (row (isNone start) 25 ∷ []) j e
 
-  -- what the search for a start answers, from a part tb that holds the table
-  pub placed-none : (tb : List ℕ) (p : Place) → tb ≡ es → p ≡ None → placed p ≡ place (slots tb) 34 last size → start ≡ none
-  placed-none tb p e q r = ap (λ (x : List ℕ). place (slots x) 34 last size) (sym e) ∙ sym r ∙ ap placed q
+  -- what the search for a start answers, from a part tb that holds the table, between the usable blocks f and l
+  module _ (tb : List ℕ) (p : Place) (f l : ℕ) (e : tb ≡ es) (ef : f ≡ 34) (el : l ≡ last) (r : placed p ≡ place (slots tb) f l size) where
+    placed-is : placed p ≡ start
+    placed-is = r ∙ rw (e, ef, el)
 
-  pub placed-at : (tb : List ℕ) (p : Place) (b : Block) → tb ≡ es → p ≡ At b → placed p ≡ place (slots tb) 34 last size → start ≡ some (b .0)
-  placed-at tb p b e q r = ap (λ (x : List ℕ). place (slots x) 34 last size) (sym e) ∙ sym r ∙ ap placed q
+    pub placed-none : p ≡ None → start ≡ none
+    placed-none q = sym placed-is ∙ ap placed q
+
+    pub placed-at : (b : Block) → p ≡ At b → start ≡ some (b .0)
+    placed-at b q = sym placed-is ∙ ap placed q
 
   module _ (e : refusal (addRows 0 0 es type unique size name) ≡ none) where
     pub add-size : 0 < size
@@ -75,16 +78,15 @@ module _ (n : ℕ) (es type unique : List ℕ) (size attributes : ℕ) (name : L
         let l = lowest-below in
         omega arith
 
-    pub add-is : (tb new : List ℕ) (i s : ℕ) → tb ≡ es → i ≡ findIx unused (entries tb) → start ≡ some s
-        → new ≡ entryWith type unique s (s + (size - 1)) attributes name
+    pub add-is : (tb new : List ℕ) (i s l : ℕ) → tb ≡ es → i ≡ findIx unused (entries tb) → start ≡ some s
+        → new ≡ entryWith type unique s l attributes name → l + 1 ≡ s + size
         → record { values = (i + 1) ∷ s ∷ []; index = i; entry = new } ≡ change 34 last es d
-    add-is tb new i s p q r w =
+    add-is tb new i s l p q r w u =
         let v : i ≡ findIx unused (entries es) = q ∙ ap (λ (x : List ℕ). findIx unused (entries x)) p in
         let z : s ≡ valueOf start = sym (ap valueOf r) in
-        let pos = add-size in
-        let l : s + (size - 1) ≡ s + size - 1 = omega arith in
-        rw (w, l, add-one, v, z)
+        let y : l ≡ s + size - 1 = omega arith in
+        rw (w, y, add-one, v, z)
 
   -- the last block is a number of 64 bits
-  pub add-bound : n ≤ 4294967296 → refusal (addRows 0 0 es type unique size name) ≡ none → (s : ℕ) → start ≡ some s → s + (size - 1) < 18446744073709551616
-  add-bound m e s q = let w = place-some (slots es) 34 last size s q .1 .0 in let pos = add-size e in omega arith
+  pub add-bound : n ≤ 4294967296 → refusal (addRows 0 0 es type unique size name) ≡ none → (s : ℕ) → start ≡ some s → s + size < 18446744073709551616
+  add-bound m e s q = let w = place-some (slots es) 34 last size s q .1 .0 in omega arith

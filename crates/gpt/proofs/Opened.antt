@@ -1,15 +1,15 @@
 -- The ways out of reading, and of every call that reads first.
 use mathlib.Core.Path.{_≡_, refl, sym, ap, ap₂, _∙_}
 use mathlib.Core.Logic.{_≢_}
-use mathlib.Core.Bool.{Bool, true, false, not}
-use mathlib.Core.List.{List, [], _∷_, _++_}
+use mathlib.Core.Bool.{true, not}
+use mathlib.Core.List.{List, [], _∷_}
 use mathlib.Core.Option.{Option, none, some}
 use Prim.Native.Nat.{ℕ, _≤_}
 use native.Mathlib.Omega.{arith}
 use lib.Dec.{eqb}
 use lib.ListN.{length}
 use borrow.Author.Tests.{eq-eqb, ne-eqb, eqb-true, leb-true}
-use Rattle.octets.specs.Rows.{Row, row, refusal}
+use Rattle.octets.specs.Rows.{row, refusal}
 use Rattle.octets.proofs.Rows.{pick-true, pick-false, passes, refusal-append, refusal-first}
 use Rattle.octets.proofs.Bools.{and-l, and-r, not-f}
 use Rattle.octets.specs.Bytes.{zeros}

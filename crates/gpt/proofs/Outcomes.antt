@@ -1,9 +1,9 @@
 -- The ways out of an edit.
-use mathlib.Core.Path.{_≡_, refl, sym, ap, ap₂, subst, _∙_}
+use mathlib.Core.Path.{_≡_, sym, ap, ap₂, subst, _∙_}
 use mathlib.Core.Logic.{_≢_}
 use mathlib.Core.Bool.{Bool, true, false, not}
 use mathlib.Core.List.{List, [], _∷_, _++_}
-use mathlib.Core.Option.{Option, none, some}
+use mathlib.Core.Option.{none, some}
 use Prim.Native.Nat.{ℕ, _+_, _-_, _≤_, _<_}
 use native.Mathlib.Omega.{arith}
 use lib.ListN.{length, getD}
@@ -14,7 +14,7 @@ use lib.Dec.{eqb}
 use Rattle.octets.specs.Bytes.{le, put, putChunk}
 use Rattle.octets.specs.Rows.{Row, row, refusal}
 use Rattle.gpt_model.specs.Disk.{disk512, lastUsable, primary, backup, guidIn, entriesIn, state, tableOf, withTable}
-use Rattle.gpt_model.specs.Calls.{Edit, add, resize, rename, edit, badName, slotRows, addRows, fitsAt, Answer, refused, accepted, Out, out, openRows, tableRows, Change, change, lengthsOf, readRows, edited, rowsOf, step}
+use Rattle.gpt_model.specs.Calls.{Edit, resize, rename, edit, badName, slotRows, fitsAt, refused, accepted, out, openRows, tableRows, Change, change, lengthsOf, readRows, edited, rowsOf, step}
 use Rattle.gpt_model.specs.Table.{firstOf, nameBytes, entries}
 use Rattle.gpt_model.proofs.Room.{room-get}
 use Rattle.gpt_model.proofs.Ways.{step-refused, step-made, edit-decides, edit-stops, row11}
@@ -137,28 +137,25 @@ module _ (n : ℕ) (es : List ℕ) (k : ℕ) where
       resize-right a q = refusal-append (slotRows 0 0 es k) own e ∙ pick-false _ 20 _ (ne-eqb _ _ a) ∙ pick-false _ 25 _ (ap not q)
 
     -- the last block that a resize writes is a number of 64 bits
-    pub resize-bound : n ≤ 4294967296 → fitsAt 34 last es k size ≡ true → firstOf (getD (entries es) (k - 1) []) + size ≤ 18446744073709551616
+    pub resize-bound : n ≤ 4294967296 → fitsAt 34 last es k size ≡ true → firstOf (getD (entries es) (k - 1) []) + size < 18446744073709551616
     resize-bound l q = let w = room-get _ _ _ _ q .0 in omega arith
 
-pub fits-same : (tb tab : List ℕ) (last k size : ℕ) {b : Bool} → tb ≡ tab → fitsAt 34 last tb k size ≡ b → fitsAt 34 last tab k size ≡ b
-fits-same tb tab last k size {b} e f = subst (λ (es : List ℕ). fitsAt 34 last es k size ≡ b) e f
+pub fits-same : (tb tab : List ℕ) (l last k size : ℕ) {b : Bool} → tb ≡ tab → l ≡ last → fitsAt 34 l tb k size ≡ b → fitsAt 34 last tab k size ≡ b
+fits-same tb tab l last k size {b} e g f = rw (← e, ← g) f
 
--- entry i with another last block: its first block is read from its bytes, and the sum is a number of 64 bits
-module _ (tab tb part : List ℕ) (i f size : ℕ) (p : tb ≡ tab) (q : part ≡ getD (entries tb) i []) (r : f ≡ firstOf part) (s : 0 < size) where
+-- entry i with another last block: its first block is read from its bytes
+module _ (tab tb part : List ℕ) (i f size : ℕ) (p : tb ≡ tab) (q : part ≡ getD (entries tb) i []) (r : f ≡ firstOf part) where
   abbrev was : List ℕ
   was = getD (entries tab) i []
 
   part-is : part ≡ was
   part-is = q ∙ ap (λ (x : List ℕ). getD (entries x) i []) p
 
-  first-is : f ≡ firstOf was
+  pub first-is : f ≡ firstOf was
   first-is = r ∙ ap firstOf part-is
 
-  pub resized-fits : firstOf was + size ≤ 18446744073709551616 → f + (size - 1) < 18446744073709551616
-  resized-fits l = omega (arith, first-is)
-
-  pub resized-is : (new : List ℕ) → (new ≡ put 40 (le 8 (f + (size - 1))) part) × (length new ≡ 128)
+  pub resized-is : (new : List ℕ) (l : ℕ) → (new ≡ put 40 (le 8 l) part) × (length new ≡ 128) → l + 1 ≡ f + size
       → (new ≡ put 40 (le 8 (firstOf was + size - 1)) was) × (length new ≡ 128)
-  resized-is new w =
-      let e : f + (size - 1) ≡ firstOf was + size - 1 = omega (arith, first-is) in
+  resized-is new l w u =
+      let e : l ≡ firstOf was + size - 1 = omega (arith, first-is) in
       (w .0 ∙ ap₂ (λ (x : ℕ) (y : List ℕ). put 40 (le 8 x) y) e part-is, w .1)

@@ -3,15 +3,15 @@ use mathlib.Core.Path.{_≡_, refl, sym, ap, _∙_}
 use mathlib.Core.Bool.{Bool, true, false, not}
 use mathlib.Core.List.{List, [], _∷_, _++_}
 use mathlib.Core.Option.{Option, none, some}
-use Prim.Native.Nat.{ℕ, _*_, _≤_, _<_}
+use Prim.Native.Nat.{ℕ, _≤_, _<_}
 use native.Mathlib.Omega.{arith}
-use lib.Dec.{eqb, leb}
+use lib.Dec.{leb}
 use lib.ListN.{length}
 use borrow.Author.Tests.{eq-eqb, ne-eqb, le-leb, lt-leb, leb-true, le-ltb, lt-ltb}
 use mathlib.Core.Logic.{_≢_}
 use Rattle.octets.specs.Tests.{_and_, _or_, any, findIx}
 use Rattle.octets.specs.Bytes.{isZero}
-use Rattle.octets.specs.Rows.{Row, row, pickRow, refusal}
+use Rattle.octets.specs.Rows.{row, pickRow, refusal}
 use Rattle.octets.proofs.Bools.{and-l, and-r, and-i, or-il, or-ir, or-false-i, not-f}
 use Rattle.octets.proofs.Rows.{pick-true, pick-false, passes, refusal-append, refusal-first}
 use Rattle.gpt_model.specs.Disk.{disk512, inRange}

@@ -1,5 +1,5 @@
 -- What follows from the state that reading answers: repair, the part that is handed back, free counts.
-use mathlib.Core.Path.{_≡_, refl, sym, ap, _∙_}
+use mathlib.Core.Path.{_≡_, sym, ap, _∙_}
 use mathlib.Core.Logic.{_≢_}
 use mathlib.Core.Bool.{true}
 use mathlib.Core.List.{List, [], _∷_}
@@ -10,8 +10,8 @@ use Rattle.octets.specs.Rows.{row, refusal}
 use Rattle.octets.proofs.Rows.{refusal-before}
 use Rattle.gpt_model.specs.Ranges.{freeCount, longestFree}
 use Rattle.gpt_model.specs.Table.{slots}
-use Rattle.gpt_model.specs.Disk.{disk512, primary, backup, entriesAt, entriesIn, usedSide, state, tableOf}
-use Rattle.gpt_model.specs.Calls.{Answer, refused, accepted, Out, out, read, freeCounts, repair, readRows, handed, repaired, step}
+use Rattle.gpt_model.specs.Disk.{disk512, primary, backup, entriesIn, usedSide, state, tableOf}
+use Rattle.gpt_model.specs.Calls.{Answer, refused, accepted, out, read, freeCounts, repair, readRows, handed, repaired, step}
 use Rattle.gpt_model.proofs.Ways.{step-refused, step-made}
 use Rattle.gpt_model.proofs.States.{table-four, table-primary}
 use Rattle.gpt_copies.specs.States.{behind, entriesPlace}

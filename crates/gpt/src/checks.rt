@@ -1,10 +1,13 @@
 // The rows of refusals that come before a call's work, in the rules' order: the first that holds stops the call.
 use crate::Reading;
 use crate::Refusal;
+use gpt_copies::BLOCK;
+use gpt_copies::SLOTS;
+use gpt_copies::TABLE;
 ghost use mathlib.Core.Path.{_≡_};
-ghost use Prim.Native.Nat.{_≤_};
 ghost use lib.ListN.{length};
 ghost use Rattle.octets.specs.Rows.{refusal};
+ghost use Rattle.gpt_model.specs.Table.{tableBytes};
 ghost use Rattle.gpt_model.specs.Disk.{disk512};
 ghost use Rattle.gpt_model.specs.Calls.{formatRows, slotRows, addRows};
 ghost use Rattle.gpt.specs.Checks.{stopOf, lentRows, openFor};
@@ -14,9 +17,15 @@ pub enum Check {
     Stop(Refusal),
 }
 
-const HEAD: usize = 2 * gpt_copies::BLOCK + gpt_copies::TABLE;
+// Q2: N, its block count, is 68 to 4,294,967,296.
+const LEAST_BLOCKS: u64 = 68;
 
-const TAIL: usize = gpt_copies::TABLE + gpt_copies::BLOCK;
+const MOST_BLOCKS: u64 = 4294967296;
+
+// Q3: the head, blocks 0 to 33 (17,408 bytes), and the tail, the last 33 blocks (16,896 bytes).
+const HEAD: usize = 2 * BLOCK + TABLE;
+
+const TAIL: usize = TABLE + BLOCK;
 
 // 1, 2.
 pub fn lent(head: &[u8], tail: &[u8], n: u64) -> Check
@@ -28,10 +37,10 @@ pub fn lent(head: &[u8], tail: &[u8], n: u64) -> Check
     if tail.len() != TAIL {
         return Check::Stop(Refusal::WrongLength);
     }
-    if n < 68 {
+    if n < LEAST_BLOCKS {
         return Check::Stop(Refusal::BlockCount);
     }
-    if 4294967296 < n {
+    if MOST_BLOCKS < n {
         return Check::Stop(Refusal::BlockCount);
     }
     Check::Pass
@@ -55,13 +64,13 @@ pub fn format(head: &[u8], tail: &[u8], n: u64, guid: &[u8]) -> Check
 
 // 12, 13: the slot's number is one of 1 to 128, and the slot is used.
 pub fn slot(table: &[u8], slot: u64) -> Check
-    requires { ⌜ length (now table) ≡ 16384 ⌝ }
+    requires { ⌜ length (now table) ≡ tableBytes ⌝ }
     ensures { λ r. ⌜ stopOf r ≡ refusal (slotRows 0 0 (now (table .entry)) slot) ⌝ }
 {
     if slot < 1 {
         return Check::Stop(Refusal::NoSuchSlot);
     }
-    if 128 < slot {
+    if (SLOTS as u64) < slot {
         return Check::Stop(Refusal::NoSuchSlot);
     }
     if gpt_table::is_unused(table, (slot - 1) as usize) {
@@ -72,7 +81,7 @@ pub fn slot(table: &[u8], slot: u64) -> Check
 
 // 20 to 24.
 pub fn add(table: &[u8], kind: &[u8], unique: &[u8], size: u64, name: &[u16]) -> Check
-    requires { ⌜ length (now table) ≡ 16384 ⌝ }
+    requires { ⌜ length (now table) ≡ tableBytes ⌝ }
     ensures { λ r. ⌜ stopOf r ≡ refusal (addRows 0 0 (now (table .entry)) (now (kind .entry)) (now (unique .entry)) size (now (name .entry))) ⌝ }
 {
     if size == 0 {
@@ -90,7 +99,7 @@ pub fn add(table: &[u8], kind: &[u8], unique: &[u8], size: u64, name: &[u16]) ->
     if gpt_table::bad_name(name) {
         return Check::Stop(Refusal::BadName);
     }
-    if gpt_table::first_unused(table) == 128 {
+    if gpt_table::first_unused(table) == SLOTS {
         return Check::Stop(Refusal::NoUnusedSlot);
     }
     Check::Pass

@@ -5,19 +5,21 @@ use crate::Refusal;
 use crate::checks;
 use crate::checks::Check;
 use crate::entry;
+use gpt_copies::ENTRY;
 use gpt_copies::Side;
 use gpt_table::Block;
+use gpt_table::FIRST_AT;
 use gpt_table::room::Place;
 ghost use mathlib.Core.Path.{_≡_};
 ghost use mathlib.Core.List.{[]};
 ghost use mathlib.Core.Option.{none, some};
-ghost use Prim.Native.Nat.{_+_, _-_, _≤_, _<_};
+ghost use Prim.Native.Nat.{_+_, _-_, _<_};
 ghost use lib.ListN.{length, getD};
 ghost use Rattle.octets.specs.Bytes.{le, put};
 ghost use Rattle.octets.specs.Rows.{refusal};
 ghost use Rattle.gpt_model.specs.Ranges.{place};
-ghost use Rattle.gpt_model.specs.Table.{firstOf, entries, slots};
-ghost use Rattle.gpt_model.specs.Disk.{disk512, primary, entriesIn};
+ghost use Rattle.gpt_model.specs.Table.{entryBytes, firstOf, slotCount, entries, slots};
+ghost use Rattle.gpt_model.specs.Disk.{disk512, lastUsable, primary, lentBytes, entriesIn};
 ghost use Rattle.gpt_model.specs.Calls.{out, step, edit, add as addCall, delete as deleteCall, resize as resizeCall, rename as renameCall, slotRows, addRows};
 ghost use Rattle.gpt.specs.Answers.{doneOf, addedOf};
 ghost use Rattle.gpt.specs.Checks.{openFor};
@@ -29,7 +31,7 @@ pub fn delete(head: &mut [u8], tail: &mut [u8], n: u64, slot: u64) -> Done
     match checks::slot(gpt_copies::entries_in(&head[..], Side::Primary), slot) {
         Check::Stop(r) => Done::Refused(r),
         Check::Pass => {
-            let none = [0u8; 128];
+            let none = [0u8; ENTRY];
             gpt_copies::writing::put_both(head, tail, n, (slot - 1) as usize, &none);
             Done::Accepted
         }
@@ -75,7 +77,7 @@ fn resize_slot(head: &mut [u8], tail: &mut [u8], n: u64, slot: u64, size: u64) -
     if !gpt_table::room::fits_at(
         gpt_copies::entries_in(&head[..], Side::Primary),
         slot as usize,
-        Block(n - 34),
+        gpt_copies::last_usable(n),
         size,
     ) {
         return Done::Refused(Refusal::NoRoom);
@@ -86,12 +88,12 @@ fn resize_slot(head: &mut [u8], tail: &mut [u8], n: u64, slot: u64, size: u64) -
 }
 
 // Entry i with the last block that the size asks for.
-fn resized(head: &[u8], i: usize, size: u64) -> [u8; 128]
-    requires { ⌜ (length (now head) ≡ 17408) × (i < 128) × (0 < size) × (firstOf (getD (entries (entriesIn disk512 primary (now head))) i []) + size ≤ 18446744073709551616) ⌝ }
-    ensures { λ r. ⌜ (r ≡ put 40 (le 8 (firstOf (getD (entries (entriesIn disk512 primary (now (head .entry)))) i []) + size - 1)) (getD (entries (entriesIn disk512 primary (now (head .entry)))) i [])) × (length r ≡ 128) ⌝ }
+fn resized(head: &[u8], i: usize, size: u64) -> [u8; ENTRY]
+    requires { ⌜ (length (now head) ≡ lentBytes disk512 primary) × (i < slotCount) × (0 < size) × (firstOf (getD (entries (entriesIn disk512 primary (now head))) i []) + size < 18446744073709551616) ⌝ }
+    ensures { λ r. ⌜ (r ≡ put 40 (le 8 (firstOf (getD (entries (entriesIn disk512 primary (now (head .entry)))) i []) + size - 1)) (getD (entries (entriesIn disk512 primary (now (head .entry)))) i [])) × (length r ≡ entryBytes) ⌝ }
 {
     let e = gpt_table::entry(gpt_copies::entries_in(head, Side::Primary), i);
-    entry::resized(e, octets::load64(e, 32) + (size - 1))
+    entry::resized(e, octets::load64(e, FIRST_AT) + (size - 1))
 }
 
 pub fn resize(head: &mut [u8], tail: &mut [u8], n: u64, slot: u64, size: u64) -> Done
@@ -118,7 +120,7 @@ fn add_at(
 ) -> Added
     requires { ⌜ (refusal (openFor n (now head) (now tail)) ≡ none) × (length (now kind) ≡ 16) × (length (now unique) ≡ 16) × (length (now name) ≡ 36)
         × (refusal (addRows 0 0 (entriesIn disk512 primary (now head)) (now kind) (now unique) size (now name)) ≡ none)
-        × (place (slots (entriesIn disk512 primary (now head))) 34 (n - 34) size ≡ some (first .0)) ⌝ }
+        × (place (slots (entriesIn disk512 primary (now head))) (disk512 .first) (lastUsable disk512 n) size ≡ some (first .0)) ⌝ }
     ensures { λ r. ⌜ out (addedOf r) (now (head .exit)) (now (tail .exit))
         ≡ step disk512 n (now (head .entry)) (now (tail .entry)) (edit (addCall (now (kind .entry)) (now (unique .entry)) size attributes (now (name .entry)))) ⌝ }
 {
@@ -150,8 +152,8 @@ fn add_placed(
 {
     match gpt_table::room::lowest(
         gpt_copies::entries_in(&head[..], Side::Primary),
-        Block(34),
-        Block(n - 34),
+        gpt_copies::first_usable(),
+        gpt_copies::last_usable(n),
         size,
     ) {
         Place::None => Added::Refused(Refusal::NoRoom),

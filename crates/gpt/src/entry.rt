@@ -1,17 +1,27 @@
 // The 128 bytes of the one entry that an edit writes.
+use gpt_copies::ENTRY;
+use gpt_table::FIRST_AT;
+use gpt_table::LAST_AT;
+use gpt_table::UNIQUE_AT;
 ghost use mathlib.Core.Path.{_≡_};
-ghost use Prim.Native.Nat.{_≤_};
 ghost use lib.ListN.{length};
 ghost use Rattle.octets.specs.Bytes.{le, put};
-ghost use Rattle.gpt_model.specs.Table.{nameBytes, entryWith};
+ghost use Rattle.gpt_model.specs.Table.{entryBytes, nameBytes, entryWith};
+
+// D5: attributes 48, name 56 as 36 16-bit units.
+const ATTRIBUTES_AT: usize = 48;
+
+const NAME_AT: usize = 56;
+
+const NAME_UNITS: usize = 36;
 
 fn put_name(e: &mut [u8], name: &[u16])
-    requires { ⌜ (length (now e) ≡ 128) × (length (now name) ≡ 36) ⌝ }
+    requires { ⌜ (length (now e) ≡ entryBytes) × (length (now name) ≡ 36) ⌝ }
     ensures { λ _. ⌜ now (e .exit) ≡ put 56 (nameBytes (now (name .entry))) (now (e .entry)) ⌝ }
 {
     let mut i = 0;
-    while i < 36 {
-        octets::store16(e, 56 + 2 * i, name[i]);
+    while i < NAME_UNITS {
+        octets::store16(e, NAME_AT + 2 * i, name[i]);
         i += 1;
     }
 }
@@ -23,37 +33,37 @@ pub fn added(
     last: u64,
     attributes: u64,
     name: &[u16],
-) -> [u8; 128]
+) -> [u8; ENTRY]
     requires { ⌜ (length (now kind) ≡ 16) × (length (now unique) ≡ 16) × (length (now name) ≡ 36) ⌝ }
-    ensures { λ r. ⌜ (r ≡ entryWith (now (kind .entry)) (now (unique .entry)) first last attributes (now (name .entry))) × (length r ≡ 128) ⌝ }
+    ensures { λ r. ⌜ (r ≡ entryWith (now (kind .entry)) (now (unique .entry)) first last attributes (now (name .entry))) × (length r ≡ entryBytes) ⌝ }
 {
-    let mut e = [0u8; 128];
+    let mut e = [0u8; ENTRY];
     octets::copy(&mut e, 0, kind);
-    octets::copy(&mut e, 16, unique);
-    octets::store64(&mut e, 32, first);
-    octets::store64(&mut e, 40, last);
-    octets::store64(&mut e, 48, attributes);
+    octets::copy(&mut e, UNIQUE_AT, unique);
+    octets::store64(&mut e, FIRST_AT, first);
+    octets::store64(&mut e, LAST_AT, last);
+    octets::store64(&mut e, ATTRIBUTES_AT, attributes);
     put_name(&mut e, name);
     e
 }
 
 // The entry with another last block.
-pub fn resized(entry: &[u8], last: u64) -> [u8; 128]
-    requires { ⌜ length (now entry) ≡ 128 ⌝ }
-    ensures { λ r. ⌜ (r ≡ put 40 (le 8 last) (now (entry .entry))) × (length r ≡ 128) ⌝ }
+pub fn resized(entry: &[u8], last: u64) -> [u8; ENTRY]
+    requires { ⌜ length (now entry) ≡ entryBytes ⌝ }
+    ensures { λ r. ⌜ (r ≡ put 40 (le 8 last) (now (entry .entry))) × (length r ≡ entryBytes) ⌝ }
 {
-    let mut e = [0u8; 128];
+    let mut e = [0u8; ENTRY];
     octets::copy(&mut e, 0, entry);
-    octets::store64(&mut e, 40, last);
+    octets::store64(&mut e, LAST_AT, last);
     e
 }
 
 // The entry with another name.
-pub fn renamed(entry: &[u8], name: &[u16]) -> [u8; 128]
-    requires { ⌜ (length (now entry) ≡ 128) × (length (now name) ≡ 36) ⌝ }
-    ensures { λ r. ⌜ (r ≡ put 56 (nameBytes (now (name .entry))) (now (entry .entry))) × (length r ≡ 128) ⌝ }
+pub fn renamed(entry: &[u8], name: &[u16]) -> [u8; ENTRY]
+    requires { ⌜ (length (now entry) ≡ entryBytes) × (length (now name) ≡ 36) ⌝ }
+    ensures { λ r. ⌜ (r ≡ put 56 (nameBytes (now (name .entry))) (now (entry .entry))) × (length r ≡ entryBytes) ⌝ }
 {
-    let mut e = [0u8; 128];
+    let mut e = [0u8; ENTRY];
     octets::copy(&mut e, 0, entry);
     put_name(&mut e, name);
     e

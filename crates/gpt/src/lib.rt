@@ -11,12 +11,12 @@ use gpt_table::Block;
 ghost use mathlib.Core.Path.{_≡_};
 ghost use mathlib.Core.List.{[], _∷_};
 ghost use mathlib.Core.Option.{none};
-ghost use Prim.Native.Nat.{_-_, _≤_};
+ghost use Prim.Native.Nat.{_*_, _≤_};
 ghost use lib.ListN.{length};
 ghost use Rattle.octets.specs.Rows.{refusal};
 ghost use Rattle.gpt_model.specs.Ranges.{freeCount, longestFree};
-ghost use Rattle.gpt_model.specs.Table.{slots};
-ghost use Rattle.gpt_model.specs.Disk.{disk512, primary, backup, guidIn, entriesIn, state, withCopy};
+ghost use Rattle.gpt_model.specs.Table.{tableBytes, slots};
+ghost use Rattle.gpt_model.specs.Disk.{disk512, lastUsable, primary, backup, lentBytes, guidIn, entriesIn, state, withCopy};
 ghost use Rattle.gpt_model.specs.Calls.{accepted, out, step, format as formatOn, read as readCall, freeCounts, repair as repairCall, edit, add as addCall, delete as deleteCall, resize as resizeCall, rename as renameCall, rowsOf, handed};
 ghost use Rattle.gpt.specs.Answers.{doneOf, readingOf, addedOf, countedOf, handedAt};
 ghost use Rattle.gpt.specs.Checks.{lentRows};
@@ -173,7 +173,7 @@ pub fn repair(head: &mut [u8], tail: &mut [u8], n: u64) -> Reading
 }
 
 fn repair_tail(head: &[u8], tail: &mut [u8], n: u64)
-    requires { ⌜ (length (now head) ≡ 17408) × (length (now tail) ≡ 16896) × (68 ≤ n) ⌝ }
+    requires { ⌜ (length (now head) ≡ lentBytes disk512 primary) × (length (now tail) ≡ lentBytes disk512 backup) × (2 * disk512 .first ≤ n) ⌝ }
     ensures { λ _. ⌜ now (tail .exit) ≡ withCopy disk512 n backup (guidIn disk512 primary (now (head .entry))) (entriesIn disk512 primary (now (head .entry))) (now (tail .entry)) ⌝ }
 {
     gpt_copies::writing::put_copy(
@@ -186,7 +186,7 @@ fn repair_tail(head: &[u8], tail: &mut [u8], n: u64)
 }
 
 fn repair_head(head: &mut [u8], tail: &[u8], n: u64)
-    requires { ⌜ (length (now head) ≡ 17408) × (length (now tail) ≡ 16896) × (68 ≤ n) ⌝ }
+    requires { ⌜ (length (now head) ≡ lentBytes disk512 primary) × (length (now tail) ≡ lentBytes disk512 backup) × (2 * disk512 .first ≤ n) ⌝ }
     ensures { λ _. ⌜ now (head .exit) ≡ withCopy disk512 n primary (guidIn disk512 backup (now (tail .entry))) (entriesIn disk512 backup (now (tail .entry))) (now (head .entry)) ⌝ }
 {
     gpt_copies::writing::put_copy(
@@ -213,10 +213,14 @@ pub fn table<'a>(head: &'a [u8], tail: &'a [u8], n: u64) -> &'a [u8]
 }
 
 fn count_in(table: &[u8], n: u64) -> Counted
-    requires { ⌜ (length (now table) ≡ 16384) × (68 ≤ n) × (n ≤ 4294967296) ⌝ }
-    ensures { λ r. ⌜ countedOf r ≡ accepted (freeCount (slots (now (table .entry))) 34 (n - 34) ∷ longestFree (slots (now (table .entry))) 34 (n - 34) ∷ []) ⌝ }
+    requires { ⌜ (length (now table) ≡ tableBytes) × (2 * disk512 .first ≤ n) × (n ≤ 4294967296) ⌝ }
+    ensures { λ r. ⌜ countedOf r ≡ accepted (freeCount (slots (now (table .entry))) (disk512 .first) (lastUsable disk512 n) ∷ longestFree (slots (now (table .entry))) (disk512 .first) (lastUsable disk512 n) ∷ []) ⌝ }
 {
-    let free = gpt_table::room::free_counts(table, Block(34), Block(n - 34));
+    let free = gpt_table::room::free_counts(
+        table,
+        gpt_copies::first_usable(),
+        gpt_copies::last_usable(n),
+    );
     Counted::Free {
         blocks: free.blocks,
         longest: free.longest,

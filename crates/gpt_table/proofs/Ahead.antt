@@ -1,23 +1,26 @@
--- Laws of a look ahead from block a, over ranges seen one a turn.
+-- Laws of a look ahead from block a, over ranges in order.
 use mathlib.Core.Path.{_≡_, refl, sym, ap, subst, _∙_}
-use mathlib.Core.Logic.{_⊎_, inl, inr, ⊎-elim}
+use mathlib.Core.Logic.{⊎-elim}
 use mathlib.Core.Bool.{true, false}
 use mathlib.Core.List.{List}
-use Prim.Native.Nat.{ℕ, _+_, _-_, _≤_, _<_}
-use native.Mathlib.Nat.{le-refl}
-use native.Mathlib.Decide.{decLe}
+use Prim.Native.Nat.{ℕ, zero, suc, _+_, _-_, _≤_, _<_}
+use native.Mathlib.Nat.{le-refl, add-zero}
+use native.Mathlib.Decide.{decLe, decLt}
 use native.Mathlib.Omega.{arith}
 use lib.Dec.{leb}
-use lib.ListN.{length, getD}
+use lib.ListN.{getD}
 use borrow.Author.Count.{below-more}
-use borrow.Author.Tests.{lt-leb, le-leb}
+use borrow.Author.Tests.{lt-leb, le-leb, leb-true}
 use Rattle.octets.specs.Tests.{_and_}
-use Rattle.octets.proofs.Bools.{bool-cases, clash}
+use Rattle.octets.proofs.Bools.{and-l, and-r, and-i, and-f, and-t, bool-cases, clash}
 use Rattle.octets.proofs.Tests.{any-make, any-false}
 use Rattle.gpt_model.specs.Ranges.{inside, lies, free, roomAt}
 use Rattle.gpt_model.specs.Table.{Slot, vacant, spans}
 use Rattle.gpt_model.proofs.Room.{Room, inside-make, inside-get, room-get, room-make}
-use Rattle.gpt_table.specs.Gaps.{Lower, Full, Clear, Stands, taken, gap}
+use Rattle.gpt_table.specs.Gaps.{Passed, Next, Full, Clear, Stands, taken, gap}
+use Rattle.gpt_table.specs.Decoded.{ranges}
+use Rattle.gpt_table.specs.Sorted.{Ascending}
+use Rattle.gpt_table.proofs.Used.{length-ranges, getD-ranges}
 use Rattle.gpt_table.specs.declared.room.Ahead.{Ahead}
 use Rattle.gpt_table.specs.declared.room.Ahead.the-variants.{Taken, Gap}
 
@@ -29,90 +32,94 @@ inside-below b f l h = ⊎-elim (λ e. let w = inside-get b f l e .0 in absurd (
 pub inside-above : (b f l : ℕ) → l < b → inside b (spans f l) ≡ false
 inside-above b f l h = ⊎-elim (λ e. let w = inside-get b f l e .1 in absurd (omega arith)) (λ e. e) (bool-cases (inside b (spans f l)))
 
-pub inside-from : (b f l : ℕ) → f ≤ b → inside b (spans f l) ≡ leb b l
-unfolding inside _and_
-inside-from b f l h = rw (le-leb f b h)
+-- it has a block at a or behind it
+pub reaches-empty : (f l a : ℕ) → l < f → false ≡ (leb f l and leb a l)
+reaches-empty f l a h = and-f _ (lt-leb f l h)
 
-module _ (a f l g : ℕ) (out : inside a (spans f l) ≡ false) (h : a < g) where
-  -- the range has no block behind a
-  pub lower-before : f ≤ a → Lower a (spans f l) g g
-  lower-before p =
+pub reaches-last : (f l a : ℕ) → f ≤ l → leb a l ≡ (leb f l and leb a l)
+reaches-last f l a h = and-t (le-leb f l h) refl
+
+pub reaches-yes : (f l a : ℕ) → (leb f l and leb a l) ≡ true → (f ≤ l) × (a ≤ l)
+reaches-yes f l a e = (leb-true f l (and-l _ _ e), leb-true a l (and-r _ _ e))
+
+pub reaches-no : (f l a : ℕ) → (leb f l and leb a l) ≡ false → (c : ℕ) → a ≤ c → inside c (spans f l) ≡ false
+reaches-no f l a e c h = ⊎-elim (λ q. absurd (go (inside-get c f l q))) (λ q. q) (bool-cases (inside c (spans f l)))
+  where
+    go : (f ≤ c) × (c ≤ l) → ⊥
+    go (p, q) = clash (and-i _ _ (le-leb f l (omega arith)) (le-leb a l (omega arith))) e
+
+-- ---- the next range
+
+pub passed-more : {s : List Slot} {a b i : ℕ} → a ≤ b → Passed s a i → Passed s b i
+passed-more h p = record { over = λ k u c v. p .over k u c (omega arith) }
+
+pub passed-none : {s : List Slot} {a : ℕ} → Passed s a 0
+passed-none = record { over = λ k u. absurd (omega arith) }
+
+module _ (f l : List ℕ) (n a : ℕ) where
+  pub next-over : (i : ℕ) → i < n → Passed (ranges f l n) a i → (leb (getD f i 0) (getD l i 0) and leb a (getD l i 0)) ≡ false → Passed (ranges f l n) a (i + 1)
+  next-over i h p e =
       record {
-        past = h;
-        below = le-refl g;
-        clear = λ c u v. inside-above c f l (go (decLe a l) c u);
-        which = inl refl;
+        over = below-more (λ (k : ℕ). (c : ℕ) → a ≤ c → inside c (getD (ranges f l n) k vacant) ≡ false) i (p .over)
+            (λ c v. ap (inside c) (getD-ranges f l n i h) ∙ reaches-no _ _ a e c v);
       }
-    where
-      go : Dec (a ≤ l) → (c : ℕ) → a ≤ c → l < c
-      go (yes w) c u = absurd (clash (inside-make a f l p w) out)
-      go (no w) c u = omega arith
 
-  -- the range is empty
-  pub lower-empty : l < f → Lower a (spans f l) g g
-  lower-empty p = record { past = h; below = le-refl g; clear = λ c u v. go (decLe f c); which = inl refl }
-    where
-      go : {c : ℕ} → Dec (f ≤ c) → inside c (spans f l) ≡ false
-      go {c} (yes w) = inside-above c f l (omega arith)
-      go {c} (no w) = inside-below c f l (omega arith)
+  pub next-found : (i : ℕ) → i < n → Passed (ranges f l n) a i → (leb (getD f i 0) (getD l i 0) and leb a (getD l i 0)) ≡ true → Next f l n a i
+  next-found i h p e = record { most = omega arith; passed = p; reaches = λ u. reaches-yes _ _ a e }
 
-  pub lower-behind : g ≤ f → Lower a (spans f l) g g
-  lower-behind p = record { past = h; below = le-refl g; clear = λ c u v. inside-below c f l (omega arith); which = inl refl }
+  pub next-none : (i : ℕ) → i ≤ n → n ≤ i → Passed (ranges f l n) a i → Next f l n a i
+  next-none i g h p = record { most = g; passed = p; reaches = λ u. absurd (omega arith) }
 
-  pub lower-start : a < f → f ≤ l → f < g → Lower a (spans f l) g f
-  lower-start p q r =
+-- ---- what begins at a, where range i is the next
+
+pub ascends : (n : ℕ) (f : List ℕ) → Ascending 1 n f → (i d : ℕ) → i + d < n → getD f i 0 ≤ getD f (i + d) 0
+ascends n f w i zero h = rw (add-zero i) (le-refl (getD f i 0))
+ascends n f w i (suc d) h =
+    let u = ascends n f w i d (omega arith) in
+    let v = w (i + d) (omega arith) in
+    let e : i + suc d ≡ i + d + 1 = omega arith in
+    rw e (omega arith)
+
+module _ (f l : List ℕ) (n i a last : ℕ) (asc : Ascending 1 n f) (next : Next f l n a i) where
+  abbrev s : List Slot
+  s = ranges f l n
+
+  behind : (k : ℕ) → i ≤ k → k < n → getD f i 0 ≤ getD f k 0
+  behind k g h = let e : i + (k - i) ≡ k = omega arith in subst (λ (m : ℕ). getD f i 0 ≤ getD f m 0) e (ascends n f asc i (k - i) (omega arith))
+
+  -- free from a up to g, if no range from i on begins before g
+  clear : (g : ℕ) → a < g → g ≤ last + 1 → (i < n → g ≤ getD f i 0) → (g ≤ last → lies s g ≡ true) → Clear s a last g
+  clear g p q r t =
       record {
         past = p;
-        below = omega arith;
-        clear = λ c u v. inside-below c f l v;
-        which = inr (inside-make f f l (le-refl f) q);
+        end = q;
+        free = λ c u v. any-false (inside c) s vacant (λ k h. each c u v k (omega (arith, length-ranges f l n)) (decLt k i));
+        stop = t;
       }
+    where
+      each : (c : ℕ) → a ≤ c → c < g → (k : ℕ) → k < n → Dec (k < i) → inside c (getD s k vacant) ≡ false
+      each c u v k h (yes w) = next .passed .over k w c u
+      each c u v k h (no w) =
+          let z = behind k (omega arith) h in
+          let y = r (omega arith) in
+          ap (inside c) (getD-ranges f l n k h) ∙ inside-below c _ _ (omega arith)
 
--- ---- all ranges: g so far, of the first i
+  pub clear-none : a ≤ last → n ≤ i → Clear s a last (last + 1)
+  clear-none h g = clear (last + 1) (omega arith) (omega arith) (λ u. absurd (omega arith)) (λ u. absurd (omega arith))
 
-pub record Seen (s : List Slot) (a last g i : ℕ) : Type 0 where
-  pub past : a < g
-  pub end : g ≤ last + 1
-  pub clear : (k : ℕ) → k < i → (c : ℕ) → a ≤ c → c < g → inside c (getD s k vacant) ≡ false
-  pub stop : (g ≤ last → lies s g ≡ true)
+  pub clear-far : a ≤ last → last < getD f i 0 → Clear s a last (last + 1)
+  clear-far h g = clear (last + 1) (omega arith) (omega arith) (λ u. omega arith) (λ u. absurd (omega arith))
 
-pub seen-start : (s : List Slot) (a last : ℕ) → a ≤ last → Seen s a last (last + 1) 0
-seen-start s a last h =
-    record {
-      past = omega arith;
-      end = omega arith;
-      clear = λ k z. absurd (omega arith);
-      stop = λ z. absurd (omega arith);
-    }
+  module _ (h : i < n) where
+    holds : (b : ℕ) → inside b (spans (getD f i 0) (getD l i 0)) ≡ true → lies s b ≡ true
+    holds b e = any-make (inside b) s vacant i (omega (arith, length-ranges f l n)) (ap (inside b) (getD-ranges f l n i h) ∙ e)
 
-module _ (s : List Slot) (i f l : ℕ) (h : i < length s) (at : getD s i vacant ≡ spans f l) where
-  holds : (b : ℕ) → inside b (spans f l) ≡ true → lies s b ≡ true
-  holds b e = any-make (inside b) s vacant i h (ap (inside b) at ∙ e)
+    pub full : getD f i 0 ≤ a → Full s a (getD l i 0)
+    full g = record { from = next .reaches h .1; taken = λ c u v. holds c (inside-make c _ _ (omega arith) v) }
 
-  pub seen-more : {a last g r : ℕ} → Seen s a last g i → Lower a (spans f l) g r → Seen s a last r (i + 1)
-  seen-more {a} {last} {g} {r} p q =
-      record {
-        past = q .past;
-        end = omega (arith, q .below, p .end);
-        clear = below-more (λ (k : ℕ). (c : ℕ) → a ≤ c → c < r → inside c (getD s k vacant) ≡ false) i
-            (λ k z c u v. p .clear k z c u (omega (arith, q .below))) (λ c u v. ap (inside c) at ∙ q .clear c u v);
-        stop = λ z. ⊎-elim (λ w. subst (λ (x : ℕ). lies s x ≡ true) (sym w) (p .stop (omega (arith, w)))) (λ w. holds r w) (q .which);
-      }
-
-  pub seen-full : (a : ℕ) → inside a (spans f l) ≡ true → Full s a l
-  seen-full a e =
-      let w = inside-get a f l e in
-      let w0 = w .0 in
-      record { from = w .1; taken = λ c u v. holds c (inside-make c f l (omega arith) v) }
-
-pub seen-end : {s : List Slot} {a last g i : ℕ} → length s ≤ i → Seen s a last g i → Clear s a last g
-seen-end {s} {a} {last} {g} {i} h p =
-    record {
-      past = p .past;
-      end = p .end;
-      free = λ c u v. any-false (inside c) s vacant (λ k z. p .clear k (omega arith) c u v);
-      stop = p .stop;
-    }
+    pub clear-gap : a < getD f i 0 → getD f i 0 ≤ last → Clear s a last (getD f i 0)
+    clear-gap p q =
+        clear (getD f i 0) p (omega arith) (λ u. le-refl (getD f i 0)) (λ u. holds _ (inside-make _ _ _ (le-refl (getD f i 0)) (next .reaches h .0)))
 
 -- ---- the two answers
 

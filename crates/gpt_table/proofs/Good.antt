@@ -1,25 +1,32 @@
 -- Laws of the table's rules, over used entries decoded into numbers.
 use mathlib.Core.Path.{_≡_, refl, sym, ap, ap₂, subst, _∙_}
-use mathlib.Core.Logic.{_⊎_, inl, inr}
-use mathlib.Core.Bool.{Bool, true, false, not}
-use mathlib.Core.List.{List, [], _∷_, _++_}
-use Prim.Native.Nat.{ℕ, _+_, _*_, _≤_, _<_}
+use mathlib.Core.Logic.{_⊎_, inl, inr, ⊎-elim}
+use mathlib.Core.Bool.{Bool, true, false, not, _||_}
+use mathlib.Core.List.{List, [], _∷_, _++_, map}
+use Prim.Native.Nat.{ℕ, _+_, _-_, _*_, _≤_, _<_}
+use native.Mathlib.Nat.{zero-add}
+use native.Mathlib.Decide.{ℕ-discrete}
+use native.Mathlib.Numerals.{add-one}
 use native.Mathlib.Omega.{arith}
 use lib.Dec.{eqb, leb, ltb}
-use lib.ListN.{length, getD, set, take, drop}
-use lib.Seq.{set-out, take-add, drop-drop}
-use borrow.Author.Tests.{eqb-true, eq-eqb, ne-eqb, lt-leb, le-leb, lt-ltb, le-ltb}
+use lib.ListN.{length, getD, set, take, drop, length-map}
+use lib.Seq.{set-out, take-add, drop-drop, drop-cons}
+use borrow.Author.Tests.{leb-true, eqb-true, eq-eqb, ne-eqb, lt-leb, le-leb, lt-ltb, le-ltb}
 use Rattle.octets.specs.Tests.{_and_, _or_, all, pairs}
 use Rattle.octets.specs.Bytes.{unle, part, field, isZero, same}
 use Rattle.octets.proofs.Bools.{and-l, and-r, and-i, bool-cases, clash}
+use Rattle.octets.proofs.Tests.{pairs-get, pairs-make, all-get, all-make, all-done, getD-map}
 use Rattle.octets.proofs.Parts.{getD-part, part-part}
 use Rattle.octets.proofs.Equal.{same-true, same-refl, field-same}
 use Rattle.octets.proofs.Chunks.{chunk-part, length-chunk}
-use Rattle.gpt_model.specs.Table.{Slot, spans, bounded, apart, typeOf, uniqueOf, firstOf, lastOf, unused, entryOk, beside, entries, goodTable}
+use Rattle.gpt_model.specs.Table.{Slot, vacant, spans, slotOf, bounded, apart, typeOf, uniqueOf, firstOf, lastOf, unused, entryOk, beside, entries, goodTable}
 use Rattle.gpt_model.proofs.Entries.{slot-used, beside-make}
-use Rattle.gpt_table.specs.Decoded.{used, Decoded, Numbers}
+use Rattle.gpt_table.specs.Decoded.{used, Decoded, differ, Guids, ranges}
+use Rattle.gpt_table.specs.Sorted.{Reordered, Ascending, InOrder}
 use Rattle.gpt_table.proofs.Entries.{unused-is, length-entries}
-use Rattle.gpt_table.proofs.Used.{used-yes, used-no, used-each, low-at, high-at}
+use Rattle.gpt_table.proofs.Used.{used-yes, used-no, used-each, low-at, high-at, length-ranges, getD-ranges}
+use Rattle.gpt_table.proofs.Reorders.{eq-from, reordered-all, reordered-pairs}
+use Rattle.gpt_table.proofs.Ahead.{ascends}
 
 -- ---- one entry
 
@@ -60,6 +67,10 @@ module _ (first last : ℕ) (e : List ℕ) where
     unfolding _and_
     ok-range w z = ok-used ∙ rw (w, z)
 
+ok-bounded : (first last : ℕ) (e : List ℕ) → unused e ≡ false → entryOk first last e ≡ true → bounded first last (slotOf e) ≡ true
+unfolding entryOk _or_
+ok-bounded first last e u h = and-r _ _ (rw u at h)
+
 -- ---- two ranges, two GUIDs as numbers
 
 module _ (a b f l : ℕ) where
@@ -71,32 +82,46 @@ module _ (a b f l : ℕ) where
   unfolding apart _or_
   apart-behind h = rw (le-ltb b f h)
 
-module _ (x y u v : ℕ) where
-  pub differ-low : (x ≡ u → ⊥) → not (eqb x u and eqb y v) ≡ true
-  unfolding _and_
-  differ-low h = rw (ne-eqb x u h)
+-- ---- equal GUIDs counted: n of the elements before i
 
-  pub differ-high : x ≡ u → not (eqb x u and eqb y v) ≡ not (eqb y v)
+pub nots : (a b : Bool) → (not a || not b) ≡ not (a and b)
+unfolding _and_
+nots true true = refl
+nots true false = refl
+nots false b = refl
+
+none-sum : (n m : ℕ) → eqb (n + m) 0 ≡ (eqb n 0 and eqb m 0)
+unfolding _and_
+none-sum n m = go (ℕ-discrete n 0)
+  where
+    go : Dec (n ≡ 0) → eqb (n + m) 0 ≡ (eqb n 0 and eqb m 0)
+    go (yes e) = rw (e, zero-add m)
+    go (no e) = rw (ne-eqb n 0 e) (ne-eqb (n + m) 0 (λ q. e (omega arith)))
+
+and-join : (a b c : Bool) → (a and b and c) ≡ (a and (b and c))
+unfolding _and_
+and-join true b c = refl
+and-join false b c = refl
+
+module _ {A : Type 0} (p : A → Bool) (xs : List A) (n i : ℕ) where
+  pub none-on : (d : A) → i < length xs → (m : ℕ) → eqb m 0 ≡ p (getD xs i d) → (eqb (n + m) 0 and all p (drop (i + 1) xs)) ≡ (eqb n 0 and all p (drop i xs))
+  none-on d h m e =
+      ap (λ (b : Bool). b and all p (drop (i + 1) xs)) (none-sum n m) ∙ and-join _ _ _
+      ∙ ap (λ (b : Bool). eqb n 0 and b) (ap₂ (λ (b : Bool) (k : ℕ). b and all p (drop k xs)) e (add-one i) ∙ sym (ap (all p) (drop-cons xs i d h)))
+
+  pub none-done : length xs ≤ i → (eqb n 0 and all p (drop i xs)) ≡ eqb n 0
   unfolding _and_
-  differ-high h = rw (eq-eqb x u h)
+  none-done h = rw (all-done p xs i h) (go (eqb n 0))
+    where
+      go : (b : Bool) → (b and true) ≡ b
+      go true = refl
+      go false = refl
 
 -- ---- two entries
-
-beside-used : (e d : List ℕ) → unused e ≡ false → unused d ≡ false
-    → beside e d ≡ (not (same (uniqueOf e) (uniqueOf d)) and apart (spans (firstOf e) (lastOf e)) (spans (firstOf d) (lastOf d)))
-unfolding beside _or_
-beside-used e d p q =
-    rw (p, q) (ap₂ (λ (s t : Slot). not (same (uniqueOf e) (uniqueOf d)) and apart s t) (slot-used e p) (slot-used d q))
 
 halves : (e : List ℕ) → part 16 16 e ≡ part 16 8 e ++ part 24 8 e
 unfolding part
 halves e = take-add 8 8 (drop 16 e) ∙ ap (λ (r : List ℕ). take 8 (drop 16 e) ++ take 8 r) (drop-drop 8 16 e)
-
-eq-from : (a b : Bool) → (a ≡ true → b ≡ true) → (b ≡ true → a ≡ true) → a ≡ b
-eq-from true true f g = refl
-eq-from true false f g = sym (f refl)
-eq-from false true f g = g refl
-eq-from false false f g = refl
 
 module _ (e d : List ℕ) (le : length e ≡ 128) (ld : length d ≡ 128)
     (be : (j : ℕ) → j < 128 → getD e j 0 < 256) (bd : (j : ℕ) → j < 128 → getD d j 0 < 256) where
@@ -120,27 +145,39 @@ module _ (e d : List ℕ) (le : length e ≡ 128) (ld : length d ≡ 128)
           halves e ∙ ap₂ _++_ (same-half 16 (omega arith) (and-l _ _ h)) (same-half 24 (omega arith) (and-r _ _ h)) ∙ sym (halves d) in
           subst (λ (r : List ℕ). same (part 16 16 e) r ≡ true) q (same-refl (part 16 16 e))
 
--- ---- used entry i and used entry j, from the numbers
+-- ---- entry i and entry j, from the numbers
 
-module _ {es : List (List ℕ)} {f l u v : List ℕ} {n : ℕ} (w : Numbers es f l u v n) (i j : ℕ) (p : i < n) (q : j < n) where
-  pub beside-at : beside (getD es i []) (getD es j [])
-      ≡ (not (eqb (getD u i 0) (getD u j 0) and eqb (getD v i 0) (getD v j 0)) and apart (spans (getD f i 0) (getD l i 0)) (spans (getD f j 0) (getD l j 0)))
-  beside-at =
-      let e : List ℕ = getD es i [] in
-      let d : List ℕ = getD es j [] in
-      beside-used e d (w .each i p) (w .each j q)
-      ∙ ap (λ (b : Bool). not b and apart (spans (firstOf e) (lastOf e)) (spans (firstOf d) (lastOf d)))
-      (same-numbers e d (w .long i p) (w .long j q) (λ k h. w .bytes i k p h) (λ k h. w .bytes j k q h))
-      ∙ sym (rw (
-        low-at (w .blocks) i p,
-        high-at (w .blocks) i p,
-        low-at (w .blocks) j q,
-        high-at (w .blocks) j q,
-        low-at (w .guids) i p,
-        high-at (w .guids) i p,
-        low-at (w .guids) j q,
-        high-at (w .guids) j q,
-      ))
+module _ {es : List (List ℕ)} {u v : List ℕ} {n : ℕ} (w : Guids es u v n) (i j : ℕ) (p : i < n) (q : j < n) where
+  pub differ-at : differ (getD es i []) (getD es j []) ≡ not (eqb (getD u i 0) (getD u j 0) and eqb (getD v i 0) (getD v j 0))
+  differ-at =
+      ap not (same-numbers (getD es i []) (getD es j []) (w .long i p) (w .long j q) (λ k h. w .bytes i k p h) (λ k h. w .bytes j k q h))
+      ∙ sym (rw (low-at (w .halves) i p, high-at (w .halves) i p, low-at (w .halves) j q, high-at (w .halves) j q))
+
+-- ---- ranges in order
+
+module _ (f l : List ℕ) (n : ℕ) (asc : Ascending 1 n f) where
+  apart-at : (i j : ℕ) → i < j → j < n → getD l i 0 < getD f (i + 1) 0 → apart (getD (ranges f l n) i vacant) (getD (ranges f l n) j vacant) ≡ true
+  apart-at i j h k e =
+      let z = ascends n f asc (i + 1) (j - (i + 1)) (omega arith) in
+      let y : i + 1 + (j - (i + 1)) ≡ j = omega arith in
+      let x : getD f (i + 1) 0 ≤ getD f j 0 = subst (λ (m : ℕ). getD f (i + 1) 0 ≤ getD f m 0) y z in
+      ap₂ apart (getD-ranges f l n i (omega arith)) (getD-ranges f l n j k) ∙ apart-before _ _ _ _ (omega arith)
+
+  pub apart-all : ((k : ℕ) → k + 1 < n → getD l k 0 < getD f (k + 1) 0) → pairs apart (ranges f l n) ≡ true
+  apart-all g =
+      pairs-make apart (ranges f l n) vacant
+      (λ i j h k. let k' : j < n = omega (arith, length-ranges f l n) in apart-at i j h k' (g i (omega arith)))
+
+  pub apart-not : (i : ℕ) → i + 1 < n → getD f (i + 1) 0 ≤ getD l (i + 1) 0 → getD f (i + 1) 0 ≤ getD l i 0 → pairs apart (ranges f l n) ≡ false
+  apart-not i h own e = ⊎-elim (λ q. absurd (go q)) (λ q. q) (bool-cases (pairs apart (ranges f l n)))
+    where
+      not-apart : apart (getD (ranges f l n) i vacant) (getD (ranges f l n) (i + 1) vacant) ≡ false
+      not-apart =
+          let z = asc i h in
+          ap₂ apart (getD-ranges f l n i (omega arith)) (getD-ranges f l n (i + 1) h) ∙ apart-behind _ _ _ _ e ∙ le-ltb (getD l (i + 1) 0) (getD f i 0) (omega arith)
+
+      go : pairs apart (ranges f l n) ≡ true → ⊥
+      go q = clash (pairs-get apart (ranges f l n) vacant q i (i + 1) (omega arith) (omega (arith, length-ranges f l n))) not-apart
 
 -- ---- the whole table
 
@@ -172,19 +209,95 @@ pairs-used (e ∷ es) = go (bool-cases (unused e)) (pairs-used es)
     go (inl q) ih = ap (pairs beside) (used-no e es q) ∙ ih ∙ sym (rw (all-first e es q))
     go (inr q) ih = ap (pairs beside) (used-yes e es q) ∙ ap₂ _and_ (all-used e es) ih
 
+beside-both : (e d : List ℕ) → unused e ≡ false → unused d ≡ false → beside e d ≡ (differ e d and apart (slotOf e) (slotOf d))
+unfolding beside _or_
+beside-both e d p q = rw (p, q)
+
+-- of used entries: the GUIDs by themselves, the ranges by themselves
+module _ (es : List (List ℕ)) (each : (i : ℕ) → i < length es → unused (getD es i []) ≡ false) where
+  slot-at : (i : ℕ) → i < length es → getD (map slotOf es) i vacant ≡ slotOf (getD es i [])
+  slot-at i h = getD-map slotOf es i vacant [] h
+
+  at : (i j : ℕ) → i < j → j < length es
+      → beside (getD es i []) (getD es j []) ≡ (differ (getD es i []) (getD es j []) and apart (getD (map slotOf es) i vacant) (getD (map slotOf es) j vacant))
+  at i j h k =
+      beside-both _ _ (each i (omega arith)) (each j k)
+      ∙ ap (λ (b : Bool). differ (getD es i []) (getD es j []) and b) (sym (ap₂ apart (slot-at i (omega arith)) (slot-at j k)))
+
+  pairs-split : pairs beside es ≡ (pairs differ es and pairs apart (map slotOf es))
+  pairs-split = eq-from _ _ forth back
+    where
+      forth : pairs beside es ≡ true → (pairs differ es and pairs apart (map slotOf es)) ≡ true
+      forth h =
+          and-i _ _ (pairs-make differ es [] (λ i j p q. and-l _ _ (sym (at i j p q) ∙ pairs-get beside es [] h i j p q)))
+          (pairs-make apart (map slotOf es) vacant
+          (λ i j p q. let q' : j < length es = omega (arith, length-map es slotOf) in and-r _ _ (sym (at i j p q') ∙ pairs-get beside es [] h i j p q')))
+
+      back : (pairs differ es and pairs apart (map slotOf es)) ≡ true → pairs beside es ≡ true
+      back h =
+          pairs-make beside es []
+          (λ i j p q.
+          at i j p q
+          ∙ and-i _ _ (pairs-get differ es [] (and-l _ _ h) i j p q)
+          (pairs-get apart (map slotOf es) vacant (and-r _ _ h) i j p (omega (arith, length-map es slotOf))))
+
+all-in : (t : List ℕ) → set (entries t) 128 [] ≡ entries t
+all-in t = set-out (entries t) 128 [] (omega (arith, length-entries t))
+
+or-both : (a b : Bool) → (a or b) ≡ (b or a)
+unfolding _or_
+or-both true true = refl
+or-both true false = refl
+or-both false true = refl
+or-both false false = refl
+
+apart-both : (s u : Slot) → apart s u ≡ apart u s
+unfolding apart
+apart-both vacant vacant = refl
+apart-both vacant (spans g m) = refl
+apart-both (spans f l) vacant = refl
+apart-both (spans f l) (spans g m) = or-both (ltb l g) (ltb m f)
+
 module _ (first last : ℕ) (t : List ℕ) where
   pub good-not : all (entryOk first last) (entries t) ≡ false → goodTable first last t ≡ false
   unfolding goodTable _and_
   good-not h = rw h
 
-  pub good-pairs : all (entryOk first last) (entries t) ≡ true → pairs beside (used (entries t)) ≡ goodTable first last t
-  unfolding goodTable _and_
-  good-pairs h = pairs-used (entries t) ∙ sym (rw h)
+  module _ (ok : all (entryOk first last) (entries t) ≡ true) where
+    good-split : (pairs differ (used (entries t)) and pairs apart (map slotOf (used (entries t)))) ≡ goodTable first last t
+    unfolding goodTable _and_
+    good-split =
+        sym (pairs-split (used (entries t)) (λ i h. used-each (λ e. ℕ) (entries t) (λ j k. 0) i h .0)) ∙ pairs-used (entries t) ∙ sym (rw ok)
 
-all-in : (t : List ℕ) → set (entries t) 128 [] ≡ entries t
-all-in t = set-out (entries t) 128 [] (omega (arith, length-entries t))
+    all-bounded : all (bounded first last) (map slotOf (used (entries t))) ≡ true
+    all-bounded =
+        all-make (bounded first last) (map slotOf (used (entries t))) vacant
+        (λ i h.
+        let h' : i < length (used (entries t)) = omega (arith, length-map (used (entries t)) slotOf) in
+        let w = used-each (λ e. entryOk first last e ≡ true) (entries t) (λ j k. all-get (entryOk first last) (entries t) [] ok j k) i h' in
+        ap (bounded first last) (getD-map slotOf (used (entries t)) i vacant [] h') ∙ ok-bounded first last _ (w .0) (w .1))
 
--- two decodings of a table's used entries
+    pub good-guids : pairs differ (used (entries t)) ≡ false → goodTable first last t ≡ false
+    unfolding _and_
+    good-guids h = sym good-split ∙ rw h
+
+    module _ {f l : List ℕ} {n : ℕ} (w : InOrder (set (entries t) 128 []) f l n) where
+      same-ranges : Reordered (map slotOf (used (entries t))) (ranges f l n)
+      same-ranges = subst (λ (es : List (List ℕ)). Reordered (map slotOf (used es)) (ranges f l n)) (all-in t) (w .same)
+
+      pub good-ranges : pairs differ (used (entries t)) ≡ true → pairs apart (ranges f l n) ≡ goodTable first last t
+      unfolding _and_
+      good-ranges h = reordered-pairs apart apart-both same-ranges ∙ rw h at good-split
+
+      -- no range is empty
+      pub ranges-proper : (k : ℕ) → k < n → getD f k 0 ≤ getD l k 0
+      unfolding bounded
+      ranges-proper k h =
+          let b = subst (λ (s : Slot). bounded first last s ≡ true) (getD-ranges f l n k h)
+          (all-get (bounded first last) (ranges f l n) vacant (reordered-all (bounded first last) same-ranges all-bounded) k (omega (arith, length-ranges f l n))) in
+          leb-true _ _ (and-r _ _ (and-l _ _ b))
+
+-- a table's unique GUIDs decoded
 module _ (t : List ℕ) (size : length t ≡ 16384) (bytes : (j : ℕ) → getD t j 0 < 256) where
   entry-long : (i : ℕ) → i < 128 → length (getD (entries t) i []) ≡ 128
   entry-long i h = length-chunk 128 128 i t h size
@@ -194,19 +307,14 @@ module _ (t : List ℕ) (size : length t ≡ 16384) (bytes : (j : ℕ) → getD 
       subst (λ (e : List ℕ). getD e j 0 < 256) (sym (chunk-part 128 128 i t h))
       (subst (λ (b : ℕ). b < 256) (sym (getD-part t (i * 128) 128 j k)) (bytes (i * 128 + j)))
 
-  pub used-table : {f l u v : List ℕ} {n m : ℕ} → Decoded (used (set (entries t) 128 [])) 32 f l n → Decoded (used (set (entries t) 128 [])) 16 u v m
-      → Numbers (used (entries t)) f l u v n
-  used-table {f} {l} {u} {v} {n} {m} d' g' =
-      let d = subst (λ (es : List (List ℕ)). Decoded (used es) 32 f l n) (all-in t) d' in
-      let g = subst (λ (es : List (List ℕ)). Decoded (used es) 16 u v m) (all-in t) g' in
+  pub used-guids : {u v : List ℕ} {n : ℕ} → Decoded (used (set (entries t) 128 [])) 16 u v n → Guids (used (entries t)) u v n
+  used-guids {u} {v} {n} d' =
+      let d = subst (λ (es : List (List ℕ)). Decoded (used es) 16 u v n) (all-in t) d' in
       let c = d .count in
-      let c' = g .count in
       let both = used-each (λ e. (length e ≡ 128) × ((j : ℕ) → j < 128 → getD e j 0 < 256)) (entries t)
       (λ i h. (entry-long i (omega (arith, length-entries t)), λ j k. entry-bytes i j (omega (arith, length-entries t)) k)) in
       record {
-        blocks = d;
-        guids = subst (λ (k : ℕ). Decoded (used (entries t)) 16 u v k) (omega arith) g;
-        each = λ i h. both i (omega arith) .0;
+        halves = d;
         long = λ i h. both i (omega arith) .1 .0;
         bytes = λ i j h k. both i (omega arith) .1 .1 j k;
       }

@@ -1,6 +1,8 @@
 pub mod Entries
 pub mod Names
 pub mod Used
+pub mod Exchanges
+pub mod Reorders
 pub mod Ahead
 pub mod Walks
 pub mod Good

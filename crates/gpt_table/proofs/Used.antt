@@ -1,5 +1,5 @@
 -- Laws of used entries decoded into numbers.
-use mathlib.Core.Path.{_≡_, refl, sym, ap, ap₂, subst, fun-ext, _∙_}
+use mathlib.Core.Path.{_≡_, refl, sym, ap, ap₂, subst, _∙_}
 use mathlib.Core.Logic.{_⊎_, inl, inr}
 use mathlib.Core.Bool.{Bool, true, false, not}
 use mathlib.Core.List.{List, [], _∷_, _++_, map, append-nil}
@@ -8,14 +8,14 @@ use native.Mathlib.Nat.{not-suc-le-zero, le-of-suc-le-suc}
 use native.Mathlib.Numerals.{add-one}
 use native.Mathlib.Omega.{arith}
 use lib.ListN.{length, getD, set, take, drop, length-append, length-map, length-set, List·getD-map}
-use lib.Seq.{take-suc, take-suc-set, take-all, getD-take, ext-getD, set-out}
+use lib.Seq.{take-suc, take-suc-set, take-all, getD-take, ext-getD}
 use Rattle.octets.specs.Tests.{_or_}
 use Rattle.octets.specs.Bytes.{field}
 use Rattle.octets.proofs.Bools.{bool-cases}
-use Rattle.gpt_model.specs.Ranges.{inside, lies, free}
-use Rattle.gpt_model.specs.Table.{vacant, spans, unused, slotOf, entries, slots}
+use Rattle.gpt_model.specs.Ranges.{inside, lies}
+use Rattle.gpt_model.specs.Table.{vacant, spans, unused, slotOf, entries}
 use Rattle.gpt_model.proofs.Walk.{getD-map}
-use Rattle.gpt_model.proofs.Entries.{map-set, zero-unused, slot-unused, slot-used, length-slots}
+use Rattle.gpt_model.proofs.Entries.{zero-unused, slot-unused, slot-used}
 use Rattle.gpt_table.specs.Decoded.{used, Decoded, ranges}
 
 -- ---- the used ones of a list
@@ -77,8 +77,6 @@ column-more p es e x n v h q f =
 pub record Decoding (es : List (List ℕ)) (at : ℕ) (x y : List ℕ) (n i : ℕ) : Type 0 where
   pub turn : i ≤ 128
   pub fewer : n ≤ i
-  pub room-x : length x ≡ 128
-  pub room-y : length y ≡ 128
   pub so-far : Decoded (used (take i es)) at x y n
 
 pub decoding-start : (es : List (List ℕ)) (at : ℕ) (x y : List ℕ) → length x ≡ 128 → length y ≡ 128 → Decoding es at x y 0 0
@@ -86,9 +84,7 @@ decoding-start es at x y p q =
     record {
       turn = omega arith;
       fewer = omega arith;
-      room-x = p;
-      room-y = q;
-      so-far = record { most = omega arith; count = refl; low = refl; high = refl };
+      so-far = record { most = omega arith; count = refl; long-x = p; long-y = q; low = refl; high = refl };
     }
 
 module _ {es : List (List ℕ)} {at : ℕ} {x y : List ℕ} {n i : ℕ} (size : length es ≡ 128) (h : i < 128) (d : Decoding es at x y n i) where
@@ -97,8 +93,6 @@ module _ {es : List (List ℕ)} {at : ℕ} {x y : List ℕ} {n i : ℕ} (size : 
       record {
         turn = omega arith;
         fewer = omega (arith, d .fewer);
-        room-x = d .room-x;
-        room-y = d .room-y;
         so-far = subst (λ (l : List (List ℕ)). Decoded l at x y n) (sym (used-skip es i (omega arith) q)) (d .so-far);
       }
 
@@ -107,18 +101,18 @@ module _ {es : List (List ℕ)} {at : ℕ} {x y : List ℕ} {n i : ℕ} (size : 
   decoding-more {a} {b} q ea eb =
       let e : List ℕ = getD es i [] in
       let k : n < 128 = omega (arith, d .fewer) in
-      let r = d .room-x in
-      let s = d .room-y in
       let s' = d .so-far in
+      let r = s' .long-x in
+      let s = s' .long-y in
       record {
         turn = omega arith;
         fewer = omega (arith, d .fewer);
-        room-x = length-set x n a ∙ r;
-        room-y = length-set y n b ∙ s;
         so-far = subst (λ (l : List (List ℕ)). Decoded l at (set x n a) (set y n b) (n + 1)) (sym (used-more es i (omega arith) q))
             (record {
               most = omega arith;
               count = length-append (used (take i es)) (e ∷ []) ∙ omega (arith, s' .count);
+              long-x = length-set x n a ∙ r;
+              long-y = length-set y n b ∙ s;
               low = column-more (field at 8) (used (take i es)) e x n a (omega arith) ea (s' .low);
               high = column-more (field (at + 8) 8) (used (take i es)) e y n b (omega arith) eb (s' .high);
             });
@@ -157,10 +151,10 @@ getD-ranges f l zero i h = absurd (not-suc-le-zero h)
 getD-ranges f l (suc n) zero h = refl
 getD-ranges f l (suc n) (suc i) h = getD-ranges (drop 1 f) (drop 1 l) n i (le-of-suc-le-suc h) ∙ ap₂ spans (getD-tail f i) (getD-tail l i)
 
-slot-nil : slotOf [] ≡ vacant
+pub slot-nil : slotOf [] ≡ vacant
 slot-nil = slot-unused [] (zero-unused [] refl)
 
-ranges-slots : (es : List (List ℕ)) (f l : List ℕ) (n : ℕ) → Decoded es 32 f l n → ((i : ℕ) → i < n → unused (getD es i []) ≡ false)
+pub ranges-slots : (es : List (List ℕ)) (f l : List ℕ) (n : ℕ) → Decoded es 32 f l n → ((i : ℕ) → i < n → unused (getD es i []) ≡ false)
     → ranges f l n ≡ map slotOf es
 ranges-slots es f l n d u =
     let c = d .count in
@@ -176,7 +170,7 @@ inside-none : (b : ℕ) → inside b vacant ≡ false
 unfolding inside
 inside-none b = refl
 
-lies-used : (b : ℕ) (es : List (List ℕ)) → lies (map slotOf (used es)) b ≡ lies (map slotOf es) b
+pub lies-used : (b : ℕ) (es : List (List ℕ)) → lies (map slotOf (used es)) b ≡ lies (map slotOf es) b
 unfolding _or_
 lies-used b [] = refl
 lies-used b (e ∷ es) = go (bool-cases (unused e)) (lies-used b es)
@@ -185,17 +179,3 @@ lies-used b (e ∷ es) = go (bool-cases (unused e)) (lies-used b es)
         → lies (map slotOf (used (e ∷ es))) b ≡ (inside b (slotOf e) or lies (map slotOf es) b)
     go (inl q) ih = ap (λ (l : List (List ℕ)). lies (map slotOf l) b) (used-no e es q) ∙ ih ∙ sym (rw (slot-unused e q, inside-none b))
     go (inr q) ih = ap (λ (l : List (List ℕ)). lies (map slotOf l) b) (used-yes e es q) ∙ ap (λ (t : Bool). inside b (slotOf e) or t) ih
-
-free-ranges : (es : List (List ℕ)) {f l : List ℕ} {n : ℕ} → Decoded (used es) 32 f l n → free (ranges f l n) ≡ free (map slotOf es)
-free-ranges es {f} {l} {n} d =
-    let c = d .count in
-    ap free (ranges-slots (used es) f l n d (λ i h. used-each (λ e. ℕ) es (λ j k. 0) i (omega arith) .0)) ∙ fun-ext (λ b. ap not (lies-used b es))
-
--- the ranges leave the same blocks free as the table's slots, but slot `but`
-pub free-but : (t : List ℕ) (but : ℕ) {f l : List ℕ} {n : ℕ} → Decoded (used (set (entries t) but [])) 32 f l n
-    → free (ranges f l n) ≡ free (set (slots t) but vacant)
-free-but t but d =
-    free-ranges (set (entries t) but []) d ∙ ap free (map-set slotOf (entries t) but [] ∙ ap (set (slots t) but) slot-nil)
-
-pub free-all : (t : List ℕ) {f l : List ℕ} {n : ℕ} → Decoded (used (set (entries t) 128 [])) 32 f l n → free (ranges f l n) ≡ free (slots t)
-free-all t d = free-but t 128 d ∙ ap free (set-out (slots t) 128 vacant (omega (arith, length-slots t)))

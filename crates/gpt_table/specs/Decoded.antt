@@ -1,11 +1,11 @@
 -- Used entries decoded into numbers. Definitions only.
 use mathlib.Core.Path.{_≡_}
-use mathlib.Core.Bool.{true, false}
+use mathlib.Core.Bool.{Bool, true, false, not}
 use mathlib.Core.List.{List, [], _∷_, map}
 use Prim.Native.Nat.{ℕ, zero, suc, _+_, _≤_, _<_}
 use lib.ListN.{length, getD, take, drop}
-use Rattle.octets.specs.Bytes.{field}
-use Rattle.gpt_model.specs.Table.{Slot, spans, unused}
+use Rattle.octets.specs.Bytes.{field, same}
+use Rattle.gpt_model.specs.Table.{Slot, spans, uniqueOf, unused}
 
 -- the used ones of a list of entries, in their order
 abbrev pub used : List (List ℕ) → List (List ℕ)
@@ -16,6 +16,8 @@ used (e ∷ es) = elim (unused e) [ true ↦ used es | false ↦ e ∷ used es ]
 pub record Decoded (es : List (List ℕ)) (at : ℕ) (x y : List ℕ) (n : ℕ) : Type 0 where
   pub most : n ≤ 128
   pub count : length es ≡ n
+  pub long-x : length x ≡ 128
+  pub long-y : length y ≡ 128
   pub low : take n x ≡ map (field at 8) es
   pub high : take n y ≡ map (field (at + 8) 8) es
 
@@ -24,10 +26,12 @@ abbrev pub ranges : List ℕ → List ℕ → ℕ → List Slot
 ranges f l zero = []
 ranges f l (suc n) = spans (getD f 0 0) (getD l 0 0) ∷ ranges (drop 1 f) (drop 1 l) n
 
--- the n entries es are used ones of 128 bytes, f and l have their first and last blocks, u and v their unique GUIDs
-pub record Numbers (es : List (List ℕ)) (f l u v : List ℕ) (n : ℕ) : Type 0 where
-  pub blocks : Decoded es 32 f l n
-  pub guids : Decoded es 16 u v n
-  pub each : (i : ℕ) → i < n → unused (getD es i []) ≡ false
+-- D7: unique GUIDs differ
+abbrev pub differ : List ℕ → List ℕ → Bool
+differ e d = not (same (uniqueOf e) (uniqueOf d))
+
+-- the n entries es have 128 bytes each, u and v are the halves of their unique GUIDs
+pub record Guids (es : List (List ℕ)) (u v : List ℕ) (n : ℕ) : Type 0 where
+  pub halves : Decoded es 16 u v n
   pub long : (i : ℕ) → i < n → length (getD es i []) ≡ 128
   pub bytes : (i j : ℕ) → i < n → j < 128 → getD (getD es i []) j 0 < 256

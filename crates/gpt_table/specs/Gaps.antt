@@ -1,20 +1,24 @@
 -- What a look ahead from block a finds among the ranges s. Definitions only.
 use mathlib.Core.Path.{_≡_}
-use mathlib.Core.Logic.{_⊎_}
 use mathlib.Core.Bool.{true, false}
 use mathlib.Core.List.{List}
 use Prim.Native.Nat.{ℕ, _+_, _≤_, _<_}
+use lib.ListN.{getD}
 use Rattle.gpt_model.specs.Ranges.{inside, lies}
-use Rattle.gpt_model.specs.Table.{Slot}
+use Rattle.gpt_model.specs.Table.{Slot, vacant}
+use Rattle.gpt_table.specs.Decoded.{ranges}
 use Rattle.gpt_table.specs.declared.room.Ahead.{Ahead}
 use Rattle.gpt_table.specs.declared.room.Ahead.the-variants.{Taken, Gap}
 
--- r is the lower of g and the range's start behind a
-pub record Lower (a : ℕ) (s : Slot) (g r : ℕ) : Type 0 where
-  pub past : a < r
-  pub below : r ≤ g
-  pub clear : (c : ℕ) → a ≤ c → c < r → inside c s ≡ false
-  pub which : (r ≡ g) ⊎ (inside r s ≡ true)
+-- no range before range i has a block at a or behind it
+pub record Passed (s : List Slot) (a i : ℕ) : Type 0 where
+  pub over : (k : ℕ) → k < i → (c : ℕ) → a ≤ c → inside c (getD s k vacant) ≡ false
+
+-- range i of the n ranges f to l is the first that has a block at a or behind it; i is n where none has
+pub record Next (f l : List ℕ) (n a i : ℕ) : Type 0 where
+  pub most : i ≤ n
+  pub passed : Passed (ranges f l n) a i
+  pub reaches : (i < n → (getD f i 0 ≤ getD l i 0) × (a ≤ getD l i 0))
 
 -- all blocks from a to x lie in ranges
 pub record Full (s : List Slot) (a x : ℕ) : Type 0 where

@@ -1,3 +1,4 @@
 pub mod Decoded
 pub mod Answers
 pub mod Gaps
+pub mod Sorted

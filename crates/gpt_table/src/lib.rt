@@ -1,5 +1,6 @@
 // The judges over the 16,384 entry bytes of a GPT table: reading entries here, room for partitions in `room`, the table's rules in `rules`.
 // An inner crate: no user calls it, so its functions may have a `requires`, which each caller meets.
+pub mod order;
 pub mod room;
 pub mod rules;
 
@@ -20,12 +21,12 @@ const SLOTS: usize = 128;
 
 const ENTRY_BYTES: usize = 128;
 
-// Where an entry has its unique GUID, behind the type GUID, and its first and last block.
-const UNIQUE_AT: usize = 16;
+// Where an entry has its unique GUID, behind the type GUID, and its first and last block (D5).
+pub const UNIQUE_AT: usize = 16;
 
-const FIRST_AT: usize = 32;
+pub const FIRST_AT: usize = 32;
 
-const LAST_AT: usize = 40;
+pub const LAST_AT: usize = 40;
 
 // The 128 bytes of entry i, counted from 0.
 pub fn entry<'a>(t: &'a [u8], i: usize) -> &'a [u8]

@@ -1,17 +1,20 @@
-// Room for partitions: one walk from gap to gap over the ranges decoded once. No sum of a block and a size is formed, so no size is too large.
+// Room for partitions: one walk from gap to gap over the ranges in order. No sum of a block and a size is formed, so no size is too large.
 use crate::Block;
 use crate::FIRST_AT;
 use crate::SLOTS;
+use crate::order;
 ghost use mathlib.Core.Path.{_≡_};
-ghost use mathlib.Core.Bool.{false};
-ghost use Prim.Native.Nat.{ℕ, _+_, _-_, _≤_, _<_, max};
+ghost use Prim.Native.Nat.{ℕ, _≤_, _<_, max};
+ghost use lib.Dec.{leb};
 ghost use lib.ListN.{length};
-ghost use Rattle.gpt_model.specs.Ranges.{inside as insideOf, roomAt, place};
-ghost use Rattle.gpt_model.specs.Table.{spans, slotCount, tableBytes, slots};
+ghost use Rattle.octets.specs.Tests.{_and_};
+ghost use Rattle.gpt_model.specs.Ranges.{roomAt, place};
+ghost use Rattle.gpt_model.specs.Table.{slotCount, tableBytes, slots};
 ghost use Rattle.gpt_model.specs.Calls.{fitsAt};
 ghost use Rattle.gpt_table.specs.Decoded.{ranges};
 ghost use Rattle.gpt_table.specs.Answers.{placed, freeOf};
-ghost use Rattle.gpt_table.specs.Gaps.{Lower, Stands};
+ghost use Rattle.gpt_table.specs.Gaps.{Passed, Next, Stands};
+ghost use Rattle.gpt_table.specs.Sorted.{Ascending};
 
 // Where a partition can start.
 pub enum Place {
@@ -31,48 +34,53 @@ enum Ahead {
     Gap(u64),
 }
 
-// The range f to l holds block b.
-fn inside(b: u64, f: u64, l: u64) -> bool
-    ensures { λ r. ⌜ r ≡ insideOf b (spans f l) ⌝ }
+// The range f to l has a block at a or behind it.
+fn reaches(f: u64, l: u64, a: u64) -> bool
+    ensures { λ r. ⌜ r ≡ (leb f l and leb a l) ⌝ }
 {
-    if b < f {
+    if l < f {
         return false;
     }
-    b <= l
+    a <= l
 }
 
-// The lower of g and the start of the range f to l, where that has a block behind a.
-fn lower(a: u64, f: u64, l: u64, g: u64) -> u64
-    requires { ⌜ (insideOf a (spans f l) ≡ false) × (a < g) ⌝ }
-    ensures { λ r. ⌜ Lower a (spans f l) g r ⌝ }
+// The first range, from range i on, that has a block at a or behind it.
+fn next(firsts: &[u64; SLOTS], lasts: &[u64; SLOTS], count: usize, i: usize, a: u64) -> usize
+    requires { ⌜ (i ≤ count) × (count ≤ slotCount) × Passed (ranges (now firsts) (now lasts) count) a i ⌝ }
+    ensures { λ r. ⌜ Next (now (firsts .entry)) (now (lasts .entry)) count a r ⌝ }
 {
-    if f <= a {
-        return g;
+    let mut j = i;
+    while j < count {
+        if reaches(firsts[j], lasts[j], a) {
+            return j;
+        }
+        j += 1;
     }
-    if l < f {
-        return g;
-    }
-    if g <= f {
-        return g;
-    }
-    f
+    j
 }
 
-// What begins at block a.
-fn look(firsts: &[u64; SLOTS], lasts: &[u64; SLOTS], count: usize, a: u64, last: u64) -> Ahead
-    requires { ⌜ (count ≤ slotCount) × (a ≤ last) × (last < 18446744073709551615) ⌝ }
+// What begins at block a, where range i is the next.
+fn look(
+    firsts: &[u64; SLOTS],
+    lasts: &[u64; SLOTS],
+    count: usize,
+    i: usize,
+    a: u64,
+    last: u64,
+) -> Ahead
+    requires { ⌜ (count ≤ slotCount) × Ascending 1 count (now firsts) × Next (now firsts) (now lasts) count a i × (a ≤ last) × (last < 18446744073709551615) ⌝ }
     ensures { λ r. ⌜ Stands (ranges (now (firsts .entry)) (now (lasts .entry)) count) a last r ⌝ }
 {
-    let mut g = last + 1;
-    let mut i = 0;
-    while i < count {
-        if inside(a, firsts[i], lasts[i]) {
-            return Ahead::Taken(lasts[i]);
-        }
-        g = lower(a, firsts[i], lasts[i], g);
-        i += 1;
+    if i == count {
+        return Ahead::Gap(last + 1);
     }
-    Ahead::Gap(g)
+    if firsts[i] <= a {
+        return Ahead::Taken(lasts[i]);
+    }
+    if last < firsts[i] {
+        return Ahead::Gap(last + 1);
+    }
+    Ahead::Gap(firsts[i])
 }
 
 // From gap to gap, up to one that is long enough.
@@ -84,12 +92,14 @@ fn search(
     last: u64,
     size: u64,
 ) -> Place
-    requires { ⌜ (count ≤ slotCount) × (0 < size) × (last < 18446744073709551615) ⌝ }
+    requires { ⌜ (count ≤ slotCount) × (0 < size) × (last < 18446744073709551615) × Ascending 1 count (now firsts) ⌝ }
     ensures { λ r. ⌜ placed r ≡ place (ranges (now (firsts .entry)) (now (lasts .entry)) count) first last size ⌝ }
 {
     let mut a = first;
+    let mut i = 0;
     while a <= last {
-        match look(firsts, lasts, count, a, last) {
+        i = next(firsts, lasts, count, i, a);
+        match look(firsts, lasts, count, i, a, last) {
             Ahead::Taken(x) => {
                 if last <= x {
                     return Place::None;
@@ -114,7 +124,7 @@ pub fn lowest(t: &[u8], first: Block, last: Block, size: u64) -> Place
 {
     let mut firsts = [0u64; SLOTS];
     let mut lasts = [0u64; SLOTS];
-    let count = crate::decode(t, SLOTS, FIRST_AT, &mut firsts, &mut lasts);
+    let count = order::ranges(t, SLOTS, &mut firsts, &mut lasts);
     search(&firsts, &lasts, count, first.0, last.0, size)
 }
 
@@ -129,14 +139,16 @@ fn larger(x: u64, y: u64) -> u64
 
 // From gap to gap, each counted.
 fn tally(firsts: &[u64; SLOTS], lasts: &[u64; SLOTS], count: usize, first: u64, last: u64) -> Free
-    requires { ⌜ (count ≤ slotCount) × (last < 18446744073709551615) ⌝ }
+    requires { ⌜ (count ≤ slotCount) × (last < 18446744073709551615) × Ascending 1 count (now firsts) ⌝ }
     ensures { λ r. ⌜ r ≡ freeOf (ranges (now (firsts .entry)) (now (lasts .entry)) count) first last ⌝ }
 {
     let mut a = first;
+    let mut i = 0;
     let mut blocks: u64 = 0;
     let mut longest: u64 = 0;
     while a <= last {
-        match look(firsts, lasts, count, a, last) {
+        i = next(firsts, lasts, count, i, a);
+        match look(firsts, lasts, count, i, a, last) {
             Ahead::Taken(x) => {
                 if last <= x {
                     return Free { blocks, longest };
@@ -159,7 +171,7 @@ pub fn free_counts(t: &[u8], first: Block, last: Block) -> Free
 {
     let mut firsts = [0u64; SLOTS];
     let mut lasts = [0u64; SLOTS];
-    let count = crate::decode(t, SLOTS, FIRST_AT, &mut firsts, &mut lasts);
+    let count = order::ranges(t, SLOTS, &mut firsts, &mut lasts);
     tally(&firsts, &lasts, count, first.0, last.0)
 }
 
@@ -171,13 +183,14 @@ fn room_at(
     last: u64,
     size: u64,
 ) -> bool
-    requires { ⌜ (count ≤ slotCount) × (0 < size) × (last < 18446744073709551615) ⌝ }
+    requires { ⌜ (count ≤ slotCount) × (0 < size) × (last < 18446744073709551615) × Ascending 1 count (now firsts) ⌝ }
     ensures { λ r. ⌜ r ≡ roomAt (ranges (now (firsts .entry)) (now (lasts .entry)) count) last size a ⌝ }
 {
     if last < a {
         return false;
     }
-    match look(firsts, lasts, count, a, last) {
+    let i = next(firsts, lasts, count, 0, a);
+    match look(firsts, lasts, count, i, a, last) {
         Ahead::Taken(_) => false,
         Ahead::Gap(g) => size <= g - a,
     }
@@ -192,6 +205,6 @@ pub fn fits_at(t: &[u8], k: usize, last: Block, size: u64) -> bool
     let a = octets::load64(crate::entry(t, i), FIRST_AT);
     let mut firsts = [0u64; SLOTS];
     let mut lasts = [0u64; SLOTS];
-    let count = crate::decode(t, i, FIRST_AT, &mut firsts, &mut lasts);
+    let count = order::ranges(t, i, &mut firsts, &mut lasts);
     room_at(&firsts, &lasts, count, a, last.0, size)
 }

@@ -1,9 +1,10 @@
-// The rules of a table: of each entry by itself, then of each two used entries, on numbers decoded once.
+// The rules of a table: of each entry by itself, then of each two used entries, on numbers decoded once and on ranges in order.
 use crate::Block;
 use crate::FIRST_AT;
 use crate::LAST_AT;
 use crate::SLOTS;
 use crate::UNIQUE_AT;
+use crate::order;
 ghost use mathlib.Core.Path.{_≡_};
 ghost use mathlib.Core.Bool.{not};
 ghost use mathlib.Core.List.{List, []};
@@ -11,8 +12,9 @@ ghost use Prim.Native.Nat.{ℕ, _+_, _≤_, _<_};
 ghost use lib.Dec.{eqb};
 ghost use lib.ListN.{length, getD, drop};
 ghost use Rattle.octets.specs.Tests.{_and_, all, pairs};
-ghost use Rattle.gpt_model.specs.Table.{spans, bounded as boundedIn, apart as apartOf, entryBytes, slotCount, tableBytes, entries, entryOk, beside as besideOf, goodTable};
-ghost use Rattle.gpt_table.specs.Decoded.{Numbers};
+ghost use Rattle.gpt_model.specs.Table.{spans, bounded as boundedIn, apart, entryBytes, slotCount, tableBytes, entries, entryOk, goodTable};
+ghost use Rattle.gpt_table.specs.Decoded.{differ, Guids, ranges};
+ghost use Rattle.gpt_table.specs.Sorted.{Ascending};
 
 fn bounded(f: u64, l: u64, first: u64, last: u64) -> bool
     ensures { λ r. ⌜ r ≡ boundedIn first last (spans f l) ⌝ }
@@ -61,76 +63,55 @@ fn entries_ok(t: &[u8], first: u64, last: u64) -> bool
     true
 }
 
-// The ranges a to b and f to l share no block.
-fn apart(a: u64, b: u64, f: u64, l: u64) -> bool
-    ensures { λ r. ⌜ r ≡ apartOf (spans a b) (spans f l) ⌝ }
+// 0 where two unique GUIDs, as two numbers each, differ, else 1.
+fn same(x: u64, y: u64, u: u64, v: u64) -> u64
+    ensures { λ r. ⌜ (eqb r 0 ≡ not (eqb x u and eqb y v)) × (r ≤ 1) ⌝ }
 {
-    if b < f {
-        return true;
+    if (x != u) | (y != v) {
+        return 0;
     }
-    l < a
+    1
 }
 
-// Two unique GUIDs, as two numbers each, differ.
-fn differ(x: u64, y: u64, u: u64, v: u64) -> bool
-    ensures { λ r. ⌜ r ≡ not (eqb x u and eqb y v) ⌝ }
-{
-    if x != u {
-        return true;
-    }
-    y != v
-}
-
-// The rules of two used entries: the range a to b with the GUID x, y, and f to l with u, v.
-fn beside(a: u64, b: u64, x: u64, y: u64, f: u64, l: u64, u: u64, v: u64) -> bool
-    ensures { λ r. ⌜ r ≡ (not (eqb x u and eqb y v) and apartOf (spans a b) (spans f l)) ⌝ }
-{
-    if !differ(x, y, u, v) {
-        return false;
-    }
-    apart(a, b, f, l)
-}
-
-// The used entry i keeps the rules with each used entry behind it; lows and highs are the halves of the unique GUIDs.
-fn beside_rest(
-    firsts: &[u64; SLOTS],
-    lasts: &[u64; SLOTS],
-    lows: &[u64; SLOTS],
-    highs: &[u64; SLOTS],
-    count: usize,
-    i: usize,
-) -> bool
+// GUID i differs from each behind it; lows and highs are the halves of the GUIDs. Those that are the same are counted: with no way out of the loop, two are
+// compared at once.
+fn differs_from_rest(lows: &[u64; SLOTS], highs: &[u64; SLOTS], count: usize, i: usize) -> bool
     requires { ⌜ (i < count) × (count ≤ slotCount) ⌝ }
-    ensures { λ r. ⌜ ((es : List (List ℕ)) → Numbers es (now (firsts .entry)) (now (lasts .entry)) (now (lows .entry)) (now (highs .entry)) count
-        → r ≡ all (besideOf (getD es i [])) (drop (i + 1) es)) ⌝ }
+    ensures { λ r. ⌜ ((es : List (List ℕ)) → Guids es (now (lows .entry)) (now (highs .entry)) count → r ≡ all (differ (getD es i [])) (drop (i + 1) es)) ⌝ }
 {
-    let a = firsts[i];
-    let b = lasts[i];
     let x = lows[i];
     let y = highs[i];
+    let mut found: u64 = 0;
     let mut j = i + 1;
     while j < count {
-        if !beside(a, b, x, y, firsts[j], lasts[j], lows[j], highs[j]) {
+        found += same(x, y, lows[j], highs[j]);
+        j += 1;
+    }
+    found == 0
+}
+
+fn guids_differ(lows: &[u64; SLOTS], highs: &[u64; SLOTS], count: usize) -> bool
+    requires { ⌜ count ≤ slotCount ⌝ }
+    ensures { λ r. ⌜ ((es : List (List ℕ)) → Guids es (now (lows .entry)) (now (highs .entry)) count → r ≡ pairs differ es) ⌝ }
+{
+    let mut i = 0;
+    while i < count {
+        if !differs_from_rest(lows, highs, count, i) {
             return false;
         }
-        j += 1;
+        i += 1;
     }
     true
 }
 
-fn pairs_ok(
-    firsts: &[u64; SLOTS],
-    lasts: &[u64; SLOTS],
-    lows: &[u64; SLOTS],
-    highs: &[u64; SLOTS],
-    count: usize,
-) -> bool
-    requires { ⌜ count ≤ slotCount ⌝ }
-    ensures { λ r. ⌜ ((es : List (List ℕ)) → Numbers es (now (firsts .entry)) (now (lasts .entry)) (now (lows .entry)) (now (highs .entry)) count → r ≡ pairs besideOf es) ⌝ }
+// Ranges in order share no block: each begins behind the one before it.
+fn ranges_apart(firsts: &[u64; SLOTS], lasts: &[u64; SLOTS], count: usize) -> bool
+    requires { ⌜ (count ≤ slotCount) × Ascending 1 count (now firsts) × ((k : ℕ) → k < count → getD (now firsts) k 0 ≤ getD (now lasts) k 0) ⌝ }
+    ensures { λ r. ⌜ r ≡ pairs apart (ranges (now (firsts .entry)) (now (lasts .entry)) count) ⌝ }
 {
     let mut i = 0;
-    while i < count {
-        if !beside_rest(firsts, lasts, lows, highs, count, i) {
+    while i + 1 < count {
+        if firsts[i + 1] <= lasts[i] {
             return false;
         }
         i += 1;
@@ -146,11 +127,14 @@ pub fn table_ok(t: &[u8], first: Block, last: Block) -> bool
     if !entries_ok(t, first.0, last.0) {
         return false;
     }
-    let mut firsts = [0u64; SLOTS];
-    let mut lasts = [0u64; SLOTS];
     let mut lows = [0u64; SLOTS];
     let mut highs = [0u64; SLOTS];
-    let count = crate::decode(t, SLOTS, FIRST_AT, &mut firsts, &mut lasts);
-    crate::decode(t, SLOTS, UNIQUE_AT, &mut lows, &mut highs);
-    pairs_ok(&firsts, &lasts, &lows, &highs, count)
+    let guids = crate::decode(t, SLOTS, UNIQUE_AT, &mut lows, &mut highs);
+    if !guids_differ(&lows, &highs, guids) {
+        return false;
+    }
+    let mut firsts = [0u64; SLOTS];
+    let mut lasts = [0u64; SLOTS];
+    let count = order::ranges(t, SLOTS, &mut firsts, &mut lasts);
+    ranges_apart(&firsts, &lasts, count)
 }

@@ -23,9 +23,40 @@ impl Disk {
         for partition in 1..=partitions {
             assert_eq!(disk.add(partition, 3), 0);
         }
-        for slot in 1..=u64::from(partitions) {
-            assert_eq!(raw::gpt_resize(&mut disk.head, &mut disk.tail, N, slot, 2), 0);
+        disk.shorten(partitions);
+        disk
+    }
+
+    /// The same, but each partition before the one of the slot before it; only slot 1 has the lowest.
+    pub fn with_gaps_descending(partitions: u8) -> Disk {
+        let mut disk = Disk { head: vec![0; 17_408], tail: vec![0; 16_896] };
+        assert_eq!(raw::gpt_format(&mut disk.head, &mut disk.tail, N, &[1; 16]), 0);
+        for partition in 2..=partitions {
+            // Slot 1 takes all before the place, and gives it back.
+            assert_eq!(disk.add(1, 3 * u64::from(partitions - partition + 1)), 0);
+            assert_eq!(disk.add(partition, 3), 0);
+            assert_eq!(raw::gpt_delete(&mut disk.head, &mut disk.tail, N, 1), 0);
         }
+        assert_eq!(disk.add(1, 3), 0);
+        disk.shorten(partitions);
+        disk
+    }
+
+    /// Takes the last of its three blocks from each partition.
+    fn shorten(&mut self, partitions: u8) {
+        for slot in 1..=u64::from(partitions) {
+            assert_eq!(raw::gpt_resize(&mut self.head, &mut self.tail, N, slot, 2), 0);
+        }
+    }
+
+    /// The disk with another name of the last partition in its tail: both copies good but different.
+    pub fn with_another_tail(&self) -> Disk {
+        let mut other = self.clone();
+        let mut name = NAME;
+        name[0] = 1;
+        assert_eq!(raw::gpt_rename(&mut other.head, &mut other.tail, N, 128, &name), 0);
+        let disk = Disk { head: self.head.clone(), tail: other.tail };
+        assert_eq!(disk.read(), 2);
         disk
     }
 

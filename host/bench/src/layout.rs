@@ -90,7 +90,6 @@ fn text() -> String {
 
 /// A row for a text of 16 and of 32 KiB, with the one of 8 KiB as its unit, for two ways to grow: 128 sections with
 /// longer comments, and more sections. Linear is twice and four times as long.
-#[cfg(feature = "fmd")]
 pub fn growing() -> Vec<(&'static str, f64, &'static [u8], &'static [u8])> {
     let longer = |kib: usize| long_text(SECTIONS, kib * 1024);
     let more = |kib: usize| long_text(4 * kib, kib * 1024);
@@ -103,7 +102,6 @@ pub fn growing() -> Vec<(&'static str, f64, &'static [u8], &'static [u8])> {
 }
 
 /// So many sections in exactly so many bytes.
-#[cfg(feature = "fmd")]
 fn long_text(sections: usize, len: usize) -> &'static [u8] {
     let each = (len - 40) / sections;
     let mut text = b"CHIP 64K{FMAP 8K\n".to_vec();
@@ -119,7 +117,6 @@ fn long_text(sections: usize, len: usize) -> &'static [u8] {
     text.leak()
 }
 
-#[cfg(feature = "fmd")]
 pub fn read(text: &[u8]) -> u64 {
     let (mut name, mut size, mut address, mut count) = ([0; 32], 0, 0, 0);
     let refusal = usigrambal::raw::fmd_read(text, &mut name, &mut size, &mut address, &mut count);

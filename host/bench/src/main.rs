@@ -1,7 +1,9 @@
 //! Prints the speed of the library beside that of its peers.
 
 mod check;
+mod clock;
 mod disk;
+mod flash;
 mod layout;
 mod ours;
 mod peers;
@@ -22,24 +24,21 @@ const OCTETS_SIZES: [usize; 4] = [16, 128, 16 << 10, 1 << 20];
 fn main() {
     CRC_SIZES.into_iter().for_each(check::crc);
     OCTETS_SIZES.into_iter().for_each(check::octets);
-    let (full, room) = (Disk::with_gaps(128), Disk::with_gaps(127));
+    let disks = Disks::new();
     let programs = Programs::ready();
     let mut table = Table::default();
     CRC_SIZES.into_iter().for_each(|size| crc_rows(&mut table, size));
     OCTETS_SIZES.into_iter().for_each(|size| octets_rows(&mut table, size));
-    gpt_rows(&mut table, &full, &room);
+    gpt_rows(&mut table, &disks);
+    flash::rows(&mut table);
     fmd_rows(&mut table, programs.as_ref().ok());
     table.measure();
     table.print();
-    println!();
     table.print_units();
-    println!();
     table.print_times();
     if let Err(why) = &programs {
         println!("{why}");
     }
-    #[cfg(not(feature = "fmd"))]
-    println!("skipped: fmd: read (feature fmd is off)");
 }
 
 fn crc_rows(t: &mut Table, size: usize) {
@@ -69,23 +68,43 @@ fn octets_rows(t: &mut Table, size: usize) {
     );
 }
 
-/// Both copies the same (state 1), a gap behind each partition: 128 partitions, and 127 with room for one more behind the last gap.
-/// Not timed here: state 2 with two full tables, where each copy is judged by itself.
-fn gpt_rows<'a>(t: &mut Table<'a>, full: &'a Disk, room: &'a Disk) {
-    let unit = || of(work::bytes(16 << 10), peers::zlib_crc32);
-    t.units("gpt: read, 128 partitions", 6.0, || full.read(), unit());
+/// A gap behind each partition: 128 partitions, in the slots' order and against it; and 127 with room for one more behind the last gap.
+struct Disks {
+    full: Disk,
+    descending: Disk,
+    room: Disk,
+    /// The first two with two good copies that differ, so that each table is judged by itself (state 2).
+    differ: Disk,
+    descending_differ: Disk,
+}
+
+impl Disks {
+    fn new() -> Disks {
+        let (full, descending) = (Disk::with_gaps(128), Disk::with_gaps_descending(128));
+        let (differ, descending_differ) = (full.with_another_tail(), descending.with_another_tail());
+        Disks { full, descending, room: Disk::with_gaps(127), differ, descending_differ }
+    }
+}
+
+fn gpt_rows<'a>(t: &mut Table<'a>, disks: &'a Disks) {
+    let unit = || ("zlib's crc32 over 16 KiB", of(work::bytes(16 << 10), peers::zlib_crc32));
+    let Disks { full, descending, room, differ, descending_differ } = disks;
+    t.units(("gpt: read, 128 partitions", 6.0), || full.read(), unit());
+    t.units(("gpt: read, 128 in descending order", 6.0), || descending.read(), unit());
+    t.units(("gpt: read, 128, copies differ", 6.0), || differ.read(), unit());
+    t.units(("gpt: read, 128 descending, copies differ", 6.0), || descending_differ.read(), unit());
     let mut copy = room.clone();
-    t.units("gpt: add, 127 partitions", 14.0, move || room.add_to(&mut copy), unit());
-    t.units("gpt: free counts, 128 partitions", 14.0, || full.free(), unit());
+    t.units(("gpt: add, 127 partitions", 14.0), move || room.add_to(&mut copy), unit());
+    t.units(("gpt: free counts, 128 partitions", 14.0), || full.free(), unit());
+    t.units(("gpt: free counts, 128, copies differ", 14.0), || differ.free(), unit());
 }
 
 /// A layout of 128 sections in two processes, and texts of one shape and of growing length.
 fn fmd_rows<'a>(t: &mut Table<'a>, programs: Option<&'a Programs>) {
     if let Some(programs) = programs {
-        t.times("fmd_list / fmaptool, 128 sections", 1.0, || programs.list(), || programs.compile());
+        t.times(("fmd_list / fmaptool, 128 sections", 1.0), || programs.list(), || programs.compile());
     }
-    #[cfg(feature = "fmd")]
     for (what, most, text, unit) in layout::growing() {
-        t.times(what, most, of(text, layout::read), of(unit, layout::read));
+        t.times((what, most), of(text, layout::read), of(unit, layout::read));
     }
 }

@@ -1,10 +1,11 @@
 //! What ours is measured beside. Each is a call of its own, never inlined, on pointers and lengths and
 //! with guards, as ours is, so that the work alone differs.
 
-use std::ffi::{c_uint, c_ulong};
+use std::ffi::{c_uint, c_ulong, c_void};
 
 extern "C" {
     fn crc32(crc: c_ulong, buf: *const u8, len: c_uint) -> c_ulong;
+    fn memmem(s: *const c_void, len: usize, part: *const c_void, part_len: usize) -> *const c_void;
 }
 
 /// zlib's CRC-32.
@@ -96,4 +97,12 @@ pub fn memcpy_copy(dst: &mut [u8], src: &[u8]) -> u32 {
 pub fn memset_fill(s: &mut [u8], v: u8) -> u32 {
     s.fill(v);
     0
+}
+
+/// The C library's search for the eight signature bytes; where they stand.
+pub fn memmem_signature(image: &[u8]) -> Option<usize> {
+    let signature = b"__FMAP__";
+    let found =
+        unsafe { memmem(image.as_ptr().cast(), image.len(), signature.as_ptr().cast(), signature.len()) };
+    (!found.is_null()).then(|| found as usize - image.as_ptr() as usize)
 }

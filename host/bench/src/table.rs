@@ -1,10 +1,13 @@
 //! The ratio table: every row is measured in one run, ours and the peer in turn, best of several.
 
-use std::time::{Duration, Instant};
+use crate::clock;
 
 const ROUNDS: usize = 15;
-/// One timing lasts at least so long, so that the clock's step does not count.
-const TIMING: Duration = Duration::from_millis(2);
+/// One timing lasts at least so many seconds, so that the clock's step does not count.
+const TIMING: f64 = 0.002;
+
+/// Seconds since some moment.
+type Clock = fn() -> f64;
 
 /// Does the work of a row so many times.
 type Work<'a> = Box<dyn FnMut(u64) + 'a>;
@@ -12,26 +15,28 @@ type Work<'a> = Box<dyn FnMut(u64) + 'a>;
 struct Side<'a> {
     work: Work<'a>,
     repeats: u64,
+    clock: Clock,
     /// Seconds for one repeat, the best so far.
     best: f64,
 }
 
-/// How a row is told.
-#[derive(Clone, Copy, PartialEq)]
-enum Told {
-    /// As the speed of both on so many bytes.
-    Speed(usize),
-    /// In units: the peer is the unit, and ours may take at most so many.
-    Units(f64),
-    /// As the time of both; ours may take at most so many times as long as the peer.
-    Times(f64),
-}
-
 struct Row<'a> {
     what: &'static str,
-    told: Told,
+    size: usize,
+    shown: Shown,
     ours: Side<'a>,
     peer: Side<'a>,
+}
+
+/// What a row shows of the two times.
+#[derive(Clone, Copy, PartialEq)]
+enum Shown {
+    /// Speeds on `size` bytes; ours should have at least this part of the peer's.
+    Speed(Option<f64>),
+    /// How many units ours takes, where the peer is the unit; it may take at most so many.
+    Units(&'static str, f64),
+    /// The times of both; ours may take at most so many times as long as the peer.
+    Times(f64),
 }
 
 #[derive(Default)]
@@ -48,29 +53,53 @@ impl<'a> Table<'a> {
         ours: impl FnMut() -> A + 'a,
         peer: impl FnMut() -> B + 'a,
     ) {
-        self.rows.push(Row { what, told: Told::Speed(size), ours: side(ours), peer: side(peer) });
+        self.add(what, size, Shown::Speed(None), ours, peer);
+    }
+
+    /// The same, where ours should have at least this part of the peer's speed.
+    pub fn row_at_least<A, B>(
+        &mut self,
+        (what, least): (&'static str, f64),
+        size: usize,
+        ours: impl FnMut() -> A + 'a,
+        peer: impl FnMut() -> B + 'a,
+    ) {
+        self.add(what, size, Shown::Speed(Some(least)), ours, peer);
     }
 
     /// Adds a row in units: our call, which may take at most `most` times as long as the unit.
     pub fn units<A, B>(
         &mut self,
-        what: &'static str,
-        most: f64,
+        (what, most): (&'static str, f64),
         ours: impl FnMut() -> A + 'a,
-        unit: impl FnMut() -> B + 'a,
+        (name, unit): (&'static str, impl FnMut() -> B + 'a),
     ) {
-        self.rows.push(Row { what, told: Told::Units(most), ours: side(ours), peer: side(unit) });
+        self.add(what, 0, Shown::Units(name, most), ours, unit);
     }
 
-    /// Adds a row of times: our work, which may take at most `most` times as long as the peer's.
-    pub fn times<A, B>(
+    fn add<A, B>(
         &mut self,
         what: &'static str,
-        most: f64,
+        size: usize,
+        shown: Shown,
         ours: impl FnMut() -> A + 'a,
         peer: impl FnMut() -> B + 'a,
     ) {
-        self.rows.push(Row { what, told: Told::Times(most), ours: side(ours), peer: side(peer) });
+        let clock = clock::seconds;
+        self.rows.push(Row { what, size, shown, ours: side(ours, clock), peer: side(peer, clock) });
+    }
+
+    /// Adds a row of times by the wall's clock, since a process's own does not count its children: our work, which may
+    /// take at most `most` times as long as the peer's.
+    pub fn times<A, B>(
+        &mut self,
+        (what, most): (&'static str, f64),
+        ours: impl FnMut() -> A + 'a,
+        peer: impl FnMut() -> B + 'a,
+    ) {
+        let clock = clock::wall_seconds;
+        let (ours, peer) = (side(ours, clock), side(peer, clock));
+        self.rows.push(Row { what, size: 0, shown: Shown::Times(most), ours, peer });
     }
 
     /// Times all rows, round by round.
@@ -89,38 +118,51 @@ impl<'a> Table<'a> {
     }
 
     pub fn print(&self) {
-        println!("Speed, best of {ROUNDS}; 1 MB is 10^6 bytes.");
+        println!("Speed by processor time, best of {ROUNDS}; 1 MB is 10^6 bytes.");
         println!("The ratio is ours / peer: 1.00x the same, above it ours is faster.");
-        println!("{:<34} {:>9} {:>15} {:>15} {:>8}", "what / peer", "size", "ours", "peer", "ratio");
+        println!(
+            "{:<34} {:>9} {:>15} {:>15} {:>8} {:>9}",
+            "what / peer", "size", "ours", "peer", "ratio", "at least"
+        );
         for row in self.grouped() {
-            let Told::Speed(size) = row.told else { continue };
-            let speed = |side: &Side| size as f64 / side.best / 1e6;
-            let (ours, peer) = (speed(&row.ours), speed(&row.peer));
-            let size = size_text(size);
-            println!("{:<34} {size:>9} {ours:>10.0} MB/s {peer:>10.0} MB/s {:>7.2}x", row.what, ours / peer);
+            let Shown::Speed(least) = row.shown else { continue };
+            let (ours, peer) = (row.speed(&row.ours), row.speed(&row.peer));
+            let least = least.map_or(String::new(), |least| format!("{least:.2}x"));
+            print!("{:<34} {:>9} {ours:>10.0} MB/s {peer:>10.0} MB/s", row.what, size_text(row.size));
+            println!(" {:>7.2}x {least:>9}", ours / peer);
         }
     }
 
-    /// The rows in units; the unit is the time of zlib's crc32 over 16 KiB.
+    /// The rows in units, by unit.
     pub fn print_units(&self) {
-        println!(
-            "{:<44} {:>10} {:>8} {:>9}",
-            "what, in units of zlib's crc32 over 16 KiB", "ours", "units", "at most"
-        );
+        let mut units = Vec::new();
         for row in &self.rows {
-            let Told::Units(most) = row.told else { continue };
+            let Shown::Units(unit, most) = row.shown else { continue };
+            if !units.contains(&unit) {
+                units.push(unit);
+                println!(
+                    "\n{:<60} {:>10} {:>8} {:>9}",
+                    format!("in units of {unit}"),
+                    "ours",
+                    "units",
+                    "at most"
+                );
+            }
             let micros = row.ours.best * 1e6;
-            println!("{:<44} {micros:>7.1} us {:>8.2} {most:>9.0}", row.what, row.ours.best / row.peer.best);
+            println!("{:<60} {micros:>7.1} us {:>8.2} {most:>9.1}", row.what, row.ours.best / row.peer.best);
         }
     }
 
     /// The rows of times.
     pub fn print_times(&self) {
-        println!("{:<44} {:>10} {:>10} {:>8} {:>9}", "time: what / peer", "ours", "peer", "ratio", "at most");
+        println!(
+            "\n{:<60} {:>10} {:>10} {:>8} {:>9}",
+            "time: what / peer", "ours", "peer", "ratio", "at most"
+        );
         for row in &self.rows {
-            let Told::Times(most) = row.told else { continue };
+            let Shown::Times(most) = row.shown else { continue };
             let (ours, peer) = (row.ours.best * 1e6, row.peer.best * 1e6);
-            println!("{:<44} {ours:>7.1} us {peer:>7.1} us {:>8.2} {most:>9.2}", row.what, ours / peer);
+            println!("{:<60} {ours:>7.1} us {peer:>7.1} us {:>8.2} {most:>9.2}", row.what, ours / peer);
         }
     }
 
@@ -133,30 +175,36 @@ impl<'a> Table<'a> {
     }
 }
 
-impl Side<'_> {
-    fn time(&mut self) {
-        let start = Instant::now();
-        (self.work)(self.repeats);
-        self.best = self.best.min(start.elapsed().as_secs_f64() / self.repeats as f64);
+impl Row<'_> {
+    fn speed(&self, side: &Side) -> f64 {
+        self.size as f64 / side.best / 1e6
     }
 }
 
-fn side<'a, A>(mut call: impl FnMut() -> A + 'a) -> Side<'a> {
+impl Side<'_> {
+    fn time(&mut self) {
+        let start = (self.clock)();
+        (self.work)(self.repeats);
+        self.best = self.best.min(((self.clock)() - start) / self.repeats as f64);
+    }
+}
+
+fn side<'a, A>(mut call: impl FnMut() -> A + 'a, clock: Clock) -> Side<'a> {
     let mut work: Work<'a> = Box::new(move |repeats| {
         for _ in 0..repeats {
             std::hint::black_box(call());
         }
     });
-    let repeats = enough_repeats(&mut work);
-    Side { work, repeats, best: f64::INFINITY }
+    let repeats = enough_repeats(&mut work, clock);
+    Side { work, repeats, clock, best: f64::INFINITY }
 }
 
-fn enough_repeats(work: &mut Work) -> u64 {
+fn enough_repeats(work: &mut Work, clock: Clock) -> u64 {
     let mut repeats = 1;
     loop {
-        let start = Instant::now();
+        let start = clock();
         work(repeats);
-        if start.elapsed() >= TIMING {
+        if clock() - start >= TIMING {
             return repeats;
         }
         repeats *= 2;

@@ -50,6 +50,15 @@ pub fn zeros(size: usize) -> &'static [u8] {
     aligned(size)
 }
 
+/// A pattern from the start on, again and again.
+pub fn repeated(size: usize, pattern: &[u8]) -> &'static [u8] {
+    let buffer = aligned(size);
+    for (to, from) in buffer.iter_mut().zip(pattern.iter().cycle()) {
+        *to = *from;
+    }
+    buffer
+}
+
 /// Zero bytes, never freed: the rows live as long as the program. Written once, so that their
 /// pages are there before the timing.
 fn aligned(size: usize) -> &'static mut [u8] {

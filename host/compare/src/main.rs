@@ -5,10 +5,8 @@
 //! the second implementation and demands that it reports each; `--seed N` sets the random inputs.
 
 mod crc;
-#[cfg(feature = "fmap")]
 mod fmap;
 mod fmd;
-#[cfg(feature = "gpt")]
 mod gpt;
 mod guid;
 mod number;
@@ -22,15 +20,7 @@ use topic::{Topic, Variant};
 
 const SEED: u64 = 0x5551_4752_414D_4241;
 
-const TOPICS: &[Topic] = &[
-    guid::TOPIC,
-    crc::TOPIC,
-    #[cfg(feature = "gpt")]
-    gpt::TOPIC,
-    #[cfg(feature = "fmap")]
-    fmap::TOPIC,
-    fmd::TOPIC,
-];
+const TOPICS: &[Topic] = &[guid::TOPIC, crc::TOPIC, gpt::TOPIC, fmap::TOPIC, fmd::TOPIC];
 
 fn main() -> ExitCode {
     let Some((self_test, seed)) = options() else {

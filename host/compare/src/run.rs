@@ -16,7 +16,6 @@ pub struct Run<'a> {
 
 /// What a call can be seen to do.
 #[derive(Clone, Copy, Debug, PartialEq, Eq, PartialOrd, Ord)]
-#[cfg_attr(not(feature = "gpt"), allow(dead_code))]
 pub enum Cell {
     /// Answers 0 or the refusal's number.
     Answer(u32),
@@ -24,6 +23,8 @@ pub enum Cell {
     By(u32, &'static str),
     /// Answers on a disk in this state.
     State(u64),
+    /// Answers on an input of this kind.
+    On(&'static str),
 }
 
 impl Display for Cell {
@@ -32,6 +33,7 @@ impl Display for Cell {
             Cell::Answer(number) => write!(f, "answer {number}"),
             Cell::By(number, argument) => write!(f, "{number} by {argument}"),
             Cell::State(state) => write!(f, "state {state}"),
+            Cell::On(kind) => f.write_str(kind),
         }
     }
 }

@@ -62,6 +62,13 @@ impl Disk {
         file.write_all(&self.tail)
     }
 
+    /// The first byte that another disk has otherwise.
+    pub fn difference(&self, other: &Disk) -> Option<String> {
+        let differs = |a: &[u8], b: &[u8]| a.iter().zip(b).position(|(x, y)| x != y);
+        let in_head = differs(&self.head, &other.head).map(|at| format!("head {at:04X}"));
+        in_head.or_else(|| differs(&self.tail, &other.tail).map(|at| format!("tail {at:04X}")))
+    }
+
     /// An image of the disk in a file of its own.
     pub fn image(&self) -> Scratch {
         let scratch = Scratch::new();

@@ -1,8 +1,10 @@
 //! What the tests are made of: other tools, bytes that they made (`fixtures/`), drawn inputs.
 
 pub mod disk;
+pub mod edit;
 pub mod fixture;
 pub mod flash;
+pub mod flash_calls;
 pub mod fmaptool;
 pub mod layout;
 pub mod listing;

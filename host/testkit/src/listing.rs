@@ -1,5 +1,6 @@
 //! The partitions of a disk and the areas of a flash image, as each tool lists them.
 
+use crate::disk::Scratch;
 use crate::peer::printed;
 use std::collections::BTreeMap;
 use std::fmt;
@@ -120,7 +121,7 @@ fn attributes(words: &str) -> u64 {
     words.split_whitespace().fold(0, |bits, word| bits | 1 << bit(word))
 }
 
-/// By `cgpt show -i`, which leaves the low 48 attribute bits out.
+/// By `cgpt show -i`, which leaves bits 1 and 3 to 47 of the attributes out.
 pub fn cgpt(image: &Path, slots: impl IntoIterator<Item = u64>) -> Vec<Partition> {
     let image = image.to_str().expect("a path in UTF-8");
     let one = |slot: u64| {
@@ -130,18 +131,57 @@ pub fn cgpt(image: &Path, slots: impl IntoIterator<Item = u64>) -> Vec<Partition
         let number = |option: &str| field(option).parse::<u64>().expect("a number");
         let first = number("-b");
         let attributes = field("-A");
-        let attributes = u64::from_str_radix(attributes.trim_start_matches("0x"), 16).expect("a hex number");
+        let high = u64::from_str_radix(attributes.trim_start_matches("0x"), 16).expect("a hex number");
         Partition {
             slot,
             first,
             last: first + number("-s") - 1,
             kind: field("-t"),
             unique: field("-u"),
-            attributes: attributes << 48,
+            attributes: high << 48 | number("-B") << 2 | number("-R"),
             name: field("-l"),
         }
     };
     slots.into_iter().map(one).collect()
+}
+
+/// The rows of `cgpt show -q`: slot, first block, size and type, in its words where it has some.
+pub fn cgpt_quick(image: &Path) -> Vec<(u64, u64, u64, String)> {
+    let table = printed("cgpt", [Path::new("show"), Path::new("-q"), image]);
+    let row = |line: &str| {
+        let mut words = line.split_whitespace();
+        let mut number = || words.next()?.parse().ok();
+        let (first, size, slot) = (number()?, number()?, number()?);
+        Some((slot, first, size, words.collect::<Vec<_>>().join(" ")))
+    };
+    table.lines().map(|line| row(line).unwrap_or_else(|| panic!("cgpt show -q: {line}"))).collect()
+}
+
+/// The free blocks of a disk and the longest run of them.
+pub type Free = (u64, u64);
+
+/// By `sgdisk -p`, and `-F` and `-E` for the longest run.
+pub fn sgdisk_free(image: &Path) -> Free {
+    let image = image.to_str().expect("a path in UTF-8");
+    let table = printed("sgdisk", ["-p", image]);
+    let total = table.lines().find_map(|line| line.strip_prefix("Total free space is "));
+    let total = number_in_front(total.expect("a total"));
+    let end = |option| number_in_front(&printed("sgdisk", ["-a", "1", option, image]));
+    (total, if total == 0 { 0 } else { end("-E") - end("-F") + 1 })
+}
+
+/// By `sfdisk -F`, which lists the runs.
+pub fn sfdisk_free(image: &Path) -> Free {
+    let table = printed("sfdisk", [Path::new("-F"), image]);
+    let total = table.lines().next().and_then(|line| line.rsplit(", ").next()).expect("a total");
+    let rows = table.lines().skip_while(|line| !line.trim_start().starts_with("Start")).skip(1);
+    let runs = rows.filter_map(|row| row.split_whitespace().nth(2)?.parse().ok());
+    (number_in_front(total), runs.max().unwrap_or(0))
+}
+
+fn number_in_front(text: &str) -> u64 {
+    let number = text.split_whitespace().next().and_then(|word| word.parse().ok());
+    number.unwrap_or_else(|| panic!("no number: {text}"))
 }
 
 /// An area of a flash image.
@@ -169,10 +209,51 @@ pub fn area(line: &str) -> Option<Area> {
 
 /// The names that `cbfstool layout -w` marks as preserved.
 pub fn preserved(image: &Path) -> Vec<String> {
-    let image = image.to_str().expect("a path in UTF-8");
-    let table = printed("cbfstool", [image, "layout", "-w"]);
-    let rows = table.lines().filter(|line| line.contains("preserve,"));
-    rows.filter_map(|row| Some(row.strip_prefix('\'')?.split_once("' (")?.0.to_string())).collect()
+    let areas = cbfstool(image).into_iter();
+    areas.filter(|(_, preserved)| *preserved == Some(true)).map(|(area, _)| area.name).collect()
+}
+
+/// By `cbfstool layout -w`; whether it is marked as preserved, which it tells of areas that hold no other, equal none
+/// and are not FMAP.
+pub fn cbfstool(image: &Path) -> Vec<(Area, Option<bool>)> {
+    let table = printed("cbfstool", [image, Path::new("layout"), Path::new("-w")]);
+    let rows = table.lines().filter(|line| line.starts_with('\''));
+    rows.flat_map(|row| cbfstool_row(row).unwrap_or_else(|| panic!("cbfstool layout: {row}"))).collect()
+}
+
+/// Reads `'NAME' (MARKS, size SIZE, offset OFFSET)`; equal areas stand together in a row.
+fn cbfstool_row(row: &str) -> Option<Vec<(Area, Option<bool>)>> {
+    let (names, rest) = row.rsplit_once(" (")?;
+    let (marks, numbers) = rest.strip_suffix(')')?.split_once("size ")?;
+    let (size, offset) = numbers.split_once(", offset ")?;
+    let (size, offset) = (size.parse().ok()?, offset.parse().ok()?);
+    let alone = names.strip_suffix(" are aliases for the same region");
+    let told = alone.is_none() && !marks.contains("read-only");
+    let names = alone.unwrap_or(names).strip_prefix('\'')?.strip_suffix('\'')?.split("', '");
+    let preserved = told.then(|| marks.contains("preserve"));
+    Some(names.map(|name| (Area { name: name.into(), offset, size }, preserved)).collect())
+}
+
+/// By `flashrom --fmap`, in the order of the map; the image is that of a chip of 128 KiB. Area FMAP is read into `part`.
+pub fn flashrom(image: &Path, part: &Path) -> Vec<Area> {
+    let chip = format!("dummy:emulate=M25P10.RES,image={}", image.display());
+    let fmap = format!("FMAP:{}", part.display());
+    let whole = Scratch::new();
+    let whole = whole.path.to_str().expect("a path in UTF-8");
+    let said = printed("flashrom", ["-p", &chip, "-c", "M25P10", "--fmap", "-i", &fmap, "-r", whole, "-V"]);
+    let rows = said.lines().filter_map(|line| line.strip_prefix("Added layout entry "));
+    // A region of its own.
+    let rows = rows.filter(|row| !row.ends_with(" named complete flash"));
+    rows.map(|row| flashrom_one(row).unwrap_or_else(|| panic!("flashrom: {row}"))).collect()
+}
+
+/// Reads `FIRST - LAST named NAME`.
+fn flashrom_one(row: &str) -> Option<Area> {
+    let (range, name) = row.split_once(" named ")?;
+    let (first, last) = range.split_once(" - ")?;
+    let number = |text| u64::from_str_radix(text, 16).ok();
+    let offset = number(first)?;
+    Some(Area { name: name.into(), offset, size: number(last)? + 1 - offset })
 }
 
 #[cfg(test)]
@@ -192,6 +273,16 @@ mod tests {
         let found = area("RW_CAL 36864 1024");
         assert_eq!(found, Some(Area { name: "RW_CAL".into(), offset: 36_864, size: 1024 }));
         assert_eq!(area("RW_CAL 36864"), None);
+    }
+
+    #[test]
+    fn areas_of_cbfstool_and_flashrom() {
+        let area = Area { name: "A'(".into(), offset: 65_536, size: 4096 };
+        let row = cbfstool_row("'A'(' (preserve, size 4096, offset 65536)");
+        assert_eq!(row, Some(vec![(area.clone(), Some(true))]));
+        let row = cbfstool_row("'A', 'B' are aliases for the same region (read-only, size 1, offset 0)");
+        assert_eq!(row.map(|areas| areas.len()), Some(2));
+        assert_eq!(flashrom_one("00010000 - 00010fff named A'("), Some(area));
     }
 
     #[test]

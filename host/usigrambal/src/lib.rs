@@ -1,17 +1,13 @@
 //! Safe Rust over the C interface of Usigrambal. `raw` has the calls with their numbers; the rest
 //! gives them Rust's types and errors.
 
-#[cfg(feature = "gpt")]
 mod disk;
-#[cfg(feature = "fmap")]
 pub mod flash;
 mod guid;
-#[cfg(feature = "fmd")]
 pub mod layout;
 pub mod raw;
 mod refusal;
 
-#[cfg(feature = "gpt")]
 pub use disk::{Disk, Free, Name, NewPartition, Partition, Placed, State, HEAD_LEN, TAIL_LEN};
 pub use guid::Guid;
 pub use refusal::Refusal;

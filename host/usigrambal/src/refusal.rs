@@ -9,7 +9,6 @@ pub struct Refusal {
 }
 
 /// The argument that a refusal is about.
-#[cfg_attr(not(all(feature = "gpt", feature = "fmap", feature = "fmd")), allow(dead_code))]
 #[derive(Clone, Copy, Debug, PartialEq, Eq)]
 pub(crate) enum Detail {
     /// A disk of so many blocks.
@@ -75,7 +74,6 @@ impl Refusal {
     }
 
     /// The refusal with its argument, where the number is about that argument.
-    #[cfg_attr(not(any(feature = "gpt", feature = "fmap", feature = "fmd")), allow(dead_code))]
     pub(crate) fn about(self, details: &[Detail]) -> Refusal {
         let detail = details.iter().copied().find(|detail| detail.fits(self.number));
         Refusal { detail, ..self }

@@ -1,5 +1,4 @@
 //! The library on the layout fixtures.
-#![cfg(feature = "fmd")]
 
 mod layout;
 

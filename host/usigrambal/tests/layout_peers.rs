@@ -1,5 +1,4 @@
 //! The library beside fmaptool.
-#![cfg(feature = "fmd")]
 
 mod layout;
 

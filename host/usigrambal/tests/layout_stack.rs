@@ -1,5 +1,4 @@
 //! The largest layout text runs on a thread with a stack of 2 MiB.
-#![cfg(feature = "fmd")]
 
 use std::thread;
 use testkit::layout::worst_text;

@@ -1,7 +1,7 @@
-//! Every disk call runs on a thread with a stack of 64 KiB.
-#![cfg(feature = "gpt")]
+//! Every disk call and every flash map call runs on a thread with a stack of 64 KiB.
 
 use std::thread;
+use testkit::flash::{map_len, Area, Map, PRESERVE};
 use usigrambal::raw::{self, NewPartition};
 
 const STACK: usize = 64 << 10;
@@ -47,5 +47,32 @@ fn every_disk_call_needs_at_most_64_kib_of_stack() {
         tail[16_384 + 16] ^= 1;
         assert_eq!(raw::gpt_repair(&mut head, &mut tail, N, &mut a), 0);
         assert_eq!(a, 3);
+    });
+}
+
+/// An image with a map of 128 areas at its start, all of them preserved but FMAP.
+fn image() -> Vec<u8> {
+    let start = map_len(128) as u32;
+    let named = |name: String, offset, size, flags| Area { offset, size, name: name.into_bytes(), flags };
+    let mut areas = vec![named("FMAP".into(), 0, start, 0)];
+    areas.extend((0..127).map(|k| named(format!("AREA_{k}"), start + 9 * k, 9, PRESERVE)));
+    let size = start + 9 * 127;
+    let map = Map { major: 1, minor: 1, base: 0, size, name: b"CHIP".to_vec(), areas, position: 0 };
+    let mut image = vec![0; size as usize];
+    map.write(&mut image);
+    image
+}
+
+#[test]
+fn every_flash_map_call_needs_at_most_64_kib_of_stack() {
+    on_small_stack(|| {
+        let (old, mut new) = (image(), image());
+        let (mut number, mut area) = (1, [0; 42]);
+        assert_eq!(raw::fmap_find(&old, &mut number), 0);
+        assert_eq!(number, 0);
+        assert_eq!(raw::fmap_area(&old, 127, &mut area), 0);
+        assert_eq!(raw::fmap_named(&old, b"AREA_126", &mut number), 0);
+        assert_eq!(number, 127);
+        assert_eq!(raw::fmap_carry(&old, &mut new), 0);
     });
 }

@@ -1,20 +1,20 @@
 use mathlib.Core.Path.{sym, _∙_}
-use Prim.Native.Nat.{_-_, _+_}
+use Prim.Native.Nat.{_-_}
 use native.Mathlib.Omega.{arith}
 use lib.ListN.{length}
 use borrow.Author.Needs.{needs}
 use denote.Ref.{now}
 use Rattle.fmap.specs.Find.{signedAt}
-use Rattle.fmap.proofs.Lowest.{first-least}
+use Rattle.fmap.proofs.Lowest.{first-from}
 use Rattle.fmap.proofs.Finding.{Looking, room, looking-starts, looking-goes, looking-hits, looking-ends, find-40, find-41, find-42, finds, too-short, too-long, in-range, some-below, none-below}
 use Rattle.fmap.proofs.find.Statement.{statement}
 use Rattle.fmap.proofs.find.Tie as tie
 
 abbrev Inv-loop : tie.InvT-loop
-Inv-loop image at₀ at = Looking image at
+Inv-loop image at₀ at = Looking image (at .0)
 
 abbrev μ-loop : tie.MeasureT-loop
-μ-loop image at₀ at = length image - at
+μ-loop image at₀ at = length image - at .0
 
 returns : tie.Need-returns Inv-loop μ-loop
 returns c = find-40 _ (too-short _ (c .if1 .taken))
@@ -25,56 +25,60 @@ returns-2 c = find-40 _ (too-long _ (c .if2 .taken))
 next-signed-requires : tie.Need-next-signed-requires Inv-loop μ-loop
 next-signed-requires c κs = search needs
 
+cast-if3 : tie.Need-cast-if3 Inv-loop μ-loop
+cast-if3 c = search needs
+
 returns-3 : tie.Need-returns-3 Inv-loop μ-loop
-returns-3 c = let s = now (c .before .before .before .before .before .args .image) in find-41 s
-    (in-range _ (c .before .before .before .if1 .left) (c .before .before .if2 .left))
-    (none-below s (signedAt s) _ (c .before .next-signed .ensures .0) (c .if3 .taken))
+returns-3 c =
+    let s = now (c .before .before .before .before .before .before .args .image) in
+    find-41 s (in-range _ (c .before .before .before .before .if1 .left) (c .before .before .before .if2 .left))
+    (none-below s (signedAt s) _ (c .before .before .next-signed .ensures .0) (c .if3 .taken))
 
 loop-holds : tie.Need-loop-holds Inv-loop μ-loop
-loop-holds c = looking-starts _ _ (c .before .next-signed .ensures .0) (c .before .next-signed .ensures .1)
+loop-holds c = looking-starts _ _ (c .before .before .next-signed .ensures .0) (c .before .before .next-signed .ensures .1)
+
+cast-if4 : tie.Need-cast-if4 Inv-loop μ-loop
+cast-if4 c = search needs
 
 good-at-requires : tie.Need-good-at-requires Inv-loop μ-loop
 good-at-requires c κs = search needs
 
-cast-t8 : tie.Need-cast-t8 Inv-loop μ-loop
-cast-t8 c = search needs
-
 returns-4 : tie.Need-returns-4 Inv-loop μ-loop
 returns-4 c =
-    let s = now (c .before .before .before .before .before .before .before .before .before .args .image) in
-    finds s _ (c .before .before .before .before .before .before .before .if1 .left) (c .before .before .before .before .before .before .if2 .left)
-    (some-below s (signedAt s) _ (c .before .before .before .before .before .next-signed .ensures .0) (c .before .before .before .before .if3 .left))
-    (c .before .before .loop-test .taken)
-    (looking-hits s _ (c .before .before .before .loop .inv) (c .before .before .loop-test .taken) (sym (c .before .good-at .ensures) ∙ (c .if4 .taken)))
+    let s = now (c .before .before .before .before .before .before .before .before .before .before .before .args .image) in
+    finds s _ (c .before .before .before .before .before .before .before .before .before .if1 .left)
+    (c .before .before .before .before .before .before .before .before .if2 .left)
+    (some-below s (signedAt s) _ (c .before .before .before .before .before .before .before .next-signed .ensures .0) (c .before .before .before .before .before .if3 .left))
+    (c .before .before .if4 .taken)
+    (looking-hits s _ (c .before .before .before .before .loop .inv) (c .before .before .if4 .taken) (sym (c .before .good-at .ensures) ∙ (c .if5 .taken)))
 
-add-next-signed : tie.Need-add-next-signed Inv-loop μ-loop
-add-next-signed c = omega (arith, room _ _ (c .before .before .before .loop .inv) (c .before .before .loop-test .taken))
+add-t11 : tie.Need-add-t11 Inv-loop μ-loop
+add-t11 c = omega (arith, room _ _ (c .before .before .before .before .before .loop .inv) (c .before .before .before .if4 .taken))
 
 next-signed-requires-2 : tie.Need-next-signed-requires-2 Inv-loop μ-loop
-next-signed-requires-2 c κs = omega (arith, room _ _ (c .before .before .before .loop .inv) (c .before .before .loop-test .taken))
+next-signed-requires-2 c κs = (
+  omega (arith, room _ _ (c .before .before .before .before .before .loop .inv) (c .before .before .before .if4 .taken)),
+  c .before .before .before .before .before .before .before .before .before .if2 .left,
+)
 
 loop-less : tie.Need-loop-less Inv-loop μ-loop
 loop-less c =
-    let s = now (c .before .before .before .before .before .before .before .before .before .before .args .image) in
     omega (
       arith,
-      (c .next-signed2 .ensures .0),
-      first-least (length s - ((c .before .before .before .before .loop .at) + 6))
-          ((c .before .before .before .before .loop .at) + 6) (signedAt s),
-      room s _ (c .before .before .before .before .loop .inv)
-          (c .before .before .before .loop-test .taken),
+      first-from _ _ _ _ (c .next-signed2 .ensures .0),
+      room _ _ (c .before .before .before .before .before .before .loop .inv) (c .before .before .before .before .if4 .taken),
     )
 
 loop-again : tie.Need-loop-again Inv-loop μ-loop
-loop-again c = looking-goes _ _ (c .before .before .before .before .loop .inv) _ (c .before .before .before .loop-test .taken)
-    (sym (c .before .before .good-at .ensures) ∙ (c .before .if4 .left)) (c .next-signed2 .ensures .0) (c .next-signed2 .ensures .1)
+loop-again c = looking-goes _ _ (c .before .before .before .before .before .before .loop .inv) _ (c .before .before .before .before .if4 .taken)
+    (sym (c .before .before .before .good-at .ensures) ∙ (c .before .before .if5 .left)) (c .next-signed2 .ensures .0) (c .next-signed2 .ensures .1)
 
 returns-5 : tie.Need-returns-5 Inv-loop μ-loop
 returns-5 c =
-    let s = now (c .before .before .before .before .before .before .before .args .image) in
-    find-42 s (in-range _ (c .before .before .before .before .before .if1 .left) (c .before .before .before .before .if2 .left))
-    (some-below s (signedAt s) _ (c .before .before .before .next-signed .ensures .0) (c .before .before .if3 .left))
-    (looking-ends s _ (c .before .loop .inv) (c .loop-test .left))
+    let s = now (c .before .before .before .before .before .before .before .before .before .args .image) in
+    find-42 s (in-range _ (c .before .before .before .before .before .before .before .if1 .left) (c .before .before .before .before .before .before .if2 .left))
+    (some-below s (signedAt s) _ (c .before .before .before .before .before .next-signed .ensures .0) (c .before .before .before .if3 .left))
+    (looking-ends s _ (c .before .before .loop .inv) (c .if4 .left))
 
 pub find-spec : {M : Type 1} → statement M
 find-spec =
@@ -85,12 +89,13 @@ find-spec =
     returns
     returns-2
     next-signed-requires
+    cast-if3
     returns-3
     loop-holds
+    cast-if4
     good-at-requires
-    cast-t8
     returns-4
-    add-next-signed
+    add-t11
     next-signed-requires-2
     loop-less
     loop-again

@@ -12,6 +12,9 @@ use Rattle.fmap_rules.specs.Map.{goodAreas, areasIn}
 use Rattle.fmap_rules.proofs.good_at.Statement.{statement}
 use Rattle.fmap_rules.proofs.good_at.Tie as tie
 
+cast-a : tie.Need-cast-a
+cast-a c = search needs
+
 sub-m : tie.Need-sub-m
 sub-m c = search needs
 
@@ -38,13 +41,14 @@ returns-2 : tie.Need-returns-2
 returns-2 c =
     by-areas _ _ _ (rest-slice _ _) (sym (c .before .before .before .good-header .ensures) ∙ not-false _ (c .before .before .if1 .left))
     ((c .good-areas .ensures) ∙ ap
-    (λ (l : List ℕ). goodAreas (length (now (c .before .before .before .before .before .before .args .image)))
-    (c .before .before .before .before .before .before .args .at) (areasIn l)) (c .before .areas-of .ensures .0))
+    (λ (l : List ℕ). goodAreas (length (now (c .before .before .before .before .before .before .before .args .image)))
+    (c .before .before .before .before .before .before .before .args .at .0) (areasIn l)) (c .before .areas-of .ensures .0))
 
 pub good-at-spec : {M : Type 1} → statement M
 good-at-spec =
     tie.close
     (tie.spec
+    cast-a
     sub-m
     part-m-start
     part-m-end

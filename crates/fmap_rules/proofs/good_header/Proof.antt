@@ -1,7 +1,7 @@
 use mathlib.Core.Path.{sym, _∙_}
 use borrow.Author.Tests.{not-true, not-false}
 use borrow.Author.Needs.{needs}
-use Rattle.octets.specs.Bytes.{part, rest}
+use Rattle.octets.specs.Bytes.{part}
 use Rattle.fmap_rules.proofs.Header.{short, unsigned, other-major, other-minor, other-size, no-area, too-many, cut-off, by-name}
 use Rattle.fmap_rules.proofs.good_header.Statement.{statement}
 use Rattle.fmap_rules.proofs.good_header.Tie as tie
@@ -13,14 +13,12 @@ is-signed-requires : tie.Need-is-signed-requires
 is-signed-requires c κs = search needs
 
 returns-2 : tie.Need-returns-2
-unfolding rest part
 returns-2 c = unsigned _ _ (c .before .before .if1 .left) (sym (c .before .is-signed .ensures) ∙ not-true _ (c .if2 .taken))
 
 shared-slice-read-if3 : tie.Need-shared-slice-read-if3
 shared-slice-read-if3 c = search needs
 
 returns-3 : tie.Need-returns-3
-unfolding rest part
 returns-3 c = other-major _ _ (c .before .before .before .before .if1 .left)
     (sym (c .before .before .before .is-signed .ensures) ∙ not-false _ (c .before .before .if2 .left)) (c .if3 .taken)
 
@@ -28,7 +26,6 @@ shared-slice-read-if4 : tie.Need-shared-slice-read-if4
 shared-slice-read-if4 c = search needs
 
 returns-4 : tie.Need-returns-4
-unfolding rest part
 returns-4 c = other-minor _ _ (c .before .before .before .before .before .before .if1 .left)
     (sym (c .before .before .before .before .before .is-signed .ensures) ∙ not-false _ (c .before .before .before .before .if2 .left)) (c .before .before .if3 .left)
     (c .if4 .taken)
@@ -40,7 +37,6 @@ cast-if5 : tie.Need-cast-if5
 cast-if5 c = search needs
 
 returns-5 : tie.Need-returns-5
-unfolding rest part
 returns-5 c = other-size _ _ (c .before .before .before .before .before .before .before .before .if1 .left)
     (sym (c .before .before .before .before .before .before .before .is-signed .ensures) ∙ not-false _
     (c .before .before .before .before .before .before .if2 .left)) (c .before .before .before .before .if3 .left) (c .before .before .if4 .left)
@@ -50,7 +46,6 @@ count-of-requires : tie.Need-count-of-requires
 count-of-requires c κs = search needs
 
 returns-6 : tie.Need-returns-6
-unfolding rest part
 returns-6 c = no-area _ _ (c .before .before .before .before .before .before .before .before .before .before .if1 .left)
     (sym (c .before .before .before .before .before .before .before .before .before .is-signed .ensures) ∙ not-false _
     (c .before .before .before .before .before .before .before .before .if2 .left)) (c .before .before .before .before .before .before .if3 .left)
@@ -58,7 +53,6 @@ returns-6 c = no-area _ _ (c .before .before .before .before .before .before .be
     (rw (← (c .before .count-of .ensures)) (c .if6 .taken))
 
 returns-7 : tie.Need-returns-7
-unfolding rest part
 returns-7 c =
     too-many _ _ (c .before .before .before .before .before .before .before .before .before .before .before .if1 .left)
     (sym (c .before .before .before .before .before .before .before .before .before .before .is-signed .ensures) ∙ not-false _
@@ -74,7 +68,6 @@ add-if8 : tie.Need-add-if8
 add-if8 c = search needs
 
 returns-8 : tie.Need-returns-8
-unfolding rest part
 returns-8 c =
     cut-off _ _ (c .before .before .before .before .before .before .before .before .before .before .before .before .if1 .left)
     (sym (c .before .before .before .before .before .before .before .before .before .before .before .is-signed .ensures) ∙ not-false _
@@ -97,7 +90,7 @@ is-legal-name-requires : tie.Need-is-legal-name-requires
 is-legal-name-requires c κs = search needs
 
 returns-9 : tie.Need-returns-9
-unfolding rest part
+unfolding part
 returns-9 c =
     by-name _ _ (c .before .before .before .before .before .before .before .before .before .before .before .before .before .before .if1 .left)
     (sym (c .before .before .before .before .before .before .before .before .before .before .before .before .before .is-signed .ensures) ∙ not-false _

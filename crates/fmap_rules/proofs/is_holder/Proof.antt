@@ -31,14 +31,11 @@ returns c = and-f _ (sym (c .before .same .ensures) ∙ not-true _ (c .if1 .take
 extent-of-requires : tie.Need-extent-of-requires
 extent-of-requires c κs = search needs
 
-cast-if2 : tie.Need-cast-if2
-cast-if2 c = search needs
-
 returns-2 : tie.Need-returns-2
 unfolding holdsMap named areaOf part zeros
-returns-2 c = and-t (sym (c .before .before .before .before .same .ensures) ∙ not-false _ (c .before .before .before .if1 .left))
-    (and-f _ (sym (ap (λ (x : Extent). eqb (x .start .0) (c .before .before .before .before .before .before .before .before .args .at))
-    (c .before .before .extent-of .ensures)) ∙ ne-eqb _ _ (c .if2 .taken)))
+returns-2 c = and-t (sym (c .before .before .before .before .before .same .ensures) ∙ not-false _ (c .before .before .before .before .if1 .left))
+    (and-f _ (sym (ap (λ (x : Extent). eqb (x .start .0) (c .before .before .before .before .before .before .before .before .before .args .at .0))
+    (c .before .before .before .extent-of .ensures)) ∙ ne-eqb _ _ (c .if2 .taken)))
 
 mul-result : tie.Need-mul-result
 mul-result c = search needs
@@ -52,11 +49,11 @@ cast-result c = search needs
 returns-3 : tie.Need-returns-3
 unfolding holdsMap named areaOf part zeros
 returns-3 c =
-    and-t (sym (c .before .before .before .before .before .same .ensures) ∙ not-false _ (c .before .before .before .before .if1 .left))
-    (and-t (sym (ap (λ (x : Extent). eqb (x .start .0) (c .before .before .before .before .before .before .before .before .before .args .at))
-    (c .before .before .before .extent-of .ensures)) ∙ eq-eqb _ _ (c .before .if2 .left))
-    (ap (λ (x : Extent). leb (mapSize (c .before .before .before .before .before .before .before .before .before .args .count)) (x .size))
-    (c .before .before .before .extent-of .ensures)))
+    and-t (sym (c .before .before .before .before .before .before .same .ensures) ∙ not-false _ (c .before .before .before .before .before .if1 .left))
+    (and-t (sym (ap (λ (x : Extent). eqb (x .start .0) (c .before .before .before .before .before .before .before .before .before .before .args .at .0))
+    (c .before .before .before .before .extent-of .ensures)) ∙ eq-eqb _ _ (c .before .if2 .left))
+    (ap (λ (x : Extent). leb (mapSize (c .before .before .before .before .before .before .before .before .before .before .args .count)) (x .size))
+    (c .before .before .before .before .extent-of .ensures)))
 
 pub is-holder-spec : {M : Type 1} → statement M
 is-holder-spec =
@@ -69,7 +66,6 @@ is-holder-spec =
     same-requires
     returns
     extent-of-requires
-    cast-if2
     returns-2
     mul-result
     add-result

@@ -11,7 +11,7 @@ use Rattle.fmap_rules.proofs.some_holder.Statement.{statement}
 use Rattle.fmap_rules.proofs.some_holder.Tie as tie
 
 abbrev Inv-loop : tie.InvT-loop
-Inv-loop areas at n i₀ i = (i ≤ n) × (any (holdsMap at n) (drop i (areasIn areas)) ≡ any (holdsMap at (length (areasIn areas))) (areasIn areas))
+Inv-loop areas at n i₀ i = (i ≤ n) × (any (holdsMap (at .0) n) (drop i (areasIn areas)) ≡ any (holdsMap (at .0) (length (areasIn areas))) (areasIn areas))
 
 abbrev μ-loop : tie.MeasureT-loop
 μ-loop areas at n i₀ i = n - i
@@ -19,7 +19,7 @@ abbrev μ-loop : tie.MeasureT-loop
 loop-holds : tie.Need-loop-holds Inv-loop μ-loop
 loop-holds c = (
   search needs,
-  ap (λ (k : ℕ). any (holdsMap (c .before .args .at) k) (areasIn (now (c .before .args .areas))))
+  ap (λ (k : ℕ). any (holdsMap (c .before .args .at .0) k) (areasIn (now (c .before .args .areas))))
       (sym (length-areas (now (c .before .args .areas)))),
 )
 

@@ -18,21 +18,20 @@ returns c = rw (ne-eqb _ _ (c .if1 .taken))
 cast-put-map : tie.Need-cast-put-map
 cast-put-map c = search needs
 
-cast-put-map-2 : tie.Need-cast-put-map-2
-cast-put-map-2 c = search needs
-
 put-map-requires : tie.Need-put-map-requires
 put-map-requires c κs =
-    let start = c .before .before .before .before .before .before .before .before .before .before .before in
-    (start .pre .0, omega (arith, start .pre .1, c .before .before .before .before .before .before .if1 .left), omega (arith, start .pre .2, c .before .before .before .before .before .before .if1 .left))
+    let same = c .before .before .before .before .before .if1 .left in
+    let start = c .before .before .before .before .before .before .before .before .before .before in
+    (start .pre .0, omega (arith, start .pre .1, same), omega (arith, start .pre .2, same))
 
 same-length : tie.Need-same-length
 same-length c = search needs
 
 returns-2 : tie.Need-returns-2
-returns-2 c = rw (eq-eqb _ _ (c .before .before .before .before .before .before .before .before .before .if1 .left)) (ap {B = Written} (λ (x : List ℕ). record { answer = none; image = x }) (c .before .before .put-map .ensures))
+returns-2 c = rw (eq-eqb _ _ (c .before .before .before .before .before .before .before .before .if1 .left))
+    (ap {B = Written} (λ (x : List ℕ). record { answer = none; image = x }) (c .before .before .put-map .ensures))
 
 pub put-layout-spec : {M : Type 1} → statement M
 put-layout-spec =
     tie.close
-    (tie.spec cast-if1 returns cast-put-map cast-put-map-2 put-map-requires same-length returns-2)
+    (tie.spec cast-if1 returns cast-put-map put-map-requires same-length returns-2)

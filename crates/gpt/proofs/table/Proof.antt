@@ -1,10 +1,10 @@
-use Rattle.gpt_copies.proofs.Places.{part-behind}
-use Rattle.gpt.proofs.States.{found-lent, table-in-head, table-in-tail, handed-is, handed-nothing, refused-rows}
-use Rattle.gpt.specs.declared.Reading.the-variants.{Same, Different, PrimaryOnly, BackupOnly}
-use denote.Ref.{now}
-use native.Mathlib.Omega.{arith}
 use mathlib.Core.Path.{refl, _∙_}
+use native.Mathlib.Omega.{arith}
+use denote.Ref.{now}
 use borrow.Author.Needs.{needs}
+use Rattle.gpt_copies.proofs.Places.{part-behind}
+use Rattle.gpt.specs.declared.Reading.the-variants.{Same, Different, PrimaryOnly, BackupOnly}
+use Rattle.gpt.proofs.States.{found-lent, table-in-head, table-in-tail, handed-is, handed-nothing, refused-rows}
 use Rattle.gpt.proofs.table.Statement.{statement}
 use Rattle.gpt.proofs.table.Tie as tie
 
@@ -47,9 +47,10 @@ enum-told-4 c = search needs
 entries-in-requires-4 : tie.Need-entries-in-requires-4
 entries-in-requires-4 c κs =
     let a = c .before .before .before .before .before .args in
-    let h = now (a .head) in
-    let t = now (a .tail) in
-    found-lent (a .n) h t _ BackupOnly (c .before .before .read .ensures) (c .enum-told4 .given .1) 4 refl .tail
+    let w = found-lent (a .n) (now (a .head)) (now (a .tail)) _ BackupOnly (c .before .before .read .ensures) (c .enum-told4 .given .1) 4 refl in
+    let h = w .head in
+    let t = w .tail in
+    search needs
 
 enum-told-5 : tie.Need-enum-told-5
 enum-told-5 c = search needs

@@ -1,3 +1,4 @@
+use super::kinds;
 use crate::number::{Answers, Number};
 use crate::run::{Cell, Lent, Outcome, Run};
 use testkit::flash::AREA_LEN;
@@ -24,6 +25,8 @@ pub fn find(run: &mut Run, image: &[u8]) -> Outcome {
     let library = raw::fmap_find(ours.bytes(), position_1.answer());
     let second = second::fmap_find(run.rules, theirs.bytes(), position_2.answer());
     run.reach("fmap_find", Cell::Answer(library));
+    let found = (library == 0).then_some(position_1.value());
+    kinds::of_image(image, found).into_iter().for_each(|kind| run.reach("fmap_find", kind));
     let answers = (Answers(library, [position_1]), Answers(second, [position_2]));
     run.compare("fmap_find", || shown(image), answers, &[Lent::pair("image", &ours, &theirs)])
 }
@@ -63,6 +66,7 @@ pub fn carry(run: &mut Run, old: &[u8], new: &[u8]) -> Outcome {
     let library = raw::fmap_carry(old_1.bytes(), new_1.bytes_mut());
     let second = second::fmap_carry(run.rules, old_2.bytes(), new_2.bytes_mut());
     note(run, old, library);
+    kinds::of_carry(old, new).into_iter().for_each(|kind| run.reach("fmap_carry", kind));
     let arguments = || format!("old {}, new {}", shown(old), shown(new));
     let buffers = [Lent::pair("old", &old_1, &old_2), Lent::pair("new", &new_1, &new_2)];
     run.compare("fmap_carry", arguments, (library, second), &buffers)

@@ -8,7 +8,7 @@ use testkit::random::Random;
 const CARRIES: usize = 1500;
 const FAULT_ROUNDS: usize = 6;
 
-/// A way to make a row hold, or almost: to lie in the old map's FMAP is no fault.
+/// A way to make a row hold, or almost: to lie in the old map's FMAP, or to preserve nothing, is no fault.
 #[derive(Clone, Copy, Debug, PartialEq, Eq)]
 enum Fault {
     OldLength,
@@ -28,11 +28,12 @@ enum Fault {
     InOldFmap,
     HoldsFmap,
     FmapItself,
+    Unmarked,
 }
 
 use Fault::*;
 
-const FAULTS: [Fault; 17] = [
+const FAULTS: [Fault; 18] = [
     OldLength,
     OldSignature,
     OldMap,
@@ -50,6 +51,7 @@ const FAULTS: [Fault; 17] = [
     InOldFmap,
     HoldsFmap,
     FmapItself,
+    Unmarked,
 ];
 
 /// Pairs of maps with the same preserved areas, in another order and elsewhere; any faults.
@@ -173,6 +175,7 @@ fn on_areas(old: &mut [Area], new: &mut [Area], fault: Fault, random: &mut Rando
             resize(new, &old[1].name, 1000);
         }
         FmapItself => old[0].flags |= PRESERVE,
+        Unmarked => old.iter_mut().for_each(|area| area.flags &= !PRESERVE),
         _ => {}
     }
 }

@@ -1,6 +1,7 @@
 mod call;
 mod carries;
 mod images;
+mod kinds;
 mod variants;
 
 use crate::run::Cell::{self, Answer, By};
@@ -24,9 +25,11 @@ pub const TOPIC: Topic = Topic {
     ],
     cells: &[
         ("fmap_find", &[Answer(0), Answer(40), Answer(41), Answer(42)]),
+        ("fmap_find", kinds::FIND),
         ("fmap_area", &[Answer(0), Answer(1), Answer(40), Answer(41), Answer(42), Answer(255)]),
         ("fmap_named", &[Answer(0), Answer(40), Answer(41), Answer(42), Answer(255)]),
         ("fmap_carry", CARRY),
+        ("fmap_carry", kinds::CARRY),
     ],
     at_least: ("fmap_find", 5_000),
     variants: variants::all,

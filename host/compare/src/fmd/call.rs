@@ -1,7 +1,7 @@
-use super::library;
 use crate::number::{Answers, Number};
 use crate::run::{Cell, Difference, Lent, Outcome, Run};
 use second::RULES;
+use usigrambal::raw;
 
 pub const NAME_LEN: usize = 32;
 pub const RECORD_LEN: usize = 42;
@@ -33,7 +33,7 @@ pub fn read(run: &mut Run, text: &[u8], name_len: usize) -> Result<(u32, Option<
     let mut ours = [(); 3].map(|()| Number::new(&mut run.random));
     let mut theirs = ours.clone();
     let [size, address, count] = ours.each_mut().map(Number::answer);
-    let library = library::fmd_read(text_1.bytes(), name_1.bytes_mut(), size, address, count);
+    let library = raw::fmd_read(text_1.bytes(), name_1.bytes_mut(), size, address, count);
     let [size, address, count] = theirs.each_mut().map(Number::answer);
     let second = second::fmd_read(run.rules, text_2.bytes(), name_2.bytes_mut(), size, address, count);
     run.reach("fmd_read", Cell::Answer(library));
@@ -51,7 +51,7 @@ pub fn records(run: &mut Run, text: &[u8], list_len: usize) -> Result<(u32, Opti
     let (text_2, mut list_2) = (text_1.clone(), list_1.clone());
     let mut count_1 = Number::new(&mut run.random);
     let mut count_2 = count_1.clone();
-    let library = library::fmd_records(text_1.bytes(), list_1.bytes_mut(), count_1.answer());
+    let library = raw::fmd_records(text_1.bytes(), list_1.bytes_mut(), count_1.answer());
     let second = second::fmd_records(run.rules, text_2.bytes(), list_2.bytes_mut(), count_2.answer());
     run.reach("fmd_records", Cell::Answer(library));
     let fmap = (library == 0).then(|| fmap_in(list_1.bytes())).flatten();
@@ -74,7 +74,7 @@ pub fn write(run: &mut Run, text: &[u8], image_len: usize, fmap: Option<usize>) 
     let text_1 = Lent::holding(text, &mut run.random);
     let mut image_1 = Lent::of_length(image_len, &mut run.random);
     let (text_2, mut image_2) = (text_1.clone(), image_1.clone());
-    let library = library::fmd_write(text_1.bytes(), image_1.bytes_mut());
+    let library = raw::fmd_write(text_1.bytes(), image_1.bytes_mut());
     let second = second::fmd_write(run.rules, text_2.bytes(), image_2.bytes_mut());
     run.reach("fmd_write", Cell::Answer(library));
     let arguments = || format!("{}, an image of {image_len} bytes", shown(text));

@@ -2,7 +2,6 @@ mod call;
 mod draft;
 mod edges;
 mod faults;
-mod library;
 mod texts;
 mod variants;
 mod ways;
@@ -12,8 +11,6 @@ use crate::topic::Topic;
 
 pub const TOPIC: Topic = Topic {
     parts: &[
-        #[cfg(not(feature = "fmd"))]
-        ("fmd: the library's calls are not compared (feature fmd is off)", |_| Ok(())),
         ("fmd: each way of each refusal", faults::each),
         ("fmd: buffers of wrong lengths", faults::lengths),
         ("fmd: numbers", edges::numbers),

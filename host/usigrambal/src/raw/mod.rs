@@ -1,18 +1,12 @@
 //! The calls as the C interface has them, on slices of any length: the answer is 0 or the number
 //! of the refusal (the CRC for `crc32`). A wrong length is for the library to refuse (rule R4).
 
-#[cfg(feature = "fmap")]
 mod fmap;
-#[cfg(feature = "fmd")]
 mod fmd;
-#[cfg(feature = "gpt")]
 mod gpt;
 
-#[cfg(feature = "fmap")]
 pub use fmap::*;
-#[cfg(feature = "fmd")]
 pub use fmd::*;
-#[cfg(feature = "gpt")]
 pub use gpt::*;
 
 mod c {

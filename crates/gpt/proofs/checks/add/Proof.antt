@@ -1,7 +1,8 @@
 use mathlib.Core.Path.{sym, _∙_}
+use native.Mathlib.Omega.{arith}
 use denote.Ref.{now}
-use Rattle.gpt.proofs.Rows.{size-zero, type-zero, unique-zero, unique-carried, name-bad, slots-full, add-passes, none-unused, one-unused}
 use borrow.Author.Needs.{needs}
+use Rattle.gpt.proofs.Rows.{size-zero, type-zero, unique-zero, unique-carried, name-bad, slots-full, add-passes, none-unused, one-unused}
 use Rattle.gpt.proofs.checks.add.Statement.{statement}
 use Rattle.gpt.proofs.checks.add.Tie as tie
 
@@ -48,7 +49,7 @@ first-unused-requires c κs = search needs
 returns-6 : tie.Need-returns-6
 returns-6 c =
     let a = c .before .before .before .before .before .before .before .before .before .before .before .before .before .before .before .args in
-    slots-full 0 0 (now (a .table)) (now (a .kind)) (now (a .unique)) (a .size) (now (a .name)) (c .before .before .before .before .before .before .before .before .before .before .if1 .left) (sym (c .before .before .before .before .before .before .before .before .before .is-zero .ensures) ∙ c .before .before .before .before .before .before .before .before .if2 .left) (sym (c .before .before .before .before .before .before .before .is-zero2 .ensures) ∙ c .before .before .before .before .before .before .if3 .left) (sym (c .before .before .before .before .before .carried .ensures) ∙ c .before .before .before .before .if4 .left) (sym (c .before .before .before .bad-name .ensures) ∙ c .before .before .if5 .left) (none-unused (now (a .table)) _ (c .before .first-unused .ensures .0) (c .if6 .taken))
+    slots-full 0 0 (now (a .table)) (now (a .kind)) (now (a .unique)) (a .size) (now (a .name)) (c .before .before .before .before .before .before .before .before .before .before .if1 .left) (sym (c .before .before .before .before .before .before .before .before .before .is-zero .ensures) ∙ c .before .before .before .before .before .before .before .before .if2 .left) (sym (c .before .before .before .before .before .before .before .is-zero2 .ensures) ∙ c .before .before .before .before .before .before .if3 .left) (sym (c .before .before .before .before .before .carried .ensures) ∙ c .before .before .before .before .if4 .left) (sym (c .before .before .before .bad-name .ensures) ∙ c .before .before .if5 .left) (none-unused (now (a .table)) _ (c .before .first-unused .ensures .0) (omega arith))
 
 returns-7 : tie.Need-returns-7
 returns-7 c =

@@ -1,7 +1,8 @@
-use Rattle.gpt_model.specs.Disk.{disk512, primary, entriesIn}
-use Rattle.gpt.proofs.Outcomes.{resized-fits, resized-is}
+use native.Mathlib.Omega.{arith}
 use denote.Ref.{now}
 use borrow.Author.Needs.{needs}
+use Rattle.gpt_model.specs.Disk.{disk512, primary, entriesIn}
+use Rattle.gpt.proofs.Outcomes.{first-is, resized-is}
 use Rattle.gpt.proofs.edits.resized.Statement.{statement}
 use Rattle.gpt.proofs.edits.resized.Tie as tie
 
@@ -20,10 +21,9 @@ sub-resized c = search needs
 add-resized : tie.Need-add-resized
 add-resized c =
     let a = c .before .before .before .before .args in
-    let h = now (a .head) in
-    let T = entriesIn disk512 primary h in
-    record
-    { fits = resized-fits T _ _ (a .i) _ (a .size) (c .before .before .entries-in .ensures .0) (c .before .entry .ensures .0) (c .load64 .ensures) (c .before .before .before .before .pre .2) (c .before .before .before .before .pre .3) }
+    let T = entriesIn disk512 primary (now (a .head)) in
+    let e = first-is T _ _ (a .i) _ (a .size) (c .before .before .entries-in .ensures .0) (c .before .entry .ensures .0) (c .load64 .ensures) in
+    record { fits = omega (arith, c .before .before .before .before .pre .3) }
 
 resized-requires : tie.Need-resized-requires
 resized-requires c κs = search needs
@@ -31,10 +31,9 @@ resized-requires c κs = search needs
 returns : tie.Need-returns
 returns c =
     let a = c .before .before .before .before .before .args in
-    let h = now (a .head) in
-    let T = entriesIn disk512 primary h in
-    resized-is T _ _ (a .i) _ (a .size) (c .before .before .before .entries-in .ensures .0) (c .before .before .entry .ensures .0)
-    (c .before .load64 .ensures) (c .before .before .before .before .before .pre .2) _ (c .resized .ensures)
+    let T = entriesIn disk512 primary (now (a .head)) in
+    let pos = c .before .before .before .before .before .pre .2 in
+    resized-is T _ _ (a .i) _ (a .size) (c .before .before .before .entries-in .ensures .0) (c .before .before .entry .ensures .0) (c .before .load64 .ensures) _ _ (c .resized .ensures) (omega arith)
 
 pub resized-spec : {M : Type 1} → statement M
 resized-spec =

@@ -6,8 +6,8 @@ use borrow.Author.Needs.{needs}
 use Rattle.octets.specs.Bytes.{field}
 use Rattle.gpt_model.specs.Table.{slots}
 use Rattle.gpt_model.specs.Table.{vacant}
+use Rattle.gpt_table.proofs.Reorders.{free-but}
 use Rattle.gpt_table.proofs.Walks.{room-same}
-use Rattle.gpt_table.proofs.Used.{free-but}
 use Rattle.gpt_table.proofs.room.fits_at.Statement.{statement}
 use Rattle.gpt_table.proofs.room.fits_at.Tie as tie
 
@@ -20,8 +20,8 @@ entry-requires c κs = search needs
 load64-requires : tie.Need-load64-requires
 load64-requires c κs = search needs
 
-decode-requires : tie.Need-decode-requires
-decode-requires c κs = search needs
+ranges-requires : tie.Need-ranges-requires
+ranges-requires c κs = search needs
 
 room-at-requires : tie.Need-room-at-requires
 room-at-requires c κs = search needs
@@ -30,10 +30,10 @@ returns : tie.Need-returns
 returns c = λ first.
     let a = c .before .before .before .before .before .before .before .before .before .args in
     c .room-at .ensures
-    ∙ room-same _ (set (slots (now (a .t))) (a .k - 1) vacant) (free-but (now (a .t)) (a .k - 1) (c .before .before .before .decode .ensures)) (a .last .0) (a .size)
+    ∙ room-same _ (set (slots (now (a .t))) (a .k - 1) vacant) (free-but (now (a .t)) (a .k - 1) (c .before .before .before .ranges .ensures)) (a .last .0) (a .size)
     (c .before .before .before .before .before .before .load64 .ensures ∙ ap (field 32 8) (c .before .before .before .before .before .before .before .entry .ensures .0))
 
 pub fits-at-spec : {M : Type 1} → statement M
 fits-at-spec =
     tie.close
-    (tie.spec sub-i entry-requires load64-requires decode-requires room-at-requires returns)
+    (tie.spec sub-i entry-requires load64-requires ranges-requires room-at-requires returns)

@@ -1,114 +1,98 @@
-use mathlib.Core.Path.{sym, _∙_}
-use Prim.Native.Nat.{_-_}
 use native.Mathlib.Omega.{arith}
 use denote.Ref.{now}
 use borrow.Author.Needs.{needs}
 use Rattle.gpt_table.specs.Gaps.{taken, gap}
-use Rattle.gpt_table.specs.Decoded.{ranges}
-use Rattle.gpt_table.proofs.Ahead.{Seen, seen-start, seen-more, seen-full, seen-end}
-use Rattle.gpt_table.proofs.Used.{length-ranges, getD-ranges}
+use Rattle.gpt_table.proofs.Ahead.{clear-none, clear-far, full, clear-gap}
+use Rattle.gpt_table.proofs.room.look.Lts as lts
+use Rattle.gpt_table.proofs.room.look.Reads as reads
 use Rattle.gpt_table.proofs.room.look.Statement.{statement}
 use Rattle.gpt_table.proofs.room.look.Tie as tie
 
-abbrev Inv-loop : tie.InvT-loop
-Inv-loop f l n a last g₀ i₀ g i = Seen (ranges f l n) a last g i
+-- src/room.rt:68:27
+add-t8 : tie.Need-add-t8
+add-t8 c = search needs
 
-abbrev μ-loop : tie.MeasureT-loop
-μ-loop f l n a last g₀ i₀ g i = n - i
-
-add-g : tie.Need-add-g Inv-loop μ-loop
-add-g c = search needs
-
-loop-holds : tie.Need-loop-holds Inv-loop μ-loop
-loop-holds c = seen-start _ _ _ (omega arith)
-
-mul-inside : tie.Need-mul-inside Inv-loop μ-loop
-mul-inside c = search needs
-
-element-copy-out-inside : tie.Need-element-copy-out-inside Inv-loop μ-loop
-element-copy-out-inside c = search needs
-
-mul-inside-2 : tie.Need-mul-inside-2 Inv-loop μ-loop
-mul-inside-2 c = search needs
-
-element-copy-out-inside-2 : tie.Need-element-copy-out-inside-2 Inv-loop μ-loop
-element-copy-out-inside-2 c = search needs
-
-inside-requires : tie.Need-inside-requires Inv-loop μ-loop
-inside-requires c κs = search needs
-
-mul-t18 : tie.Need-mul-t18 Inv-loop μ-loop
-mul-t18 c = search needs
-
-element-copy-out-t21 : tie.Need-element-copy-out-t21 Inv-loop μ-loop
-element-copy-out-t21 c = search needs
-
-returns : tie.Need-returns Inv-loop μ-loop
+-- src/room.rt:68:9
+returns : tie.Need-returns
 returns c =
-    let f = now (c .before .before .before .before .before .before .before .args .firsts) in
-    let l = now (c .before .before .before .before .before .before .before .args .lasts) in
-    let n = c .before .before .before .before .before .before .before .args .count in
-    let i = c .before .before .before .before .before .before .loop .i in
-    let k = length-ranges f l n in
-    taken (seen-full (ranges f l n) i _ _ (omega arith) (getD-ranges f l n i (omega arith)) (c .before .before .before .before .before .before .before .args .a) (sym (c .before .before .inside .ensures) ∙ c .before .if1 .taken))
+    let a = c .before .args in
+    let p = c .before .pre in
+    gap (clear-none (now (a .firsts)) (now (a .lasts)) (a .count) (a .i) (a .a) (a .last) (p .1) (p .2) (p .3) (omega arith))
 
-mul-lower : tie.Need-mul-lower Inv-loop μ-loop
-mul-lower c = search needs
+-- src/room.rt:70:8
+mul-if2 : tie.Need-mul-if2
+mul-if2 c = search needs
 
-element-copy-out-lower : tie.Need-element-copy-out-lower Inv-loop μ-loop
-element-copy-out-lower c = search needs
+-- src/room.rt:70:8
+element-copy-out-if2 : tie.Need-element-copy-out-if2
+element-copy-out-if2 c = search needs
 
-mul-lower-2 : tie.Need-mul-lower-2 Inv-loop μ-loop
-mul-lower-2 c = search needs
+-- src/room.rt:71:29
+mul-t13 : tie.Need-mul-t13
+mul-t13 c = search needs
 
-element-copy-out-lower-2 : tie.Need-element-copy-out-lower-2 Inv-loop μ-loop
-element-copy-out-lower-2 c = search needs
+-- src/room.rt:71:29
+element-copy-out-t16 : tie.Need-element-copy-out-t16
+element-copy-out-t16 c = search needs
 
-lower-requires : tie.Need-lower-requires Inv-loop μ-loop
-lower-requires c κs = (sym (c .before .before .before .inside .ensures) ∙ c .before .before .if1 .left, c .before .before .before .before .before .before .before .loop .inv .past)
-
-add-i : tie.Need-add-i Inv-loop μ-loop
-add-i c = search needs
-
-loop-less : tie.Need-loop-less Inv-loop μ-loop
-loop-less c = search needs
-
-loop-again : tie.Need-loop-again Inv-loop μ-loop
-loop-again c =
-    let f = now (c .before .before .before .before .before .before .before .before .before .args .firsts) in
-    let l = now (c .before .before .before .before .before .before .before .before .before .args .lasts) in
-    let n = c .before .before .before .before .before .before .before .before .before .args .count in
-    let i = c .before .before .before .before .before .before .before .before .loop .i in
-    let k = length-ranges f l n in
-    seen-more (ranges f l n) i _ _ (omega arith) (getD-ranges f l n i (omega arith)) (c .before .before .before .before .before .before .before .before .loop .inv) (c .lower .ensures)
-
-returns-2 : tie.Need-returns-2 Inv-loop μ-loop
+-- src/room.rt:71:9
+returns-2 : tie.Need-returns-2
 returns-2 c =
-    let k = length-ranges (now (c .before .before .args .firsts)) (now (c .before .before .args .lasts)) (c .before .before .args .count) in
-    gap (seen-end (omega arith) (c .before .loop .inv))
+    let a = c .before .before .before .before .args in
+    let p = c .before .before .before .before .pre in
+    let m = p .2 .most in
+    taken (full (now (a .firsts)) (now (a .lasts)) (a .count) (a .i) (a .a) (a .last) (p .1) (p .2) (omega arith) (c .before .if2 .taken))
+
+-- src/room.rt:73:15
+mul-if3 : tie.Need-mul-if3
+mul-if3 c = search needs
+
+-- src/room.rt:73:15
+element-copy-out-if3 : tie.Need-element-copy-out-if3
+element-copy-out-if3 c = search needs
+
+-- src/room.rt:74:27
+add-t19 : tie.Need-add-t19
+add-t19 c = search needs
+
+-- src/room.rt:74:9
+returns-3 : tie.Need-returns-3
+returns-3 c =
+    let a = c .before .before .before .before .before .args in
+    let p = c .before .before .before .before .before .pre in
+    gap (clear-far (now (a .firsts)) (now (a .lasts)) (a .count) (a .i) (a .a) (a .last) (p .1) (p .2) (p .3) (omega arith))
+
+-- src/room.rt:76:16
+mul-t9 : tie.Need-mul-t9
+mul-t9 c = search needs
+
+-- src/room.rt:76:16
+element-copy-out-t12 : tie.Need-element-copy-out-t12
+element-copy-out-t12 c = search needs
+
+-- src/room.rt:63:1
+returns-4 : tie.Need-returns-4
+returns-4 c =
+    let a = c .before .before .before .before .before .before .args in
+    let p = c .before .before .before .before .before .before .pre in
+    let m = p .2 .most in
+    gap (clear-gap (now (a .firsts)) (now (a .lasts)) (a .count) (a .i) (a .a) (a .last) (p .1) (p .2) (omega arith) (omega arith) (omega arith))
 
 pub look-spec : {M : Type 1} → statement M
 look-spec =
     tie.close
     (tie.spec
-    Inv-loop
-    μ-loop
-    add-g
-    loop-holds
-    mul-inside
-    element-copy-out-inside
-    mul-inside-2
-    element-copy-out-inside-2
-    inside-requires
-    mul-t18
-    element-copy-out-t21
+    add-t8
     returns
-    mul-lower
-    element-copy-out-lower
-    mul-lower-2
-    element-copy-out-lower-2
-    lower-requires
-    add-i
-    loop-less
-    loop-again
-    returns-2)
+    mul-if2
+    element-copy-out-if2
+    mul-t13
+    element-copy-out-t16
+    returns-2
+    mul-if3
+    element-copy-out-if3
+    add-t19
+    returns-3
+    mul-t9
+    element-copy-out-t12
+    returns-4)

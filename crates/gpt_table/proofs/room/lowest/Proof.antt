@@ -2,19 +2,19 @@ use mathlib.Core.Path.{_∙_}
 use denote.Ref.{now}
 use borrow.Author.Needs.{needs}
 use Rattle.gpt_model.specs.Table.{slots}
+use Rattle.gpt_table.proofs.Reorders.{free-all}
 use Rattle.gpt_table.proofs.Walks.{place-same}
-use Rattle.gpt_table.proofs.Used.{free-all}
 use Rattle.gpt_table.proofs.room.lowest.Statement.{statement}
 use Rattle.gpt_table.proofs.room.lowest.Tie as tie
 
-decode-requires : tie.Need-decode-requires
-decode-requires c κs = search needs
+ranges-requires : tie.Need-ranges-requires
+ranges-requires c κs = search needs
 
 search-requires : tie.Need-search-requires
 search-requires c κs = search needs
 
 returns : tie.Need-returns
-returns c = let a = c .before .before .before .before .before .before .before .args in c .search .ensures ∙ place-same _ (slots (now (a .t))) (free-all (now (a .t)) (c .before .before .before .decode .ensures)) (a .last .0) (a .first .0) (a .size)
+returns c = let a = c .before .before .before .before .before .before .before .args in c .search .ensures ∙ place-same _ (slots (now (a .t))) (free-all (now (a .t)) (c .before .before .before .ranges .ensures)) (a .last .0) (a .first .0) (a .size)
 
 pub lowest-spec : {M : Type 1} → statement M
-lowest-spec = tie.close (tie.spec decode-requires search-requires returns)
+lowest-spec = tie.close (tie.spec ranges-requires search-requires returns)

@@ -1,8 +1,8 @@
 use mathlib.Core.Path.{sym, _∙_}
 use denote.Ref.{now}
-use borrow.Author.Tests.{not-true, not-false}
 use borrow.Author.Needs.{needs}
-use Rattle.gpt_table.proofs.Good.{good-not, good-pairs, used-table}
+use borrow.Author.Tests.{not-true, not-false}
+use Rattle.gpt_table.proofs.Good.{good-not, good-guids, good-ranges, ranges-proper, used-guids}
 use Rattle.gpt_table.proofs.rules.table_ok.Statement.{statement}
 use Rattle.gpt_table.proofs.rules.table_ok.Tie as tie
 
@@ -15,17 +15,33 @@ returns c = sym (good-not _ _ _ (sym (c .before .entries-ok .ensures) ∙ not-tr
 decode-requires : tie.Need-decode-requires
 decode-requires c κs = search needs
 
-decode-requires-2 : tie.Need-decode-requires-2
-decode-requires-2 c κs = search needs
-
-pairs-ok-requires : tie.Need-pairs-ok-requires
-pairs-ok-requires c κs = search needs
+guids-differ-requires : tie.Need-guids-differ-requires
+guids-differ-requires c κs = search needs
 
 returns-2 : tie.Need-returns-2
 returns-2 c =
-    let a = c .before .before .before .before .before .before .before .before .before .before .before .before .before .before .args in
-    c .pairs-ok .ensures _ (used-table (now (a .t)) (c .before .before .before .before .before .before .before .before .before .before .before .before .before .before .pre) (λ j. c .before .before .before .before .before .before .before .before .before .before .before .before .before .shared-slice-known .given j .fits) (c .before .before .before .before .before .before .before .before .decode .ensures) (c .before .before .before .before .before .decode2 .ensures))
-    ∙ good-pairs (a .first .0) (a .last .0) (now (a .t)) (sym (c .before .before .before .before .before .before .before .before .before .before .before .before .entries-ok .ensures) ∙ not-false _ (c .before .before .before .before .before .before .before .before .before .before .before .if1 .left))
+    let a = c .before .before .before .before .before .before .before .before .before .before .args in
+    let ok = sym (c .before .before .before .before .before .before .before .before .entries-ok .ensures) ∙ not-false _ (c .before .before .before .before .before .before .before .if1 .left) in
+    let g = used-guids (now (a .t)) (c .before .before .before .before .before .before .before .before .before .before .pre) (λ j. c .before .before .before .before .before .before .before .before .before .shared-slice-known .given j .fits) (c .before .before .before .before .decode .ensures) in
+    sym (good-guids (a .first .0) (a .last .0) (now (a .t)) ok (sym (c .before .guids-differ .ensures _ g) ∙ not-true _ (c .if2 .taken)))
+
+ranges-requires : tie.Need-ranges-requires
+ranges-requires c κs = search needs
+
+ranges-apart-requires : tie.Need-ranges-apart-requires
+ranges-apart-requires c κs =
+    let a = c .before .before .before .before .before .before .before .before .before .before .before .before .before .before .before .args in
+    let w = c .before .before .ranges .ensures in
+    let ok = sym (c .before .before .before .before .before .before .before .before .before .before .before .before .before .entries-ok .ensures) ∙ not-false _ (c .before .before .before .before .before .before .before .before .before .before .before .before .if1 .left) in
+    (w .most, w .ascending, ranges-proper (a .first .0) (a .last .0) (now (a .t)) ok w)
+
+returns-3 : tie.Need-returns-3
+returns-3 c =
+    let a = c .before .before .before .before .before .before .before .before .before .before .before .before .before .before .before .before .args in
+    let ok = sym (c .before .before .before .before .before .before .before .before .before .before .before .before .before .before .entries-ok .ensures) ∙ not-false _ (c .before .before .before .before .before .before .before .before .before .before .before .before .before .if1 .left) in
+    let g = used-guids (now (a .t)) (c .before .before .before .before .before .before .before .before .before .before .before .before .before .before .before .before .pre) (λ j. c .before .before .before .before .before .before .before .before .before .before .before .before .before .before .before .shared-slice-known .given j .fits) (c .before .before .before .before .before .before .before .before .before .before .decode .ensures) in
+    c .ranges-apart .ensures
+    ∙ good-ranges (a .first .0) (a .last .0) (now (a .t)) ok (c .before .before .before .ranges .ensures) (sym (c .before .before .before .before .before .before .before .guids-differ .ensures _ g) ∙ not-false _ (c .before .before .before .before .before .before .if2 .left))
 
 pub table-ok-spec : {M : Type 1} → statement M
 table-ok-spec =
@@ -34,6 +50,8 @@ table-ok-spec =
     entries-ok-requires
     returns
     decode-requires
-    decode-requires-2
-    pairs-ok-requires
-    returns-2)
+    guids-differ-requires
+    returns-2
+    ranges-requires
+    ranges-apart-requires
+    returns-3)

@@ -1,0 +1,131 @@
+//! The first inputs of each target, from the fixtures.
+
+use crate::{disk, flash};
+use testkit::fixture;
+
+/// Arguments of a call that come after a disk's lengths, before its script.
+fn disk_arguments(call: &str) -> Vec<Vec<u8>> {
+    let guid = |tag: u8| vec![0, tag];
+    let name = |filled: u8, place: u8, unit: u8| vec![0, filled, place, unit, 0];
+    match call {
+        "usi_gpt_format" => vec![guid(0x61), guid(0), vec![0xF8, 0x61]],
+        "usi_gpt_add" => [(1, name(4, 0, 0)), (0, name(4, 0, 0)), (30, name(2, 5, 7)), (200, name(36, 0, 0))]
+            .into_iter()
+            .map(|(size, name)| [guid(0x61), guid(0x62), vec![size, 0], name].concat())
+            .collect(),
+        "usi_gpt_delete" => vec![vec![1], vec![2], vec![0], vec![129]],
+        "usi_gpt_resize" => vec![vec![1, 1], vec![1, 200], vec![2, 0], vec![7, 20]],
+        "usi_gpt_rename" => {
+            vec![[vec![1], name(36, 0, 0)].concat(), [vec![2], name(3, 9, 9)].concat(), vec![0]]
+        }
+        _ => vec![vec![]],
+    }
+}
+
+fn disks(call: &str) -> Vec<Vec<u8>> {
+    let mut inputs = Vec::new();
+    for path in fixture::files("gpt", "disk") {
+        let disk = fixture::disk(&path).expect("a disk").disk;
+        for arguments in disk_arguments(call) {
+            inputs.push([disk::encoded_lengths(&disk), arguments, disk::encoded(&disk)].concat());
+        }
+    }
+    // An empty disk of 100 blocks, one with a partition of each size to 3 by steps of a script, and two that lend too little.
+    for arguments in disk_arguments(call) {
+        let script = [0, 1, 0, 0, 34, 1, 9, 1, 0, 1, 1, 0, 40, 2, 9, 2, 0, 1, 6, 0, 60, 3, 9, 3, 0];
+        inputs.push([&[100, 0, 0], &arguments[..], &[0]].concat());
+        inputs.push([&[100, 0, 0], &arguments[..], &script].concat());
+        inputs.push([&[230, 0, 0], &arguments[..], &[0, 6, 128, 2]].concat());
+        inputs.push([&[100, 0xF6, 0], &arguments[..], &[0]].concat());
+        inputs.push([&[67, 0, 0xFF], &arguments[..], &[0]].concat());
+        inputs.push([&[67, 0, 0], &arguments[..], &[0]].concat());
+    }
+    inputs
+}
+
+/// Images of 220 bytes by steps of a script, with areas FMAP, A and B, the latter two preserved; then B elsewhere, of another size, none.
+fn small_images(seed: u8) -> Vec<Vec<u8>> {
+    let map = |count: u8, b: &[u8]| {
+        [&[220, 0, 5, seed, 1, 0, 0, count, 0, 182, 0, 184, 8, 0x81], b, &[0xFF]].concat()
+    };
+    vec![map(3, &[200, 10, 0x82]), map(3, &[210, 10, 0x82]), map(3, &[200, 9, 0x82]), map(2, &[])]
+}
+
+fn images(call: &str) -> Vec<Vec<u8>> {
+    let mut inputs = Vec::new();
+    let files = fixture::files("fmap", "flash");
+    let fixtures: Vec<_> = files.iter().map(|path| fixture::flash(path).expect("an image")).collect();
+    for one in small_images(0x11) {
+        match call {
+            "usi_fmap_area" => inputs.push([&[1, 0], &one[..]].concat()),
+            "usi_fmap_named" => inputs.push([&[1, b'A'], &one[..]].concat()),
+            "usi_fmap_carry" => {
+                inputs.extend(small_images(0xEE).iter().map(|other| [&one[..], other].concat()));
+            }
+            _ => inputs.push(one),
+        }
+    }
+    for fixture in &fixtures {
+        let image = flash::encoded(&fixture.image);
+        match call {
+            "usi_fmap_area" => {
+                inputs.extend([&[0, 0], &[1, 0], &[200, 0], &[0, 0xF1]].map(|a| [&a[..], &image].concat()))
+            }
+            "usi_fmap_named" => {
+                let names = fixture.areas.iter().map(|area| area.name.as_bytes()).take(3);
+                for name in names.chain([&b"FMAP"[..], b"", b"NONE"]) {
+                    inputs.push([&[name.len() as u8], name, &image].concat());
+                }
+            }
+            "usi_fmap_carry" => {
+                inputs.push([&image[..], &image].concat());
+                let others = fixtures.iter().map(|other| flash::encoded(&other.image));
+                inputs.extend(others.map(|other| [&image[..], &other].concat()));
+            }
+            _ => inputs.push(image),
+        }
+    }
+    inputs
+}
+
+fn texts(call: &str) -> Vec<Vec<u8>> {
+    let before: &[&[u8]] = match call {
+        "usi_fmd_write" => &[&[0, 0x5A, 0], &[0xF6, 0, 0], &[0, 0, 0xFE]],
+        _ => &[&[0, 0], &[0xF6, 0], &[0, 0xFF]],
+    };
+    let files = fixture::files("fmd", "layout");
+    let texts = files.iter().map(|path| fixture::layout(path).expect("a text").text);
+    texts.flat_map(|text| before.iter().map(move |before| [before, &text[..]].concat())).collect()
+}
+
+/// GUIDs of the disks, as text or as stored.
+fn guids(call: &str) -> Vec<Vec<u8>> {
+    let files = fixture::files("gpt", "disk");
+    let disks = files.iter().map(|path| fixture::disk(path).expect("a disk"));
+    let partitions: Vec<_> = disks.flat_map(|disk| disk.partitions).take(12).collect();
+    let texts = partitions.iter().flat_map(|partition| [partition.kind.clone(), partition.unique.clone()]);
+    let names = ["system", "msft", "data", "linux", "swap", "Data", ""].map(String::from);
+    let texts = texts.chain(names);
+    match call {
+        "usi_guid_write" => texts
+            .map(|text| {
+                let mut stored = vec![0; 16];
+                second::guid_read(&second::RULES, text.as_bytes(), &mut stored);
+                [&[0], &stored[..]].concat()
+            })
+            .chain([vec![0, 1, 2], [&[0xF6], &[7; 16][..]].concat()])
+            .collect(),
+        _ => texts.flat_map(|text| [0, 0xF6].map(|length| [&[length], text.as_bytes()].concat())).collect(),
+    }
+}
+
+/// Inputs for the target of a call, by its name in the C interface.
+pub fn corpus(call: &str) -> Vec<Vec<u8>> {
+    match call {
+        "usi_crc32" => [texts(call), guids(call)].concat(),
+        _ if call.starts_with("usi_gpt_") => disks(call),
+        _ if call.starts_with("usi_fmap_") => images(call),
+        _ if call.starts_with("usi_fmd_") => texts(call),
+        _ => guids(call),
+    }
+}

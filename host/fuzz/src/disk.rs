@@ -1,0 +1,229 @@
+//! A disk by a script: a formatted one, or zeros, and changes to it; the CRCs are made right again or not.
+//! The library makes it, being the faster one; were it wrong there, the two would differ on the disk.
+
+use crate::input::{number, Input};
+use testkit::disk::{Disk, HEAD_LEN, TAIL_LEN};
+use usigrambal::crc32;
+use usigrambal::raw::gpt_format;
+
+const ENTRY_LEN: usize = 128;
+const ENTRIES_LEN: usize = 128 * ENTRY_LEN;
+const HEADER_LEN: usize = 92;
+
+/// Bits of the script's first byte.
+const HEAD_UNSEALED: u8 = 1;
+const TAIL_UNSEALED: u8 = 2;
+const ZEROS: u8 = 4;
+
+const PUT: u8 = 0;
+const RUN: u8 = 2;
+
+/// Where a copy has its header and its entries.
+#[derive(Clone, Copy)]
+enum Side {
+    Head,
+    Tail,
+}
+
+impl Side {
+    fn of(byte: u8) -> Side {
+        if byte & 1 == 0 {
+            Side::Head
+        } else {
+            Side::Tail
+        }
+    }
+
+    fn header_at(self) -> usize {
+        match self {
+            Side::Head => 512,
+            Side::Tail => ENTRIES_LEN,
+        }
+    }
+
+    fn entries_at(self) -> usize {
+        match self {
+            Side::Head => 1024,
+            Side::Tail => 0,
+        }
+    }
+}
+
+fn side(disk: &mut Disk, side: Side) -> &mut [u8] {
+    match side {
+        Side::Head => &mut disk.head,
+        Side::Tail => &mut disk.tail,
+    }
+}
+
+/// Number of blocks, both lengths, and the rest of the input, which [`script`] reads.
+pub struct Lengths {
+    pub n: u64,
+    head: usize,
+    tail: usize,
+}
+
+pub fn lengths(input: &mut Input) -> Lengths {
+    Lengths { n: input.number(1 << 32), head: input.length(HEAD_LEN), tail: input.length(TAIL_LEN) }
+}
+
+/// Head and tail after all steps of the script.
+pub fn script(lengths: &Lengths, input: &mut Input) -> [Vec<u8>; 2] {
+    let flags = input.byte();
+    let mut disk = Disk { head: vec![0; HEAD_LEN], tail: vec![0; TAIL_LEN], n: lengths.n };
+    if flags & ZEROS == 0 {
+        gpt_format(&mut disk.head, &mut disk.tail, disk.n.clamp(68, 1 << 32), &[0xD1; 16]);
+    }
+    while !input.is_empty() {
+        step(&mut disk, input);
+    }
+    if flags & HEAD_UNSEALED == 0 {
+        seal(&mut disk, Side::Head);
+    }
+    if flags & TAIL_UNSEALED == 0 {
+        seal(&mut disk, Side::Tail);
+    }
+    disk.head.resize(lengths.head, 0);
+    disk.tail.resize(lengths.tail, 0);
+    [disk.head, disk.tail]
+}
+
+fn step(disk: &mut Disk, input: &mut Input) {
+    match input.byte() % 9 {
+        PUT => {
+            let (which, at, len) =
+                (Side::of(input.byte()), input.number(0) as usize, usize::from(input.byte()));
+            put(side(disk, which), at, input.bytes(len));
+        }
+        1 => place(disk, input),
+        RUN => {
+            let (which, at) = (Side::of(input.byte()), input.number(0) as usize);
+            let (len, byte) = (input.number(0) as usize, input.byte());
+            put(side(disk, which), at, &vec![byte; len.min(HEAD_LEN)]);
+        }
+        3 => seal(disk, Side::of(input.byte())),
+        4 => header_number(disk, input),
+        5 => entry_number(disk, input),
+        6 => many(disk, input),
+        7 => copy_entry(disk, input),
+        _ => {
+            let (which, at, bit) = (Side::of(input.byte()), input.number(0) as usize, input.byte() % 8);
+            if let Some(byte) = side(disk, which).get_mut(at) {
+                *byte ^= 1 << bit;
+            }
+        }
+    }
+}
+
+/// An entry in both copies, or in one.
+fn place(disk: &mut Disk, input: &mut Input) {
+    let (slot, sides) = (usize::from(input.byte() & 127), input.byte());
+    let (first, size) = (input.number(disk.n), input.number(disk.n));
+    let last = first.wrapping_add(size).wrapping_sub(1);
+    let (kind, unique, name) = (input.byte(), input.byte(), input.byte());
+    let mut entry = [&[kind; 16], &[unique; 16], &first.to_le_bytes()[..], &last.to_le_bytes()].concat();
+    entry.resize(ENTRY_LEN, 0);
+    entry[56 + usize::from(name % 72)] = name / 72;
+    if sides & 3 != 1 {
+        put(&mut disk.head, 1024 + slot * ENTRY_LEN, &entry);
+    }
+    if sides & 3 != 2 {
+        put(&mut disk.tail, slot * ENTRY_LEN, &entry);
+    }
+}
+
+/// Partitions of one block each in the first slots, with a free block after some.
+fn many(disk: &mut Disk, input: &mut Input) {
+    let (count, every) = (usize::from(input.byte()).min(128), u64::from(input.byte()));
+    let mut first: u64 = 34;
+    for slot in 0..count {
+        let numbers = [first.to_le_bytes(), first.to_le_bytes()].concat();
+        let mut entry = [&[7; 16], &[0xEE; 15][..], &[slot as u8], &numbers].concat();
+        entry.resize(ENTRY_LEN, 0);
+        put(&mut disk.head, 1024 + slot * ENTRY_LEN, &entry);
+        put(&mut disk.tail, slot * ENTRY_LEN, &entry);
+        first += if every > 0 && slot as u64 % every == 0 { 2 } else { 1 };
+    }
+}
+
+/// A number in the header of a copy, at any field.
+fn header_number(disk: &mut Disk, input: &mut Input) {
+    const FIELDS: [(usize, usize); 13] = [
+        (0, 8),
+        (8, 4),
+        (12, 4),
+        (16, 4),
+        (20, 4),
+        (24, 8),
+        (32, 8),
+        (40, 8),
+        (48, 8),
+        (56, 8),
+        (72, 8),
+        (80, 4),
+        (84, 4),
+    ];
+    let (which, field) = (Side::of(input.byte()), usize::from(input.byte()) % FIELDS.len());
+    let (at, len) = FIELDS[field];
+    let value = input.number(disk.n).to_le_bytes();
+    put(side(disk, which), which.header_at() + at, &value[..len]);
+}
+
+/// First or last block of an entry of a copy.
+fn entry_number(disk: &mut Disk, input: &mut Input) {
+    let (which, slot) = (Side::of(input.byte()), usize::from(input.byte() & 127));
+    let at = 32 + 8 * usize::from(input.byte() % 3);
+    let value = input.number(disk.n).to_le_bytes();
+    put(side(disk, which), which.entries_at() + slot * ENTRY_LEN + at, &value);
+}
+
+/// The bytes of one slot into another.
+fn copy_entry(disk: &mut Disk, input: &mut Input) {
+    let which = Side::of(input.byte());
+    let (from, to) = (usize::from(input.byte() & 127), usize::from(input.byte() & 127));
+    let (at, buffer) = (which.entries_at(), side(disk, which));
+    buffer.copy_within(at + from * ENTRY_LEN..at + (from + 1) * ENTRY_LEN, at + to * ENTRY_LEN);
+}
+
+/// Makes both CRCs of a copy right.
+fn seal(disk: &mut Disk, which: Side) {
+    let (header_at, entries_at) = (which.header_at(), which.entries_at());
+    let buffer = side(disk, which);
+    let entries_crc = crc32(&buffer[entries_at..entries_at + ENTRIES_LEN]);
+    let header = &mut buffer[header_at..header_at + HEADER_LEN];
+    header[88..92].copy_from_slice(&entries_crc.to_le_bytes());
+    header[16..20].fill(0);
+    let header_crc = crc32(header);
+    header[16..20].copy_from_slice(&header_crc.to_le_bytes());
+}
+
+/// Writes what fits.
+pub fn put(buffer: &mut [u8], at: usize, bytes: &[u8]) {
+    buffer.iter_mut().skip(at).zip(bytes).for_each(|(to, from)| *to = *from);
+}
+
+/// The first bytes of an input for a disk, before the call's own.
+pub fn encoded_lengths(disk: &Disk) -> Vec<u8> {
+    [number(disk.n), vec![0, 0]].concat()
+}
+
+/// The script that makes this disk, byte for byte.
+pub fn encoded(disk: &Disk) -> Vec<u8> {
+    let mut script = vec![ZEROS | HEAD_UNSEALED | TAIL_UNSEALED];
+    for (which, buffer) in [(0, &disk.head), (1, &disk.tail)] {
+        script.extend(encoded_runs(buffer, 0, |at, len| [vec![PUT, which], number(at), vec![len]].concat()));
+    }
+    script
+}
+
+/// The pieces of 32 bytes that are not all `fill`, each after its beginning.
+pub fn encoded_runs(buffer: &[u8], fill: u8, beginning: impl Fn(u64, u8) -> Vec<u8>) -> Vec<u8> {
+    let mut runs = Vec::new();
+    for (piece, at) in buffer.chunks(32).zip((0..).step_by(32)) {
+        if piece.iter().any(|byte| *byte != fill) {
+            runs.extend(beginning(at, piece.len() as u8));
+            runs.extend(piece);
+        }
+    }
+    runs
+}

@@ -1,0 +1,97 @@
+//! The targets over their first inputs, without a fuzzer.
+
+use fuzz::corpus::corpus;
+use fuzz::TARGETS;
+use second::rules::{CarrySlip, Row, Which};
+use second::{Rules, RULES};
+
+#[test]
+fn every_call_of_the_header_has_a_target() {
+    let header = testkit::host().join("../include/usigrambal.h");
+    let text = std::fs::read_to_string(&header).expect("the header");
+    let prototypes = text.lines().filter_map(|line| line.strip_prefix("uint32_t ")?.split_once('('));
+    let mut calls: Vec<_> = prototypes.map(|(call, _)| call).collect();
+    let mut targets: Vec<_> = TARGETS.iter().map(|target| target.call).collect();
+    calls.sort();
+    targets.sort();
+    assert_eq!(targets, calls);
+}
+
+#[test]
+fn library_and_second_implementation_agree() {
+    for target in TARGETS {
+        let inputs = corpus(target.call);
+        assert!(inputs.len() >= 10, "{}: {} inputs", target.call, inputs.len());
+        for (number, input) in inputs.iter().enumerate() {
+            let outcome = target.compare(&RULES, input);
+            assert_eq!(outcome, Ok(()), "{}: input {number}", target.call);
+        }
+    }
+}
+
+/// Cut short anywhere, an input is still one.
+#[test]
+fn every_input_is_one() {
+    for target in TARGETS {
+        let input = corpus(target.call).into_iter().min_by_key(Vec::len).expect("an input");
+        for len in 0..input.len().min(40) {
+            assert_eq!(target.compare(&RULES, &input[..len]), Ok(()), "{}: {len} bytes", target.call);
+        }
+    }
+}
+
+/// A wrong implementation of each call, in an accepted answer: the first inputs suffice to show it.
+#[test]
+fn each_target_shows_a_wrong_answer() {
+    type Wrong = (&'static str, fn(&mut Rules));
+    let wrong: &[Wrong] = &[
+        ("usi_crc32", |r| r.crc.start = 0),
+        ("usi_guid_read", |r| r.guid.reversed_groups = 2),
+        ("usi_type_read", |r| r.guid.short_names_as_type = false),
+        ("usi_guid_write", |r| r.guid.write_ten = b'a'),
+        ("usi_fmap_find", |r| r.fmap.alignment = 4),
+        ("usi_fmap_area", |r| r.fmap.area_buffer_len = 36),
+        ("usi_fmap_named", |r| r.fmap.name_len_max = 3),
+        ("usi_fmap_carry", |r| r.fmap.carry_slip = Some(CarrySlip::OneByteLess)),
+        ("usi_gpt_format", |r| r.gpt.format_tail_byte = 0xFF),
+        ("usi_gpt_read", |r| r.gpt.states = [2, 1, 3, 4]),
+        ("usi_gpt_table", |r| r.gpt.table_of = Some(Which::Primary)),
+        ("usi_gpt_free", |r| r.gpt.free_of = Some(Which::Backup)),
+        ("usi_gpt_add", |r| r.gpt.add_answers_first = false),
+        ("usi_gpt_delete", |r| r.gpt.delete_zeroes = 16),
+        ("usi_gpt_resize", |r| r.gpt.resize_last_less = 0),
+        ("usi_gpt_rename", |r| r.gpt.rename_units = 35),
+        ("usi_gpt_repair", |r| r.gpt.repair_answers_found = false),
+        ("usi_fmd_read", |r| r.fmd.name_len_max = 3),
+        ("usi_fmd_records", |r| r.fmd.first_record = 1),
+        ("usi_fmd_write", |r| r.fmap.image_name.at = 21),
+    ];
+    assert_eq!(
+        TARGETS.iter().map(|t| t.call).collect::<Vec<_>>(),
+        wrong.iter().map(|w| w.0).collect::<Vec<_>>()
+    );
+    for (target, (_, change)) in TARGETS.iter().zip(wrong) {
+        let mut rules = RULES;
+        change(&mut rules);
+        let shown = corpus(target.call).iter().any(|input| target.compare(&rules, input).is_err());
+        assert!(shown, "{}", target.call);
+    }
+}
+
+/// A refusal that changes a buffer or a number for an answer shows too, as does one with another number.
+#[test]
+fn each_target_shows_a_wrong_refusal() {
+    let mut changing = RULES;
+    changing.refusals.zeroes = 1;
+    changing.refusals.zeroes_answers = true;
+    let mut renumbered = RULES;
+    for row in [Row::WrongLength, Row::ImageLength, Row::NoSignature, Row::NoGoodMap] {
+        renumbered.refusals.renumber(row, 99);
+    }
+    for target in TARGETS.iter().filter(|target| target.call != "usi_crc32") {
+        for rules in [&changing, &renumbered] {
+            let shown = corpus(target.call).iter().any(|input| target.compare(rules, input).is_err());
+            assert!(shown, "{}", target.call);
+        }
+    }
+}

@@ -1,0 +1,56 @@
+//! The flash map calls of the second implementation, under the right rules.
+
+use second::RULES;
+use testkit::fixture;
+use testkit::flash_calls::{self, answered, Calls};
+
+const CALLS: Calls = Calls {
+    find: |image| {
+        let mut position = 0;
+        answered(second::fmap_find(&RULES, image, &mut position), position)
+    },
+    area: |image, k| {
+        let mut area = [0; 42];
+        answered(second::fmap_area(&RULES, image, k, &mut area), area)
+    },
+    named: |image, name| {
+        let mut k = 0;
+        answered(second::fmap_named(&RULES, image, name, &mut k), k)
+    },
+    carry: |old, new| answered(second::fmap_carry(&RULES, old, new), ()),
+};
+
+#[test]
+fn fixtures_read_as_their_tool_said() {
+    flash_calls::fixtures_read_as_their_tool_said(&CALLS);
+}
+
+#[test]
+fn dump_fmap_lists_the_same_areas() {
+    flash_calls::dump_fmap_lists_the_same_areas(&CALLS);
+}
+
+#[test]
+fn cbfstool_lists_the_same_areas() {
+    flash_calls::cbfstool_lists_the_same_areas(&CALLS);
+}
+
+#[test]
+fn flashrom_lists_the_same_areas() {
+    flash_calls::flashrom_lists_the_same_areas(&CALLS);
+}
+
+#[test]
+fn a_carry_is_what_dump_fmap_and_futility_make() {
+    flash_calls::a_carry_is_what_dump_fmap_and_futility_make(&CALLS);
+}
+
+#[test]
+fn the_areas_are_counted() {
+    for path in fixture::files("fmap", "flash") {
+        let fixture = fixture::flash(&path).expect("a fixture");
+        let mut count = 0;
+        let number = second::fmap_area_count(&RULES, &fixture.image, &mut count);
+        assert_eq!(answered(number, count), fixture.reads_as.map(|_| fixture.areas.len() as u64));
+    }
+}
