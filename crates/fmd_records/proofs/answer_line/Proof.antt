@@ -11,6 +11,9 @@ number-requires c κs = search needs
 slice-aggregate-numbered : tie.Need-slice-aggregate-numbered
 slice-aggregate-numbered c = search needs
 
+cast-numbered : tie.Need-cast-numbered
+cast-numbered c = search needs
+
 numbered-requires : tie.Need-numbered-requires
 numbered-requires c κs = search needs
 
@@ -49,6 +52,7 @@ answer-line-spec =
     (tie.spec
     number-requires
     slice-aggregate-numbered
+    cast-numbered
     numbered-requires
     same-length
     returns
