@@ -7,8 +7,8 @@
 SECONDS_PER_CALL = 30
 
 run:
-	rt check samples
-	target/bin/samples
+	rt check fmd_list
+	target/bin/fmd_list <examples/sample10.fmd
 
 test:
 	.ci/run
@@ -16,6 +16,7 @@ test:
 bench:
 	rt staticlib capi >/dev/null
 	rt staticlib bench_octets >/dev/null
+	rt check fmd_list >/dev/null
 	tests/peer zlib zlib1g-dev
 	tests/moves
 	cd host && cargo run --release --quiet -p bench
