@@ -131,8 +131,8 @@ Listing 𝓤 H A mem run = tripleOf 𝓤 H A list.signature (list.spec 𝓤 H A 
 module _ {M : Type 1} (𝓤 : URA M) (H : Heap 𝓤) (A : Atoms 𝓤) (W : Given 𝓤 H A) where
   abbrev laws : PartsLaws 𝓤 H A (Arr (memOf T.the-row) 128) (arr-parts (shares T.the-row) 128)
   laws = arr-laws 𝓤 H A W (memOf T.the-row) (shares T.the-row)
-      (share-laws 𝓤 H A W T.the-row (Is T.the-row) (shows 𝓤 H A T.the-row) vals (LL.tells T.the-type T′.the-laws) (LL.copy T.the-type T′.the-copy 𝓤 H A W))
-      128
+      (share-laws 𝓤 H A W T.the-row (Is T.the-row) (shows 𝓤 H A T.the-row) vals (LL.tells T.the-type T′.the-laws)
+      (LL.copy T.the-type T′.the-copy 𝓤 H A W)) 128
 
   abbrev lawful : Lawful 𝓤 H A ArrT
   lawful = array-lawful 𝓤 H A W T.the-row (LL.lawful T.the-type T′.the-laws 𝓤 H A W) 128
@@ -257,7 +257,8 @@ module _ {M : Type 1} (𝓤 : URA M) (H : Heap 𝓤) (A : Atoms 𝓤) (W : Given
           learn ! (λ is.
           -- [_3; …; the token; the result; what text owns; _7; …; _6; …; _5; …; _4; …; that _3 dies; _2; …; _1; …; _0; …]
           move ! (3 ∷ []) $ peeks ! N.the-row (Is N.the-row) (shows 𝓤 H A N.the-row) r (w ∷ []) (λ ir.
-          let held : Is L.the-row lent (vstruct (ofList (w ∷ val (zs .1 .0) ∷ [])) ∷ []) = (((w ∷ []), ((val (zs .1 .0) ∷ []), tt)), (refl, (ir, (in-struct (zs .1 .0) _ is, tt)))) in
+          let held : Is L.the-row lent (vstruct (ofList (w ∷ val (zs .1 .0) ∷ [])) ∷ []) =
+          ((w ∷ [], (val (zs .1 .0) ∷ [], tt)), (refl, (ir, (in-struct (zs .1 .0) _ is, tt)))) in
           land ! (from ! (stop !)) (init ! 11 refl (LL.lawful N.the-type N′.the-laws 𝓤 H A W .typed r _ ir .0)) $
           assigns ! (of-opd ! (load ! (from ! (stop !)) (look ! 1 refl))) (from ! (stop !))
           (init ! 5 refl (lawful 𝓤 H A W .typed (zs .1 .0) _ is .0)) $
