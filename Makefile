@@ -7,13 +7,14 @@
 SECONDS_PER_CALL = 30
 
 run:
-	rt check samples
-	target/bin/samples
+	rt check fmd_list
+	target/bin/fmd_list <examples/sample10.fmd
 
 test:
 	.ci/run
 
 bench:
+	rt check fmd_list >/dev/null
 	rt staticlib capi >/dev/null
 	rt staticlib bench_octets >/dev/null
 	tests/peer zlib zlib1g-dev
