@@ -5,27 +5,7 @@ ghost use lib.ListN.{length};
 ghost use Rattle.fmd.specs.Calls.{numberOf, reading, readText, recordText, writeText};
 ghost use Rattle.capi.specs.Told.{codeOf};
 ghost use Rattle.capi.specs.LayoutTold.{imageTold, readTold, countOf, recordsTold, writeTold};
-use fmd::Answer;
 use fmd::Reading;
-
-fn number(a: Answer) -> u32
-    ensures { λ r. ⌜ r ≡ codeOf (numberOf a) ⌝ }
-{
-    match a {
-        Answer::Accepted => 0,
-        Answer::WrongLength => 1,
-        Answer::TooLong => 50,
-        Answer::OutOfGrammar => 51,
-        Answer::BadNumber => 52,
-        Answer::BadName => 53,
-        Answer::NameTwice => 54,
-        Answer::TooMany => 55,
-        Answer::BadFlag => 56,
-        Answer::Undecided => 57,
-        Answer::Unfit => 58,
-        Answer::NoMapSection => 59,
-    }
-}
 
 // Hands an accepted image out.
 fn image(a: Reading, name: &mut [u8], size: &mut u64, address: &mut u64, count: &mut u64) -> u32
@@ -34,7 +14,7 @@ fn image(a: Reading, name: &mut [u8], size: &mut u64, address: &mut u64, count: 
         ≡ imageTold (now (name .entry)) (now (size .entry) ∷ now (address .entry) ∷ now (count .entry) ∷ []) (reading a) ⌝ }
 {
     let answer = a.answer;
-    let k = number(answer);
+    let k = fmd::number(answer);
     if k != 0 {
         return k;
     }
@@ -69,7 +49,7 @@ fn counted(a: Reading, count: &mut u64) -> u32
     ensures { λ r. ⌜ (r ≡ codeOf (numberOf (a .answer))) × (now (count .exit) ≡ countOf (now (count .entry)) (a .image) (numberOf (a .answer))) ⌝ }
 {
     let answer = a.answer;
-    let k = number(answer);
+    let k = fmd::number(answer);
     if k != 0 {
         return k;
     }
@@ -90,5 +70,5 @@ pub extern "C" fn usi_fmd_records(text: &[u8], records: &mut [u8], count: &mut u
 pub extern "C" fn usi_fmd_write(text: &[u8], image: &mut [u8]) -> u32
     ensures { λ r. ⌜ record { result = r; image = now (image .exit) } ≡ writeTold (writeText (now (text .entry)) (now (image .entry))) ⌝ }
 {
-    number(fmd::write_map(text, image))
+    fmd::number(fmd::write_map(text, image))
 }

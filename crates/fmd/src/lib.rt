@@ -10,7 +10,7 @@ ghost use Rattle.fmd_parse.specs.Layouts.{listOf as sectionsOf, Sound as SoundL
 ghost use Rattle.fmd_plan.specs.Plans.{planOf, Sound as SoundPlan};
 ghost use Rattle.fmd_check.specs.Check.{good};
 ghost use Rattle.fmd_check.specs.Facts.{Numbered, Accepted};
-ghost use Rattle.fmd.specs.Calls.{numberOf, said, refusedWith, baseOf, imageOf, saidBy, layoutIn, layoutFor, reading, readText, sectionOf, filled, listed, listText, recorded, recordText, written, writeBy, writeText};
+ghost use Rattle.fmd.specs.Calls.{numberOf, answerAs, said, refusedWith, baseOf, imageOf, saidBy, layoutIn, layoutFor, reading, readText, sectionOf, filled, listed, listText, recorded, recordText, written, writeBy, writeText};
 use fmap_rules::Area;
 use fmap_rules::Extent;
 use fmap_rules::ImagePosition;
@@ -64,6 +64,26 @@ pub struct Layout {
     pub reading: Reading,
     pub areas: Areas,
     pub at: ImagePosition,
+}
+
+// The number of an answer; 0 for Accepted.
+pub fn number(a: Answer) -> u32
+    ensures { λ r. ⌜ (answerAs r ≡ numberOf a) × (r < 60) ⌝ }
+{
+    match a {
+        Answer::Accepted => 0,
+        Answer::WrongLength => 1,
+        Answer::TooLong => 50,
+        Answer::OutOfGrammar => 51,
+        Answer::BadNumber => 52,
+        Answer::BadName => 53,
+        Answer::NameTwice => 54,
+        Answer::TooMany => 55,
+        Answer::BadFlag => 56,
+        Answer::Undecided => 57,
+        Answer::Unfit => 58,
+        Answer::NoMapSection => 59,
+    }
 }
 
 // No layout.

@@ -1,8 +1,7 @@
 -- Laws of the listing: what a lent section list says of the text.
 use mathlib.Core.Path.{_≡_, refl, sym, ap, ap₂, _∙_}
-use mathlib.Core.Bool.{cond, true, false}
+use mathlib.Core.Bool.{true, false}
 use mathlib.Core.List.{List, _++_, map}
-use mathlib.Core.Option.{none, some}
 use Prim.Native.Nat.{ℕ, _≤_, _<_}
 use native.Mathlib.Omega.{arith}
 use borrow.Author.Tests.{eq-eqb, ne-eqb}
@@ -15,7 +14,7 @@ use Rattle.fmd_check.specs.Check.{Judged, fault, good, checkText}
 use Rattle.fmd_check.specs.Facts.{CheckedFacts}
 use Rattle.fmd_check.proofs.Facts.{check-facts}
 use Rattle.fmd_areas.proofs.Shape.{length-areas}
-use Rattle.fmd.specs.Calls.{Listed, numberOf, imageOf, saidBy, layoutIn, sectionOf, listBy, layoutFor, listText, listed}
+use Rattle.fmd.specs.Calls.{Listed, numberOf, answerAs, imageOf, saidBy, layoutIn, sectionOf, listBy, layoutFor, listText, listed}
 use Rattle.fmd.specs.declared.Reading.{Reading}
 use Rattle.fmd.specs.declared.Section.{Section}
 use Rattle.fmd_lines.specs.Lines.{sectionLine, imageLine, numberedLine, linesOf, listingOf}
@@ -54,7 +53,7 @@ module _ (s : List ℕ) (r : Reading) (ys zs : List Section) (n : length ys ≡ 
       (take-at xs (drop (length xs) ys) (layoutIn s .image .count) (length-map (layoutIn s .areas) sectionOf ∙ sym (count-is s .0)))
 
   -- the number k that the answer has, or 0
-  module _ (k : ℕ) (f : cond (eqb k 0) none (some k) ≡ numberOf (r .answer)) where
+  module _ (k : ℕ) (f : answerAs k ≡ numberOf (r .answer)) where
     pub refused-lines : 0 < k → numberedLine (ascii "refused") k ≡ listingOf s
     unfolding listingOf
     refused-lines h =

@@ -1,19 +1,15 @@
 // The lines that the programs print of a layout text.
 // An inner crate: no user calls it, so its functions may have a `requires`, which each caller meets.
-ghost use mathlib.Core.Bool.{cond};
 ghost use mathlib.Core.List.{map};
-ghost use mathlib.Core.Option.{none, some};
 ghost use mathlib.Core.Path.{_≡_};
 ghost use Prim.Native.Nat.{_+_, _*_, _≤_, _<_, _^_};
-ghost use lib.Dec.{eqb};
 ghost use lib.ListN.{length, take};
 ghost use Rattle.io.specs.Counts.{Counts};
 ghost use Rattle.octets.specs.Bytes.{flat};
 ghost use Rattle.text_out.specs.Text.{Puts};
-ghost use Rattle.fmd.specs.Calls.{numberOf, listed, listText};
+ghost use Rattle.fmd.specs.Calls.{listed, listText};
 ghost use Rattle.fmd_lines.specs.Lines.{hexField, nameText, numbersText, sectionLine, imageLine, numberedLine, listingOf};
 use fmap_rules::ImagePosition;
-use fmd::Answer;
 use fmd::Image;
 use fmd::Reading;
 use fmd::Section;
@@ -33,26 +29,6 @@ pub fn lend(text: &[u8], sections: [Section; 128]) -> Lent
     Lent {
         reading: reading,
         sections: lent,
-    }
-}
-
-// A refusal's number; 0 where there is none.
-pub fn number(a: Answer) -> u64
-    ensures { λ r. ⌜ (cond (eqb r 0) none (some r) ≡ numberOf a) × (r < 60) ⌝ }
-{
-    match a {
-        Answer::Accepted => 0,
-        Answer::WrongLength => 1,
-        Answer::TooLong => 50,
-        Answer::OutOfGrammar => 51,
-        Answer::BadNumber => 52,
-        Answer::BadName => 53,
-        Answer::NameTwice => 54,
-        Answer::TooMany => 55,
-        Answer::BadFlag => 56,
-        Answer::Undecided => 57,
-        Answer::Unfit => 58,
-        Answer::NoMapSection => 59,
     }
 }
 
@@ -150,9 +126,9 @@ pub fn listing(out: &mut [u8], text: &[u8]) -> usize
     let l = lend(text, [s; 128]);
     let reading = l.reading;
     let answer = reading.answer;
-    let n = number(answer);
+    let n = fmd::number(answer);
     if 0 < n {
-        return numbered(out, 0, b"refused", n);
+        return numbered(out, 0, b"refused", n as u64);
     }
     let image = reading.image;
     let at = image_line(out, 0, image);

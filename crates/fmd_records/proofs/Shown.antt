@@ -1,8 +1,7 @@
 -- Laws of the lines that show records.
 use mathlib.Core.Path.{_≡_, ap, _∙_}
-use mathlib.Core.Bool.{cond, true, false}
+use mathlib.Core.Bool.{true, false}
 use mathlib.Core.List.{List, [], _∷_, _++_, map}
-use mathlib.Core.Option.{none, some}
 use Prim.Native.Nat.{ℕ, _+_, _*_, _≤_, _<_}
 use native.Mathlib.Omega.{arith}
 use borrow.Author.Tests.{eq-eqb, ne-eqb}
@@ -14,7 +13,7 @@ use Rattle.octets.specs.Bytes.{flat}
 use Rattle.text_out.specs.Text.{hexDigits, Puts}
 use Rattle.text_out.proofs.Digits.{length-hex}
 use Rattle.text_out.proofs.Puts.{puts-then, puts-as}
-use Rattle.fmd.specs.Calls.{numberOf, listed, listText}
+use Rattle.fmd.specs.Calls.{numberOf, answerAs, listed, listText}
 use Rattle.fmd.specs.declared.Answer.{Answer}
 use Rattle.fmd.specs.declared.Reading.{Reading}
 use Rattle.fmd.specs.declared.Section.{Section}
@@ -41,7 +40,7 @@ record-put s at a b r xs ys zs us p q t =
     (omega (arith, p .0, q .0, t .0), puts-then _ _ _ _ _ _ _ _ (puts-then _ _ _ _ _ _ _ _ (p .1) (q .1)) t)
 
 -- the number k that an answer has, or 0
-module _ (a : Answer) (k count : ℕ) (f : cond (eqb k 0) none (some k) ≡ numberOf a) where
+module _ (a : Answer) (k count : ℕ) (f : answerAs k ≡ numberOf a) where
   pub refused-is : 0 < k → numberedLine (ascii "refused") k ≡ answerLine count (numberOf a)
   refused-is h =
       let t : eqb k 0 ≡ false = ne-eqb k 0 (λ z. omega (arith, z)) in

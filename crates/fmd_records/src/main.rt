@@ -79,9 +79,9 @@ fn answer_line(out: &mut [u8], r: Reading) -> usize
 {
     let answer = r.answer;
     let image = r.image;
-    let n = fmd_lines::number(answer);
+    let n = fmd::number(answer);
     if 0 < n {
-        return fmd_lines::numbered(out, 0, b"refused", n);
+        return fmd_lines::numbered(out, 0, b"refused", n as u64);
     }
     fmd_lines::numbered(out, 0, b"accepted", image.count as u64)
 }

@@ -29,18 +29,6 @@ pub fn hex(s: &[u8]) {
     }
 }
 
-fn last_digit(x: u64) {
-    bytes(&[digit((x % 10) as u8)]);
-}
-
-// Without leading zeros.
 pub fn decimal(x: u64) {
-    let mut power: u64 = 10000000000000000000;
-    while 1 < power {
-        if power <= x {
-            last_digit(x / power);
-        }
-        power /= 10;
-    }
-    last_digit(x);
+    io::print_decimal(STDOUT_FILENO, x);
 }

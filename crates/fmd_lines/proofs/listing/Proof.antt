@@ -18,6 +18,9 @@ number-requires c κs = search needs
 slice-aggregate-numbered : tie.Need-slice-aggregate-numbered
 slice-aggregate-numbered c = search needs
 
+cast-numbered : tie.Need-cast-numbered
+cast-numbered c = search needs
+
 numbered-requires : tie.Need-numbered-requires
 numbered-requires c κs = search needs
 
@@ -72,6 +75,7 @@ listing-spec =
     lend-requires
     number-requires
     slice-aggregate-numbered
+    cast-numbered
     numbered-requires
     same-length
     returns
