@@ -14,9 +14,9 @@ test:
 	.ci/run
 
 bench:
+	rt check fmd_list >/dev/null
 	rt staticlib capi >/dev/null
 	rt staticlib bench_octets >/dev/null
-	rt check fmd_list >/dev/null
 	tests/peer zlib zlib1g-dev
 	tests/moves
 	cd host && cargo run --release --quiet -p bench

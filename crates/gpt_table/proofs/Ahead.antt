@@ -29,9 +29,6 @@ use Rattle.gpt_table.specs.declared.room.Ahead.the-variants.{Taken, Gap}
 pub inside-below : (b f l : ℕ) → b < f → inside b (spans f l) ≡ false
 inside-below b f l h = ⊎-elim (λ e. let w = inside-get b f l e .0 in absurd (omega arith)) (λ e. e) (bool-cases (inside b (spans f l)))
 
-pub inside-above : (b f l : ℕ) → l < b → inside b (spans f l) ≡ false
-inside-above b f l h = ⊎-elim (λ e. let w = inside-get b f l e .1 in absurd (omega arith)) (λ e. e) (bool-cases (inside b (spans f l)))
-
 -- it has a block at a or behind it
 pub reaches-empty : (f l a : ℕ) → l < f → false ≡ (leb f l and leb a l)
 reaches-empty f l a h = and-f _ (lt-leb f l h)

@@ -6,7 +6,6 @@ use Rattle.gpt_model.specs.Calls.{rename}
 use borrow.Author.Tests.{eq-eqb}
 use denote.Ref.{now}
 use native.Mathlib.Omega.{arith}
-use mathlib.Core.Path.{refl, sym, _∙_}
 use borrow.Author.Needs.{needs}
 use Rattle.gpt.proofs.edits.rename_slot.Statement.{statement}
 use Rattle.gpt.proofs.edits.rename_slot.Tie as tie

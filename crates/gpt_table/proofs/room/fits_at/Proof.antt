@@ -4,8 +4,7 @@ use lib.ListN.{set}
 use denote.Ref.{now}
 use borrow.Author.Needs.{needs}
 use Rattle.octets.specs.Bytes.{field}
-use Rattle.gpt_model.specs.Table.{slots}
-use Rattle.gpt_model.specs.Table.{vacant}
+use Rattle.gpt_model.specs.Table.{slots, vacant}
 use Rattle.gpt_table.proofs.Reorders.{free-but}
 use Rattle.gpt_table.proofs.Walks.{room-same}
 use Rattle.gpt_table.proofs.room.fits_at.Statement.{statement}
