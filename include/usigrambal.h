@@ -2,7 +2,7 @@
  *
  * - Every call returns 0, or the number of its refusal (usi_crc32 alone returns the CRC). No refusal has the number 0.
  * - A refusal changes no byte of any buffer, and no number behind a pointer for an answer.
- * - A buffer is a pointer and a length, in bytes or, for a name, in 16-bit units. Buffers of one call must not overlap. A buffer of length 0 may have a null pointer.
+ * - A buffer is a pointer and a length, in bytes or, for a name, in 16-bit units, where the pointer is aligned for uint16_t. Buffers of one call must not overlap. A buffer of length 0 may have a null pointer.
  * - Every call answers on every input: no buffer needs to be checked before.
  *
  * Link target/staticlib/libcapi.a, which `rt staticlib capi` writes. */
