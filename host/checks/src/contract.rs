@@ -28,8 +28,15 @@ impl Definitions {
         self.0.insert((krate.to_string(), module.to_string()), defined(text));
     }
 
+    /// Each definition as `crate::name`.
+    pub fn paths(&self) -> impl Iterator<Item = String> + '_ {
+        self.0.iter().flat_map(|((krate, _), names)| names.iter().map(move |name| format!("{krate}::{name}")))
+    }
+
     pub fn has(&self, import: &Import) -> bool {
-        self.0.get(&(import.krate.clone(), import.module.clone())).is_some_and(|names| names.contains(&import.name))
+        self.0
+            .get(&(import.krate.clone(), import.module.clone()))
+            .is_some_and(|names| names.contains(&import.name))
     }
 }
 
@@ -163,7 +170,9 @@ fn ensures_faults(callable: &Callable, definitions: &Definitions, ensures: &str)
         found.push("the left side of its `ensures` does not hold the answer".to_string());
     }
     for name in f.lent.iter().filter(|name| !speaks_of_exit(left, name)) {
-        found.push(format!("the left side of its `ensures` does not hold `{name} .exit`, which is lent to be written"));
+        found.push(format!(
+            "the left side of its `ensures` does not hold `{name} .exit`, which is lent to be written"
+        ));
     }
     if right.contains(&".exit") || (answer != "_" && right.contains(&answer)) {
         found.push("the right side of its `ensures` speaks of the outcome".to_string());
@@ -232,7 +241,8 @@ const SAMPLES: [(&str, &str, &str); 16] = [
 
 const SAMPLE_IMPORTS: &str = "ghost use Rattle.k.specs.Calls.{next, plain as zeroed, told, gone, Near};\nghost use Rattle.k.proofs.Laws.{proved};\n";
 
-const SAMPLE_SPECS: &str = "-- gone\nabbrev pub next : ℕ → ℕ\nnext x = gone x\nunfoldable pub plain : List ℕ → List ℕ\n\
+const SAMPLE_SPECS: &str =
+    "-- gone\nabbrev pub next : ℕ → ℕ\nnext x = gone x\nunfoldable pub plain : List ℕ → List ℕ\n\
     module _ (g : ℕ) where\n  abbrev pub told : ℕ → Out\npub record Near : Type 0 where\n";
 
 /// How many sample contracts are judged as they must be; the first that is not.

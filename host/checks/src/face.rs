@@ -65,9 +65,13 @@ pub fn crates() -> Result<Vec<String>, String> {
 pub fn callables() -> Result<Vec<Callable>, String> {
     let mut found = Vec::new();
     for krate in crates()? {
-        let own = of_crate(&krate, &|file| std::fs::read_to_string(Path::new("crates").join(&krate).join(file)).ok());
+        let own = of_crate(&krate, &|file| {
+            std::fs::read_to_string(Path::new("crates").join(&krate).join(file)).ok()
+        });
         if own.is_empty() {
-            return Err(format!("crates/{krate}: docs/ARCHITECTURE.md calls it callable, and it has no callable function"));
+            return Err(format!(
+                "crates/{krate}: docs/ARCHITECTURE.md calls it callable, and it has no callable function"
+            ));
         }
         found.extend(own);
     }

@@ -33,7 +33,8 @@ fn of_crate(callables: &[Callable], definitions: &Definitions) -> String {
 /// A function's comment, path, signature and `ensures`.
 fn contract(callable: &Callable) -> String {
     let f = &callable.function;
-    let mut text = format!("// {}{}{}\n", callable.path, if f.comment.is_empty() { "" } else { ": " }, f.comment);
+    let mut text =
+        format!("// {}{}{}\n", callable.path, if f.comment.is_empty() { "" } else { ": " }, f.comment);
     text += &one_line(&f.signature);
     for ensures in &f.ensures {
         text += &format!("\n    ensures {{ {} }}", one_line(ensures));
@@ -55,7 +56,10 @@ fn sources(callables: &[Callable], definitions: &Definitions) -> BTreeMap<String
                 true => format!("`{}`", import.name),
                 false => format!("`{}` (here `{}`)", import.name, import.local),
             };
-            found.entry(format!("crates/{}/specs/{}.antt", import.krate, import.module)).or_default().insert(name);
+            found
+                .entry(format!("crates/{}/specs/{}.antt", import.krate, import.module))
+                .or_default()
+                .insert(name);
         }
     }
     found

@@ -90,7 +90,9 @@ fn places(code: &[u8], word: &str) -> Vec<usize> {
     let w = word.as_bytes();
     let bound = |i: Option<&u8>| !i.is_some_and(|b| is_word(*b));
     (0..code.len().saturating_sub(w.len()))
-        .filter(|i| code[*i..].starts_with(w) && (*i == 0 || bound(code.get(i - 1))) && bound(code.get(i + w.len())))
+        .filter(|i| {
+            code[*i..].starts_with(w) && (*i == 0 || bound(code.get(i - 1))) && bound(code.get(i + w.len()))
+        })
         .collect()
 }
 
@@ -123,7 +125,8 @@ fn parted(list: &str) -> Vec<&str> {
 
 /// The parameters of a list that are lent to be written.
 fn lent(list: &str) -> Vec<String> {
-    let writes = |kind: &str| kind.starts_with('&') && kind.split_whitespace().take(2).any(|w| w.ends_with("mut"));
+    let writes =
+        |kind: &str| kind.starts_with('&') && kind.split_whitespace().take(2).any(|w| w.ends_with("mut"));
     let name = |part: &str| match part.split_once(':') {
         Some((name, kind)) => writes(kind.trim()).then(|| name.trim().trim_start_matches("mut ").to_string()),
         None => writes(part).then(|| "self".to_string()),
@@ -133,8 +136,10 @@ fn lent(list: &str) -> Vec<String> {
 
 /// The comment lines right above a place.
 fn comment_above(text: &str, place: usize) -> String {
-    let above = text[..place].lines().rev().skip_while(|line| line.trim().is_empty() || line.starts_with("#["));
-    let mut lines: Vec<&str> = above.map_while(|line| line.trim().strip_prefix("//")).map(str::trim).collect();
+    let above =
+        text[..place].lines().rev().skip_while(|line| line.trim().is_empty() || line.starts_with("#["));
+    let mut lines: Vec<&str> =
+        above.map_while(|line| line.trim().strip_prefix("//")).map(str::trim).collect();
     lines.reverse();
     lines.join(" ")
 }
@@ -158,7 +163,8 @@ fn function(text: &str, code: &[u8], at: usize) -> Option<Function> {
     let mut made = Function {
         name,
         public: places(&code[before..at], "pub").iter().any(|i| code.get(before + i + 3) != Some(&b'(')),
-        exported: text[before..at].contains("#[no_mangle]") && !places(&code[before..at], "extern").is_empty(),
+        exported: text[before..at].contains("#[no_mangle]")
+            && !places(&code[before..at], "extern").is_empty(),
         comment: comment_above(text, text[before..start].find("#[").map_or(start, |i| before + i)),
         lent: lent(std::str::from_utf8(&code[open + 1..close]).ok()?),
         ..Function::default()
@@ -177,7 +183,8 @@ fn contract(text: &str, code: &[u8], from: usize, made: &mut Function) -> Option
         let close = closing(code, open)?;
         made.answers |= first.is_none() && code[at..open].windows(2).any(|w| w == b"->");
         let words = &code[at..open];
-        let Some(clause) = ["requires", "ensures"].into_iter().find(|w| places(&[words, b" "].concat(), w).len() == 1)
+        let Some(clause) =
+            ["requires", "ensures"].into_iter().find(|w| places(&[words, b" "].concat(), w).len() == 1)
         else {
             made.contract = first.unwrap_or(open)..at;
             made.body = open..close + 1;
@@ -222,9 +229,12 @@ pub fn imports(text: &str) -> Vec<Import> {
     let code = String::from_utf8(blanked(text)).unwrap_or_default();
     let mut found = Vec::new();
     for line in code.split("ghost use Rattle·").skip(1) {
-        let Some((path, names)) = line.split(';').next().and_then(|line| line.split_once(".{")) else { continue };
+        let Some((path, names)) = line.split(';').next().and_then(|line| line.split_once(".{")) else {
+            continue;
+        };
         let Some((krate, module)) = path.split_once(".specs.") else { continue };
-        for name in names.trim_end().trim_end_matches('}').split(',').map(str::trim).filter(|n| !n.is_empty()) {
+        for name in names.trim_end().trim_end_matches('}').split(',').map(str::trim).filter(|n| !n.is_empty())
+        {
             let (name, local) = name.split_once(" as ").unwrap_or((name, name));
             found.push(Import {
                 local: local.trim().to_string(),
@@ -257,7 +267,9 @@ mod tests {
         assert_eq!(add.lent, ["s"]);
         assert_eq!(add.requires, ["⌜ record { a = k } ≡ z ⌝"]);
         assert_eq!(add.ensures, ["λ r. ⌜ r ≡ x ⌝"]);
-        assert!(FILE[add.contract.clone()].starts_with("requires") && FILE[add.contract.clone()].ends_with('}'));
+        assert!(
+            FILE[add.contract.clone()].starts_with("requires") && FILE[add.contract.clone()].ends_with('}')
+        );
         assert!(FILE[add.body.clone()].contains("if k"));
         assert_eq!((found[1].public, found[1].answers, found[1].ensures.len()), (false, false, 0));
         assert_eq!((found[2].exported, found[2].lent.as_slice()), (true, ["x".to_string()].as_slice()));
@@ -271,7 +283,8 @@ mod tests {
         assert_eq!(constants[0].0, "N");
         assert!(FILE[constants[0].1.clone()].ends_with("\";"));
         let imports = imports(FILE);
-        let flat: Vec<_> = imports.iter().map(|i| (&i.local[..], &i.name[..], &i.krate[..], &i.module[..])).collect();
+        let flat: Vec<_> =
+            imports.iter().map(|i| (&i.local[..], &i.name[..], &i.krate[..], &i.module[..])).collect();
         assert_eq!(flat, [("x", "x", "a", "B"), ("z", "y", "a", "B"), ("w", "w", "c", "D")]);
     }
 }

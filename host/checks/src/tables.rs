@@ -15,7 +15,9 @@ fn cells(row: &str) -> Option<Vec<&str>> {
 pub fn described(architecture: &str) -> Vec<(String, bool)> {
     let rows = architecture.lines().skip_while(|line| !line.ends_with("| callable |")).skip(2);
     rows.map_while(cells)
-        .filter_map(|row| Some((row[0].strip_prefix('`')?.strip_suffix('`')?.to_string(), *row.last()? == "yes")))
+        .filter_map(|row| {
+            Some((row[0].strip_prefix('`')?.strip_suffix('`')?.to_string(), *row.last()? == "yes"))
+        })
         .collect()
 }
 

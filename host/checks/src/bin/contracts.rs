@@ -34,7 +34,9 @@ fn main() {
         "" => {
             let mut found: Vec<String> = callables.iter().flat_map(|c| faults(c, &definitions)).collect();
             if promises::parts(&read(DOCUMENT)).map(|parts| parts.1) != Some(&section) {
-                found.push(format!("{DOCUMENT}: the printed contracts are not those of the sources (contracts --write)"));
+                found.push(format!(
+                    "{DOCUMENT}: the printed contracts are not those of the sources (contracts --write)"
+                ));
             }
             settle(&found, &format!("{} callable functions", callables.len()));
         }

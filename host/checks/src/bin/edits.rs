@@ -1,0 +1,91 @@
+//! Holds docs/EDITS.md to the must-fail edits and to the logs that `rt must-fail` or `rt ci` left of them, and says what no edit covers.
+//!
+//! usage, from the repository's root: edits [--write]
+
+use checks::edit::Edit;
+use checks::edits::{document, facts, faults, wanted, Row, IMPOSTERS, UNTRIED};
+use checks::{contract::Definitions, face, files, log, rattle, read, settle, tables};
+use std::collections::{BTreeMap, BTreeSet};
+use std::{env, fs, process};
+
+const DOCUMENT: &str = "docs/EDITS.md";
+
+fn fail(message: &str) -> ! {
+    eprintln!("{message}");
+    process::exit(1)
+}
+
+/// The edits of a crate, by label.
+fn edits_of(krate: &str) -> Vec<Edit> {
+    let paths = files(format!("crates/{krate}/must-fail"), ".edit");
+    let label = |path: &std::path::Path| path.file_stem().unwrap_or_default().to_string_lossy().into_owned();
+    paths.iter().map(|path| Edit::parse(krate, &label(path), &read(path))).collect()
+}
+
+/// Every edit with its row: the fact is that of its log, or else that of the document.
+fn rows(crates: &[String], told: &BTreeMap<String, String>, found: &mut Vec<String>) -> (Vec<Row>, usize) {
+    let (mut rows, mut logs) = (Vec::new(), 0);
+    for edit in crates.iter().flat_map(|krate| edits_of(krate)) {
+        let name = edit.name();
+        let mut fact = told.get(&name).cloned().unwrap_or(UNTRIED.to_string());
+        if let Some(text) = log::of_edit(&edit) {
+            logs += 1;
+            match log::first_error(&text, &name) {
+                Some(error) => {
+                    if !log::is_fact(&error.message) {
+                        found.push(format!("{name}: its first error is no failed fact: {}", error.shown()));
+                    }
+                    fact = error.shown();
+                }
+                None => found.push(format!("{name}: its log has no error that names a fact")),
+            }
+        }
+        let krate = edit.krate.clone();
+        rows.push(Row::new(edit, fact, &|file| read(format!("crates/{krate}/{file}"))));
+    }
+    (rows, logs)
+}
+
+/// The names of the functions and definitions of every crate, as `crate::name`.
+fn names(crates: &[String], definitions: &Definitions) -> BTreeSet<String> {
+    let mut found: BTreeSet<String> = definitions.paths().collect();
+    for krate in crates {
+        let texts = files(format!("crates/{krate}/src"), ".rt");
+        let functions = texts.iter().flat_map(|path| rattle::functions(&read(path)));
+        found.extend(functions.map(|f| format!("{krate}::{}", f.name)));
+    }
+    found
+}
+
+fn main() {
+    let write = match env::args().nth(1).as_deref() {
+        None => false,
+        Some("--write") => true,
+        Some(other) => fail(&format!("{other}: unknown")),
+    };
+    let crates = tables::crates(&read("crates.txt"));
+    let trace = read("docs/TRACE.md");
+    let rules = tables::rules(&trace);
+    let easy: Vec<&str> = rules.iter().map(|rule| rule.0).filter(|number| number.starts_with('E')).collect();
+    let imposters = rules.iter().find(|rule| rule.0 == "P2").map_or("", |rule| rule.1);
+    let callables = face::callables().unwrap_or_else(|message| fail(&message));
+    let paths: Vec<String> = callables.into_iter().map(|c| c.path).collect();
+    let wanted = wanted(&paths, &easy);
+
+    let mut found = Vec::new();
+    for name in IMPOSTERS.iter().filter(|name| !imposters.contains(**name)) {
+        found.push(format!("docs/TRACE.md: P2 does not name the imposter '{name}'"));
+    }
+    let old = fs::read_to_string(DOCUMENT).unwrap_or_default();
+    let (rows, logs) = rows(&crates, &facts(&old), &mut found);
+    let names = names(&crates, &Definitions::of_repository());
+    let known = |path: &str| paths.iter().any(|p| p == path) || names.contains(path);
+    found.extend(faults(&rows, &wanted, &known));
+    let new = document(&rows, &wanted);
+    if write {
+        fs::write(DOCUMENT, &new).unwrap_or_else(|e| fail(&format!("{DOCUMENT}: {e}")));
+    } else if old != new {
+        found.push(format!("{DOCUMENT}: it is not what the edits and their logs say (edits --write)"));
+    }
+    settle(&found, &format!("{} edits, {logs} with a log", rows.len()));
+}
