@@ -7,6 +7,7 @@ pub mod face;
 pub mod log;
 pub mod promises;
 pub mod rattle;
+pub mod reference;
 pub mod tables;
 
 use std::path::{Path, PathBuf};

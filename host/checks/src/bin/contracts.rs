@@ -1,9 +1,9 @@
-//! Lists every callable function and judges its contract; holds the printed contracts of docs/PROMISES.md to the sources.
+//! Lists every callable function and judges its contract; holds docs/PROMISES.md, its printed contracts and its references, to the sources.
 //!
 //! usage, from the repository's root: contracts [--list | --print | --write | --self-test]
 
 use checks::contract::{faults, self_test, Definitions};
-use checks::{face, promises, read, settle};
+use checks::{face, promises, read, reference, settle};
 use std::{env, fs, process};
 
 const DOCUMENT: &str = "docs/PROMISES.md";
@@ -33,7 +33,10 @@ fn main() {
         },
         "" => {
             let mut found: Vec<String> = callables.iter().flat_map(|c| faults(c, &definitions)).collect();
-            if promises::parts(&read(DOCUMENT)).map(|parts| parts.1) != Some(&section) {
+            let document = read(DOCUMENT);
+            let broken = reference::faults(&document, &|path| fs::read_to_string(path).ok());
+            found.extend(broken.into_iter().map(|fault| format!("{DOCUMENT}: {fault}")));
+            if promises::parts(&document).map(|parts| parts.1) != Some(&section) {
                 found.push(format!(
                     "{DOCUMENT}: the printed contracts are not those of the sources (contracts --write)"
                 ));
