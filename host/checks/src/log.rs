@@ -56,10 +56,15 @@ pub fn first_error(log: &str, name: &str) -> Option<Fact> {
     Some(Fact { file: file.to_string(), name, message: plain(&message) })
 }
 
-/// A message in one line: up to the types that it quotes in full, names without their modules, and no steps back in a context.
+/// How the comparison of two types begins that says most; one of the types as they are printed may stand before it.
+const COMPUTED: &str = "computed as far as ";
+
+/// A message in one line: up to the types that it quotes in full and to its hints, names without their modules, and no steps back in a context.
 fn plain(message: &str) -> String {
-    let told = message.split(" expected type `").next().unwrap_or(message);
+    let told = message.find(COMPUTED).map_or(message, |at| &message[at..]);
+    let told = told.split(" expected type `").next().unwrap_or(told);
     let told = told.split(" (this comparison").next().unwrap_or(told);
+    let told = told.find("(found)").map_or(told, |at| &told[..at + "(found)".len()]);
     let parts: Vec<String> = told
         .split('`')
         .enumerate()
@@ -77,28 +82,29 @@ fn cut(line: &str) -> String {
     format!("{} …{}", start.trim_end(), if quoted { "`" } else { "" })
 }
 
-/// A term with each name without its modules, and `c .before .before .x` as `c .x`.
+/// A term with each name without its modules, `c .before .before .x` as `c .x`, unknowns without their numbers, and parts left out without their lengths.
 fn term(text: &str) -> String {
     let mut words = Vec::new();
     for word in text.split(' ') {
         let body = word.trim_end_matches([')', '}']);
+        let closing = &word[body.len()..];
         if body == ".before" {
-            let closing = &word[body.len()..];
-            if let Some(last) = words.last_mut() {
-                *last = format!("{last}{closing}");
-            }
+            words.last_mut().into_iter().for_each(|last: &mut String| last.push_str(closing));
             continue;
         }
         let start = body.rfind(['(', '{']).map_or(0, |i| i + 1);
-        let name = &body[start..];
-        let kept = if name.starts_with('.') {
-            name
-        } else {
-            name.rsplit('.').find(|s| !s.is_empty()).unwrap_or(name)
-        };
-        words.push(format!("{}{kept}{}", &body[..start], &word[body.len()..]));
+        words.push(format!("{}{}{closing}", &body[..start], name(&body[start..])));
     }
     words.join(" ")
+}
+
+fn name(word: &str) -> &str {
+    match word {
+        unknown if unknown.starts_with('?') => "?",
+        left_out if left_out.contains("…[") || left_out.contains("]…") => "…",
+        field if field.starts_with('.') => field,
+        path => path.rsplit('.').find(|part| !part.is_empty()).unwrap_or(path),
+    }
 }
 
 /// Words of errors that are about the text of a proof, not about what it proves.
@@ -132,6 +138,15 @@ mod tests {
     }
 
     #[test]
+    fn prefers_the_computed_comparison() {
+        let message = "as printed, the two types first differ where one has `a` (expected) and the other has `b` (found) computed as far as they go, the two types differ only where one has `c.d` (expected) and the other has `x` (found) `c` does not unfold here expected type `e`";
+        assert_eq!(
+            plain(message),
+            "computed as far as they go, the two types differ only where one has `d` (expected) and the other has `x` (found)"
+        );
+    }
+
+    #[test]
     fn tells_facts_from_names() {
         for message in [
             "`tie` has no `Need-f-requires`",
@@ -149,5 +164,6 @@ mod tests {
         let shown = cut(&plain(&format!("the goal `{}` does not hold", "x ".repeat(200))));
         assert!(shown.ends_with("x …`") && shown.chars().count() <= SHOWN + 3, "{shown}");
         assert_eq!(term("Rattle.a.specs.B.f (c .before .before)"), "f (c)");
+        assert_eq!(term("f (lib.L…[536 bytes]…ytes.isZero guid) (?57 g)"), "f (… … guid) (? g)");
     }
 }
