@@ -13,13 +13,21 @@ pub mod tables;
 use std::path::{Path, PathBuf};
 use std::{fs, process};
 
+/// Ends the program with what went wrong.
+pub fn fail(message: &str) -> ! {
+    eprintln!("{message}");
+    process::exit(1)
+}
+
 /// The text of a file that must be there.
 pub fn read(path: impl AsRef<Path>) -> String {
     let path = path.as_ref();
-    fs::read_to_string(path).unwrap_or_else(|e| {
-        eprintln!("{}: {e}", path.display());
-        process::exit(1)
-    })
+    fs::read_to_string(path).unwrap_or_else(|e| fail(&format!("{}: {e}", path.display())))
+}
+
+/// Writes a file anew.
+pub fn write(path: &str, text: &str) {
+    fs::write(path, text).unwrap_or_else(|e| fail(&format!("{path}: {e}")));
 }
 
 /// The files below a folder whose names end so, in order; none if there is no such folder.

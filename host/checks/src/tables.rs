@@ -21,12 +21,16 @@ pub fn described(architecture: &str) -> Vec<(String, bool)> {
         .collect()
 }
 
-/// A rule of docs/TRACE.md: its number and its sentence.
+/// A rule's number: a letter and digits.
+pub fn is_number(word: &str) -> bool {
+    let (letter, digits) = word.split_at(word.len().min(1));
+    letter.bytes().all(|b| b.is_ascii_uppercase())
+        && !digits.is_empty()
+        && digits.bytes().all(|b| b.is_ascii_digit())
+}
+
+/// The rules of docs/TRACE.md: number and sentence, as in the table's first two columns.
 pub fn rules(trace: &str) -> Vec<(&str, &str)> {
-    let is_number = |word: &str| {
-        let digits = word.trim_start_matches(|c: char| c.is_ascii_uppercase());
-        word.len() == digits.len() + 1 && !digits.is_empty() && digits.bytes().all(|b| b.is_ascii_digit())
-    };
     let rows = trace.lines().filter_map(cells).filter(|row| row.len() > 1 && is_number(row[0]));
     rows.map(|row| (row[0], row[1])).collect()
 }

@@ -3,15 +3,10 @@
 //! usage, from the repository's root: contracts [--list | --print | --write | --self-test]
 
 use checks::contract::{faults, self_test, Definitions};
-use checks::{face, promises, read, reference, settle};
-use std::{env, fs, process};
+use checks::{face, fail, promises, read, reference, settle, write};
+use std::{env, fs};
 
 const DOCUMENT: &str = "docs/PROMISES.md";
-
-fn fail(message: &str) -> ! {
-    eprintln!("{message}");
-    process::exit(1)
-}
 
 fn main() {
     let word = env::args().nth(1).unwrap_or_default();
@@ -28,7 +23,7 @@ fn main() {
         "--list" => callables.iter().for_each(|c| println!("{}", c.path)),
         "--print" => print!("{section}"),
         "--write" => match promises::with_section(&read(DOCUMENT), &section) {
-            Some(text) => fs::write(DOCUMENT, text).unwrap_or_else(|e| fail(&format!("{DOCUMENT}: {e}"))),
+            Some(text) => write(DOCUMENT, &text),
             None => fail(&format!("{DOCUMENT}: the two marks of the printed contracts are not there")),
         },
         "" => {

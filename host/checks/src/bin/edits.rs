@@ -4,16 +4,11 @@
 
 use checks::edit::Edit;
 use checks::edits::{document, facts, faults, wanted, Row, IMPOSTERS, UNTRIED};
-use checks::{contract::Definitions, face, files, log, rattle, read, settle, tables};
+use checks::{contract::Definitions, face, fail, files, log, rattle, read, settle, tables, write};
 use std::collections::{BTreeMap, BTreeSet};
-use std::{env, fs, process};
+use std::{env, fs};
 
 const DOCUMENT: &str = "docs/EDITS.md";
-
-fn fail(message: &str) -> ! {
-    eprintln!("{message}");
-    process::exit(1)
-}
 
 /// The edits of a crate, by label.
 fn edits_of(krate: &str) -> Vec<Edit> {
@@ -58,7 +53,7 @@ fn names(crates: &[String], definitions: &Definitions) -> BTreeSet<String> {
 }
 
 fn main() {
-    let write = match env::args().nth(1).as_deref() {
+    let writes = match env::args().nth(1).as_deref() {
         None => false,
         Some("--write") => true,
         Some(other) => fail(&format!("{other}: unknown")),
@@ -82,8 +77,8 @@ fn main() {
     let known = |path: &str| paths.iter().any(|p| p == path) || names.contains(path);
     found.extend(faults(&rows, &wanted, &known));
     let new = document(&rows, &wanted);
-    if write {
-        fs::write(DOCUMENT, &new).unwrap_or_else(|e| fail(&format!("{DOCUMENT}: {e}")));
+    if writes {
+        write(DOCUMENT, &new);
     } else if old != new {
         found.push(format!("{DOCUMENT}: it is not what the edits and their logs say (edits --write)"));
     }

@@ -3,31 +3,13 @@
 //!
 //! usage, from the repository's root: trace
 
+use checks::tables::{is_number, rules};
+use checks::{files, read};
 use std::collections::HashMap;
-use std::path::{Path, PathBuf};
-use std::{fs, process};
+use std::process;
 
 /// So many words of a quotation must stand in the rule, one after the other.
 const WORDS: usize = 3;
-
-fn is_number(word: &str) -> bool {
-    let (letter, digits) = word.split_at(word.len().min(1));
-    letter.bytes().all(|b| b.is_ascii_uppercase())
-        && !digits.is_empty()
-        && digits.bytes().all(|b| b.is_ascii_digit())
-}
-
-/// The rules by number, their text as in the table's second column.
-fn rules(table: &str) -> HashMap<&str, &str> {
-    table
-        .lines()
-        .filter_map(|line| {
-            let mut cells = line.strip_prefix("| ")?.split(" | ");
-            let number = cells.next()?.trim();
-            is_number(number).then_some((number, cells.next()?.trim()))
-        })
-        .collect()
-}
 
 /// The citations of a comment line, `X9: words`: each rule's number with the words after it.
 fn citations(line: &str) -> Vec<(&str, Vec<&str>)> {
@@ -47,25 +29,13 @@ fn quotes(rule: &str, words: &[&str]) -> bool {
     rule.contains(words.join(" ").trim_end_matches(['.', ';', ':', ',']))
 }
 
-fn files(folder: &Path, found: &mut Vec<PathBuf>) {
-    let Ok(entries) = fs::read_dir(folder) else { return };
-    for path in entries.flatten().map(|entry| entry.path()) {
-        if path.is_dir() {
-            files(&path, found);
-        } else if path.extension().is_some_and(|e| e == "rt" || e == "antt") {
-            found.push(path);
-        }
-    }
-}
-
 fn main() {
-    let table = fs::read_to_string("docs/TRACE.md").expect("docs/TRACE.md");
-    let rules = rules(&table);
-    let mut paths = Vec::new();
-    files(Path::new("crates"), &mut paths);
+    let table = read("docs/TRACE.md");
+    let rules: HashMap<&str, &str> = rules(&table).into_iter().collect();
+    let paths = [files("crates", ".rt"), files("crates", ".antt")].concat();
     let (mut cited, mut wrong) = (0, 0);
     for path in paths {
-        let text = fs::read_to_string(&path).unwrap_or_default();
+        let text = read(&path);
         for (at, line) in text.lines().enumerate() {
             for (number, words) in citations(line) {
                 cited += 1;
@@ -86,8 +56,10 @@ mod tests {
 
     #[test]
     fn holds_citations_to_the_table() {
-        let rules =
-            rules("| No. | Sentence |\n| G2 | The first three groups are stored reversed. | a | b | c |\n");
+        let rules: HashMap<&str, &str> =
+            rules("| No. | Sentence |\n| G2 | The first three groups are stored reversed. | a | b | c |\n")
+                .into_iter()
+                .collect();
         assert_eq!(rules.len(), 1);
         assert!(quotes(rules["G2"], &["The", "first", "three"]));
         assert!(quotes(rules["G2"], &["stored", "reversed."]));
