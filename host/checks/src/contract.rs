@@ -14,7 +14,7 @@ impl Definitions {
     /// Those of the repository.
     pub fn of_repository() -> Definitions {
         let mut all = Definitions::default();
-        for path in files("crates", ".antt") {
+        for path in files("crates", &["antt"]) {
             let name = path.to_string_lossy().into_owned();
             let parts = name.strip_prefix("crates/").and_then(|rest| rest.split_once("/specs/"));
             if let Some((krate, file)) = parts {
@@ -28,9 +28,9 @@ impl Definitions {
         self.0.insert((krate.to_string(), module.to_string()), defined(text));
     }
 
-    /// Each definition as `crate::name`.
-    pub fn paths(&self) -> impl Iterator<Item = String> + '_ {
-        self.0.iter().flat_map(|((krate, _), names)| names.iter().map(move |name| format!("{krate}::{name}")))
+    /// Whether a crate's specs/ define a name.
+    pub fn defines(&self, krate: &str, name: &str) -> bool {
+        self.0.iter().any(|((of, _), names)| of == krate && names.contains(name))
     }
 
     pub fn has(&self, import: &Import) -> bool {

@@ -1,6 +1,7 @@
 //! The repository's own text, as the programs of this package read it. Paths are relative to its root.
 
 pub mod contract;
+pub mod crates;
 pub mod edit;
 pub mod edits;
 pub mod face;
@@ -30,19 +31,14 @@ pub fn write(path: &str, text: &str) {
     fs::write(path, text).unwrap_or_else(|e| fail(&format!("{path}: {e}")));
 }
 
-/// The files below a folder whose names end so, in order; none if there is no such folder.
-pub fn files(folder: impl AsRef<Path>, ending: &str) -> Vec<PathBuf> {
-    let mut found = Vec::new();
-    for entry in fs::read_dir(folder).into_iter().flatten().flatten() {
-        let path = entry.path();
-        if path.is_dir() {
-            found.extend(files(&path, ending));
-        } else if path.to_string_lossy().ends_with(ending) {
-            found.push(path);
-        }
-    }
-    found.sort();
-    found
+/// The files below a folder with one of these endings, in order.
+pub fn files(folder: impl AsRef<Path>, endings: &[&str]) -> Vec<PathBuf> {
+    let Ok(entries) = fs::read_dir(folder) else { return Vec::new() };
+    let mut paths: Vec<PathBuf> = entries.flatten().map(|entry| entry.path()).collect();
+    paths.sort();
+    let ends = |path: &Path| path.extension().is_some_and(|e| endings.iter().any(|ending| e == *ending));
+    let below = |path: PathBuf| if path.is_dir() { files(path, endings) } else { vec![path] };
+    paths.into_iter().flat_map(below).filter(|path| ends(path)).collect()
 }
 
 /// Prints each fault, and ends with status 1 if there is one.

@@ -6,9 +6,9 @@ pub fn crates(list: &str) -> Vec<String> {
     lines.filter_map(|line| Some(line.split_once(':')?.0.trim().to_string())).collect()
 }
 
-/// The cells of a table's row.
-fn cells(row: &str) -> Option<Vec<&str>> {
-    Some(row.strip_prefix("| ")?.strip_suffix(" |")?.split(" | ").map(str::trim).collect())
+/// The cells of a table's row; nothing for other text.
+pub fn cells(line: &str) -> Option<Vec<&str>> {
+    Some(line.strip_prefix("| ")?.strip_suffix(" |")?.split(" | ").map(str::trim).collect())
 }
 
 /// The rows of the table of crates: name, and whether its column `callable` says yes.

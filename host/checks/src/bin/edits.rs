@@ -4,16 +4,17 @@
 
 use checks::edit::Edit;
 use checks::edits::{document, facts, faults, wanted, Row, IMPOSTERS, UNTRIED};
-use checks::{contract::Definitions, face, fail, files, log, rattle, read, settle, tables, write};
-use std::collections::{BTreeMap, BTreeSet};
+use checks::{contract::Definitions, crates::Crates, face, fail, files, log, read, settle, tables, write};
+use std::collections::BTreeMap;
+use std::path::Path;
 use std::{env, fs};
 
 const DOCUMENT: &str = "docs/EDITS.md";
 
 /// The edits of a crate, by label.
 fn edits_of(krate: &str) -> Vec<Edit> {
-    let paths = files(format!("crates/{krate}/must-fail"), ".edit");
-    let label = |path: &std::path::Path| path.file_stem().unwrap_or_default().to_string_lossy().into_owned();
+    let paths = files(format!("crates/{krate}/must-fail"), &["edit"]);
+    let label = |path: &Path| path.file_stem().unwrap_or_default().to_string_lossy().into_owned();
     paths.iter().map(|path| Edit::parse(krate, &label(path), &read(path))).collect()
 }
 
@@ -41,15 +42,10 @@ fn rows(crates: &[String], told: &BTreeMap<String, String>, found: &mut Vec<Stri
     (rows, logs)
 }
 
-/// The names of the functions and definitions of every crate, as `crate::name`.
-fn names(crates: &[String], definitions: &Definitions) -> BTreeSet<String> {
-    let mut found: BTreeSet<String> = definitions.paths().collect();
-    for krate in crates {
-        let texts = files(format!("crates/{krate}/src"), ".rt");
-        let functions = texts.iter().flat_map(|path| rattle::functions(&read(path)));
-        found.extend(functions.map(|f| format!("{krate}::{}", f.name)));
-    }
-    found
+/// Whether a path names a function or a definition: `crate::function`, `crate::module::function`, `crate::definition`.
+fn is_there(path: &str, crates: &Crates, definitions: &Definitions) -> bool {
+    let Some((krate, item)) = path.split_once("::") else { return false };
+    definitions.defines(krate, item) || item.split("::").all(|part| crates.source_has(krate, part))
 }
 
 fn main() {
@@ -58,7 +54,7 @@ fn main() {
         Some("--write") => true,
         Some(other) => fail(&format!("{other}: unknown")),
     };
-    let crates = tables::crates(&read("crates.txt"));
+    let crates = Crates::read(Path::new("."));
     let trace = read("docs/TRACE.md");
     let rules = tables::rules(&trace);
     let easy: Vec<&str> = rules.iter().map(|rule| rule.0).filter(|number| number.starts_with('E')).collect();
@@ -72,9 +68,9 @@ fn main() {
         found.push(format!("docs/TRACE.md: P2 does not name the imposter '{name}'"));
     }
     let old = fs::read_to_string(DOCUMENT).unwrap_or_default();
-    let (rows, logs) = rows(&crates, &facts(&old), &mut found);
-    let names = names(&crates, &Definitions::of_repository());
-    let known = |path: &str| paths.iter().any(|p| p == path) || names.contains(path);
+    let (rows, logs) = rows(&crates.names, &facts(&old), &mut found);
+    let definitions = Definitions::of_repository();
+    let known = |path: &str| is_there(path, &crates, &definitions);
     found.extend(faults(&rows, &wanted, &known));
     let new = document(&rows, &wanted);
     if writes {
