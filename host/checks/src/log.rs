@@ -1,6 +1,7 @@
 //! The log that `rt must-fail` leaves of an edit, and the fact of its first error.
 
 use crate::edit::Edit;
+use std::collections::BTreeMap;
 use std::fs;
 
 /// A shown message has at most so many characters.
@@ -21,23 +22,13 @@ impl Fact {
     }
 }
 
-/// The log of an edit as it stands today; none if it was not tried, or with other text.
-pub fn of_edit(edit: &Edit) -> Option<String> {
+/// The log of an edit whose files are these now; none if it was not refused, or was tried with other files.
+pub fn of_edit(edit: &Edit, edited: &BTreeMap<String, String>) -> Option<String> {
     let folder = format!("target/must-fail/{}", edit.name());
-    if fs::read_to_string(format!("{folder}.res")).ok()?.trim() != "refused" {
-        return None;
-    }
-    let mut files: Vec<&str> = edit.changes.iter().map(|c| c.file.as_str()).collect();
-    files.dedup();
-    for file in files {
-        let own = fs::read_to_string(format!("crates/{}/{file}", edit.krate)).ok()?;
-        let changes = edit.changes.iter().filter(|c| c.file == file);
-        let edited = changes.fold(Some(own), |text, change| change.applied(&text?))?;
-        if fs::read_to_string(format!("{folder}/{file}")).ok()? != edited {
-            return None;
-        }
-    }
-    fs::read_to_string(format!("{folder}/.log")).ok()
+    let text = |path: String| fs::read_to_string(path).ok();
+    let tried = edited.iter().all(|(file, now)| text(format!("{folder}/{file}")).as_ref() == Some(now));
+    let refused = text(format!("{folder}.res")).is_some_and(|word| word.trim() == "refused");
+    text(format!("{folder}/.log")).filter(|_| tried && refused)
 }
 
 /// The first error of the log of an edit.
