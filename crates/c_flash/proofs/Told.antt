@@ -1,8 +1,8 @@
 -- Laws of what C is told of a flash map call.
-use mathlib.Core.Path.{_≡_, sym, ap, _∙_}
+use mathlib.Core.Path.{_≡_, refl, sym, ap, _∙_}
 use mathlib.Core.List.{List}
 use mathlib.Core.Logic.{_≢_}
-use mathlib.Core.Option.{Option, none, some}
+use mathlib.Core.Option.{Option, none}
 use Prim.Native.Nat.{ℕ}
 use native.Mathlib.Omega.{arith}
 use lib.ListN.{length}
@@ -11,7 +11,6 @@ use Rattle.octets.specs.Rows.{codeOf}
 use Rattle.octets.specs.Bytes.{put}
 use Rattle.octets.proofs.Puts.{put-all}
 use Rattle.fmap_rules.specs.Written.{areaBytes}
-use Rattle.fmap_rules.specs.declared.ImagePosition.{ImagePosition}
 use Rattle.fmap_carry.specs.Carry.{Outcome}
 use Rattle.fmap.specs.Find.{Reply, accepted, refused, foundReply}
 use Rattle.fmap.specs.Carry.{carriedNumber}
@@ -25,34 +24,32 @@ use Rattle.fmap.specs.declared.Found.the-variants as found
 use Rattle.fmap.specs.declared.Lookup.the-variants as lookup
 use Rattle.fmap.specs.declared.AreaIndex.the-variants as index
 use Rattle.fmap.specs.declared.Carried.the-variants as carried
-use Rattle.c_flash.specs.Told.{FindTold, findTold, AreaTold, answerTold, lookedTold, areaTold, namedTold, CarryTold, carryTold, NoneIsZero}
+use Rattle.c_flash.specs.Told.{BufferTold, answerTold, lookedTold, areaTold, carryTold, NoneIsZero}
 
-pub find-tells : (f x : Found) (old : ℕ) (r : Reply ImagePosition) → f ≡ x → foundReply f ≡ r → findTold old (foundReply x) ≡ findTold old r
-find-tells f x old r p q = ap (findTold old) (sym (ap foundReply p) ∙ q)
-
-pub named-tells : (f x : AreaIndex) (old : ℕ) (r : Reply (Option ℕ)) → f ≡ x → indexReply f ≡ r → namedTold old (indexReply x) ≡ namedTold old r
-named-tells f x old r p q = ap (namedTold old) (sym (ap indexReply p) ∙ q)
+-- an answer a that is x, and whose reply is r
+pub tells : {A B C : Type 0} (told : B → C) (reply : A → B) {a x : A} {r : B} → a ≡ x → reply a ≡ r → told (reply x) ≡ told r
+tells told reply p q = ap told (sym (ap reply p) ∙ q)
 
 -- an area's answer x, and the bytes of an area that is there
 pub looked-tells : (old : List ℕ) (a : AreaFound) (x : Lookup) → a .answer ≡ x → answerTold old (a .area) (lookupReply x) ≡ lookedTold old (looked a)
 looked-tells old a x p = ap (λ (y : Lookup). answerTold old (a .area) (lookupReply y)) (sym p)
 
 pub area-tells : (old new : List ℕ) (a : AreaFound) → a .answer ≡ lookup.There → length old ≡ 42
-    → (new ≡ put 0 (areaBytes (a .area)) old) × (length (areaBytes (a .area)) ≡ 42) → record { result = 0; area = new } ≡ lookedTold old (looked a)
+    → (new ≡ put 0 (areaBytes (a .area)) old) × (length (areaBytes (a .area)) ≡ 42) → record { result = 0; buffer = new } ≡ lookedTold old (looked a)
 area-tells old new a p h (q, l) =
-    ap (λ (b : List ℕ). record { result = 0; area = b }) (q ∙ put-all (areaBytes (a .area)) old (l ∙ sym h)) ∙ looked-tells old a lookup.There p
+    ap (λ (b : List ℕ). record { result = 0; buffer = b }) (q ∙ put-all (areaBytes (a .area)) old (l ∙ sym h)) ∙ looked-tells old a lookup.There p
 
-pub area-wrong : (old : List ℕ) (l : Looked) → length old ≢ 42 → record { result = 1; area = old } ≡ areaTold old l
+pub area-wrong : (old : List ℕ) (l : Looked) → length old ≢ 42 → record { result = 1; buffer = old } ≡ areaTold old l
 unfolding areaTold
 area-wrong old l h = rw (ne-eqb (length old) 42 h)
 
-pub area-right : (old : List ℕ) (l m : Looked) (t : AreaTold) → length old ≡ 42 → t ≡ lookedTold old l → l ≡ m → t ≡ areaTold old m
+pub area-right : (old : List ℕ) (l m : Looked) (t : BufferTold) → length old ≡ 42 → t ≡ lookedTold old l → l ≡ m → t ≡ areaTold old m
 unfolding areaTold
 area-right old l m t h p q = rw (eq-eqb (length old) 42 h) (p ∙ ap (lookedTold old) q)
 
 pub carry-tells : (n : Option ℕ) (r : ℕ) (b : List ℕ) (o : Outcome) → record { answer = n; image = b } ≡ o → r ≡ codeOf n
-    → _≡_ {A = CarryTold} (record { result = r; image = b }) (carryTold o)
-carry-tells n r b o e q = ap (λ (k : ℕ). record { result = k; image = b }) q ∙ ap carryTold e
+    → _≡_ {A = BufferTold} (record { result = r; buffer = b }) (carryTold o)
+carry-tells n r b o e q = ap (λ (k : ℕ). record { result = k; buffer = b }) q ∙ ap carryTold e
 
 -- ---- no refusal's number is 0
 
@@ -80,19 +77,15 @@ index-none index.WrongLength e = omega (arith, ap number-in e)
 index-none index.NoSignature e = omega (arith, ap number-in e)
 index-none index.NoGoodMap e = omega (arith, ap number-in e)
 
-abbrev number-of : Option ℕ → ℕ
-number-of none = 1
-number-of (some k) = k
-
-carried-none : (c : Carried) → carriedNumber c ≡ some 0 → ⊥
-carried-none carried.Done e = omega (arith, ap number-of e)
-carried-none carried.WrongLength e = omega (arith, ap number-of e)
-carried-none carried.NoSignature e = omega (arith, ap number-of e)
-carried-none carried.NoGoodMap e = omega (arith, ap number-of e)
-carried-none carried.Missing e = omega (arith, ap number-of e)
-carried-none carried.OtherSize e = omega (arith, ap number-of e)
-carried-none carried.Shared e = omega (arith, ap number-of e)
-carried-none carried.OnMap e = omega (arith, ap number-of e)
+carried-none : (c : Carried) → codeOf (carriedNumber c) ≡ 0 → carriedNumber c ≡ none
+carried-none carried.Done e = refl
+carried-none carried.WrongLength e = absurd (omega arith)
+carried-none carried.NoSignature e = absurd (omega arith)
+carried-none carried.NoGoodMap e = absurd (omega arith)
+carried-none carried.Missing e = absurd (omega arith)
+carried-none carried.OtherSize e = absurd (omega arith)
+carried-none carried.Shared e = absurd (omega arith)
+carried-none carried.OnMap e = absurd (omega arith)
 
 pub none-is-zero : NoneIsZero
 none-is-zero = record { find = found-none; area = lookup-none; named = index-none; carry = carried-none }

@@ -19,55 +19,49 @@ use Rattle.fmap.specs.declared.Lookup.{Lookup}
 use Rattle.fmap.specs.declared.AreaIndex.{AreaIndex}
 use Rattle.fmap.specs.declared.Carried.{Carried}
 
--- finding: the result, and the position behind its pointer afterwards, where old stood there
-pub record FindTold : Type 0 where
+-- the result, and the number behind the pointer for the answer afterwards
+pub record NumberTold : Type 0 where
   pub result : ℕ
-  pub position : ℕ
+  pub value : ℕ
 
+-- the result, and the lent buffer afterwards
+pub record BufferTold : Type 0 where
+  pub result : ℕ
+  pub buffer : List ℕ
+
+-- ---- finding: the position, where old stood
 -- R1: A refusal returns its number alone: the position is as it was
-abbrev pub findTold : ℕ → Reply ImagePosition → FindTold
-findTold old (accepted p) = record { result = 0; position = p .0 }
-findTold old (refused k) = record { result = k; position = old }
+abbrev pub findTold : ℕ → Reply ImagePosition → NumberTold
+findTold old (accepted p) = record { result = 0; value = p .0 }
+findTold old (refused k) = record { result = k; value = old }
 
--- (R4) an area's buffer has 42 bytes; with another length nothing is looked for
+-- ---- an area by its number: its 42 bytes, where old stood
 -- 255: no such area, to which the rules give no number
-pub record AreaTold : Type 0 where
-  pub result : ℕ
-  pub area : List ℕ
+abbrev pub answerTold : List ℕ → Area → Reply Bool → BufferTold
+answerTold old a (accepted true) = record { result = 0; buffer = areaBytes a }
+answerTold old a (accepted false) = record { result = 255; buffer = old }
+answerTold old a (refused k) = record { result = k; buffer = old }
 
--- the bytes of the area's buffer, where old stood there
-abbrev pub answerTold : List ℕ → Area → Reply Bool → AreaTold
-answerTold old a (accepted true) = record { result = 0; area = areaBytes a }
-answerTold old a (accepted false) = record { result = 255; area = old }
-answerTold old a (refused k) = record { result = k; area = old }
-
-abbrev pub lookedTold : List ℕ → Looked → AreaTold
+abbrev pub lookedTold : List ℕ → Looked → BufferTold
 lookedTold old l = answerTold old (l .area) (l .answer)
 
-unfoldable pub areaTold : List ℕ → Looked → AreaTold
-areaTold old l = cond (eqb (length old) 42) (lookedTold old l) (record { result = 1; area = old })
+-- (R4) an area's buffer has 42 bytes; with another length nothing is looked for
+unfoldable pub areaTold : List ℕ → Looked → BufferTold
+areaTold old l = cond (eqb (length old) 42) (lookedTold old l) (record { result = 1; buffer = old })
 
--- the number of the area with a name, behind its pointer, where old stood there
-pub record NamedTold : Type 0 where
-  pub result : ℕ
-  pub k : ℕ
+-- ---- the number of the area with a name, where old stood
+abbrev pub namedTold : ℕ → Reply (Option ℕ) → NumberTold
+namedTold old (accepted (some k)) = record { result = 0; value = k }
+namedTold old (accepted none) = record { result = 255; value = old }
+namedTold old (refused n) = record { result = n; value = old }
 
-abbrev pub namedTold : ℕ → Reply (Option ℕ) → NamedTold
-namedTold old (accepted (some k)) = record { result = 0; k = k }
-namedTold old (accepted none) = record { result = 255; k = old }
-namedTold old (refused n) = record { result = n; k = old }
-
--- carrying: the result, and the new image afterwards
-pub record CarryTold : Type 0 where
-  pub result : ℕ
-  pub image : List ℕ
-
-abbrev pub carryTold : Outcome → CarryTold
-carryTold o = record { result = codeOf (o .answer); image = o .image }
+-- ---- carrying: the new image
+abbrev pub carryTold : Outcome → BufferTold
+carryTold o = record { result = codeOf (o .answer); buffer = o .image }
 
 -- no refusal's number is 0
 pub record NoneIsZero : Type 0 where
   pub find : (f : Found) → foundReply f ≡ refused 0 → ⊥
   pub area : (a : Lookup) → lookupReply a ≡ refused 0 → ⊥
   pub named : (a : AreaIndex) → indexReply a ≡ refused 0 → ⊥
-  pub carry : (c : Carried) → carriedNumber c ≡ some 0 → ⊥
+  pub carry : (c : Carried) → codeOf (carriedNumber c) ≡ 0 → carriedNumber c ≡ none

@@ -14,7 +14,7 @@ use fmap::Lookup;
 
 #[no_mangle]
 pub extern "C" fn usi_fmap_find(image: &[u8], position: &mut u64) -> u32
-    ensures { λ r. ⌜ record { result = r; position = now (position .exit) } ≡ findTold (now (position .entry)) (findMap (now (image .entry))) ⌝ }
+    ensures { λ r. ⌜ record { result = r; value = now (position .exit) } ≡ findTold (now (position .entry)) (findMap (now (image .entry))) ⌝ }
 {
     match fmap::find(image) {
         Found::At(p) => {
@@ -30,7 +30,7 @@ pub extern "C" fn usi_fmap_find(image: &[u8], position: &mut u64) -> u32
 // Writes the area that was found.
 fn area_found(a: AreaFound, area: &mut [u8]) -> u32
     requires { ⌜ length (now area) ≡ 42 ⌝ }
-    ensures { λ r. ⌜ record { result = r; area = now (area .exit) } ≡ lookedTold (now (area .entry)) (looked a) ⌝ }
+    ensures { λ r. ⌜ record { result = r; buffer = now (area .exit) } ≡ lookedTold (now (area .entry)) (looked a) ⌝ }
 {
     let answer = a.answer;
     match answer {
@@ -48,7 +48,7 @@ fn area_found(a: AreaFound, area: &mut [u8]) -> u32
 
 #[no_mangle]
 pub extern "C" fn usi_fmap_area(image: &[u8], k: u64, area: &mut [u8]) -> u32
-    ensures { λ r. ⌜ record { result = r; area = now (area .exit) } ≡ areaTold (now (area .entry)) (areaNumbered (now (image .entry)) k) ⌝ }
+    ensures { λ r. ⌜ record { result = r; buffer = now (area .exit) } ≡ areaTold (now (area .entry)) (areaNumbered (now (image .entry)) k) ⌝ }
 {
     if area.len() != 42 {
         return 1;
@@ -58,7 +58,7 @@ pub extern "C" fn usi_fmap_area(image: &[u8], k: u64, area: &mut [u8]) -> u32
 
 #[no_mangle]
 pub extern "C" fn usi_fmap_named(image: &[u8], name: &[u8], k: &mut u64) -> u32
-    ensures { λ r. ⌜ record { result = r; k = now (k .exit) } ≡ namedTold (now (k .entry)) (indexNamed (now (image .entry)) (now (name .entry))) ⌝ }
+    ensures { λ r. ⌜ record { result = r; value = now (k .exit) } ≡ namedTold (now (k .entry)) (indexNamed (now (image .entry)) (now (name .entry))) ⌝ }
 {
     match fmap::area_index(image, name) {
         AreaIndex::At(i) => {
@@ -89,7 +89,7 @@ fn carried(c: Carried) -> u32
 
 #[no_mangle]
 pub extern "C" fn usi_fmap_carry(old: &[u8], image: &mut [u8]) -> u32
-    ensures { λ r. ⌜ record { result = r; image = now (image .exit) } ≡ carryTold (carryImages (now (old .entry)) (now (image .entry))) ⌝ }
+    ensures { λ r. ⌜ record { result = r; buffer = now (image .exit) } ≡ carryTold (carryImages (now (old .entry)) (now (image .entry))) ⌝ }
 {
     carried(fmap::carry(old, image))
 }

@@ -16,25 +16,21 @@ use Rattle.fmd.specs.declared.Reading.{Reading}
 use Rattle.octets.specs.Bytes.{put}
 use Rattle.octets.proofs.Bools.{choice}
 use Rattle.octets.proofs.Puts.{put-all}
-use Rattle.c_layout.specs.Told.{ReadTold, replied, imageTold, readTold, RecordsTold, countOf, recordsTold, WriteTold, writeTold, NoAnswerIsZero}
+use Rattle.c_layout.specs.Told.{ReadTold, replied, imageTold, readTold, RecordsTold, countOf, recordsTold, WriteTold, writeTold, ZeroIsAccepted}
 
-abbrev number-of : Option ℕ → ℕ
-number-of none = 1
-number-of (some k) = k
-
-pub no-answer-is-zero : NoAnswerIsZero
-no-answer-is-zero Accepted e = omega (arith, ap number-of e)
-no-answer-is-zero WrongLength e = omega (arith, ap number-of e)
-no-answer-is-zero TooLong e = omega (arith, ap number-of e)
-no-answer-is-zero OutOfGrammar e = omega (arith, ap number-of e)
-no-answer-is-zero BadNumber e = omega (arith, ap number-of e)
-no-answer-is-zero BadName e = omega (arith, ap number-of e)
-no-answer-is-zero NameTwice e = omega (arith, ap number-of e)
-no-answer-is-zero TooMany e = omega (arith, ap number-of e)
-no-answer-is-zero BadFlag e = omega (arith, ap number-of e)
-no-answer-is-zero Undecided e = omega (arith, ap number-of e)
-no-answer-is-zero Unfit e = omega (arith, ap number-of e)
-no-answer-is-zero NoMapSection e = omega (arith, ap number-of e)
+pub zero-is-accepted : ZeroIsAccepted
+zero-is-accepted Accepted e = refl
+zero-is-accepted WrongLength e = absurd (omega arith)
+zero-is-accepted TooLong e = absurd (omega arith)
+zero-is-accepted OutOfGrammar e = absurd (omega arith)
+zero-is-accepted BadNumber e = absurd (omega arith)
+zero-is-accepted BadName e = absurd (omega arith)
+zero-is-accepted NameTwice e = absurd (omega arith)
+zero-is-accepted TooMany e = absurd (omega arith)
+zero-is-accepted BadFlag e = absurd (omega arith)
+zero-is-accepted Undecided e = absurd (omega arith)
+zero-is-accepted Unfit e = absurd (omega arith)
+zero-is-accepted NoMapSection e = absurd (omega arith)
 
 -- ---- a refusal's number is told as it is; 0 is told of an accepted call alone
 
@@ -45,12 +41,8 @@ told-refused : (n : Option ℕ) (k : ℕ) → k ≡ codeOf n → k ≢ 0 → n �
 told-refused none k p q = absurd (q p)
 told-refused (some j) k p q = ap some (sym p)
 
-told-zero : (n : Option ℕ) → (n ≡ some 0 → ⊥) → codeOf n ≡ 0 → n ≡ none
-told-zero none h e = refl
-told-zero (some k) h e = absurd (h (ap some e))
-
 told-accepted : (a : Answer) (k : ℕ) → k ≡ codeOf (numberOf a) → k ≡ 0 → numberOf a ≡ none
-told-accepted a k p q = told-zero (numberOf a) (no-answer-is-zero a) (sym p ∙ q)
+told-accepted a k p q = zero-is-accepted a (sym p ∙ q)
 
 -- ---- reading
 

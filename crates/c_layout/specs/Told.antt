@@ -52,5 +52,5 @@ abbrev pub writeTold : Written → WriteTold
 writeTold o = record { result = codeOf (o .answer); image = o .image }
 
 -- no refusal's number is 0
-abbrev pub NoAnswerIsZero : Type 0
-NoAnswerIsZero = (a : Answer) → numberOf a ≡ some 0 → ⊥
+abbrev pub ZeroIsAccepted : Type 0
+ZeroIsAccepted = (a : Answer) → codeOf (numberOf a) ≡ 0 → numberOf a ≡ none
