@@ -72,7 +72,7 @@ pub fn carry(given: &Given) -> Result<Report, Failure> {
     let total: u64 = carried.iter().map(|one| u64::from(one.size)).sum();
     let noun = if carried.len() == 1 { "area" } else { "areas" };
     let verb = if dry_run { "would be carried" } else { "carried" };
-    let what = if changed { "" } else { "; no byte of it changes" };
+    let what = if changed { "" } else { "; no byte changes" };
     let mut text = if carried.is_empty() { String::new() } else { carried_table(&carried, differs) + "\n" };
     text += &format!(
         "{} {noun} {verb} from {} into {}, {total} bytes ({}){what}\n",

@@ -28,7 +28,7 @@ pub fn show(given: &Given) -> Result<Report, Failure> {
     let drawing = drawing(&partitions, &runs, width as usize);
     let mut text = format!("{}: {} of {BLOCK_LEN} bytes\n", path.display(), of_blocks(disk.n));
     text += &format!("disk GUID:     {guid}\n");
-    text += &format!("table copies:  {}\n", copies(state));
+    text += &format!("table:         {}\n", copies(state));
     text += &format!("usable blocks: {} to {}\n", usable.first, usable.last);
     text += &format!(
         "free:          {}, longest run {}\n\n",
@@ -240,10 +240,10 @@ fn random_guid() -> Result<Guid, Failure> {
 
 fn copies(state: State) -> &'static str {
     match state {
-        State::Same => "both are good and the same",
-        State::Different => "both are good, but they differ; the primary is used",
-        State::PrimaryOnly => "the backup is not good; the primary is used",
-        State::BackupOnly => "the primary is not good; the backup is used",
+        State::Same => "both copies are good and the same",
+        State::Different => "both copies are good, but they differ; the primary is used",
+        State::PrimaryOnly => "the backup copy is not good; the primary is used",
+        State::BackupOnly => "the primary copy is not good; the backup is used",
     }
 }
 

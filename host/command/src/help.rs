@@ -38,7 +38,7 @@ pub fn group(group: &str) -> String {
 }
 
 pub fn verb(verb: &Verb) -> String {
-    let mut text = format!("Usage: {}\n\n{}\n", usage(verb), wrapped(verb.about, 0));
+    let mut text = format!("Usage: {}\n\n{}\n", wrapped(&usage(verb), 6), wrapped(verb.about, 0));
     let choices: Vec<(String, &str)> = verb
         .options
         .iter()

@@ -4,7 +4,7 @@ use super::{printable, Row, Side, Span, Table};
 use crate::json::Json;
 use crate::sizes::human;
 
-const GAP: &str = "(no area)";
+const GAP: &str = "(gap)";
 
 #[derive(Clone, Debug)]
 pub struct Area {
@@ -98,11 +98,11 @@ mod tests {
         let areas = [area(0, 4096, "BOOT", 4), area(0, 1024, "FMAP", 0)];
         let rows = tree(&areas.iter().map(|area| area.span).collect::<Vec<_>>(), 8192);
         let expected = "\
-Offset      Size               Name           Flags
-0x00000000  0x00001000  4 KiB  BOOT           RO
+Offset      Size               Name     Flags
+0x00000000  0x00001000  4 KiB  BOOT     RO
 0x00000000  0x00000400  1 KiB    FMAP
-0x00000400  0x00000c00  3 KiB    (no area)
-0x00001000  0x00001000  4 KiB  (no area)
+0x00000400  0x00000c00  3 KiB    (gap)
+0x00001000  0x00001000  4 KiB  (gap)
 ";
         assert_eq!(area_table(&areas, &rows), expected);
         let gaps = r#"[{"offset": 1024, "size": 3072, "within": "BOOT"}, {"offset": 4096, "size": 4096, "within": null}]"#;
