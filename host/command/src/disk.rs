@@ -26,6 +26,7 @@ pub struct Mode {
 pub struct Edited<T> {
     pub answer: T,
     pub changed: bool,
+    pub note: Option<String>,
 }
 
 impl Ends {
@@ -70,14 +71,14 @@ pub fn edit<T>(
     let answer = call(&mut after.disk())?;
     let changed = after != before;
     if mode.dry_run || !changed {
-        return Ok(Edited { answer, changed });
+        return Ok(Edited { answer, changed, note: None });
     }
     let opened = open(path, Access::Write { force: mode.force })?;
     let before = Ends::read(path, &opened)?;
     let mut after = before.clone();
     let answer = call(&mut after.disk())?;
     write(&opened.file, &before, &after).map_err(|what| crate::storage::about(path, &what))?;
-    Ok(Edited { answer, changed: after != before })
+    Ok(Edited { answer, changed: after != before, note: opened.reread() })
 }
 
 /// The backup first, then the primary, each flushed: at every moment one copy is whole.

@@ -56,7 +56,7 @@ fn shown(area: flash::Area) -> Area {
 pub fn carry(given: &Given) -> Result<Report, Failure> {
     let (old_path, new_path) = (given.path(0), given.path(1));
     let (old, new) = (image::read(old_path)?, image::read(new_path)?);
-    if same_file(&old.opened.metadata, &new.opened.metadata) {
+    if same_file(&old.metadata, &new.metadata) {
         let both = format!("and {} are the same file", new_path.display());
         return Err(about(old_path, &both));
     }
@@ -152,7 +152,7 @@ fn save(path: &Path, image: &image::Image, target: &Path, bytes: &[u8]) -> Resul
     let Ok(metadata) = fs::metadata(target) else {
         return storage::create(target, bytes);
     };
-    if same_file(&image.opened.metadata, &metadata) {
+    if same_file(&image.metadata, &metadata) {
         return Err(about(path, &format!("and {} are the same file", target.display())));
     }
     if storage::kind(&metadata) == Kind::Regular {

@@ -216,7 +216,7 @@ fn edited<T>(
         ("changed", edit.changed.into()),
     ];
     json.extend(told);
-    Ok(Report::new(text, json))
+    Ok(Report { notes: edit.note.into_iter().collect(), ..Report::new(text, json) })
 }
 
 fn partition(disk: &Disk, slot: u64) -> Result<Partition, Failure> {

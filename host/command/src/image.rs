@@ -2,12 +2,13 @@
 
 use crate::failure::Failure;
 use crate::storage::{self, about, changed_runs, open, put, unusable, Access, Kind, Opened};
+use std::fs::Metadata;
 use std::io::{Read, Seek};
 use std::path::Path;
 use usigrambal::IMAGE_MAX;
 
 pub struct Image {
-    pub opened: Opened,
+    pub metadata: Metadata,
     /// All its bytes, or one more than an image may have: the library refuses that length.
     pub bytes: Vec<u8>,
 }
@@ -15,7 +16,7 @@ pub struct Image {
 pub fn read(path: &Path) -> Result<Image, Failure> {
     let opened = open(path, Access::Read)?;
     let bytes = contents(path, &opened)?;
-    Ok(Image { opened, bytes })
+    Ok(Image { metadata: opened.metadata, bytes })
 }
 
 fn contents(path: &Path, opened: &Opened) -> Result<Vec<u8>, Failure> {

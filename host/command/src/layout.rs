@@ -111,7 +111,7 @@ fn rewritten(given: &Given, text: &[u8]) -> Result<(Vec<u8>, bool), Failure> {
         return Err(about(path, "does not exist; --create makes a new image"));
     }
     let image = image::read(path)?;
-    if fs::metadata(source).is_ok_and(|text| same_file(&text, &image.opened.metadata)) {
+    if fs::metadata(source).is_ok_and(|text| same_file(&text, &image.metadata)) {
         return Err(about(source, &format!("and {} are the same file", path.display())));
     }
     let mut after = image.bytes.clone();

@@ -30,7 +30,7 @@ pub struct Facts {
     pub bytes: u64,
     /// Of a block device.
     pub logical_block: Option<u64>,
-    /// Nobody may write it, by its mode.
+    /// Nobody may write it: a file by its mode, a device by its own state.
     pub read_only: bool,
 }
 
@@ -59,8 +59,11 @@ impl Facts {
 
     /// Why it can't be written.
     pub fn no_writing(&self) -> Option<String> {
-        let marked = self.kind == Kind::Regular && self.read_only;
-        marked.then(|| "is read-only by its mode (chmod u+w makes it writable)".to_string())
+        let how = match self.kind {
+            Kind::Regular => " by its mode (chmod u+w makes it writable)",
+            _ => "",
+        };
+        self.read_only.then(|| format!("is read-only{how}"))
     }
 }
 
@@ -143,10 +146,12 @@ mod tests {
     }
 
     #[test]
-    fn a_mode_without_writers_is_heeded_on_files() {
-        let marked = Facts { read_only: true, ..file(512) };
-        assert!(marked.no_writing().is_some());
+    fn what_is_read_only_is_not_written() {
         assert_eq!(file(512).no_writing(), None);
-        assert_eq!(Facts { read_only: true, ..device(512, 512) }.no_writing(), None);
+        assert_eq!(device(512, 512).no_writing(), None);
+        let mode = "is read-only by its mode (chmod u+w makes it writable)";
+        assert_eq!(Facts { read_only: true, ..file(512) }.no_writing(), Some(mode.to_string()));
+        let marked = Facts { read_only: true, ..device(512, 512) };
+        assert_eq!(marked.no_writing(), Some("is read-only".to_string()));
     }
 }

@@ -1,13 +1,19 @@
 use super::{about, device, kind, metadata, unusable, Facts, Kind};
-use crate::failure::Failure;
-use std::fs::{File, Metadata, OpenOptions};
+use crate::failure::{words, Failure};
+use std::fs::{File, Metadata, OpenOptions, TryLockError};
 use std::io::{self, Seek, SeekFrom};
 use std::os::unix::fs::{MetadataExt, OpenOptionsExt};
 use std::path::Path;
+use std::thread;
+use std::time::{Duration, Instant};
 
 /// fcntl.h and errno.h of Linux. A block device that is opened so is opened alone.
 const O_EXCL: i32 = 0o200;
 const EBUSY: i32 = 16;
+
+/// How long a lock of another program is waited for.
+const PATIENCE: Duration = Duration::from_secs(5);
+const PAUSE: Duration = Duration::from_millis(10);
 
 #[derive(Clone, Copy, Debug, PartialEq, Eq)]
 pub enum Access {
@@ -25,16 +31,27 @@ pub struct Opened {
     pub metadata: Metadata,
 }
 
+impl Opened {
+    /// After the table of a block device was written: a note if the kernel still goes by the old one.
+    pub fn reread(&self) -> Option<String> {
+        if self.facts.kind != Kind::BlockDevice {
+            return None;
+        }
+        let error = device::reread(&self.file).err().filter(|e| e.kind() != io::ErrorKind::InvalidInput)?;
+        Some(format!("note: the kernel still goes by the old table: {}", words(&error)))
+    }
+}
+
 /// Opens an image file or a block device. What is neither is not opened, since that may wait or act.
 pub fn open(path: &Path, access: Access) -> Result<Opened, Failure> {
     let metadata = metadata(path)?;
     let known = facts_of_mode(&metadata);
     refuse(path, known.unsuitable())?;
-    if access != Access::Read {
-        refuse(path, known.no_writing())?;
-    }
     let file = opened(path, access, known.kind)?;
     let facts = facts(&file, known).map_err(|error| unusable(path, "cannot be measured", &error))?;
+    if access != Access::Read {
+        refuse(path, facts.no_writing())?;
+    }
     Ok(Opened { file, facts, metadata })
 }
 
@@ -58,11 +75,30 @@ fn opened(path: &Path, access: Access, kind: Kind) -> Result<File, Failure> {
         }
         _ => unusable(path, "cannot be written", &error),
     })?;
-    if access != Access::Read {
-        // Two calls at once follow each other. Where locks can't be had, the call goes on without.
-        let _ = file.lock();
+    let alone = match access {
+        Access::Read => {
+            locked(|| file.try_lock_shared());
+            true
+        }
+        Access::Write { force } => locked(|| file.try_lock()) || force,
+    };
+    match alone {
+        true => Ok(file),
+        false => Err(about(path, "is in use (locked by another program); --force writes anyway")),
     }
-    Ok(file)
+}
+
+/// Calls at once follow each other: a reader waits for a writer, and a writer for both. Where locks can't be had it
+/// goes on without.
+fn locked(lock: impl Fn() -> Result<(), TryLockError>) -> bool {
+    let end = Instant::now() + PATIENCE;
+    while let Err(TryLockError::WouldBlock) = lock() {
+        if Instant::now() > end {
+            return false;
+        }
+        thread::sleep(PAUSE);
+    }
+    true
 }
 
 fn facts_of_mode(metadata: &Metadata) -> Facts {
@@ -75,5 +111,6 @@ fn facts(file: &File, known: Facts) -> io::Result<Facts> {
         return Ok(Facts { bytes: file.metadata()?.len(), ..known });
     }
     let bytes = (&*file).seek(SeekFrom::End(0))?;
-    Ok(Facts { bytes, logical_block: Some(device::logical_block(file)?), ..known })
+    let (logical_block, read_only) = (device::logical_block(file)?, device::read_only(file)?);
+    Ok(Facts { bytes, logical_block: Some(logical_block), read_only, ..known })
 }
