@@ -124,7 +124,7 @@ fn other_tools_read_the_map() {
             size: area.number("size"),
         })
         .collect();
-    if peer::present("dump_fmap", "vboot-kernel-utils") {
+    if peer::present("dump_fmap", "vboot-utils") {
         assert_eq!(listing::dump_fmap(&image), areas);
     }
     if peer::present("cbfstool", "coreboot-utils") {
@@ -134,12 +134,21 @@ fn other_tools_read_the_map() {
         peer::printed("cbfstool", [text, "read", "-r", "RW_CAL", "-f", out.to_str().expect("UTF-8")]);
         assert_eq!(run!["fmap", "extract", image, "RW_CAL"].bytes, fs::read(&out).expect("an area"));
     }
-    if peer::present(fmaptool::TOOL, fmaptool::PACKAGE) {
-        let map = folder.path("map.bin");
-        peer::printed(fmaptool::TOOL, [&layout, &map]);
-        let map = fs::read(&map).expect("a map");
-        assert_eq!(fs::read(&image).expect("an image")[..map.len()], map);
+}
+
+/// fmaptool asks for a section COREBOOT that is marked CBFS.
+#[test]
+fn fmaptool_makes_the_same_map() {
+    if !peer::present(fmaptool::TOOL, fmaptool::PACKAGE) {
+        return;
     }
+    let folder = Folder::new();
+    let layout = folder.file("board.fmd", LAYOUT.replace("RW_LOG", "COREBOOT(CBFS)"));
+    let (image, map) = (folder.path("board.bin"), folder.path("map.bin"));
+    run!["fmd", "write", layout, image, "--create"].done();
+    peer::printed(fmaptool::TOOL, [&layout, &map]);
+    let map = fs::read(&map).expect("a map");
+    assert_eq!(fs::read(&image).expect("an image")[..map.len()], map);
 }
 
 /// cbfstool writes calibration into the old image, and reads it from the new one after the carry.
