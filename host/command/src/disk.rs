@@ -2,7 +2,7 @@
 
 use crate::failure::Failure;
 use crate::sizes::BLOCK_LEN;
-use crate::storage::{open, put, unusable, Access, Opened, Unwritten};
+use crate::storage::{about, open, put, unusable, Access, Opened, Unwritten};
 use std::fs::File;
 use std::os::unix::fs::FileExt;
 use std::path::Path;
@@ -37,7 +37,7 @@ impl Ends {
     /// A file that is too short for head and tail is taken as zeros: the library refuses its number of blocks.
     fn read(path: &Path, opened: &Opened) -> Result<Ends, Failure> {
         if let Some(fault) = opened.facts.no_disk() {
-            return Err(crate::storage::about(path, &fault));
+            return Err(about(path, &fault));
         }
         let n = opened.facts.bytes / BLOCK_LEN;
         let mut ends = Ends { head: [0; HEAD_LEN], tail: [0; TAIL_LEN], n };
@@ -77,30 +77,31 @@ pub fn edit<T>(
     let before = Ends::read(path, &opened)?;
     let mut after = before.clone();
     let answer = call(&mut after.disk())?;
-    write(&opened.file, &before, &after).map_err(|what| crate::storage::about(path, &what))?;
+    write(path, &opened.file, &before, &after)?;
     Ok(Edited { answer, changed: after != before, note: opened.reread() })
 }
 
 /// The backup first, then the primary, each flushed: at every moment one copy is whole.
-fn write(file: &File, before: &Ends, after: &Ends) -> Result<(), String> {
+fn write(path: &Path, file: &File, before: &Ends, after: &Ends) -> Result<(), Failure> {
     let (tail_changed, head_changed) = (before.tail != after.tail, before.head != after.head);
+    let failed = |copy, other, unwritten| about(path, &told(path, copy, other, &unwritten));
     if tail_changed {
         let written = put(file, &after.tail, after.tail_at(), &[(0, TAIL_LEN)]);
         written
-            .map_err(|unwritten| told("the backup copy", "the primary copy was not touched", &unwritten))?;
+            .map_err(|unwritten| failed("the backup copy", "the primary copy was not touched", unwritten))?;
     }
     if head_changed {
         let written = put(file, &after.head, 0, &[(0, HEAD_LEN)]);
         let backup =
             if tail_changed { "the backup copy was written" } else { "the backup copy was not touched" };
-        written.map_err(|unwritten| told("the primary copy", backup, &unwritten))?;
+        written.map_err(|unwritten| failed("the primary copy", backup, unwritten))?;
     }
     Ok(())
 }
 
 /// What was written, and what was not.
-fn told(copy: &str, other: &str, unwritten: &Unwritten) -> String {
-    let (words, verb) =
-        (unwritten.words(), if unwritten.written == 0 { "was not" } else { "was not wholly" });
-    format!("could not be written: {other}, {copy} {verb}: {words}; `usigrambal gpt repair` makes both alike")
+fn told(path: &Path, copy: &str, other: &str, unwritten: &Unwritten) -> String {
+    let (words, was) = (unwritten.words(), if unwritten.written == 0 { "was not" } else { "was not wholly" });
+    let repair = format!("`usigrambal gpt repair {}` makes both alike", path.display());
+    format!("could not be written: {other}, {copy} {was}: {words}; {repair}")
 }

@@ -9,6 +9,7 @@ SIZE: a bare number is blocks of 512 bytes; with B, K, M, G or T (KiB, MiB ...: 
       which must be whole blocks. Numbers are decimal, or 0x and hex digits.
 DISK, IMAGE: a file or a block device. Of a disk only the first 34 and the last 33 blocks are read and written,
       the backup copy first.
+-- ends the options, so that a name may begin with -.
 ";
 
 const STATUS: &str = "\

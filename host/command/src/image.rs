@@ -1,7 +1,7 @@
 //! A flash image: read whole, changed in memory, and written back.
 
 use crate::failure::Failure;
-use crate::storage::{self, about, changed_runs, open, put, unusable, Access, Kind, Opened};
+use crate::storage::{self, about, changed_runs, open, put, same_file, unusable, Access, Kind, Opened};
 use std::fs::Metadata;
 use std::io::{Read, Seek};
 use std::path::Path;
@@ -30,7 +30,8 @@ fn contents(path: &Path, opened: &Opened) -> Result<Vec<u8>, Failure> {
 /// Gives the image other bytes, of the same length: a file by a new one in its place, a device where they differ.
 pub fn write(path: &Path, image: &Image, after: &[u8], force: bool) -> Result<(), Failure> {
     let opened = open(path, Access::Write { force })?;
-    if contents(path, &opened)? != image.bytes {
+    let replaced = !same_file(&storage::metadata(path)?, &opened.metadata);
+    if replaced || contents(path, &opened)? != image.bytes {
         return Err(about(path, "was changed by another program meanwhile; nothing was written"));
     }
     if opened.facts.kind == Kind::Regular {

@@ -2,33 +2,11 @@
 
 mod common;
 
-use common::{add, Folder};
+use common::{add, Folder, Loop};
 use std::fs::{self, File};
 use std::os::unix::fs::{FileExt, OpenOptionsExt};
-use std::path::{Path, PathBuf};
-use std::process::Command;
 
 const O_EXCL: i32 = 0o200;
-
-/// A loop device over a file, let go when it is dropped.
-struct Loop(PathBuf);
-
-impl Loop {
-    fn new(file: &Path, options: &[&str]) -> Option<Loop> {
-        let made = Command::new("losetup").args(options).args(["-f", "--show"]).arg(file).output();
-        let made = made.ok().filter(|made| made.status.success());
-        if made.is_none() {
-            println!("skipped: loop devices");
-        }
-        Some(Loop(String::from_utf8(made?.stdout).expect("UTF-8").trim_end().into()))
-    }
-}
-
-impl Drop for Loop {
-    fn drop(&mut self) {
-        let _ = Command::new("losetup").arg("-d").arg(&self.0).status();
-    }
-}
 
 #[test]
 fn a_disk_on_a_device() {

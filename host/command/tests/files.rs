@@ -159,6 +159,59 @@ fn calls_at_once_follow_each_other() {
     assert_eq!((shown.number("state"), shown.list("partitions").len()), (1, 12));
 }
 
+/// Each carry that was told as done is in the image, however many are at work.
+#[test]
+fn carries_at_once_lose_nothing() {
+    let folder = Folder::new();
+    let names = ["A", "B", "C", "D", "E", "F"];
+    let layout = |kept: &str| {
+        let sections =
+            names.map(|name| format!("{name}{} 1K ", if name == kept { "(PRESERVE)" } else { "" }));
+        format!("CHIP 64K {{ FMAP 1K {}}}", sections.concat())
+    };
+    let new = folder.path("new.bin");
+    fs::write(&new, vec![0; 65_536]).expect("an image");
+    let new_layout = folder.file("new.fmd", layout(""));
+    run!["fmd", "write", new_layout, new].done();
+    let olds = names.map(|name| {
+        let (old, text) = (folder.path(name), folder.file("old.fmd", layout(name)));
+        run!["fmd", "write", text, old, "--create"].done();
+        old
+    });
+    let carried: Vec<Ended> = std::thread::scope(|scope| {
+        let new = &new;
+        let calls = olds.iter().map(|old| scope.spawn(move || run!["fmap", "carry", old, new]));
+        calls.collect::<Vec<_>>().into_iter().map(|call| call.join().expect("a call")).collect()
+    });
+    let mut done = 0;
+    for (name, ended) in names.into_iter().zip(carried) {
+        if ended.status == Some(0) {
+            assert_eq!(run!["fmap", "extract", new, name].bytes, [0xFF; 1024], "{name}");
+            done += 1;
+        } else {
+            ended.sentence("was changed by another program meanwhile; nothing was written");
+        }
+    }
+    assert!(done > 0);
+}
+
+#[test]
+fn a_lock_of_another_program_is_heeded() {
+    let folder = Folder::new();
+    let image = disk(&folder, "disk.img", 100);
+    let held = File::open(&image).expect("an image");
+    held.lock_shared().expect("a lock");
+    std::thread::scope(|scope| {
+        scope.spawn(|| run!["gpt", "show", image].done());
+        scope.spawn(|| {
+            run!["gpt", "add", image, "--size", "1"].sentence("is in use (locked by another program)")
+        });
+    });
+    run!["gpt", "add", image, "--size", "1", "--force"].done();
+    drop(held);
+    run!["gpt", "add", image, "--size", "1"].done();
+}
+
 #[test]
 fn standard_output_that_is_gone_or_full() {
     let folder = Folder::new();

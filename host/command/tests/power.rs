@@ -2,7 +2,7 @@
 
 mod common;
 
-use common::{add, disk, Ended, Folder};
+use common::{add, disk, Ended, Folder, Loop};
 use std::fs;
 use std::path::{Path, PathBuf};
 use std::process::Command;
@@ -111,9 +111,10 @@ fn killed_while_it_formats() {
 fn no_space_for_the_primary() {
     let tried = disturbed_add("full:2");
     assert_eq!((tried.ended.status, tried.ended.out.as_str()), (Some(2), ""));
-    let said = "could not be written: the backup copy was written, the primary copy was not: No space left on device; \
-                `usigrambal gpt repair` makes both alike";
-    assert!(tried.ended.err.contains(said), "{}", tried.ended.err);
+    let said = "could not be written: the backup copy was written, the primary copy was not: No space left on device";
+    let path = tried.path.display();
+    let line = format!("usigrambal: {path} {said}; `usigrambal gpt repair {path}` makes both alike\n");
+    assert_eq!(tried.ended.err, line);
     assert!(tried.tail_changed() && !tried.head_changed());
     assert_eq!(tried.repaired(2), 1);
 }
@@ -181,4 +182,22 @@ fn the_order_of_writes() {
         let (verb, rest) = words.split_first().expect("a verb");
         assert_eq!(written(&[&["gpt", verb, text], rest].concat()), "", "{words:?}");
     }
+}
+
+/// On a block device a carry writes in place.
+#[test]
+fn a_short_write_of_a_flash_device() {
+    let folder = Folder::new();
+    let layout = folder.file("board.fmd", "CHIP 64K { FMAP 1K CAL(PRESERVE)@2K 1K }");
+    let (old, file) = (folder.path("old.bin"), folder.file("new.bin", vec![0; 65_536]));
+    run!["fmd", "write", layout, old, "--create"].done();
+    run!["fmd", "write", layout, file].done();
+    let Some(device) = Loop::new(&file, &[]) else { return };
+    let words = ["fmap", "carry", old.to_str().expect("UTF-8"), device.0.to_str().expect("UTF-8")];
+    let ended = disturbed("short:1", &folder.path("log"), &words);
+    let said = "could not be written: 600 of 1024 changed bytes were, then: No space left on device";
+    assert_eq!(ended.status, Some(2));
+    assert!(ended.err.contains(said), "{}", ended.err);
+    let bytes = fs::read(&device.0).expect("a device");
+    assert_eq!((bytes[2047], bytes[2048], bytes[2647], bytes[2648]), (0, 0xFF, 0xFF, 0));
 }

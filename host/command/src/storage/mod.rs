@@ -34,15 +34,17 @@ pub struct Facts {
     pub read_only: bool,
 }
 
-impl Facts {
+impl Kind {
     /// Why it can be neither image nor disk.
-    pub fn unsuitable(&self) -> Option<String> {
-        match self.kind {
+    pub fn unsuitable(self) -> Option<String> {
+        match self {
             Kind::Unsuitable(what) => Some(format!("is {what}, not an image file or a block device")),
             Kind::Regular | Kind::BlockDevice => None,
         }
     }
+}
 
+impl Facts {
     /// Why it can be no disk; how many blocks are too few or too many is for the library to refuse.
     pub fn no_disk(&self) -> Option<String> {
         let block_len = crate::sizes::BLOCK_LEN;
@@ -125,11 +127,10 @@ mod tests {
 
     #[test]
     fn only_files_and_block_devices_suit() {
-        assert_eq!(file(0).unsuitable(), None);
-        assert_eq!(device(0, 512).unsuitable(), None);
-        let folder = Facts { kind: Kind::Unsuitable("a folder"), ..file(4096) };
+        assert_eq!(Kind::Regular.unsuitable(), None);
+        assert_eq!(Kind::BlockDevice.unsuitable(), None);
         let said = "is a folder, not an image file or a block device";
-        assert_eq!(folder.unsuitable(), Some(said.to_string()));
+        assert_eq!(Kind::Unsuitable("a folder").unsuitable(), Some(said.to_string()));
     }
 
     #[test]

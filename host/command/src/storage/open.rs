@@ -28,6 +28,7 @@ pub enum Access {
 pub struct Opened {
     pub file: File,
     pub facts: Facts,
+    /// Of the file that is open, whatever the path leads to later.
     pub metadata: Metadata,
 }
 
@@ -44,11 +45,10 @@ impl Opened {
 
 /// Opens an image file or a block device. What is neither is not opened, since that may wait or act.
 pub fn open(path: &Path, access: Access) -> Result<Opened, Failure> {
-    let metadata = metadata(path)?;
-    let known = facts_of_mode(&metadata);
-    refuse(path, known.unsuitable())?;
-    let file = opened(path, access, known.kind)?;
-    let facts = facts(&file, known).map_err(|error| unusable(path, "cannot be measured", &error))?;
+    let kind = kind(&metadata(path)?);
+    refuse(path, kind.unsuitable())?;
+    let file = opened(path, access, kind)?;
+    let (metadata, facts) = facts(&file).map_err(|error| unusable(path, "cannot be measured", &error))?;
     if access != Access::Read {
         refuse(path, facts.no_writing())?;
     }
@@ -101,16 +101,16 @@ fn locked(lock: impl Fn() -> Result<(), TryLockError>) -> bool {
     true
 }
 
-fn facts_of_mode(metadata: &Metadata) -> Facts {
-    let read_only = metadata.mode() & 0o222 == 0;
-    Facts { kind: kind(metadata), bytes: metadata.len(), logical_block: None, read_only }
-}
-
-fn facts(file: &File, known: Facts) -> io::Result<Facts> {
-    if known.kind != Kind::BlockDevice {
-        return Ok(Facts { bytes: file.metadata()?.len(), ..known });
-    }
-    let bytes = (&*file).seek(SeekFrom::End(0))?;
-    let (logical_block, read_only) = (device::logical_block(file)?, device::read_only(file)?);
-    Ok(Facts { bytes, logical_block: Some(logical_block), read_only, ..known })
+fn facts(file: &File) -> io::Result<(Metadata, Facts)> {
+    let metadata = file.metadata()?;
+    let kind = kind(&metadata);
+    let facts = if kind == Kind::BlockDevice {
+        let bytes = (&*file).seek(SeekFrom::End(0))?;
+        let logical_block = Some(device::logical_block(file)?);
+        Facts { kind, bytes, logical_block, read_only: device::read_only(file)? }
+    } else {
+        let read_only = metadata.mode() & 0o222 == 0;
+        Facts { kind, bytes: metadata.len(), logical_block: None, read_only }
+    };
+    Ok((metadata, facts))
 }

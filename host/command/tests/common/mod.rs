@@ -150,3 +150,23 @@ pub fn spoil(path: &Path, at: u64) {
     file.read_exact_at(&mut byte, at).expect("a byte");
     file.write_all_at(&[byte[0] ^ 1], at).expect("a byte");
 }
+
+/// A loop device over a file, let go when it is dropped.
+pub struct Loop(pub PathBuf);
+
+impl Loop {
+    pub fn new(file: &Path, options: &[&str]) -> Option<Loop> {
+        let made = Command::new("losetup").args(options).args(["-f", "--show"]).arg(file).output();
+        let made = made.ok().filter(|made| made.status.success());
+        if made.is_none() {
+            println!("skipped: loop devices");
+        }
+        Some(Loop(String::from_utf8(made?.stdout).expect("UTF-8").trim_end().into()))
+    }
+}
+
+impl Drop for Loop {
+    fn drop(&mut self) {
+        let _ = Command::new("losetup").arg("-d").arg(&self.0).status();
+    }
+}
