@@ -55,7 +55,7 @@ impl Facts {
             _ => {}
         }
         let bytes = self.bytes;
-        let ragged = bytes % block_len != 0;
+        let ragged = !bytes.is_multiple_of(block_len);
         ragged.then(|| format!("has {bytes} bytes, which is no multiple of the block size, {block_len}"))
     }
 
