@@ -59,9 +59,8 @@ fn in_a_proof(lines: &[&str], name: &str) -> Option<Fact> {
 fn in_the_source(line: &str, name: &str) -> Option<Fact> {
     let (place, said) = line.strip_prefix("note: ")?.split_once(": ")?;
     let (message, fact) = said.strip_suffix("`)")?.rsplit_once(" (`")?;
-    let is_place = !place.contains(' ');
-    is_place.then_some(())?;
-    Some(Fact { file: file_of(place, name)?, name: fact.to_string(), message: plain(message) })
+    let file = file_of(place, name).filter(|_| !place.contains(' '))?;
+    Some(Fact { file, name: fact.to_string(), message: plain(message) })
 }
 
 /// How the comparison of two types begins that says most; one of the types as they are printed may stand before it.
