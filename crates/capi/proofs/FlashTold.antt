@@ -24,7 +24,7 @@ use Rattle.fmap.specs.declared.Found.the-variants as found
 use Rattle.fmap.specs.declared.Lookup.the-variants as lookup
 use Rattle.fmap.specs.declared.AreaIndex.the-variants as index
 use Rattle.fmap.specs.declared.Carried.the-variants as carried
-use Rattle.capi.specs.Told.{codeOf}
+use Rattle.octets.specs.Rows.{codeOf}
 use Rattle.capi.specs.FlashTold.{FindTold, findTold, AreaTold, answerTold, lookedTold, areaTold, namedTold, CarryTold, carryTold, NoneIsZero}
 
 pub find-tells : (f x : Found) (old : ℕ) (r : Reply ImagePosition) → f ≡ x → foundReply f ≡ r → findTold old (foundReply x) ≡ findTold old r

@@ -6,16 +6,14 @@ use mathlib.Core.Option.{Option, none, some}
 use Prim.Native.Nat.{ℕ}
 use native.Mathlib.Omega.{arith}
 use lib.ListN.{length}
-use borrow.Author.Tests.{eq-eqb, ne-eqb, eqb-true}
-use lib.Dec.{eqb}
-use Rattle.fmd.specs.Calls.{numberOf, answerAs, reading, Read, Recorded, Written}
+use borrow.Author.Tests.{eq-eqb, ne-eqb}
+use Rattle.fmd.specs.Calls.{numberOf, reading, Read, Recorded, Written}
 use Rattle.fmd.specs.declared.Answer.{Answer}
 use Rattle.fmd.specs.declared.Answer.the-variants.{Accepted, WrongLength, TooLong, OutOfGrammar, BadNumber, BadName, NameTwice, TooMany, BadFlag, Undecided, Unfit, NoMapSection}
 use Rattle.fmd.specs.declared.Reading.{Reading}
 use Rattle.octets.specs.Bytes.{put}
-use Rattle.octets.proofs.Bools.{choice}
 use Rattle.octets.proofs.Puts.{put-all}
-use Rattle.capi.specs.Told.{codeOf}
+use Rattle.octets.specs.Rows.{codeOf}
 use Rattle.capi.specs.LayoutTold.{ReadTold, replied, imageTold, readTold, RecordsTold, countOf, recordsTold, WriteTold, writeTold, NoAnswerIsZero}
 
 abbrev number-of : Option ℕ → ℕ
@@ -37,9 +35,6 @@ no-answer-is-zero Unfit e = omega (arith, ap number-of e)
 no-answer-is-zero NoMapSection e = omega (arith, ap number-of e)
 
 -- ---- a refusal's number is told as it is; 0 is told of an accepted call alone
-
-pub code-is : (k : ℕ) (n : Option ℕ) → answerAs k ≡ n → k ≡ codeOf n
-code-is k n e = choice (λ (o : Option ℕ). k ≡ codeOf o) (eqb k 0) none (some k) (λ t. eqb-true k 0 t) (λ f. refl) ∙ ap codeOf e
 
 told-refused : (n : Option ℕ) (k : ℕ) → k ≡ codeOf n → k ≢ 0 → n ≡ some k
 told-refused none k p q = absurd (q p)

@@ -7,7 +7,8 @@ use native.Mathlib.Omega.{arith}
 use Rattle.guid.specs.Calls.{Outcome, numberOf}
 use Rattle.guid.specs.declared.Answer.{Answer}
 use Rattle.guid.specs.declared.Answer.the-variants.{Done, WrongLength, NotGuidText}
-use Rattle.capi.specs.Told.{Told, codeOf, told, ZeroIsAccepted}
+use Rattle.octets.specs.Rows.{codeOf}
+use Rattle.capi.specs.Told.{Told, told, ZeroIsAccepted}
 
 -- an answer told by its code, with the buffer that the call left
 pub tells : (n : Option ℕ) (r : ℕ) (b : List ℕ) (o : Outcome) → record { number = n; buffer = b } ≡ o → r ≡ codeOf n

@@ -17,7 +17,7 @@ use Rattle.fmap.specs.declared.Found.{Found}
 use Rattle.fmap.specs.declared.Lookup.{Lookup}
 use Rattle.fmap.specs.declared.AreaIndex.{AreaIndex}
 use Rattle.fmap.specs.declared.Carried.{Carried}
-use Rattle.capi.specs.Told.{codeOf}
+use Rattle.octets.specs.Rows.{codeOf}
 
 -- finding: the result, and the position behind its pointer afterwards, where old stood there
 pub record FindTold : Type 0 where

@@ -9,7 +9,7 @@ use lib.ListN.{length}
 use Rattle.fmd.specs.Calls.{numberOf, Read, Recorded, Written}
 use Rattle.fmd.specs.declared.Answer.{Answer}
 use Rattle.fmd.specs.declared.Image.{Image}
-use Rattle.capi.specs.Told.{codeOf}
+use Rattle.octets.specs.Rows.{codeOf}
 
 -- reading: the result, the name's buffer, and the numbers behind the pointers for size, address and count afterwards
 pub record ReadTold : Type 0 where

@@ -1,14 +1,11 @@
 -- An answer for C: 0 where the call is accepted, else the refusal's number. Definitions, and the statement that the two can't be confused.
 use mathlib.Core.Path.{_≡_}
 use mathlib.Core.List.{List}
-use mathlib.Core.Option.{Option, none, some}
+use mathlib.Core.Option.{none}
 use Prim.Native.Nat.{ℕ}
+use Rattle.octets.specs.Rows.{codeOf}
 use Rattle.guid.specs.Calls.{Outcome, numberOf}
 use Rattle.guid.specs.declared.Answer.{Answer}
-
-abbrev pub codeOf : Option ℕ → ℕ
-codeOf none = 0
-codeOf (some k) = k
 
 -- the result and the lent buffer afterwards
 pub record Told : Type 0 where

@@ -4,7 +4,7 @@ ghost use lib.ListN.{length};
 ghost use Rattle.fmap.specs.Find.{findMap};
 ghost use Rattle.fmap.specs.Areas.{looked, areaNumbered, indexNamed};
 ghost use Rattle.fmap.specs.Carry.{carriedNumber, carryImages};
-ghost use Rattle.capi.specs.Told.{codeOf};
+ghost use Rattle.octets.specs.Rows.{codeOf};
 ghost use Rattle.capi.specs.FlashTold.{findTold, areaTold, lookedTold, namedTold, carryTold};
 use fmap::AreaFound;
 use fmap::AreaIndex;

@@ -3,7 +3,7 @@ ghost use mathlib.Core.Path.{_≡_};
 ghost use mathlib.Core.List.{[], _∷_};
 ghost use lib.ListN.{length};
 ghost use Rattle.fmd.specs.Calls.{numberOf, reading, readText, recordText, writeText};
-ghost use Rattle.capi.specs.Told.{codeOf};
+ghost use Rattle.octets.specs.Rows.{codeOf};
 ghost use Rattle.capi.specs.LayoutTold.{imageTold, readTold, countOf, recordsTold, writeTold};
 use fmd::Reading;
 

@@ -6,7 +6,8 @@ mod layout;
 ghost use mathlib.Core.Path.{_≡_};
 ghost use Rattle.crc_lanes.specs.Crc.{crc32 as crcOf};
 ghost use Rattle.guid.specs.Calls.{numberOf, readOf, readTypeOf, writeOf};
-ghost use Rattle.capi.specs.Told.{codeOf, told};
+ghost use Rattle.octets.specs.Rows.{codeOf};
+ghost use Rattle.capi.specs.Told.{told};
 use guid::Answer;
 
 #[no_mangle]
