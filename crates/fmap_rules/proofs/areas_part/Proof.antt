@@ -1,7 +1,7 @@
 use borrow.Author.Needs.{needs}
 use Rattle.fmap_rules.proofs.Areas.{areas-slice}
-use Rattle.fmap_rules.proofs.areas_of.Statement.{statement}
-use Rattle.fmap_rules.proofs.areas_of.Tie as tie
+use Rattle.fmap_rules.proofs.areas_part.Statement.{statement}
+use Rattle.fmap_rules.proofs.areas_part.Tie as tie
 
 count-of-requires : tie.Need-count-of-requires
 count-of-requires c κs = search needs
@@ -24,7 +24,7 @@ part-result-end c = search needs
 returns : tie.Need-returns
 returns c = areas-slice _ _ (c .before .count-of .ensures) (c .before .before .before .pre)
 
-pub areas-of-spec : {M : Type 1} → statement M
-areas-of-spec =
+pub areas-part-spec : {M : Type 1} → statement M
+areas-part-spec =
     tie.close
     (tie.spec count-of-requires mul-e add-e sub-result part-result-start part-result-end returns)
