@@ -33,6 +33,7 @@ After n ds P =
 abbrev pub adding : ℕ → ℕ → Edit
 adding id size = add (replicate 16 7) (replicate 16 id) size 0 (replicate 36 0)
 
+-- a call's own lent buffers have their lengths
 abbrev pub lengthsIn : Call → Bool
 lengthsIn read = true
 lengthsIn freeCounts = true
