@@ -1,4 +1,4 @@
--- Samples 1 to 5 over the definitions, on bytes: whatever disk GUID and whatever head and tail held before.
+-- Samples 1 to 5.
 -- A list of edits is computed on the table alone, with no CRC; `answers-table` carries the answers over to head and tail.
 use mathlib.Core.Path.{_≡_, refl, ap, ap₂, _∙_}
 use mathlib.Core.Bool.{Bool, true, not}
@@ -16,74 +16,18 @@ use Rattle.octets.proofs.Bools.{and-l, and-r, and-i}
 use Rattle.octets.proofs.Numbers.{length-le, unle-le}
 use Rattle.octets.proofs.Parts.{length-zeros}
 use Rattle.octets.proofs.Rows.{pick-true, pick-false}
 use Rattle.gpt_model.specs.Table.{Slot, vacant, spans, unused, slotOf, slots}
-use Rattle.gpt_model.specs.Disk.{Shape, disk512, lastUsable, inRange, Side, primary, backup, block0, headerFields, headerIn, headerCrc, header, tableOf, headerBlock, entriesBlock, lentBytes}
+use Rattle.gpt_model.specs.Disk.{Shape, disk512, lastUsable, inRange, Side, primary, backup, block0, headerFields, headerIn, headerCrc, header, tableOf}
 use Rattle.gpt_model.specs.Ranges.{inside, allFrom, roomAt, firstFrom, place, countFrom, taken, freeCount}
-use Rattle.gpt_model.specs.Calls.{Edit, resize, Call, read, freeCounts, repair, edit, Answer, refused, accepted, Out, tableRows, change, lengthsOf, lengthsOk, rowsOf, step, format, add, delete}
+use Rattle.gpt_model.specs.Calls.{Edit, Call, read, freeCounts, repair, edit, Answer, refused, accepted, Out, tableRows, change, lengthsOf, lengthsOk, rowsOf, step, format}
 use Rattle.gpt_model.specs.Lists.{Ledger, book, Run, next, run, answers, tableNext, applied, begun, slotsOf}
 use Rattle.gpt_model.specs.Claims.{Formats}
 use Rattle.gpt_model.proofs.Fields.{length-writeAll, behind}
 use Rattle.gpt_model.proofs.Copies.{header-reads, written-header}
 use Rattle.gpt_model.proofs.Ways.{step-refused, step-made, edit-decides, open-none}
 use Rattle.gpt_model.proofs.Steps.{Kept, keeps}
 use Rattle.gpt_model.proofs.Demand3.{format-refused, formatted, format-starts, starts-kept, notEmpty}
-
--- ---- the statements
-
--- what holds of the answers to a list of edits, and of what it leaves, on every freshly formatted disk of n blocks
-abbrev pub After : ℕ → List Edit → (List Answer → Run → Type 0) → Type 0
-After n ds P =
-    (guid h t : List ℕ) → Formats disk512 n guid h t
-    → let r = begun (format disk512 n guid h t) in P (answers disk512 n (map edit ds) r) (run disk512 n (map edit ds) r)
-
--- add, with some type, unique GUID and name
-abbrev pub adding : ℕ → ℕ → Edit
-adding id size = add (replicate 16 7) (replicate 16 id) size 0 (replicate 36 0)
-
-abbrev pub lengthsIn : Call → Bool
-lengthsIn read = true
-lengthsIn freeCounts = true
-lengthsIn repair = true
-lengthsIn (edit d) = lengthsOf d
-
--- S1: (1*) N 67: 2.
-abbrev pub Sample1 : Type 0
-Sample1 =
-    (guid h t : List ℕ) → length guid ≡ 16 → length h ≡ lentBytes disk512 primary → length t ≡ lentBytes disk512 backup
-    → (format disk512 67 guid h t .answer ≡ refused 2) × ((c : Call) → lengthsIn c ≡ true → step disk512 67 h t c .answer ≡ refused 2)
-
--- S2: (2*) N 68: usable 34 to 34; add 1 gives 34 to 34, next add 25.
-abbrev pub Sample2 : Type 0
-Sample2 =
-    (disk512 .first ≡ 34) × (lastUsable disk512 68 ≡ 34)
-    × After 68 (adding 1 1 ∷ adding 2 1 ∷ []) (λ a r. (a ≡ accepted (1 ∷ 34 ∷ []) ∷ refused 25 ∷ []) × (take 1 (slotsOf disk512 68 r) ≡ spans 34 34 ∷ []))
-
--- S3: (3*) N 100: last usable 66, backup header 99, entries from 67.
-abbrev pub Sample3 : Type 0
-Sample3 =
-    (lastUsable disk512 100 ≡ 66) × (headerBlock backup 100 ≡ 99) × (entriesBlock disk512 backup 100 ≡ 67)
-    × After 100 [] (λ a r.
-    (field 48 8 (headerIn disk512 primary (r .head)) ≡ 66) × (field 32 8 (headerIn disk512 primary (r .head)) ≡ 99)
-    × (field 48 8 (headerIn disk512 backup (r .tail)) ≡ 66) × (field 24 8 (headerIn disk512 backup (r .tail)) ≡ 99)
-    × (field 72 8 (headerIn disk512 backup (r .tail)) ≡ 67))
-
--- S4: (4*) There: add 10 (34–43), add 5 (44–48), delete 1, add 11 (49–59, slot 1), add 10 (34–43, slot 3): 26 in partitions, 36 granted, 10 back, 7 free.
-abbrev pub edits4 : List Edit
-edits4 = adding 1 10 ∷ adding 2 5 ∷ delete 1 ∷ adding 3 11 ∷ adding 4 10 ∷ []
-
-abbrev pub Sample4 : Type 0
-Sample4 =
-    After 100 (take 2 edits4) (λ a r. take 2 (slotsOf disk512 100 r) ≡ spans 34 43 ∷ spans 44 48 ∷ [])
-    × After 100 edits4 (λ a r.
-    (a ≡ accepted (1 ∷ 34 ∷ []) ∷ accepted (2 ∷ 44 ∷ []) ∷ accepted [] ∷ accepted (1 ∷ 49 ∷ []) ∷ accepted (3 ∷ 34 ∷ []) ∷ [])
-    × (take 3 (slotsOf disk512 100 r) ≡ spans 49 59 ∷ spans 44 48 ∷ spans 34 43 ∷ [])
-    × (taken (slotsOf disk512 100 r) 34 66 ≡ 26) × (r .ledger .granted ≡ 36) × (r .ledger .back ≡ 10) × (freeCount (slotsOf disk512 100 r) 34 66 ≡ 7))
-
--- S5: (5*) Then resizing slot 1 to 19 is 25, to 18 accepted, free 0.
-abbrev pub Sample5 : Type 0
-Sample5 =
-    After 100 (edits4 ++ (resize 1 19 ∷ resize 1 18 ∷ []))
-    (λ a r. (drop 5 a ≡ refused 25 ∷ accepted [] ∷ []) × (freeCount (slotsOf disk512 100 r) 34 66 ≡ 0))
+use Rattle.samples.specs.Starred.{After, lengthsIn, edits2, edits4, edits5, Sample1, Sample2, Sample3, Sample4, Sample5}
 
 -- ---- answers on the table alone
 
@@ -172,20 +116,20 @@ sample1 guid h t lg lh lt = (
     calls repair l = rows true _ refl
     calls (edit d) l = rows (lengthsOf d) _ l
 
-answers2 : answersT 34 34 (zeros 16384) (adding 1 1 ∷ adding 2 1 ∷ []) ≡ accepted (1 ∷ 34 ∷ []) ∷ refused 25 ∷ []
+answers2 : answersT 34 34 (zeros 16384) edits2 ≡ accepted (1 ∷ 34 ∷ []) ∷ refused 25 ∷ []
 unfolding zeros put putChunk chunks slotOf unused part le unle same place roomAt firstFrom allFrom inside pickRow _or_ _and_
 answers2 = refl
 
-slots2 : slots (applied 34 34 (zeros 16384) (map edit (adding 1 1 ∷ adding 2 1 ∷ [])) (accepted (1 ∷ 34 ∷ []) ∷ refused 25 ∷ [])) ≡ spans 34 34 ∷ replicate 127 vacant
+slots2 : slots (applied 34 34 (zeros 16384) (map edit edits2) (accepted (1 ∷ 34 ∷ []) ∷ refused 25 ∷ [])) ≡ spans 34 34 ∷ replicate 127 vacant
 unfolding zeros put putChunk chunks slotOf unused part le unle same place roomAt firstFrom allFrom inside _or_ _and_
 slots2 = refl
 
-lengths2 : all lengthsOf (adding 1 1 ∷ adding 2 1 ∷ []) ≡ true
+lengths2 : all lengthsOf edits2 ≡ true
 unfolding _and_
 lengths2 = refl
 
 pub sample2 : Sample2
-sample2 = (refl, refl, λ guid h t f. let w = computed 68 (adding 1 1 ∷ adding 2 1 ∷ []) _ lengths2 answers2 guid h t f in (w .replied, ap (take 1) (w .table ∙ slots2)))
+sample2 = (refl, refl, λ guid h t f. let w = computed 68 edits2 _ lengths2 answers2 guid h t f in (w .replied, ap (take 1) (w .table ∙ slots2)))
 
 -- a number of the header that a formatting writes
 module _ (n : ℕ) (guid h t : List ℕ) (f : Formats disk512 n guid h t) where
@@ -231,9 +175,6 @@ replies4 = replies2 ++ (accepted [] ∷ accepted (1 ∷ 49 ∷ []) ∷ accepted 
 
 abbrev replies5 : List Answer
 replies5 = replies4 ++ (refused 25 ∷ accepted [] ∷ [])
-
-abbrev edits5 : List Edit
-edits5 = edits4 ++ (resize 1 19 ∷ resize 1 18 ∷ [])
 
 answersAre : (answersT 34 66 (zeros 16384) (take 2 edits4) ≡ replies2) × (answersT 34 66 (zeros 16384) edits4 ≡ replies4) × (answersT 34 66 (zeros 16384) edits5 ≡ replies5)
 unfolding zeros put putChunk chunks slotOf unused part le unle same place roomAt firstFrom allFrom inside pickRow _or_ _and_

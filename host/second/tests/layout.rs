@@ -3,8 +3,10 @@
 use second::RULES;
 use testkit::layout::Calls;
 
-pub const CALLS: Calls = Calls {
+const CALLS: Calls = Calls {
     read: |text, name, size, address, count| second::fmd_read(&RULES, text, name, size, address, count),
     records: |text, records, count| second::fmd_records(&RULES, text, records, count),
     write: |text, image| second::fmd_write(&RULES, text, image),
 };
+
+testkit::layout_tests!(CALLS);

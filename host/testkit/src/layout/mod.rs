@@ -1,8 +1,16 @@
 //! Layout texts for the tests: good layouts drawn at random and spelled in any of their ways, and texts changed from
 //! such ones.
 
+mod changed;
+mod spelled;
+
+pub use changed::{changed_bytes, changed_numbers, changed_tokens};
+pub use spelled::{blanks, joined};
+
+use crate::fixture;
 use crate::flash::{map_len, NAME_LEN};
 use crate::random::Random;
+use spelled::number;
 use std::collections::BTreeSet;
 
 const IMAGE_MIN: u64 = 98;
@@ -27,6 +35,28 @@ impl Calls {
             0 => Ok(size),
             number => Err(number),
         }
+    }
+}
+
+/// The tests of an implementation's calls on layout texts.
+#[macro_export]
+macro_rules! layout_tests {
+    ($calls:expr) => {
+        $crate::tests!(layout, $calls, [fixtures_read_as_their_tool_said]);
+        $crate::tests!(
+            fmaptool,
+            $calls,
+            [fmaptool_makes_the_same_maps, fmaptool_differs_as_listed, fmaptool_differs_in_nothing_else]
+        );
+    };
+}
+
+/// Texts that fmaptool compiled, and others derived by hand.
+pub fn fixtures_read_as_their_tool_said(calls: &Calls) {
+    let files = fixture::files("fmd", "layout");
+    assert!(files.len() >= 5);
+    for path in files {
+        fixture::layout(&path).expect("a fixture").holds(calls, &path.display().to_string());
     }
 }
 
@@ -245,61 +275,6 @@ fn braced(sections: &[Section], tokens: &mut Vec<Vec<u8>>, random: &mut Random) 
     tokens.push(b"}".to_vec());
 }
 
-/// A number in one of its spellings.
-pub fn number(value: u64, random: &mut Random) -> Vec<u8> {
-    let suffixes: Vec<(u64, &str)> = [(0, ""), (10, "K"), (20, "M"), (30, "G")]
-        .into_iter()
-        .filter(|(shift, _)| value >> shift << shift == value)
-        .collect();
-    let (shift, suffix) = random.pick(&suffixes);
-    let value = value >> shift;
-    match random.below(5) {
-        0 => format!("0x{value:x}{suffix}"),
-        1 => format!("0x{value:X}{suffix}"),
-        2 => format!("0x{}{value:x}{suffix}", "0".repeat(random.below(20))),
-        _ => format!("{value}{suffix}"),
-    }
-    .into_bytes()
-}
-
-fn is_sign(token: &[u8]) -> bool {
-    token.len() == 1 && SIGNS.contains(&token[0])
-}
-
-/// The tokens with blanks and comments between them, at least one between two words; every comment ends in LF.
-pub fn joined(tokens: &[Vec<u8>], random: &mut Random) -> Vec<u8> {
-    let mut text = blanks(random);
-    for (k, token) in tokens.iter().enumerate() {
-        text.extend(token);
-        let words = tokens.get(k + 1).is_some_and(|next| !is_sign(token) && !is_sign(next));
-        let mut between = blanks(random);
-        if words && between.is_empty() {
-            between.push(b' ');
-        }
-        text.extend(between);
-    }
-    text
-}
-
-/// Nothing, blanks, or a comment of any bytes.
-pub fn blanks(random: &mut Random) -> Vec<u8> {
-    let mut blanks = Vec::new();
-    while random.below(3) == 0 {
-        match random.below(6) {
-            0 => {
-                let len = random.below(12);
-                let bytes = random.bytes(len);
-                blanks.push(b'#');
-                blanks.extend(bytes.into_iter().filter(|byte| *byte != b'\n'));
-                blanks.push(b'\n');
-            }
-            1 => blanks.extend(b"# { A@01 (\r }\n"),
-            _ => blanks.push(random.pick(b" \t\r\n")),
-        }
-    }
-    blanks
-}
-
 /// 128 sections on 8 levels, with flags, offsets and sizes of many digits and names of 31 bytes; less than 32,768 bytes.
 pub fn worst_text() -> Vec<u8> {
     let name = |k: usize| format!("S_{k:A>29}");
@@ -310,103 +285,6 @@ pub fn worst_text() -> Vec<u8> {
     let leaves: String = (8..128).map(leaf).collect();
     let ends = "}".repeat(7);
     format!("{} @ 0x{zeros}ffffffff 60000 {{ FMAP 8K {parents}{leaves}{ends} }}", name(0)).into_bytes()
-}
-
-/// Bytes and words that a text may be changed by.
-const BYTES: &[u8] = b"@{}()# \t\r\n\x0B\x0C\0\x01\x1F!~\x7F\x80\xFF0189xXAFKMGkab";
-const WORDS: &[&[u8]] = &[
-    b"@",
-    b"{",
-    b"}",
-    b"(",
-    b")",
-    b"{ }",
-    b"( )",
-    b"0",
-    b"1",
-    b"010",
-    b"0x",
-    b"0x10",
-    b"0X10",
-    b"0xK",
-    b"1k",
-    b"4G",
-    b"4294967295",
-    b"4294967296",
-    b"98",
-    b"97",
-    b"9A",
-    b"A",
-    b"FMAP",
-    b"CBFS",
-    b"PRESERVE",
-    b"COREBOOT",
-    b"@0",
-    b"@1",
-    b"# \n",
-    b"#",
-    b"NAME_OF_31_BYTES_XXXXXXXXXXXXXX",
-    b"NAME_OF_32_BYTES_XXXXXXXXXXXXXXX",
-];
-
-/// The text of changed tokens: one left out, said twice, exchanged with its neighbour or replaced, once or a few times.
-pub fn changed_tokens(tokens: &[Vec<u8>], random: &mut Random) -> Vec<u8> {
-    let mut tokens = tokens.to_vec();
-    for _ in 0..1 + random.below(2) {
-        if tokens.is_empty() {
-            break;
-        }
-        let at = random.below(tokens.len());
-        match random.below(5) {
-            0 => drop(tokens.remove(at)),
-            1 => tokens.insert(at, tokens[at].clone()),
-            2 => tokens.swap(at, at.saturating_sub(1)),
-            3 => tokens.insert(at, random.pick(WORDS).to_vec()),
-            _ => tokens[at] = random.pick(WORDS).to_vec(),
-        }
-    }
-    joined(&tokens, random)
-}
-
-/// The text with numbers changed: one more, one less, another one of the text, a small one; or an offset or a size left
-/// out.
-pub fn changed_numbers(tokens: &[Vec<u8>], random: &mut Random) -> Vec<u8> {
-    let mut tokens = tokens.to_vec();
-    for _ in 0..1 + random.below(3) {
-        let numbers: Vec<usize> = (0..tokens.len()).filter(|k| tokens[*k][0].is_ascii_digit()).collect();
-        let Some(&at) = numbers.get(random.below(numbers.len().max(1))) else { break };
-        let decimal = std::str::from_utf8(&tokens[at]).ok().and_then(|word| word.parse::<u64>().ok());
-        match (random.below(5), decimal) {
-            (0, Some(number)) => tokens[at] = (number + 1).to_string().into_bytes(),
-            (1, Some(number)) => tokens[at] = number.saturating_sub(1).to_string().into_bytes(),
-            (2, _) => tokens[at] = tokens[random.pick(&numbers)].clone(),
-            (3, _) => tokens[at] = number(random.number_below(400), random),
-            _ => {
-                let first = if tokens[at - 1] == b"@" { at - 1 } else { at };
-                tokens.drain(first..=at);
-            }
-        }
-    }
-    joined(&tokens, random)
-}
-
-/// The text with a byte changed, put in or left out, or with a piece of it said twice, once or a few times.
-pub fn changed_bytes(text: &[u8], random: &mut Random) -> Vec<u8> {
-    let mut text = text.to_vec();
-    for _ in 0..1 + random.below(3) {
-        let at = random.below(text.len() + 1);
-        let byte = if random.below(4) == 0 { random.number() as u8 } else { random.pick(BYTES) };
-        match random.below(4) {
-            0 => text.insert(at, byte),
-            1 if at < text.len() => text[at] = byte,
-            2 if at < text.len() => drop(text.remove(at)),
-            _ => {
-                let piece = text[at..text.len().min(at + 1 + random.below(9))].to_vec();
-                text.splice(at..at, piece);
-            }
-        }
-    }
-    text
 }
 
 #[cfg(test)]
@@ -426,24 +304,6 @@ mod tests {
             let text = layout.text(&mut random);
             let named = |name: &[u8]| text.windows(name.len()).any(|part| part == name);
             assert!(named(b"FMAP") && named(b"COREBOOT") == (count > 1));
-        }
-    }
-
-    #[test]
-    fn numbers_are_spelled_in_many_ways() {
-        let mut random = Random::new(5);
-        let spelled: BTreeSet<Vec<u8>> = (0..300).map(|_| number(2048, &mut random)).collect();
-        for spelling in [&b"2048"[..], b"2K", b"0x800", b"0x2K"] {
-            assert!(spelled.contains(spelling));
-        }
-    }
-
-    #[test]
-    fn words_stay_apart() {
-        let mut random = Random::new(7);
-        for _ in 0..200 {
-            let text = joined(&[b"A".to_vec(), b"1".to_vec(), b"{".to_vec()], &mut random);
-            assert!(!text.windows(2).any(|part| part == b"A1"));
         }
     }
 }
