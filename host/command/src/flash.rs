@@ -97,7 +97,9 @@ pub fn carry(given: &Given) -> Result<Report, Failure> {
         ("changed", changed.into()),
         ("carried", carried.iter().map(one).collect()),
     ];
-    Ok(Report::new(text, json))
+    let none =
+        carried.is_empty().then(|| format!("note: the map of {} marks no area PRESERVE", old_path.display()));
+    Ok(Report { notes: none.into_iter().collect(), ..Report::new(text, json) })
 }
 
 /// The bytes of a carried area in the new image.

@@ -113,6 +113,8 @@ fn names_come_through() {
     assert!(renamed.starts_with(
         "renamed partition 1: blocks 34 to 34, 1 block (512 B), linux, \"boot\"; before: \"Größe"
     ));
+    let renamed = run!["gpt", "add", image, "--size", "1", "--name", "--json"].done();
+    assert!(renamed.ends_with("linux, \"--json\"\n"), "{renamed}");
     let long = "x".repeat(36);
     run!["gpt", "rename", image, "1", long].done();
     run!["gpt", "rename", image, "1", format!("{long}x")].sentence("the name has 37 UTF-16 units");

@@ -13,6 +13,8 @@ const EBUSY: i32 = 16;
 
 /// How long a lock of another program is waited for.
 const PATIENCE: Duration = Duration::from_secs(5);
+/// How long programs that look at a device that was written may take.
+const PROBES: Duration = Duration::from_millis(500);
 const PAUSE: Duration = Duration::from_millis(10);
 
 #[derive(Clone, Copy, Debug, PartialEq, Eq)]
@@ -38,7 +40,12 @@ impl Opened {
         if self.facts.kind != Kind::BlockDevice {
             return None;
         }
-        let error = device::reread(&self.file).err().filter(|e| e.kind() != io::ErrorKind::InvalidInput)?;
+        let mut answer = Ok(());
+        patient(PROBES, || {
+            answer = device::reread(&self.file);
+            answer.as_ref().err().and_then(io::Error::raw_os_error) != Some(EBUSY)
+        });
+        let error = answer.err().filter(|error| error.kind() != io::ErrorKind::InvalidInput)?;
         Some(format!("note: the kernel still goes by the old table: {}", words(&error)))
     }
 }
@@ -91,8 +98,13 @@ fn opened(path: &Path, access: Access, kind: Kind) -> Result<File, Failure> {
 /// Calls at once follow each other: a reader waits for a writer, and a writer for both. Where locks can't be had it
 /// goes on without.
 fn locked(lock: impl Fn() -> Result<(), TryLockError>) -> bool {
-    let end = Instant::now() + PATIENCE;
-    while let Err(TryLockError::WouldBlock) = lock() {
+    patient(PATIENCE, || !matches!(lock(), Err(TryLockError::WouldBlock)))
+}
+
+/// Tries until it succeeds or the time is over.
+fn patient(time: Duration, mut succeeds: impl FnMut() -> bool) -> bool {
+    let end = Instant::now() + time;
+    while !succeeds() {
         if Instant::now() > end {
             return false;
         }
