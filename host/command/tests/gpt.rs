@@ -95,9 +95,9 @@ fn an_empty_and_a_full_table_are_drawn() {
     }
     let shown = run!["gpt", "show", image, "--width", "128"].done();
     let drawing = shown.lines().last().expect("a drawing");
-    // 64 partitions of a block, each behind a free one, and the run at the end: every one has its column.
-    assert_eq!(drawing.chars().count(), 129);
-    assert_eq!(drawing.chars().filter(|c| *c == '.').count(), 65);
+    // 64 partitions of a block, each behind a free one, have their columns; the run at the end has half of the width.
+    assert_eq!(drawing.chars().count(), 128 + 64);
+    assert_eq!(drawing.chars().filter(|c| *c == '.').count(), 64 + 64);
 }
 
 #[test]
