@@ -3,7 +3,6 @@
 use crate::arguments::Given;
 use crate::failure::{words, Failure};
 use crate::image;
-use crate::json::Json;
 use crate::report::Report;
 use crate::show::{area_table, areas_json, gaps_json, tree, Area, Span};
 use crate::sizes::human;
@@ -31,7 +30,7 @@ pub fn list(given: &Given) -> Result<Report, Failure> {
     );
     listing += &area_table(&areas, &rows);
     let json = vec![
-        ("layout", path_text(given.path(0))),
+        ("layout", given.path(0).into()),
         ("name", layout.name.into()),
         ("size", layout.size.into()),
         ("address", format!("{:#x}", layout.address).into()),
@@ -70,8 +69,8 @@ pub fn write(given: &Given) -> Result<Report, Failure> {
         (false, false) => format!("{image_path} has {map} at {position:#010x} already; no byte changes\n"),
     };
     let json = vec![
-        ("layout", path_text(source)),
-        ("image", path_text(path)),
+        ("layout", source.into()),
+        ("image", path.into()),
         ("dry_run", dry_run.into()),
         ("changed", changed.into()),
         ("created", (create && !dry_run).into()),
@@ -133,8 +132,4 @@ fn read(path: &Path) -> Result<Vec<u8>, Failure> {
         read.map_err(|error| unusable(path, "cannot be read", &error))?;
     }
     Ok(text)
-}
-
-fn path_text(path: &Path) -> Json {
-    path.to_string_lossy().into_owned().into()
 }

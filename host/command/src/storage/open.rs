@@ -52,13 +52,12 @@ impl Opened {
 
 /// Opens an image file or a block device. What is neither is not opened, since that may wait or act.
 pub fn open(path: &Path, access: Access) -> Result<Opened, Failure> {
-    let kind = kind(&metadata(path)?);
-    refuse(path, kind.unsuitable())?;
-    let file = opened(path, access, kind)?;
+    let known = facts_of_mode(&metadata(path)?);
+    let hindered = |facts: &Facts| if access == Access::Read { None } else { facts.no_writing() };
+    refuse(path, known.kind.unsuitable().or_else(|| hindered(&known)))?;
+    let file = opened(path, access, known.kind)?;
     let (metadata, facts) = facts(&file).map_err(|error| unusable(path, "cannot be measured", &error))?;
-    if access != Access::Read {
-        refuse(path, facts.no_writing())?;
-    }
+    refuse(path, hindered(&facts))?;
     Ok(Opened { file, facts, metadata })
 }
 
@@ -115,14 +114,17 @@ fn patient(time: Duration, mut succeeds: impl FnMut() -> bool) -> bool {
 
 fn facts(file: &File) -> io::Result<(Metadata, Facts)> {
     let metadata = file.metadata()?;
-    let kind = kind(&metadata);
-    let facts = if kind == Kind::BlockDevice {
-        let bytes = (&*file).seek(SeekFrom::End(0))?;
-        let logical_block = Some(device::logical_block(file)?);
-        Facts { kind, bytes, logical_block, read_only: device::read_only(file)? }
-    } else {
-        let read_only = metadata.mode() & 0o222 == 0;
-        Facts { kind, bytes: metadata.len(), logical_block: None, read_only }
-    };
+    let mut facts = facts_of_mode(&metadata);
+    if facts.kind == Kind::BlockDevice {
+        facts.bytes = (&*file).seek(SeekFrom::End(0))?;
+        facts.logical_block = Some(device::logical_block(file)?);
+        facts.read_only = device::read_only(file)?;
+    }
     Ok((metadata, facts))
+}
+
+fn facts_of_mode(metadata: &Metadata) -> Facts {
+    let kind = kind(metadata);
+    let read_only = kind == Kind::Regular && metadata.mode() & 0o222 == 0;
+    Facts { kind, bytes: metadata.len(), logical_block: None, read_only }
 }
