@@ -3,6 +3,6 @@
 include!("../archive.rs");
 
 fn main() {
-    link_archive("bench_octets");
+    link_archive("bench_octets", "rt staticlib bench_octets");
     println!("cargo:rustc-link-lib=z");
 }
