@@ -3,11 +3,9 @@
 use crate::work::{bytes, loads, stores, zeros};
 use crate::{ours, peers};
 
-pub fn crc(size: usize) {
+pub fn crc(peer: &str, crc32: impl Fn(&[u8]) -> u32, size: usize) {
     let a = bytes(size);
-    let ours = usigrambal::raw::crc32(a);
-    assert_eq!(ours, peers::zlib_crc32(a), "crc32 of {size} bytes, by zlib");
-    assert_eq!(ours, peers::table_crc32(a), "crc32 of {size} bytes, by the table");
+    assert_eq!(usigrambal::raw::crc32(a), crc32(a), "crc32 of {size} bytes, by {peer}");
 }
 
 pub fn octets(size: usize) {
