@@ -1,10 +1,11 @@
 # make run     prove and build what the main job needs, and run it
 # make test    the gate: format, every proof, every test
-# make bench   the table of ratios, all rows measured in one run
+# make bench   the table of ratios, all rows measured in one run; for README: make bench BENCH="--markdown --peers"
 # make fuzz    each call of the C interface against the second implementation under libFuzzer, 30 s a call; longer: make fuzz SECONDS_PER_CALL=600
 .PHONY: run test bench fuzz
 
 SECONDS_PER_CALL = 30
+BENCH =
 
 run:
 	rt check fmd_list
@@ -17,9 +18,10 @@ bench:
 	rt check fmd_list >/dev/null
 	rt staticlib capi >/dev/null
 	rt staticlib bench_octets >/dev/null
-	tests/peer zlib zlib1g-dev
 	tests/moves
-	cd host && cargo run --release --quiet -p bench
+	host/bench/peers/make
+	cd host && cargo build --release --quiet
+	cd host && cargo run --release --quiet -p bench -- $(BENCH)
 
 fuzz:
 	rt staticlib capi >/dev/null

@@ -2,6 +2,7 @@
 
 use crate::disk::Disk;
 use crate::gpt::Disks;
+use crate::peers;
 use crate::table::{Label, Table};
 use crate::timed::{runs, Timed};
 use std::fs::{self, File};
@@ -9,7 +10,6 @@ use std::path::PathBuf;
 use std::process::{Command, Stdio};
 use std::rc::Rc;
 use testkit::disk::Scratch;
-use testkit::peer;
 
 /// The same work by each command; the word DISK stands for the image.
 struct Work<'a> {
@@ -65,13 +65,15 @@ pub fn rows<'a>(t: &mut Table<'a>, disks: &'a Disks) {
         t.left_out.push("usigrambal (`cargo build --release` in host/ builds it)".into());
         return;
     }
-    let (there, missing): (Vec<_>, Vec<_>) =
-        PACKAGES.into_iter().partition(|(tool, package)| peer::present(tool, package));
-    for (tool, package) in missing {
-        t.left_out.push(format!("usigrambal: {tool} (Debian: {package})"));
+    let mut there = Vec::new();
+    for (tool, package) in PACKAGES {
+        match peers::program(tool, package) {
+            Ok(()) => there.push(tool),
+            Err(why) => t.left_out.push(format!("usigrambal: {why}")),
+        }
     }
     for work in works(disks) {
-        let is_there = |line: &&&str| there.iter().any(|(tool, _)| line.split(' ').next() == Some(*tool));
+        let is_there = |line: &&&str| there.iter().any(|tool| line.split(' ').next() == Some(tool));
         work.peers.iter().filter(is_there).for_each(|line| row(t, &work, line));
     }
 }
@@ -82,7 +84,9 @@ fn command() -> PathBuf {
 }
 
 fn row<'a>(t: &mut Table<'a>, work: &Work<'a>, peer: &'static str) {
-    let label = Label::new(work.ours, peer).size(format!("{} partitions", work.disk.partitions()));
+    let shown = |line: &str| line.replace(" DISK", "");
+    let label =
+        Label::new(shown(work.ours), shown(peer)).size(format!("{} partitions", work.disk.partitions()));
     t.row(label, side(work, work.ours), side(work, peer));
 }
 

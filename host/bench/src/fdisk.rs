@@ -4,7 +4,7 @@ use crate::disk::{Disk, KIND};
 use crate::gpt::Disks;
 use crate::library::Library;
 use crate::table::{Label, Table};
-use crate::timed::prepared;
+use crate::timed::{prepared, Timed};
 use std::ffi::{c_char, c_int, CString};
 use std::fs::{File, OpenOptions};
 use std::os::unix::fs::FileExt;
@@ -40,24 +40,24 @@ fn works<'a>(library: &Library, disks: &'a Disks) -> [Work<'a>; 3] {
     let function = |name| unsafe { library.function(name) };
     [
         Work {
-            what: "gpt on a file: open, pread, partitions",
-            peer: "libfdisk: assign_device, get_partitions",
+            what: "gpt: open, pread, partitions",
+            peer: "libfdisk: assign, get_partitions",
             disk: &disks.full,
             ours: list,
             theirs: function(c"peer_list"),
             answer: PARTITIONS,
         },
         Work {
-            what: "gpt on a file: open, pread, add, pwrite",
-            peer: "libfdisk: assign_device, add_partition, write_disklabel",
+            what: "gpt: open, pread, add, pwrite",
+            peer: "libfdisk: assign, add, write_disklabel",
             disk: &disks.room,
             ours: add,
             theirs: function(c"peer_add"),
             answer: 0,
         },
         Work {
-            what: "gpt on a file: open, pread, repair, pwrite",
-            peer: "libfdisk: assign_device, write_disklabel",
+            what: "gpt: open, pread, repair, pwrite",
+            peer: "libfdisk: assign, write_disklabel",
             disk: &disks.broken,
             ours: repair,
             theirs: function(c"peer_repair"),
@@ -78,12 +78,7 @@ fn row<'a>(t: &mut Table<'a>, work: Work<'a>) {
 }
 
 /// One side with a file of its own, once it was seen to answer rightly and to leave a disk in state 1 with all partitions.
-fn side<'a>(
-    who: &str,
-    disk: &'a Disk,
-    answer: usize,
-    call: impl Fn(&Path) -> usize + 'a,
-) -> crate::timed::Timed<'a> {
+fn side<'a>(who: &str, disk: &'a Disk, answer: usize, call: impl Fn(&Path) -> usize + 'a) -> Timed<'a> {
     let image = disk.image();
     assert_eq!(call(&image.path), answer, "{who}");
     let left = Disk::in_file(&image.path);

@@ -1,6 +1,7 @@
 //! The rows of the layout language: 128 sections, listed by our program `fmd_list` and compiled by fmaptool, each in a
 //! process of its own; and texts of growing length.
 
+use crate::peers;
 use crate::table::{Label, Table};
 use crate::timed::{calls, runs};
 use crate::work::of;
@@ -9,7 +10,7 @@ use std::path::PathBuf;
 use std::process::{Command, Stdio};
 use std::rc::Rc;
 use testkit::disk::Scratch;
-use testkit::{fmaptool, peer};
+use testkit::fmaptool;
 
 const SECTIONS: usize = 128;
 const HEADER_LEN: usize = 56;
@@ -42,9 +43,7 @@ impl Programs {
         if !list.is_file() {
             return Err("target/bin/fmd_list (`rt check fmd_list` builds it)".into());
         }
-        if !peer::present(fmaptool::TOOL, fmaptool::PACKAGE) {
-            return Err(format!("fmaptool (Debian: {})", fmaptool::PACKAGE));
-        }
+        peers::program(fmaptool::TOOL, fmaptool::PACKAGE)?;
         let programs = Programs { list, text: Scratch::new(), map: Scratch::new() };
         fs::write(&programs.text.path, text()).expect("a file for the text");
         programs.compile();

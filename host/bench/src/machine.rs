@@ -10,7 +10,11 @@ pub fn line() -> String {
     let read = |path: &str| fs::read_to_string(path).unwrap_or_default();
     let load = read("/proc/loadavg");
     let load = load.split(' ').next().unwrap_or("");
-    format!("{}, {}, processors: {count}, load: {load}", date.trim(), model(&read("/proc/cpuinfo")))
+    format!(
+        "{}, {}, processors: {count}, load of the last minute: {load}",
+        date.trim(),
+        model(&read("/proc/cpuinfo"))
+    )
 }
 
 fn model(cpuinfo: &str) -> &str {

@@ -8,6 +8,13 @@ extern "C" {
     fn memmem(s: *const c_void, len: usize, part: *const c_void, part_len: usize) -> *const c_void;
 }
 
+/// A program of that name is there; or what is missing.
+pub fn program(name: &str, package: &str) -> Result<(), String> {
+    let folders = std::env::var_os("PATH").unwrap_or_default();
+    let there = std::env::split_paths(&folders).any(|folder| folder.join(name).is_file());
+    there.then_some(()).ok_or_else(|| format!("{name} (Debian: {package})"))
+}
+
 type Crc32 = extern "C" fn(*const u8, usize) -> u32;
 
 /// The CRC-32 of a library.

@@ -94,13 +94,13 @@ impl<'a> Table<'a> {
 
 impl Side<'_> {
     fn time(&mut self) {
-        self.best = self.best.min((self.work)(self.repeats) / self.repeats as f64);
+        self.best = self.best.min((self.work)(self.repeats));
     }
 }
 
 fn side(mut work: Timed) -> Side {
     let mut repeats = 1;
-    while work(repeats) < TIMING {
+    while work(repeats) * (repeats as f64) < TIMING {
         repeats *= 2;
     }
     Side { work, repeats, best: f64::INFINITY }
@@ -138,9 +138,9 @@ mod tests {
     fn the_best_of_each_side_counts() {
         let falling = |from: f64| {
             let mut seconds = from;
-            Box::new(move |repeats: u64| {
+            Box::new(move |_| {
                 seconds *= 0.5;
-                seconds * repeats as f64
+                seconds
             })
         };
         let mut table = Table::default();

@@ -3,26 +3,26 @@
 use std::ffi::{c_int, c_long};
 use std::hint::black_box;
 
-/// Does its work so many times; the seconds that it took.
+/// Does its work so many times; the seconds that one takes.
 pub type Timed<'a> = Box<dyn FnMut(u64) -> f64 + 'a>;
 
-/// A call in this thread.
+/// A call in this thread, by the mean of its repeats.
 pub fn calls<'a, A>(mut call: impl FnMut() -> A + 'a) -> Timed<'a> {
     Box::new(move |repeats| {
         let start = thread_seconds();
         for _ in 0..repeats {
             black_box(call());
         }
-        thread_seconds() - start
+        (thread_seconds() - start) / repeats as f64
     })
 }
 
-/// A call in this thread, each after a preparation whose time does not count.
+/// A call in this thread, each after a preparation whose time does not count; by the best of its repeats.
 pub fn prepared<'a, A>(prepare: impl Fn() + 'a, call: impl FnMut() -> A + 'a) -> Timed<'a> {
     one_by_one(thread_seconds, prepare, call)
 }
 
-/// The run of another program to its end, each after a preparation: the time of that program alone.
+/// The run of another program to its end, in the same way: the time of that program alone.
 pub fn runs<'a>(prepare: impl Fn() + 'a, run: impl FnMut() + 'a) -> Timed<'a> {
     one_by_one(children_seconds, prepare, run)
 }
@@ -39,7 +39,7 @@ fn one_by_one<'a, A>(
             black_box(call());
             clock() - start
         };
-        (0..repeats).map(one).sum()
+        (0..repeats).map(one).fold(f64::INFINITY, f64::min)
     })
 }
 
@@ -103,10 +103,8 @@ mod tests {
     #[test]
     fn work_counts_and_its_preparation_and_sleep_do_not() {
         let sleep = || std::thread::sleep(Duration::from_millis(50));
-        let whole = calls(busy)(4);
-        assert!(whole > 0.0);
-        let alone = prepared(busy, sleep)(4);
-        assert!(alone < whole / 4.0, "{alone} of {whole}");
+        let (work, asleep) = (calls(busy)(4), prepared(busy, sleep)(4));
+        assert!(0.0 < asleep && 4.0 * asleep < work, "{asleep} {work}");
     }
 
     #[test]
