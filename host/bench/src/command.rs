@@ -23,6 +23,7 @@ struct Work<'a> {
 /// Partitions of each disk when the work is done.
 const PARTITIONS: usize = 128;
 const PACKAGES: [(&str, &str); 3] = [("sgdisk", "gdisk"), ("sfdisk", "fdisk"), ("cgpt", "cgpt")];
+const STARTS: u64 = 60;
 /// A partition of one block, as sfdisk reads it; the others read nothing.
 const INPUT: &str = ",1\n";
 
@@ -76,6 +77,12 @@ pub fn rows<'a>(t: &mut Table<'a>, disks: &'a Disks) {
         let is_there = |line: &&&str| there.iter().any(|tool| line.split(' ').next() == Some(tool));
         work.peers.iter().filter(is_there).for_each(|line| row(t, &work, line));
     }
+}
+
+/// The seconds that a program takes which does nothing.
+pub fn start_of_a_program() -> f64 {
+    let run = || assert!(Command::new("true").status().is_ok_and(|status| status.success()), "true");
+    runs(|| (), run)(STARTS)
 }
 
 /// The command that cargo builds beside the benchmark.

@@ -52,10 +52,10 @@ fn padded(cells: &Cells, widths: &[usize; HEADINGS.len()]) -> Cells {
     })
 }
 
-fn time(seconds: f64) -> String {
+pub fn time(seconds: f64) -> String {
     let (unit, scale) = match seconds {
-        s if s < 1e-6 => ("ns", 1e9),
-        s if s < 1e-3 => ("us", 1e6),
+        s if s < 999.5e-9 => ("ns", 1e9),
+        s if s < 999.5e-6 => ("us", 1e6),
         _ => ("ms", 1e3),
     };
     format!("{} {unit}", digits(seconds * scale))
@@ -112,7 +112,7 @@ mod tests {
 
     #[test]
     fn times_have_their_unit() {
-        let shown = [12e-9, 1.5e-6, 99.94e-6, 0.25, 1.5].map(time);
-        assert_eq!(shown, ["12.0 ns", "1.50 us", "99.9 us", "250 ms", "1500 ms"]);
+        let shown = [12e-9, 999.4e-9, 999.6e-9, 99.94e-6, 0.25, 1.5].map(time);
+        assert_eq!(shown, ["12.0 ns", "999 ns", "1.00 us", "99.9 us", "250 ms", "1500 ms"]);
     }
 }
