@@ -62,10 +62,10 @@ fn bound_rows<'a>(t: &mut Table<'a>, disks: &'a Disks) {
 
 fn report(rows: &[Row], left_out: &[String], print: fn(&[Row]) -> String) {
     println!("{}", machine::line());
-    println!(
-        "Processor time, best of {ROUNDS}. The ratio says how many times as fast as the peer ours is.\n"
-    );
-    print!("{}", print(rows));
+    println!("Processor time, best of {ROUNDS}. The ratio says how many times as fast as the peer ours is.");
+    let start = print::time(command::start_of_a_program());
+    println!("A program's time has its start in it; that of `true`, which does nothing, takes {start}.\n");
+    println!("{}", print(rows));
     for what in left_out {
         println!("left out: {what}");
     }
