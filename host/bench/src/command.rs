@@ -1,5 +1,6 @@
 //! The rows of the command `usigrambal` beside the other commands for disks, each in a process of its own on an image in a file.
 
+use crate::check;
 use crate::disk::Disk;
 use crate::gpt::Disks;
 use crate::peers;
@@ -20,8 +21,6 @@ struct Work<'a> {
     lists: bool,
 }
 
-/// Partitions of each disk when the work is done.
-const PARTITIONS: usize = 128;
 const PACKAGES: [(&str, &str); 3] = [("sgdisk", "gdisk"), ("sfdisk", "fdisk"), ("cgpt", "cgpt")];
 const STARTS: u64 = 60;
 /// A partition of one block, as sfdisk reads it; the others read nothing.
@@ -135,14 +134,12 @@ impl Run {
         assert!(status.success(), "{}: {status}", self.line);
     }
 
-    /// It succeeds, prints what it should, and leaves a disk in state 1 with all partitions.
+    /// It succeeds, prints what it should, and leaves a good disk.
     fn does_its_work(&self, work: &Work) {
         let output = self.command().output().unwrap_or_else(|error| panic!("{}: {error}", self.line));
         let said = String::from_utf8_lossy(&output.stdout);
         assert!(output.status.success(), "{}: {}\n{said}", self.line, output.status);
-        let left = Disk::in_file(&self.image.path);
-        let found = (left.read(), left.partitions());
-        assert_eq!(found, (1, PARTITIONS), "{}: state and partitions of the disk left", self.line);
+        check::disk_left(self.line, &self.image.path);
         if work.lists {
             assert_eq!(not_listed(&said, &work.disk.firsts()), [], "{}\n{said}", self.line);
         }

@@ -1,5 +1,6 @@
 //! The rows of the disk calls on a disk in a file, beside libfdisk: both open the file, read it, do the work and close it.
 
+use crate::check::{self, PARTITIONS};
 use crate::disk::{Disk, KIND};
 use crate::gpt::Disks;
 use crate::library::Library;
@@ -12,8 +13,6 @@ use std::path::Path;
 use usigrambal::{Guid, Name, NewPartition, HEAD_LEN, TAIL_LEN};
 
 const BLOCK_LEN: u64 = 512;
-/// Partitions of each disk when the work is done.
-const PARTITIONS: usize = 128;
 
 /// Below 0: an error.
 type Call = extern "C" fn(*const c_char) -> c_int;
@@ -77,16 +76,11 @@ fn row<'a>(t: &mut Table<'a>, work: Work<'a>) {
     t.row(Label::new(what, peer).size(size), by_ours, by_peer);
 }
 
-/// One side with a file of its own, once it was seen to answer rightly and to leave a disk in state 1 with all partitions.
+/// One side with a file of its own, once it was seen to answer rightly and to leave a good disk.
 fn side<'a>(who: &str, disk: &'a Disk, answer: usize, call: impl Fn(&Path) -> usize + 'a) -> Timed<'a> {
     let image = disk.image();
     assert_eq!(call(&image.path), answer, "{who}");
-    let left = Disk::in_file(&image.path);
-    assert_eq!(
-        (left.read(), left.partitions()),
-        (1, PARTITIONS),
-        "{who}: state and partitions of the disk left"
-    );
+    check::disk_left(who, &image.path);
     let path = image.path.clone();
     prepared(move || disk.write_to(&image.path), move || call(&path))
 }
