@@ -1,10 +1,10 @@
 // Shared by the build scripts: links an archive of proved functions, libNAME.a in the repository's target/staticlib,
-// or in the folder that USIGRAMBAL_LIB_DIR names.
+// where the command puts it, or in the folder that USIGRAMBAL_LIB_DIR names.
 
 use std::env;
 use std::path::{Path, PathBuf};
 
-fn link_archive(name: &str) {
+fn link_archive(name: &str, command: &str) {
     println!("cargo:rerun-if-env-changed=USIGRAMBAL_LIB_DIR");
     let folder = match env::var_os("USIGRAMBAL_LIB_DIR") {
         Some(folder) => PathBuf::from(folder),
@@ -14,7 +14,7 @@ fn link_archive(name: &str) {
     println!("cargo:rerun-if-changed={}", archive.display());
     if !archive.is_file() {
         eprintln!(
-            "{} is missing: run `rt staticlib {name}`, or name its folder in USIGRAMBAL_LIB_DIR",
+            "{} is missing: run `{command}`, or name its folder in USIGRAMBAL_LIB_DIR",
             archive.display()
         );
         std::process::exit(1);

@@ -5,7 +5,7 @@
  * - A buffer is a pointer and a length, in bytes or, for a name, in 16-bit units, where the pointer is aligned for uint16_t. Buffers of one call must not overlap. A buffer of length 0 may have a null pointer.
  * - Every call answers on every input: no buffer needs to be checked before.
  *
- * Link target/staticlib/libcapi.a, which `rt staticlib capi` writes. */
+ * Link target/staticlib/libusigrambal.a, which `make archive` writes. */
 #ifndef USIGRAMBAL_H
 #define USIGRAMBAL_H
 

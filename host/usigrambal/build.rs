@@ -3,5 +3,5 @@
 include!("../archive.rs");
 
 fn main() {
-    link_archive("capi");
+    link_archive("usigrambal", "make archive");
 }

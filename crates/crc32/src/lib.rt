@@ -1,6 +1,5 @@
-// CRC-32 with constant tables. Users call `crc32` and `update`; `tables` is for the crates of this repository that make several CRCs in one call and
-// lend the tables to `crc_lanes`.
-pub mod tables;
+// CRC-32 with constant tables.
+mod tables;
 
 ghost use mathlib.Core.Path.{_≡_};
 ghost use Rattle.crc_lanes.specs.Crc.{crcUpdate, crc32 as crcOf};

@@ -19,3 +19,8 @@ pickRow false k r = r
 abbrev pub refusal : List Row → Option ℕ
 refusal [] = none
 refusal (r ∷ rs) = pickRow (r .holds) (r .number) (refusal rs)
+
+-- an answer as one number: 0 where the call is accepted, else the refusal's number
+abbrev pub codeOf : Option ℕ → ℕ
+codeOf none = 0
+codeOf (some k) = k

@@ -6,6 +6,7 @@ pub mod fixture;
 pub mod flash;
 pub mod flash_calls;
 pub mod fmaptool;
+pub mod json;
 pub mod layout;
 pub mod listing;
 pub mod peer;

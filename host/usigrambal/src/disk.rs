@@ -6,6 +6,14 @@ use crate::Guid;
 pub const HEAD_LEN: usize = 17_408;
 pub const TAIL_LEN: usize = 16_896;
 
+/// Rule D1: the first usable block, and how many blocks stand behind the last one.
+const FIRST_USABLE: u64 = 34;
+const BEHIND_USABLE: u64 = 34;
+
+/// Where the disk GUID stands in head and tail (rule D1).
+const GUID_IN_HEAD: usize = 512 + 56;
+const GUID_IN_TAIL: usize = ENTRIES_LEN + 56;
+
 const ENTRIES_LEN: usize = 16_384;
 const ENTRY_LEN: usize = 128;
 
@@ -33,6 +41,19 @@ pub enum State {
 pub struct Free {
     pub blocks: u64,
     pub longest_run: u64,
+}
+
+/// Blocks `first` to `last`.
+#[derive(Clone, Copy, Debug, PartialEq, Eq)]
+pub struct Run {
+    pub first: u64,
+    pub last: u64,
+}
+
+impl Run {
+    pub fn blocks(self) -> u64 {
+        self.last - self.first + 1
+    }
 }
 
 /// Where an accepted add put the partition.
@@ -63,6 +84,12 @@ pub struct Partition {
     pub last: u64,
     pub attributes: u64,
     pub name: Name,
+}
+
+impl Partition {
+    pub fn run(&self) -> Run {
+        Run { first: self.first, last: self.last }
+    }
 }
 
 /// A partition's name: 36 units of UTF-16.
@@ -102,12 +129,41 @@ impl Disk<'_> {
 
     /// The 16,384 entry bytes of the copy that reading uses, where they stand (rule D11).
     pub fn entries(&self) -> Result<&[u8], Refusal> {
+        let (in_tail, start) = self.table()?;
+        let buffer: &[u8] = if in_tail { self.tail } else { self.head };
+        Ok(&buffer[start..start + ENTRIES_LEN])
+    }
+
+    /// The disk GUID of the copy that reading uses.
+    pub fn guid(&self) -> Result<Guid, Refusal> {
+        let (in_tail, _) = self.table()?;
+        let stored = if in_tail { &self.tail[GUID_IN_TAIL..] } else { &self.head[GUID_IN_HEAD..] };
+        Ok(Guid(stored[..16].try_into().expect("16 bytes")))
+    }
+
+    /// Whether the entries in use stand in the tail, and at which byte of it or of the head.
+    fn table(&self) -> Result<(bool, usize), Refusal> {
         let (mut in_tail, mut offset) = (0, 0);
         let answer = raw::gpt_table(self.head, self.tail, self.n, &mut in_tail, &mut offset);
         self.accepted(answer, &[])?;
-        let buffer: &[u8] = if in_tail == 0 { self.head } else { self.tail };
-        let start = offset as usize;
-        Ok(&buffer[start..start + ENTRIES_LEN])
+        Ok((in_tail != 0, offset as usize))
+    }
+
+    /// The blocks that partitions may have; a disk that is refused for its number of blocks has none.
+    pub fn usable(&self) -> Result<Run, Refusal> {
+        self.table()?;
+        Ok(Run { first: FIRST_USABLE, last: self.n - BEHIND_USABLE })
+    }
+
+    /// The runs of free blocks, in order (rule D21).
+    pub fn free_runs(&self) -> Result<Vec<Run>, Refusal> {
+        let usable = self.usable()?;
+        let mut used: Vec<Run> = self.partitions()?.iter().map(Partition::run).collect();
+        used.sort_by_key(|run| run.first);
+        let starts = std::iter::once(usable.first).chain(used.iter().map(|run| run.last + 1));
+        let ends = used.iter().map(|run| run.first).chain([usable.last + 1]);
+        let between = starts.zip(ends).filter(|(start, end)| start < end);
+        Ok(between.map(|(start, end)| Run { first: start, last: end - 1 }).collect())
     }
 
     /// The used entries in the order of their slots.
@@ -220,11 +276,15 @@ mod tests {
         assert_eq!(disk.add(&new_partition(11, 1)), Ok(Placed { slot: 1, first: 49 }));
         assert_eq!(disk.add(&new_partition(10, 3)), Ok(Placed { slot: 3, first: 34 }));
         assert_eq!(disk.free(), Ok(Free { blocks: 7, longest_run: 7 }));
+        assert_eq!(disk.usable(), Ok(Run { first: 34, last: 66 }));
+        assert_eq!(disk.free_runs(), Ok(vec![Run { first: 60, last: 66 }]));
+        assert_eq!(disk.guid(), Ok(Guid([1; 16])));
         assert_eq!(words(disk.resize(1, 19)), "25: no room: slot 1 cannot have 19 blocks");
         assert_eq!(words(disk.add(&new_partition(4096, 4))), "25: no room: no run of 4096 free blocks");
         assert_eq!(words(disk.delete(9)), "13: the slot is unused: slot 9");
         disk.resize(1, 18).unwrap();
         assert_eq!(disk.free(), Ok(Free { blocks: 0, longest_run: 0 }));
+        assert_eq!(disk.free_runs(), Ok(Vec::new()));
         disk.rename(1, &Name::new("boot").unwrap()).unwrap();
         let partitions = disk.partitions().unwrap();
         let told: Vec<_> = partitions.iter().map(|p| (p.slot, p.first, p.last, p.name.to_text())).collect();
@@ -241,7 +301,12 @@ mod tests {
         assert_eq!(words(disk.state()), "2: the number of blocks is outside its range: 67 blocks");
         disk.n = 1 << 32;
         disk.format(Guid([1; 16])).unwrap();
+        let whole = Run { first: 34, last: (1 << 32) - 34 };
+        assert_eq!(disk.free_runs(), Ok(vec![whole]));
+        assert_eq!(disk.free(), Ok(Free { blocks: whole.blocks(), longest_run: whole.blocks() }));
         disk.head[512] = 0;
+        disk.head[GUID_IN_HEAD] = 9;
+        assert_eq!(disk.guid(), Ok(Guid([1; 16])));
         assert_eq!(disk.state(), Ok(State::BackupOnly));
         assert_eq!(disk.entries().unwrap().as_ptr(), disk.tail.as_ptr());
         assert_eq!(disk.repair(), Ok(State::BackupOnly));

@@ -4,6 +4,27 @@ use crate::raw;
 use crate::refusal::{accepted, Detail, Refusal};
 
 const AREA_LEN: usize = 42;
+const HEADER_LEN: usize = 56;
+
+/// A map with its areas (rules M1, M2).
+#[derive(Clone, Debug, PartialEq, Eq)]
+pub struct Map {
+    pub position: u64,
+    pub major: u8,
+    pub minor: u8,
+    pub base: u64,
+    pub name: String,
+    pub areas: Vec<Area>,
+}
+
+/// An area that a carry moves, by the two maps.
+#[derive(Clone, Debug, PartialEq, Eq)]
+pub struct Carried {
+    pub name: String,
+    pub from: u32,
+    pub to: u32,
+    pub size: u32,
+}
 
 /// An area of the map (rule M2).
 #[derive(Clone, Debug, PartialEq, Eq)]
@@ -19,6 +40,10 @@ impl Area {
     pub const COMPRESSED: u16 = 2;
     pub const RO: u16 = 4;
     pub const PRESERVE: u16 = 8;
+
+    pub fn preserved(&self) -> bool {
+        self.flags & Area::PRESERVE != 0
+    }
 
     /// The area's bytes in the image that has the map.
     pub fn bytes<'a>(&self, image: &'a [u8]) -> &'a [u8] {
@@ -40,9 +65,25 @@ pub fn area(image: &[u8], k: u64) -> Result<Option<Area>, Refusal> {
     there(image, answer, || decoded(&bytes))
 }
 
+/// The map that is found, with all its areas, by one search.
+pub fn map(image: &[u8]) -> Result<Map, Refusal> {
+    let position = find(image)?;
+    let (header, rest) = image[position as usize..].split_at(HEADER_LEN);
+    let count = u16::from_le_bytes([header[54], header[55]]);
+    let areas = rest.chunks_exact(AREA_LEN).take(count.into());
+    Ok(Map {
+        position,
+        major: header[8],
+        minor: header[9],
+        base: u64::from_le_bytes(header[10..18].try_into().expect("8 bytes")),
+        name: text_of(&header[22..54]),
+        areas: areas.map(|bytes| decoded(bytes.try_into().expect("42 bytes"))).collect(),
+    })
+}
+
 /// All areas, in the order of the map.
 pub fn areas(image: &[u8]) -> Result<Vec<Area>, Refusal> {
-    (0..).map_while(|k| area(image, k).transpose()).collect()
+    Ok(map(image)?.areas)
 }
 
 /// The place, counted from 0, of the area of that name, if there is one.
@@ -56,7 +97,36 @@ pub fn area_named(image: &[u8], name: impl AsRef<[u8]>) -> Result<Option<u64>, R
 pub fn carry(old: &[u8], new: &mut [u8]) -> Result<(), Refusal> {
     let answer = raw::fmap_carry(old, new);
     let blamed = || if find(old).is_err() { "old" } else { "new" };
-    accepted(answer).map_err(|refusal| refusal.about(&[Detail::Image(blamed())]))
+    accepted(answer).map_err(|refusal| {
+        let area = blamed_area(old, new, refusal.number()).map(Detail::Area);
+        refusal.about(&[[Detail::Image(blamed())].as_slice(), area.as_slice()].concat())
+    })
+}
+
+/// The first area that is missing in the new map (60) or has another size there (61), as the old map stores its name.
+fn blamed_area(old: &[u8], new: &[u8], number: u32) -> Option<[u8; 32]> {
+    let there = map(new).ok()?.areas;
+    let same = |old: &Area| there.iter().find(|new| new.name == old.name);
+    let at_fault = |area: &&Area| match number {
+        60 => same(area).is_none(),
+        61 => same(area).is_some_and(|new| new.size != area.size),
+        _ => false,
+    };
+    let areas = map(old).ok()?.areas;
+    let blamed = areas.iter().filter(|area| area.preserved()).find(at_fault)?;
+    let mut name = [0; 32];
+    name[..blamed.name.len()].copy_from_slice(blamed.name.as_bytes());
+    Some(name)
+}
+
+/// What a carry between two images moves, in the order of the old map.
+pub fn carried(old: &[u8], new: &[u8]) -> Result<Vec<Carried>, Refusal> {
+    let (old, new) = (map(old)?.areas, map(new)?.areas);
+    let pair = |area: &Area| {
+        let target = new.iter().find(|target| target.name == area.name)?;
+        Some(Carried { name: area.name.clone(), from: area.offset, to: target.offset, size: area.size })
+    };
+    Ok(old.iter().filter(|area| area.preserved()).filter_map(pair).collect())
 }
 
 fn accepted_for(image: &[u8], answer: u32) -> Result<(), Refusal> {
@@ -74,13 +144,16 @@ fn there<T>(image: &[u8], answer: u32, value: impl FnOnce() -> T) -> Result<Opti
 
 fn decoded(bytes: &[u8; AREA_LEN]) -> Area {
     let number = |at: usize| u32::from_le_bytes(bytes[at..at + 4].try_into().expect("4 bytes"));
-    let name = bytes[8..40].iter().take_while(|byte| **byte != 0);
     Area {
         offset: number(0),
         size: number(4),
-        name: name.map(|byte| char::from(*byte)).collect(),
+        name: text_of(&bytes[8..40]),
         flags: u16::from_le_bytes([bytes[40], bytes[41]]),
     }
+}
+
+fn text_of(name: &[u8]) -> String {
+    name.iter().take_while(|byte| **byte != 0).map(|byte| char::from(*byte)).collect()
 }
 
 #[cfg(test)]
@@ -92,7 +165,7 @@ mod tests {
     /// A map at 7 with the areas FMAP and CAL, by the layout of rules M1 and M2.
     fn image(cal_offset: u32, cal_size: u32) -> Vec<u8> {
         let mut map = b"__FMAP__\x01\x01".to_vec();
-        map.extend(0u64.to_le_bytes());
+        map.extend(0x1_0000_0002u64.to_le_bytes());
         map.extend((LEN as u32).to_le_bytes());
         map.extend(name(b"CHIP"));
         map.extend(2u16.to_le_bytes());
@@ -122,6 +195,12 @@ mod tests {
         let cal = Area { offset: 200, size: 50, name: "CAL".into(), flags: Area::PRESERVE };
         assert_eq!(areas(&image).unwrap()[1], cal);
         assert_eq!(areas(&image).unwrap().len(), 2);
+        let map = map(&image).unwrap();
+        assert_eq!((map.position, map.major, map.minor, map.base), (7, 1, 1, 0x1_0000_0002));
+        assert_eq!((map.name.as_str(), map.areas.len()), ("CHIP", 2));
+        for (k, one) in (0..).zip(map.areas) {
+            assert_eq!(area(&image, k), Ok(Some(one)));
+        }
         assert_eq!(area(&image, 2), Ok(None));
         assert_eq!(area_named(&image, "CAL"), Ok(Some(1)));
         assert_eq!(area_named(&image, "CALL"), Ok(None));
@@ -148,8 +227,10 @@ mod tests {
         assert_eq!(new, expected);
         assert_eq!(
             carry(&old, &mut image(150, 49)).unwrap_err().to_string(),
-            "61: a preserved area has another size in the new map"
+            "61: a preserved area has another size in the new map: CAL"
         );
+        let moved = Carried { name: "CAL".into(), from: 200, to: 150, size: 50 };
+        assert_eq!(carried(&old, &new), Ok(vec![moved]));
         let refused = carry(&old, &mut [0; 98]).unwrap_err().to_string();
         assert_eq!(refused, "41: the signature of a map stands nowhere: the new image");
     }

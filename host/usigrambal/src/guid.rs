@@ -5,6 +5,9 @@ use std::str::FromStr;
 
 const TEXT_LEN: usize = 36;
 
+/// The short names of types (rule G4).
+const SHORT_NAMES: [&str; 5] = ["system", "msft", "data", "linux", "swap"];
+
 /// A GUID as its 16 stored bytes (rule G2: the first three groups of the text are reversed).
 #[derive(Clone, Copy, Debug, PartialEq, Eq, Hash)]
 pub struct Guid(pub [u8; 16]);
@@ -22,6 +25,19 @@ impl Guid {
         let mut guid = [0; 16];
         accepted(raw::type_read(text.as_ref(), &mut guid))?;
         Ok(Guid(guid))
+    }
+
+    /// The short name that stands for this type, if there is one.
+    pub fn short_name(self) -> Option<&'static str> {
+        SHORT_NAMES.into_iter().find(|name| Guid::parse_type(name) == Ok(self))
+    }
+
+    /// A GUID of version 4 (RFC 9562) from random bytes. In the text the version is the first digit of the third
+    /// group, which is stored reversed.
+    pub fn version_4(mut random: [u8; 16]) -> Guid {
+        random[7] = random[7] & 0x0F | 0x40;
+        random[8] = random[8] & 0x3F | 0x80;
+        Guid(random)
     }
 }
 
@@ -65,6 +81,20 @@ mod tests {
         assert_eq!(Guid::parse_type(DATA_TEXT), Ok(DATA));
         assert_eq!(Guid::parse("data").unwrap_err().number(), 30);
         assert_eq!(Guid::parse_type("Data").unwrap_err().number(), 30);
+    }
+
+    #[test]
+    fn short_names_of_types() {
+        for name in SHORT_NAMES {
+            assert_eq!(Guid::parse_type(name).unwrap().short_name(), Some(name));
+        }
+        assert_eq!(Guid([7; 16]).short_name(), None);
+    }
+
+    #[test]
+    fn version_4_is_in_the_text() {
+        assert_eq!(Guid::version_4([0; 16]).to_string(), "00000000-0000-4000-8000-000000000000");
+        assert_eq!(Guid::version_4([0xFF; 16]).to_string(), "FFFFFFFF-FFFF-4FFF-BFFF-FFFFFFFFFFFF");
     }
 
     #[test]

@@ -44,7 +44,11 @@ pub fn sections(text: impl AsRef<[u8]>) -> Result<Vec<Section>, Refusal> {
 
 /// Writes the map of a text at the start of section FMAP of an image that has the stated size (rules L17, L18).
 pub fn write_map(text: impl AsRef<[u8]>, image: &mut [u8]) -> Result<(), Refusal> {
-    accepted_for(text.as_ref(), raw::fmd_write(text.as_ref(), image))
+    let text = text.as_ref();
+    accepted_for(text, raw::fmd_write(text, image)).map_err(|refusal| match (refusal.number(), read(text)) {
+        (1, Ok(layout)) => refusal.about(&[Detail::Stated(image.len(), layout.size)]),
+        _ => refusal,
+    })
 }
 
 fn accepted_for(text: &[u8], answer: u32) -> Result<(), Refusal> {
@@ -81,9 +85,15 @@ mod tests {
     fn refusals_in_words() {
         assert_eq!(sections("I 97 {").unwrap_err().to_string(), "52: a bad number");
         let long = " ".repeat(32_769);
-        assert_eq!(read(long).unwrap_err().to_string(), "50: the layout text is too long: 32769 bytes");
+        assert_eq!(
+            read(long).unwrap_err().to_string(),
+            "50: the layout text is too long: more than 32768 bytes"
+        );
         let mut short = [0; 299];
-        assert_eq!(write_map(TEXT, &mut short).unwrap_err().number(), 1);
+        assert_eq!(
+            write_map(TEXT, &mut short).unwrap_err().to_string(),
+            "1: a lent buffer has a wrong length: the image has 299 bytes, the layout states 300"
+        );
         assert_eq!(short, [0; 299]);
     }
 

@@ -8,9 +8,9 @@ pub mod layout;
 pub mod raw;
 mod refusal;
 
-pub use disk::{Disk, Free, Name, NewPartition, Partition, Placed, State, HEAD_LEN, TAIL_LEN};
+pub use disk::{Disk, Free, Name, NewPartition, Partition, Placed, Run, State, HEAD_LEN, TAIL_LEN};
 pub use guid::Guid;
-pub use refusal::Refusal;
+pub use refusal::{Refusal, IMAGE_MAX, TEXT_MAX};
 
 /// The CRC-32 of UEFI and zlib (rule D3).
 pub fn crc32(data: &[u8]) -> u32 {

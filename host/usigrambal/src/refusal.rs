@@ -1,6 +1,10 @@
 use std::error::Error;
 use std::fmt;
 
+/// The most bytes of an image and of a layout text (rules Q4, Q5).
+pub const IMAGE_MAX: usize = 16_777_216;
+pub const TEXT_MAX: usize = 32_768;
+
 /// A refusal of the library: its number (rules R4 to R24), what the number says, and of what.
 #[derive(Clone, Copy, Debug, PartialEq, Eq)]
 pub struct Refusal {
@@ -24,6 +28,10 @@ pub(crate) enum Detail {
     NewSize(u64),
     /// A partition to be given so many blocks.
     SlotSize(u64, u64),
+    /// An image of so many bytes, where the layout text states so many.
+    Stated(usize, u64),
+    /// The name of an area to be carried, and zeros.
+    Area([u8; 32]),
 }
 
 /// What each number says.
@@ -73,6 +81,14 @@ impl Refusal {
             .map_or("a refusal unknown to this wrapper", |(_, words)| words)
     }
 
+    /// What the number says, and of what.
+    pub fn sentence(self) -> String {
+        match self.detail {
+            Some(detail) => format!("{}: {detail}", self.words()),
+            None => self.words().to_string(),
+        }
+    }
+
     /// The refusal with its argument, where the number is about that argument.
     pub(crate) fn about(self, details: &[Detail]) -> Refusal {
         let detail = details.iter().copied().find(|detail| detail.fits(self.number));
@@ -89,6 +105,8 @@ impl Detail {
             Detail::Image(_) => (40..=42).contains(&number),
             Detail::Slot(_) => number == 12 || number == 13,
             Detail::NewSize(_) | Detail::SlotSize(..) => number == 25,
+            Detail::Stated(..) => number == 1,
+            Detail::Area(_) => number == 60 || number == 61,
         }
     }
 }
@@ -97,22 +115,36 @@ impl fmt::Display for Detail {
     fn fmt(&self, f: &mut fmt::Formatter<'_>) -> fmt::Result {
         match self {
             Detail::Blocks(n) => write!(f, "{n} blocks"),
-            Detail::Bytes(len) | Detail::Text(len) => write!(f, "{len} bytes"),
+            Detail::Bytes(len) => bytes(f, *len, IMAGE_MAX),
+            Detail::Text(len) => bytes(f, *len, TEXT_MAX),
             Detail::Image(which) => write!(f, "the {which} image"),
             Detail::Slot(slot) => write!(f, "slot {slot}"),
             Detail::NewSize(size) => write!(f, "no run of {size} free blocks"),
             Detail::SlotSize(slot, size) => write!(f, "slot {slot} cannot have {size} blocks"),
+            Detail::Stated(len, stated) => {
+                f.write_str("the image has ")?;
+                bytes(f, *len, IMAGE_MAX)?;
+                write!(f, ", the layout states {stated}")
+            }
+            Detail::Area(name) => name
+                .iter()
+                .take_while(|byte| **byte != 0)
+                .try_for_each(|byte| write!(f, "{}", char::from(*byte))),
         }
     }
 }
 
+/// A caller may cut what is too long, so that its length is not told.
+fn bytes(f: &mut fmt::Formatter<'_>, len: usize, max: usize) -> fmt::Result {
+    if len > max {
+        return write!(f, "more than {max} bytes");
+    }
+    write!(f, "{len} bytes")
+}
+
 impl fmt::Display for Refusal {
     fn fmt(&self, f: &mut fmt::Formatter<'_>) -> fmt::Result {
-        write!(f, "{}: {}", self.number, self.words())?;
-        match self.detail {
-            Some(detail) => write!(f, ": {detail}"),
-            None => Ok(()),
-        }
+        write!(f, "{}: {}", self.number, self.sentence())
     }
 }
 

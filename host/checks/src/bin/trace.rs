@@ -8,32 +8,15 @@
 //!
 //! usage, from the repository's root: trace
 
-use checks::{files, is_word, Crates};
+use checks::crates::{is_word, Crates};
+use checks::tables::{cells, is_number, rules};
+use checks::{files, read};
 use std::collections::HashMap;
 use std::path::Path;
 use std::{fs, process};
 
 /// So many words of a quotation must stand in the rule, one after the other.
 const WORDS: usize = 3;
-
-fn is_number(word: &str) -> bool {
-    let (letter, digits) = word.split_at(word.len().min(1));
-    letter.bytes().all(|b| b.is_ascii_uppercase())
-        && !digits.is_empty()
-        && digits.bytes().all(|b| b.is_ascii_digit())
-}
-
-/// The rules by number, their text as in the table's second column.
-fn rules(table: &str) -> HashMap<&str, &str> {
-    table
-        .lines()
-        .filter_map(|line| {
-            let mut cells = line.strip_prefix("| ")?.split(" | ");
-            let number = cells.next()?.trim();
-            is_number(number).then_some((number, cells.next()?.trim()))
-        })
-        .collect()
-}
 
 /// The citations of a comment line, `X9: words`: each rule's number with the words after it.
 fn citations(line: &str) -> Vec<(&str, Vec<&str>)> {
@@ -53,22 +36,21 @@ fn quotes(rule: &str, words: &[&str]) -> bool {
     rule.contains(words.join(" ").trim_end_matches(['.', ';', ':', ',']))
 }
 
-/// The cells of a table's row; nothing for a table's head and for other text.
-fn cells(line: &str) -> Option<Vec<&str>> {
-    let line = line.strip_prefix("| ")?.strip_suffix(" |")?;
-    (!line.starts_with("No. ")).then(|| line.split(" | ").map(str::trim).collect())
+/// The cells of each row of the tables, but of their heads.
+fn rows(tables: &str) -> impl Iterator<Item = Vec<&str>> {
+    tables.lines().filter_map(cells).filter(|row| row[0] != "No.")
 }
 
 /// What the rows name and is not there, and rules with an empty cell.
 fn missing(rules: &str, tables: &str, crates: &Crates) -> Vec<String> {
     let mut missing = Vec::new();
-    for cells in rules.lines().filter_map(cells) {
+    for cells in rows(rules) {
         if cells.len() != 5 || cells.iter().any(|cell| cell.is_empty()) {
             missing.push(format!("{}: a row has five cells, none empty", cells[0]));
         }
         missing.extend(absent(&cells, 2, crates));
     }
-    tables.lines().filter_map(cells).for_each(|cells| missing.extend(absent(&cells, 1, crates)));
+    rows(tables).for_each(|cells| missing.extend(absent(&cells, 1, crates)));
     missing
 }
 
@@ -161,12 +143,12 @@ impl Place<'_> {
 }
 
 fn main() {
-    let table = fs::read_to_string("docs/TRACE.md").expect("docs/TRACE.md");
+    let table = read("docs/TRACE.md");
     let (table, tables) = table.split_once("\n# Forms").expect("the table of forms");
-    let rules = rules(table);
+    let rules: HashMap<&str, &str> = rules(table).into_iter().collect();
     let (mut cited, mut wrong) = (0, 0);
-    for path in files(Path::new("crates"), &["rt", "antt"]) {
-        let text = fs::read_to_string(&path).unwrap_or_default();
+    for path in files("crates", &["rt", "antt"]) {
+        let text = read(&path);
         for (at, line) in text.lines().enumerate() {
             for (number, words) in citations(line) {
                 cited += 1;
@@ -190,8 +172,10 @@ mod tests {
 
     #[test]
     fn holds_citations_to_the_table() {
-        let rules =
-            rules("| No. | Sentence |\n| G2 | The first three groups are stored reversed. | a | b | c |\n");
+        let rules: HashMap<&str, &str> =
+            rules("| No. | Sentence |\n| G2 | The first three groups are stored reversed. | a | b | c |\n")
+                .into_iter()
+                .collect();
         assert_eq!(rules.len(), 1);
         assert!(quotes(rules["G2"], &["The", "first", "three"]));
         assert!(quotes(rules["G2"], &["stored", "reversed."]));

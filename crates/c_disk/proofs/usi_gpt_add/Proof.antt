@@ -1,0 +1,54 @@
+use Rattle.c_disk.proofs.Lengths.{kind-wrong, unique-wrong, name-wrong, add-on}
+use Rattle.c_disk.proofs.Told.{gpt-tells}
+use borrow.Author.Needs.{needs}
+use Rattle.c_disk.proofs.usi_gpt_add.Statement.{statement}
+use Rattle.c_disk.proofs.usi_gpt_add.Tie as tie
+
+returns : tie.Need-returns
+returns c = kind-wrong _ _ _ _ _ _ _ _ _ (c .if1 .taken)
+
+returns-2 : tie.Need-returns-2
+returns-2 c = unique-wrong _ _ _ _ _ _ _ _ _ (c .if2 .taken)
+
+returns-3 : tie.Need-returns-3
+returns-3 c = name-wrong _ _ _ _ _ _ _ _ _ (c .if3 .taken)
+
+guid-of-requires : tie.Need-guid-of-requires
+guid-of-requires c κs = search needs
+
+guid-of-requires-2 : tie.Need-guid-of-requires-2
+guid-of-requires-2 c κs = search needs
+
+name-of-requires : tie.Need-name-of-requires
+name-of-requires c κs = search needs
+
+add-requires : tie.Need-add-requires
+add-requires c κs = search needs
+
+added-requires : tie.Need-added-requires
+added-requires c κs = search needs
+
+same-length : tie.Need-same-length
+same-length c = search needs
+
+same-length-2 : tie.Need-same-length-2
+same-length-2 c = search needs
+
+returns-4 : tie.Need-returns-4
+returns-4 c = gpt-tells _ _ _ _ _ _ _ (add-on _ _ _ _ _ _ _ _ _ _ _ (c .before .before .before .before .before .before .before .before .before .before .guid-of .ensures) (c .before .before .before .before .before .before .before .before .before .guid-of2 .ensures) (c .before .before .before .before .before .before .before .before .name-of .ensures) (c .before .before .before .before .before .before .before .add .ensures)) (c .added .ensures .0) (c .added .ensures .1)
+
+pub usi-gpt-add-spec : {M : Type 1} → statement M
+usi-gpt-add-spec =
+    tie.close
+    (tie.spec
+    returns
+    returns-2
+    returns-3
+    guid-of-requires
+    guid-of-requires-2
+    name-of-requires
+    add-requires
+    added-requires
+    same-length
+    same-length-2
+    returns-4)

@@ -1,0 +1,287 @@
+// The GPT calls for C. Each contract is one equation with `format` or `step` of gpt_model, for the result, both buffers and the number answers afterwards.
+use gpt::Added;
+use gpt::Counted;
+use gpt::Done;
+use gpt::Reading;
+use gpt::Refusal;
+ghost use mathlib.Core.Path.{_≡_};
+ghost use mathlib.Core.List.{[], _∷_};
+ghost use lib.ListN.{length};
+ghost use Rattle.gpt_model.specs.Disk.{disk512};
+ghost use Rattle.gpt_model.specs.Calls.{step, format as formatOn, read as readCall, freeCounts, repair as repairCall, edit, delete as deleteCall, resize as resizeCall, rename as renameCall, add as addCall};
+ghost use Rattle.gpt.specs.Answers.{numberOf, doneOf, readingOf, countedOf, addedOf};
+ghost use Rattle.c_disk.specs.Told.{resultOf, valuesOf, gptTold, placeOf, placed};
+
+fn number(a: Refusal) -> u32
+    ensures { λ r. ⌜ r ≡ numberOf a ⌝ }
+{
+    match a {
+        Refusal::WrongLength => 1,
+        Refusal::BlockCount => 2,
+        Refusal::NoDiskGuid => 3,
+        Refusal::NeitherGood => 10,
+        Refusal::NotTheSame => 11,
+        Refusal::NoSuchSlot => 12,
+        Refusal::SlotUnused => 13,
+        Refusal::NoSize => 20,
+        Refusal::NoType => 21,
+        Refusal::NoUniqueGuid => 22,
+        Refusal::BadName => 23,
+        Refusal::NoUnusedSlot => 24,
+        Refusal::NoRoom => 25,
+    }
+}
+
+fn done(a: Done) -> u32
+    ensures { λ r. ⌜ r ≡ resultOf (doneOf a) ⌝ }
+{
+    match a {
+        Done::Accepted => 0,
+        Done::Refused(k) => number(k),
+    }
+}
+
+fn reading(a: Reading, state: &mut u64) -> u32
+    ensures { λ r. ⌜ (r ≡ resultOf (readingOf a)) × ((now (state .exit) ∷ []) ≡ valuesOf (now (state .entry) ∷ []) (readingOf a)) ⌝ }
+{
+    match a {
+        Reading::Same => {
+            *state = 1;
+            0
+        }
+        Reading::Different => {
+            *state = 2;
+            0
+        }
+        Reading::PrimaryOnly => {
+            *state = 3;
+            0
+        }
+        Reading::BackupOnly => {
+            *state = 4;
+            0
+        }
+        Reading::Refused(k) => number(k),
+    }
+}
+
+fn counted(a: Counted, free: &mut u64, longest: &mut u64) -> u32
+    ensures { λ r. ⌜ (r ≡ resultOf (countedOf a)) × ((now (free .exit) ∷ now (longest .exit) ∷ []) ≡ valuesOf (now (free .entry) ∷ now (longest .entry) ∷ []) (countedOf a)) ⌝ }
+{
+    match a {
+        Counted::Free {
+            blocks: b,
+            longest: l,
+        } => {
+            *free = b;
+            *longest = l;
+            0
+        }
+        Counted::Refused(k) => number(k),
+    }
+}
+
+fn added(a: Added, slot: &mut u64, first: &mut u64) -> u32
+    ensures { λ r. ⌜ (r ≡ resultOf (addedOf a)) × ((now (slot .exit) ∷ now (first .exit) ∷ []) ≡ valuesOf (now (slot .entry) ∷ now (first .entry) ∷ []) (addedOf a)) ⌝ }
+{
+    match a {
+        Added::At { slot: s, first: f } => {
+            *slot = s;
+            *first = f.0;
+            0
+        }
+        Added::Refused(k) => number(k),
+    }
+}
+
+fn place(a: Reading, in_tail: &mut u64, offset: &mut u64) -> u32
+    ensures { λ r. ⌜ (r ≡ resultOf (placeOf (readingOf a))) × ((now (in_tail .exit) ∷ now (offset .exit) ∷ []) ≡ valuesOf (now (in_tail .entry) ∷ now (offset .entry) ∷ []) (placeOf (readingOf a))) ⌝ }
+{
+    match a {
+        Reading::Same => {
+            *in_tail = 0;
+            *offset = 1024;
+            0
+        }
+        Reading::Different => {
+            *in_tail = 0;
+            *offset = 1024;
+            0
+        }
+        Reading::PrimaryOnly => {
+            *in_tail = 0;
+            *offset = 1024;
+            0
+        }
+        Reading::BackupOnly => {
+            *in_tail = 1;
+            *offset = 0;
+            0
+        }
+        Reading::Refused(k) => number(k),
+    }
+}
+
+// The 16 bytes of a GUID.
+fn guid_of(s: &[u8]) -> [u8; 16]
+    requires { ⌜ length (now s) ≡ 16 ⌝ }
+    ensures { λ r. ⌜ r ≡ now (s .entry) ⌝ }
+{
+    let mut a = [0u8; 16];
+    let mut i = 0;
+    while i < 16 {
+        a[i] = s[i];
+        i += 1;
+    }
+    a
+}
+
+// The 36 units of a name.
+fn name_of(s: &[u16]) -> [u16; 36]
+    requires { ⌜ length (now s) ≡ 36 ⌝ }
+    ensures { λ r. ⌜ r ≡ now (s .entry) ⌝ }
+{
+    let mut a = [0u16; 36];
+    let mut i = 0;
+    while i < 36 {
+        a[i] = s[i];
+        i += 1;
+    }
+    a
+}
+
+#[no_mangle]
+pub extern "C" fn usi_gpt_format(head: &mut [u8], tail: &mut [u8], n: u64, guid: &[u8]) -> u32
+    ensures { λ r. ⌜ record { result = r; head = now (head .exit); tail = now (tail .exit); values = [] }
+        ≡ gptTold [] (formatOn disk512 n (now (guid .entry)) (now (head .entry)) (now (tail .entry))) ⌝ }
+{
+    if guid.len() != 16 {
+        return 1;
+    }
+    done(gpt::format(head, tail, n, guid_of(guid)))
+}
+
+#[no_mangle]
+pub extern "C" fn usi_gpt_read(head: &[u8], tail: &[u8], n: u64, state: &mut u64) -> u32
+    ensures { λ r. ⌜ record { result = r; head = now (head .entry); tail = now (tail .entry); values = now (state .exit) ∷ [] }
+        ≡ gptTold (now (state .entry) ∷ []) (step disk512 n (now (head .entry)) (now (tail .entry)) readCall) ⌝ }
+{
+    reading(gpt::read(head, tail, n), state)
+}
+
+#[no_mangle]
+pub extern "C" fn usi_gpt_delete(head: &mut [u8], tail: &mut [u8], n: u64, slot: u64) -> u32
+    ensures { λ r. ⌜ record { result = r; head = now (head .exit); tail = now (tail .exit); values = [] }
+        ≡ gptTold [] (step disk512 n (now (head .entry)) (now (tail .entry)) (edit (deleteCall slot))) ⌝ }
+{
+    done(gpt::delete(head, tail, n, slot))
+}
+
+#[no_mangle]
+pub extern "C" fn usi_gpt_resize(
+    head: &mut [u8],
+    tail: &mut [u8],
+    n: u64,
+    slot: u64,
+    size: u64,
+) -> u32
+    ensures { λ r. ⌜ record { result = r; head = now (head .exit); tail = now (tail .exit); values = [] }
+        ≡ gptTold [] (step disk512 n (now (head .entry)) (now (tail .entry)) (edit (resizeCall slot size))) ⌝ }
+{
+    done(gpt::resize(head, tail, n, slot, size))
+}
+
+#[no_mangle]
+pub extern "C" fn usi_gpt_free(
+    head: &[u8],
+    tail: &[u8],
+    n: u64,
+    free: &mut u64,
+    longest: &mut u64,
+) -> u32
+    ensures { λ r. ⌜ record { result = r; head = now (head .entry); tail = now (tail .entry); values = now (free .exit) ∷ now (longest .exit) ∷ [] }
+        ≡ gptTold (now (free .entry) ∷ now (longest .entry) ∷ []) (step disk512 n (now (head .entry)) (now (tail .entry)) freeCounts) ⌝ }
+{
+    counted(gpt::free_counts(head, tail, n), free, longest)
+}
+
+#[no_mangle]
+pub extern "C" fn usi_gpt_repair(head: &mut [u8], tail: &mut [u8], n: u64, state: &mut u64) -> u32
+    ensures { λ r. ⌜ record { result = r; head = now (head .exit); tail = now (tail .exit); values = now (state .exit) ∷ [] }
+        ≡ gptTold (now (state .entry) ∷ []) (step disk512 n (now (head .entry)) (now (tail .entry)) repairCall) ⌝ }
+{
+    reading(gpt::repair(head, tail, n), state)
+}
+
+#[no_mangle]
+pub extern "C" fn usi_gpt_rename(
+    head: &mut [u8],
+    tail: &mut [u8],
+    n: u64,
+    slot: u64,
+    name: &[u16],
+) -> u32
+    ensures { λ r. ⌜ record { result = r; head = now (head .exit); tail = now (tail .exit); values = [] }
+        ≡ gptTold [] (step disk512 n (now (head .entry)) (now (tail .entry)) (edit (renameCall slot (now (name .entry))))) ⌝ }
+{
+    if name.len() != 36 {
+        return 1;
+    }
+    done(gpt::rename(head, tail, n, slot, name_of(name)))
+}
+
+#[no_mangle]
+pub extern "C" fn usi_gpt_add(
+    head: &mut [u8],
+    tail: &mut [u8],
+    n: u64,
+    kind: &[u8],
+    unique: &[u8],
+    size: u64,
+    attributes: u64,
+    name: &[u16],
+    slot: &mut u64,
+    first: &mut u64,
+) -> u32
+    ensures { λ r. ⌜ record { result = r; head = now (head .exit); tail = now (tail .exit); values = now (slot .exit) ∷ now (first .exit) ∷ [] }
+        ≡ gptTold (now (slot .entry) ∷ now (first .entry) ∷ [])
+        (step disk512 n (now (head .entry)) (now (tail .entry)) (edit (addCall (now (kind .entry)) (now (unique .entry)) size attributes (now (name .entry))))) ⌝ }
+{
+    if kind.len() != 16 {
+        return 1;
+    }
+    if unique.len() != 16 {
+        return 1;
+    }
+    if name.len() != 36 {
+        return 1;
+    }
+    added(
+        gpt::add(
+            head,
+            tail,
+            n,
+            guid_of(kind),
+            guid_of(unique),
+            size,
+            attributes,
+            name_of(name),
+        ),
+        slot,
+        first,
+    )
+}
+
+#[no_mangle]
+pub extern "C" fn usi_gpt_table(
+    head: &[u8],
+    tail: &[u8],
+    n: u64,
+    in_tail: &mut u64,
+    offset: &mut u64,
+) -> u32
+    ensures { λ r. ⌜ record { result = r; head = now (head .entry); tail = now (tail .entry); values = now (in_tail .exit) ∷ now (offset .exit) ∷ [] }
+        ≡ gptTold (now (in_tail .entry) ∷ now (offset .entry) ∷ []) (placed (step disk512 n (now (head .entry)) (now (tail .entry)) readCall)) ⌝ }
+{
+    place(gpt::read(head, tail, n), in_tail, offset)
+}

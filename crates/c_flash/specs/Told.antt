@@ -1,0 +1,67 @@
+-- What C is told of a flash map call. Definitions, and the statement that an accepted call can't be taken for a refused one.
+use mathlib.Core.Path.{_≡_}
+use mathlib.Core.Bool.{Bool, true, false, cond}
+use mathlib.Core.List.{List}
+use mathlib.Core.Option.{Option, none, some}
+use Prim.Native.Nat.{ℕ}
+use lib.Dec.{eqb}
+use lib.ListN.{length}
+use Rattle.octets.specs.Rows.{codeOf}
+use Rattle.fmap_rules.specs.declared.ImagePosition.{ImagePosition}
+use Rattle.fmap_rules.specs.declared.Area.{Area}
+use Rattle.fmap_rules.specs.Written.{areaBytes}
+use Rattle.fmap_carry.specs.Carry.{Outcome}
+use Rattle.fmap.specs.Find.{Reply, accepted, refused, foundReply}
+use Rattle.fmap.specs.Areas.{Looked, lookupReply, indexReply}
+use Rattle.fmap.specs.Carry.{carriedNumber}
+use Rattle.fmap.specs.declared.Found.{Found}
+use Rattle.fmap.specs.declared.Lookup.{Lookup}
+use Rattle.fmap.specs.declared.AreaIndex.{AreaIndex}
+use Rattle.fmap.specs.declared.Carried.{Carried}
+
+-- the result, and the number behind the pointer for the answer afterwards
+pub record NumberTold : Type 0 where
+  pub result : ℕ
+  pub value : ℕ
+
+-- the result, and the lent buffer afterwards
+pub record BufferTold : Type 0 where
+  pub result : ℕ
+  pub buffer : List ℕ
+
+-- ---- finding: the position, where old stood
+-- R1: A refusal returns its number alone: the position is as it was
+abbrev pub findTold : ℕ → Reply ImagePosition → NumberTold
+findTold old (accepted p) = record { result = 0; value = p .0 }
+findTold old (refused k) = record { result = k; value = old }
+
+-- ---- an area by its number: its 42 bytes, where old stood
+-- 255: no such area, to which the rules give no number
+abbrev pub answerTold : List ℕ → Area → Reply Bool → BufferTold
+answerTold old a (accepted true) = record { result = 0; buffer = areaBytes a }
+answerTold old a (accepted false) = record { result = 255; buffer = old }
+answerTold old a (refused k) = record { result = k; buffer = old }
+
+abbrev pub lookedTold : List ℕ → Looked → BufferTold
+lookedTold old l = answerTold old (l .area) (l .answer)
+
+-- (R4) an area's buffer has 42 bytes; with another length nothing is looked for
+unfoldable pub areaTold : List ℕ → Looked → BufferTold
+areaTold old l = cond (eqb (length old) 42) (lookedTold old l) (record { result = 1; buffer = old })
+
+-- ---- the number of the area with a name, where old stood
+abbrev pub namedTold : ℕ → Reply (Option ℕ) → NumberTold
+namedTold old (accepted (some k)) = record { result = 0; value = k }
+namedTold old (accepted none) = record { result = 255; value = old }
+namedTold old (refused n) = record { result = n; value = old }
+
+-- ---- carrying: the new image
+abbrev pub carryTold : Outcome → BufferTold
+carryTold o = record { result = codeOf (o .answer); buffer = o .image }
+
+-- no refusal's number is 0
+pub record NoneIsZero : Type 0 where
+  pub find : (f : Found) → foundReply f ≡ refused 0 → ⊥
+  pub area : (a : Lookup) → lookupReply a ≡ refused 0 → ⊥
+  pub named : (a : AreaIndex) → indexReply a ≡ refused 0 → ⊥
+  pub carry : (c : Carried) → codeOf (carriedNumber c) ≡ 0 → carriedNumber c ≡ none

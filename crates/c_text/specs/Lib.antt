@@ -1,0 +1,2 @@
+-- What C is told of each answer.
+pub mod Told

@@ -1,0 +1,50 @@
+#[derive(Clone, Copy, PartialEq, Eq)]
+pub enum Side {
+    Left,
+    Right,
+}
+
+/// Columns under their heads, two blanks apart.
+pub struct Table {
+    sides: Vec<Side>,
+    rows: Vec<Vec<String>>,
+}
+
+impl Table {
+    pub fn new<const N: usize>(heads: [(&str, Side); N]) -> Table {
+        let names = heads.iter().map(|(name, _)| name.to_string()).collect();
+        Table { sides: heads.iter().map(|(_, side)| *side).collect(), rows: vec![names] }
+    }
+
+    pub fn row<const N: usize>(&mut self, cells: [String; N]) {
+        self.rows.push(cells.into());
+    }
+
+    /// Lines without blanks at their ends.
+    pub fn text(&self) -> String {
+        let width =
+            |column: usize| self.rows.iter().map(|row| row[column].chars().count()).max().unwrap_or(0);
+        let widths: Vec<usize> = (0..self.sides.len()).map(width).collect();
+        let line = |row: &Vec<String>| {
+            let cells = row.iter().zip(&widths).zip(&self.sides).map(|((cell, width), side)| match side {
+                Side::Left => format!("{cell:<width$}"),
+                Side::Right => format!("{cell:>width$}"),
+            });
+            cells.collect::<Vec<_>>().join("  ").trim_end().to_string() + "\n"
+        };
+        self.rows.iter().map(line).collect()
+    }
+}
+
+#[cfg(test)]
+mod tests {
+    use super::*;
+
+    #[test]
+    fn columns_are_aligned() {
+        let mut table = Table::new([("No", Side::Right), ("Name", Side::Left), ("Size", Side::Right)]);
+        table.row(["1".into(), "Größe".into(), "10".into()]);
+        table.row(["128".into(), String::new(), "4096".into()]);
+        assert_eq!(table.text(), " No  Name   Size\n  1  Größe    10\n128         4096\n");
+    }
+}

@@ -1,0 +1,128 @@
+//! Numbers and sizes, as they are typed and as they are shown.
+
+pub const BLOCK_LEN: u64 = 512;
+
+const UNITS: [(&str, u32); 5] = [("B", 0), ("K", 10), ("M", 20), ("G", 30), ("T", 40)];
+
+/// A number, decimal or 0x and hex digits.
+pub fn number(text: &str) -> Result<u64, String> {
+    match digits(text) {
+        Some((value, "")) => fits(text, value),
+        _ => Err(format!("\"{text}\" is no number (decimal, or 0x and hex digits)")),
+    }
+}
+
+/// A size in blocks: a bare number is blocks; with B, K, M, G or T it is bytes, which must be whole blocks.
+pub fn blocks(text: &str) -> Result<u64, String> {
+    let wrong = || {
+        format!(
+            "\"{text}\" is no size (a number of blocks, or of bytes with B, K, M, G or T: 2048, 10M, 1GiB)"
+        )
+    };
+    let (value, unit) = digits(text).ok_or_else(wrong)?;
+    if unit.is_empty() {
+        return fits(text, value);
+    }
+    let letter = unit.strip_suffix("iB").unwrap_or(unit);
+    let (_, shift) = UNITS.into_iter().find(|(name, _)| *name == letter).ok_or_else(wrong)?;
+    if unit == "BiB" {
+        return Err(wrong());
+    }
+    let bytes = value.and_then(|value| value.checked_mul(1 << shift));
+    if bytes.is_some_and(|bytes| bytes % u128::from(BLOCK_LEN) != 0) {
+        return Err(format!("{text} is no whole number of blocks of {BLOCK_LEN} bytes"));
+    }
+    fits(text, bytes.map(|bytes| bytes / u128::from(BLOCK_LEN)))
+}
+
+/// The value of the digits in front (none where it is beyond 128 bits), and what follows them.
+fn digits(text: &str) -> Option<(Option<u128>, &str)> {
+    let (rest, radix) = text.strip_prefix("0x").map_or((text, 10), |rest| (rest, 16));
+    let end = rest.find(|c: char| !c.is_digit(radix)).unwrap_or(rest.len());
+    let (digits, unit) = rest.split_at(end);
+    (!digits.is_empty()).then(|| (u128::from_str_radix(digits, radix).ok(), unit))
+}
+
+fn fits(text: &str, value: Option<u128>) -> Result<u64, String> {
+    let value = value.and_then(|value| u64::try_from(value).ok());
+    value.ok_or_else(|| format!("{text} is too large: at most {} can be asked for", u64::MAX))
+}
+
+/// Bytes in the largest unit that they fill, with a tenth where they are not whole, rounded down.
+pub fn human(bytes: u64) -> String {
+    let (name, shift) = UNITS.into_iter().rev().find(|(_, shift)| bytes >> shift > 0).unwrap_or(UNITS[0]);
+    if shift == 0 {
+        return format!("{bytes} B");
+    }
+    let (whole, rest) = (bytes >> shift, bytes & ((1 << shift) - 1));
+    if rest == 0 {
+        return format!("{whole} {name}iB");
+    }
+    format!("{whole}.{} {name}iB", (u128::from(rest) * 10) >> shift)
+}
+
+/// A number of blocks with its size: `2048 blocks (1 MiB)`.
+pub fn of_blocks(blocks: u64) -> String {
+    let noun = if blocks == 1 { "block" } else { "blocks" };
+    format!("{blocks} {noun} ({})", human(blocks.saturating_mul(BLOCK_LEN)))
+}
+
+#[cfg(test)]
+mod tests {
+    use super::*;
+
+    #[test]
+    fn numbers() {
+        assert_eq!(number("0"), Ok(0));
+        assert_eq!(number("010"), Ok(10));
+        assert_eq!(number("0xfF"), Ok(255));
+        assert_eq!(number("18446744073709551615"), Ok(u64::MAX));
+        for wrong in ["", "0x", "-1", "+1", "1 ", "1K", "0XFF", "x", "1_000", "18446744073709551616"] {
+            assert!(number(wrong).is_err(), "{wrong}");
+        }
+        assert!(number(&"9".repeat(60)).is_err());
+    }
+
+    #[test]
+    fn sizes() {
+        let expected = [
+            ("0", 0),
+            ("2048", 2048),
+            ("0x800", 2048),
+            ("512B", 1),
+            ("1K", 2),
+            ("0x10K", 32),
+            ("10M", 20_480),
+            ("10MiB", 20_480),
+            ("1G", 1 << 21),
+            ("2T", 1 << 32),
+            ("2TiB", 1 << 32),
+            ("18446744073709551615", u64::MAX),
+            ("9223372036854775807K", u64::MAX - 1),
+        ];
+        for (text, blocks_asked) in expected {
+            assert_eq!(blocks(text), Ok(blocks_asked), "{text}");
+        }
+        for wrong in ["", "K", "1k", "1KB", "1BiB", "1.5G", "-1", "1 M", "0x", "1MM", "10iB"] {
+            assert!(blocks(wrong).unwrap_err().contains("is no size"), "{wrong}");
+        }
+        assert!(blocks("1000B").unwrap_err().contains("no whole number of blocks"));
+        for large in ["18446744073709551616", "9223372036854775808K", "18446744073709551615T"] {
+            assert!(blocks(large).unwrap_err().contains("too large"), "{large}");
+        }
+        assert!(blocks(&format!("{}T", "9".repeat(60))).unwrap_err().contains("too large"));
+    }
+
+    #[test]
+    fn sizes_for_people() {
+        assert_eq!(human(0), "0 B");
+        assert_eq!(human(1023), "1023 B");
+        assert_eq!(human(1024), "1 KiB");
+        assert_eq!(human(1536), "1.5 KiB");
+        assert_eq!(human((1 << 20) - 1), "1023.9 KiB");
+        assert_eq!(human(2 << 40), "2 TiB");
+        assert_eq!(human(u64::MAX), "16777215.9 TiB");
+        assert_eq!(of_blocks(1), "1 block (512 B)");
+        assert_eq!(of_blocks(2048), "2048 blocks (1 MiB)");
+    }
+}

@@ -1,0 +1,116 @@
+use super::{about, device, kind, metadata, unusable, Facts, Kind};
+use crate::failure::{words, Failure};
+use std::fs::{File, Metadata, OpenOptions, TryLockError};
+use std::io::{self, Seek, SeekFrom};
+use std::os::unix::fs::{MetadataExt, OpenOptionsExt};
+use std::path::Path;
+use std::thread;
+use std::time::{Duration, Instant};
+
+/// fcntl.h and errno.h of Linux. A block device that is opened so is opened alone.
+const O_EXCL: i32 = 0o200;
+const EBUSY: i32 = 16;
+
+/// How long a lock of another program is waited for.
+const PATIENCE: Duration = Duration::from_secs(5);
+const PAUSE: Duration = Duration::from_millis(10);
+
+#[derive(Clone, Copy, Debug, PartialEq, Eq)]
+pub enum Access {
+    Read,
+    /// Alone, unless forced.
+    Write {
+        force: bool,
+    },
+}
+
+#[derive(Debug)]
+pub struct Opened {
+    pub file: File,
+    pub facts: Facts,
+    /// Of the file that is open, whatever the path leads to later.
+    pub metadata: Metadata,
+}
+
+impl Opened {
+    /// After the table of a block device was written: a note if the kernel still goes by the old one.
+    pub fn reread(&self) -> Option<String> {
+        if self.facts.kind != Kind::BlockDevice {
+            return None;
+        }
+        let error = device::reread(&self.file).err().filter(|e| e.kind() != io::ErrorKind::InvalidInput)?;
+        Some(format!("note: the kernel still goes by the old table: {}", words(&error)))
+    }
+}
+
+/// Opens an image file or a block device. What is neither is not opened, since that may wait or act.
+pub fn open(path: &Path, access: Access) -> Result<Opened, Failure> {
+    let kind = kind(&metadata(path)?);
+    refuse(path, kind.unsuitable())?;
+    let file = opened(path, access, kind)?;
+    let (metadata, facts) = facts(&file).map_err(|error| unusable(path, "cannot be measured", &error))?;
+    if access != Access::Read {
+        refuse(path, facts.no_writing())?;
+    }
+    Ok(Opened { file, facts, metadata })
+}
+
+pub fn refuse(path: &Path, fault: Option<String>) -> Result<(), Failure> {
+    fault.map_or(Ok(()), |fault| Err(about(path, &fault)))
+}
+
+fn opened(path: &Path, access: Access, kind: Kind) -> Result<File, Failure> {
+    let mut options = OpenOptions::new();
+    options.read(true);
+    if let Access::Write { force } = access {
+        options.write(true);
+        if kind == Kind::BlockDevice && !force {
+            options.custom_flags(O_EXCL);
+        }
+    }
+    let file = options.open(path).map_err(|error| match (access, error.raw_os_error()) {
+        (Access::Read, _) => unusable(path, "cannot be read", &error),
+        (_, Some(EBUSY)) => {
+            about(path, "is in use (mounted, or held by another program); --force writes anyway")
+        }
+        _ => unusable(path, "cannot be written", &error),
+    })?;
+    let alone = match access {
+        Access::Read => {
+            locked(|| file.try_lock_shared());
+            true
+        }
+        Access::Write { force } => locked(|| file.try_lock()) || force,
+    };
+    match alone {
+        true => Ok(file),
+        false => Err(about(path, "is in use (locked by another program); --force writes anyway")),
+    }
+}
+
+/// Calls at once follow each other: a reader waits for a writer, and a writer for both. Where locks can't be had it
+/// goes on without.
+fn locked(lock: impl Fn() -> Result<(), TryLockError>) -> bool {
+    let end = Instant::now() + PATIENCE;
+    while let Err(TryLockError::WouldBlock) = lock() {
+        if Instant::now() > end {
+            return false;
+        }
+        thread::sleep(PAUSE);
+    }
+    true
+}
+
+fn facts(file: &File) -> io::Result<(Metadata, Facts)> {
+    let metadata = file.metadata()?;
+    let kind = kind(&metadata);
+    let facts = if kind == Kind::BlockDevice {
+        let bytes = (&*file).seek(SeekFrom::End(0))?;
+        let logical_block = Some(device::logical_block(file)?);
+        Facts { kind, bytes, logical_block, read_only: device::read_only(file)? }
+    } else {
+        let read_only = metadata.mode() & 0o222 == 0;
+        Facts { kind, bytes: metadata.len(), logical_block: None, read_only }
+    };
+    Ok((metadata, facts))
+}

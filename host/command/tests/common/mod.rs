@@ -1,0 +1,172 @@
+//! The built command on real files, as a person runs it.
+#![allow(dead_code)]
+
+use std::ffi::OsStr;
+use std::fs;
+use std::io::Write;
+use std::path::{Path, PathBuf};
+use std::process::{Command, Output, Stdio};
+use std::sync::atomic::{AtomicU32, Ordering};
+use testkit::json::{self, Json};
+
+/// A folder of a test's own, removed when it is dropped.
+pub struct Folder(pub PathBuf);
+
+impl Folder {
+    pub fn new() -> Folder {
+        static MADE: AtomicU32 = AtomicU32::new(0);
+        let name =
+            format!("usigrambal-command-{}-{}", std::process::id(), MADE.fetch_add(1, Ordering::Relaxed));
+        let path = std::env::temp_dir().join(name);
+        fs::create_dir(&path).expect("a new folder");
+        Folder(path)
+    }
+
+    pub fn path(&self, name: &str) -> PathBuf {
+        self.0.join(name)
+    }
+
+    pub fn file(&self, name: &str, bytes: impl AsRef<[u8]>) -> PathBuf {
+        let path = self.path(name);
+        fs::write(&path, bytes).expect("a file");
+        path
+    }
+
+    /// A sparse file of so many bytes.
+    pub fn sparse(&self, name: &str, bytes: u64) -> PathBuf {
+        let path = self.path(name);
+        fs::File::create(&path).and_then(|file| file.set_len(bytes)).expect("a sparse file");
+        path
+    }
+
+    pub fn names(&self) -> Vec<String> {
+        let entries = fs::read_dir(&self.0).expect("a folder");
+        let mut names: Vec<_> =
+            entries.map(|entry| entry.expect("an entry").file_name().into_string().expect("UTF-8")).collect();
+        names.sort();
+        names
+    }
+}
+
+impl Drop for Folder {
+    fn drop(&mut self) {
+        let _ = fs::remove_dir_all(&self.0);
+    }
+}
+
+/// How a call ended, and what it printed.
+#[derive(Debug)]
+pub struct Ended {
+    /// None after a signal.
+    pub status: Option<i32>,
+    pub bytes: Vec<u8>,
+    pub out: String,
+    pub err: String,
+}
+
+impl From<Output> for Ended {
+    fn from(output: Output) -> Ended {
+        let text = |bytes: &[u8]| String::from_utf8_lossy(bytes).into_owned();
+        let (out, err) = (text(&output.stdout), text(&output.stderr));
+        Ended { status: output.status.code(), bytes: output.stdout, out, err }
+    }
+}
+
+impl Ended {
+    /// It was done; what it printed.
+    #[track_caller]
+    pub fn done(self) -> String {
+        assert_eq!((self.status, self.err.as_str()), (Some(0), ""), "{}", self.out);
+        self.out
+    }
+
+    /// It was done; the one JSON document that it printed.
+    #[track_caller]
+    pub fn json(self) -> Json {
+        json::parse(&self.done()).expect("JSON")
+    }
+
+    /// The library refused with that number, on one line of standard error; nothing else was printed.
+    #[track_caller]
+    pub fn refused(self, number: u32) -> String {
+        assert_eq!((self.status, self.out.as_str()), (Some(1), ""), "{}", self.err);
+        let words = self.err.strip_prefix(&format!("refused {number}: ")).map(str::trim_end);
+        let words = words.unwrap_or_else(|| panic!("not {number}: {}", self.err)).to_string();
+        assert!(!words.is_empty() && self.err.lines().count() == 1, "{}", self.err);
+        words
+    }
+
+    /// Usage or input and output: a sentence with these words on standard error, nothing else.
+    #[track_caller]
+    pub fn sentence(self, words: &str) {
+        assert_eq!((self.status, self.out.as_str()), (Some(2), ""), "{}", self.err);
+        let one_line = self.err.starts_with("usigrambal: ") && self.err.lines().count() == 1;
+        assert!(one_line && self.err.contains(words), "not \"{words}\": {}", self.err);
+    }
+}
+
+pub fn command() -> Command {
+    Command::new(env!("CARGO_BIN_EXE_usigrambal"))
+}
+
+/// Runs the command with words, paths among them.
+#[macro_export]
+macro_rules! run {
+    ($($word:expr),* $(,)?) => {
+        common::run(&[$(std::ffi::OsStr::new(&$word)),*])
+    };
+}
+
+pub fn run(words: &[&OsStr]) -> Ended {
+    command().args(words).stdin(Stdio::null()).output().expect("the command").into()
+}
+
+pub fn fed(words: &[&OsStr], input: &[u8]) -> Ended {
+    let pipes =
+        command().args(words).stdin(Stdio::piped()).stdout(Stdio::piped()).stderr(Stdio::piped()).spawn();
+    let mut child = pipes.expect("the command");
+    // What is refused early leaves its input unread.
+    let _ = child.stdin.take().expect("a pipe").write_all(input);
+    child.wait_with_output().expect("the command").into()
+}
+
+/// A disk image of n blocks, formatted.
+pub fn disk(folder: &Folder, name: &str, n: u64) -> PathBuf {
+    let path = folder.sparse(name, n * 512);
+    run(&["gpt".as_ref(), "format".as_ref(), path.as_os_str()]).done();
+    path
+}
+
+pub fn add(disk: &Path, size: &str, name: &str) -> Json {
+    let words = ["gpt", "add", "--json", "--size", size, "--name", name].map(OsStr::new);
+    run(&[&words[..], &[disk.as_os_str()]].concat()).json()
+}
+
+/// Changes a byte of a file.
+pub fn spoil(path: &Path, at: u64) {
+    use std::os::unix::fs::FileExt;
+    let file = fs::OpenOptions::new().read(true).write(true).open(path).expect("a file");
+    let mut byte = [0];
+    file.read_exact_at(&mut byte, at).expect("a byte");
+    file.write_all_at(&[byte[0] ^ 1], at).expect("a byte");
+}
+
+/// A loop device over a file, let go when it is dropped.
+pub struct Loop(pub PathBuf);
+
+impl Loop {
+    pub fn new(file: &Path, options: &[&str]) -> Option<Loop> {
+        let made = Command::new("losetup").args(options).args(["-f", "--show"]).arg(file).output();
+        let made = made.ok().filter(|made| made.status.success());
+        if made.is_none() {
+            println!("skipped: loop devices");
+        }
+        Some(Loop(String::from_utf8(made?.stdout).expect("UTF-8").trim_end().into()))
+    }
+}
+
+impl Drop for Loop {
+    fn drop(&mut self) {
+        let _ = Command::new("losetup").arg("-d").arg(&self.0).status();
+    }
+}

@@ -1,0 +1,119 @@
+//! Block devices, where loop devices can be had.
+
+mod common;
+
+use common::{add, Folder, Loop};
+use std::fs::{self, File};
+use std::os::unix::fs::{FileExt, OpenOptionsExt};
+
+const O_EXCL: i32 = 0o200;
+
+#[test]
+fn a_disk_on_a_device() {
+    let folder = Folder::new();
+    let file = folder.sparse("disk.img", 1 << 20);
+    let Some(device) = Loop::new(&file, &[]) else { return };
+    let path = &device.0;
+    let formatted = run!["gpt", "format", path].done();
+    assert!(formatted.contains("2048 blocks (1 MiB) of 512 bytes, usable 34 to 2014"), "{formatted}");
+    assert_eq!(add(path, "100K", "a").number("last"), 233);
+    assert_eq!(add(path, "1", "b").number("first"), 234);
+    run!["gpt", "resize", path, "2", "9"].done();
+    run!["gpt", "rename", path, "2", "c"].done();
+    run!["gpt", "delete", path, "1"].done();
+    run!["gpt", "add", path, "--size", "1M"].refused(25);
+    let shown = run!["gpt", "show", path, "--json"].json();
+    assert_eq!((shown.number("state"), shown.number("blocks")), (1, 2048));
+    assert_eq!(shown.list("partitions")[0].text("name"), "c");
+    run!["gpt", "verify", path].done();
+    // The bytes are in the file behind it.
+    run!["gpt", "verify", file].done();
+}
+
+#[test]
+fn a_device_in_use() {
+    let folder = Folder::new();
+    let file = folder.sparse("disk.img", 1 << 20);
+    let Some(device) = Loop::new(&file, &[]) else { return };
+    let path = &device.0;
+    run!["gpt", "format", path].done();
+    let held = File::options().read(true).custom_flags(O_EXCL).open(path).expect("a device");
+    let before = fs::read(path).expect("a device");
+    run!["gpt", "add", path, "--size", "1"]
+        .sentence("is in use (mounted, or held by another program); --force");
+    run!["gpt", "format", path].sentence("is in use");
+    assert_eq!(fs::read(path).expect("a device"), before);
+    run!["gpt", "show", path].done();
+    run!["gpt", "add", path, "--size", "1", "--dry-run"].done();
+    let forced = run!["gpt", "add", path, "--size", "1", "--force"];
+    assert_eq!(forced.status, Some(0), "{}", forced.err);
+    drop(held);
+    run!["gpt", "add", path, "--size", "1"].done();
+    assert_eq!(run!["gpt", "show", path, "--json"].json().list("partitions").len(), 2);
+}
+
+#[test]
+fn logical_blocks_of_4096_bytes() {
+    let folder = Folder::new();
+    let file = folder.sparse("disk.img", 1 << 20);
+    let Some(device) = Loop::new(&file, &["-b", "4096"]) else { return };
+    for verb in ["show", "free", "verify", "format", "repair"] {
+        run!["gpt", verb, device.0].sentence("has logical blocks of 4096 bytes; only 512 can be used");
+    }
+    assert!(fs::read(&file).expect("a file").iter().all(|byte| *byte == 0));
+}
+
+#[test]
+fn a_read_only_device() {
+    let folder = Folder::new();
+    let file = common::disk(&folder, "disk.img", 2048);
+    let Some(device) = Loop::new(&file, &["-r"]) else { return };
+    run!["gpt", "add", device.0, "--size", "1"].sentence("is read-only");
+    run!["gpt", "show", device.0].done();
+}
+
+/// The kernel reads the new table, if it can read a GPT.
+#[test]
+fn partitions_appear() {
+    let folder = Folder::new();
+    let file = common::disk(&folder, "disk.img", 2048);
+    add(&file, "10", "a");
+    let Some(device) = Loop::new(&file, &["-P"]) else { return };
+    let path = &device.0;
+    let name = path.file_name().and_then(|name| name.to_str()).expect("a name");
+    let size = |slot: u64| fs::read_to_string(format!("/sys/block/{name}/{name}p{slot}/size")).ok();
+    if size(1).is_none() {
+        println!("skipped: partitions of loop devices");
+        return;
+    }
+    add(path, "30", "b");
+    assert_eq!(size(2).as_deref(), Some("30\n"));
+    run!["gpt", "resize", path, "2", "20"].done();
+    assert_eq!(size(2).as_deref(), Some("20\n"));
+    run!["gpt", "delete", path, "1"].done();
+    assert_eq!((size(1), size(2).as_deref()), (None, Some("20\n")));
+}
+
+/// On a device the changed bytes alone are written, and the device stays.
+#[test]
+fn a_flash_image_on_a_device() {
+    let folder = Folder::new();
+    let old_layout = folder.file("old.fmd", "CHIP 64K { FMAP 1K CAL(PRESERVE)@2K 1K }");
+    let new_layout = folder.file("new.fmd", "CHIP 64K { FMAP 1K CAL(PRESERVE)@8K 1K }");
+    let (old, file) = (folder.path("old.bin"), folder.file("new.bin", vec![0xA5; 65_536]));
+    run!["fmd", "write", old_layout, old, "--create"].done();
+    let bytes: Vec<u8> = (0..1024u32).map(|k| (k * 7) as u8).collect();
+    File::options().write(true).open(&old).and_then(|old| old.write_all_at(&bytes, 0x800)).expect("an image");
+    let Some(device) = Loop::new(&file, &[]) else { return };
+    let path = &device.0;
+    run!["fmd", "write", new_layout, path].done();
+    run!["fmap", "carry", old, path, "--dry-run"].done();
+    run!["fmap", "carry", path, path].sentence("are the same file");
+    run!["fmap", "carry", old, path].done();
+    assert!(run!["fmap", "carry", old, path].done().contains("the same already"));
+    let after = fs::read(path).expect("a device");
+    assert_eq!(after[0x2000..0x2400], bytes);
+    assert!(after[0x400..0x2000].iter().chain(&after[0x2400..]).all(|byte| *byte == 0xA5));
+    let ended = run!["fmap", "extract", path, "CAL"];
+    assert_eq!(ended.bytes, bytes);
+}

@@ -1,0 +1,73 @@
+//! Help, and its examples, which run as they stand.
+
+mod common;
+
+use common::{Ended, Folder};
+use std::path::Path;
+use std::process::Command;
+
+const VERBS: [(&str, &[&str]); 3] = [
+    ("fmd", &["list", "write"]),
+    ("fmap", &["show", "carry", "extract"]),
+    ("gpt", &["show", "free", "format", "add", "delete", "resize", "rename", "repair", "verify"]),
+];
+
+fn examples(help: &str) -> Vec<String> {
+    let lines = help.lines().skip_while(|line| *line != "Examples:").skip(1);
+    lines.take_while(|line| line.starts_with("  ")).map(|line| line.trim().to_string()).collect()
+}
+
+#[test]
+fn help_and_version() {
+    let all = run!["--help"].done();
+    assert_eq!(run!["-h"].done(), all);
+    assert_eq!(run!["--version"].done(), format!("usigrambal {}\n", env!("CARGO_PKG_VERSION")));
+    for (group, verbs) in VERBS {
+        let of_group = run![group, "--help"].done();
+        assert!(!examples(&of_group).is_empty());
+        for verb in verbs {
+            let call = format!("usigrambal {group} {verb} ");
+            let help = run![group, verb, "--help"].done();
+            assert!(all.contains(&call) && of_group.contains(&call), "{call}");
+            assert!(help.starts_with(&format!("Usage: {call}")), "{help}");
+            assert!(examples(&help).iter().any(|line| line.contains(&call)), "{help}");
+        }
+    }
+    run![].sentence("a group is missing");
+    run!["gpt", "show"].sentence("(usigrambal gpt show --help tells more)");
+}
+
+/// In a folder with the files that they name.
+#[test]
+fn examples_run_as_they_stand() {
+    let program = Path::new(env!("CARGO_BIN_EXE_usigrambal")).parent().expect("a folder");
+    let path = format!("{}:{}", program.display(), std::env::var("PATH").unwrap_or_default());
+    let folder = Folder::new();
+    let shell = |line: &str| -> Ended {
+        let mut bash = Command::new("bash");
+        let call = bash.args(["-euc", line]).current_dir(&folder.0).env("PATH", &path);
+        call.output().expect("bash").into()
+    };
+    folder.file("board.fmd", "BOARD 64K { FMAP 4K RW_CAL(PRESERVE) 4K RW_LOG }");
+    let fresh = "rm -f board.bin disk.img; usigrambal fmd write board.fmd board.bin --create; truncate -s 64M disk.img; \
+                 usigrambal gpt format disk.img; usigrambal gpt add disk.img --size 21M; \
+                 usigrambal gpt add disk.img --size 1M; usigrambal gpt resize disk.img 1 1M; \
+                 cp board.bin running.bin; cp board.bin update.bin";
+    let mut run_lines = 0;
+    for (group, verbs) in VERBS {
+        for verb in verbs {
+            for line in examples(&run![group, verb, "--help"].done()) {
+                shell(fresh).done();
+                let line = line.replace("/dev/sdb", "disk.img");
+                let made_first = line.contains("--create") || line.starts_with("truncate");
+                if made_first {
+                    shell("rm -f board.bin disk.img").done();
+                }
+                let ended = shell(&line);
+                assert_eq!(ended.status, Some(0), "{line}\n{}", ended.err);
+                run_lines += 1;
+            }
+        }
+    }
+    assert!(run_lines >= 14, "{run_lines}");
+}

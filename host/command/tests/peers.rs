@@ -1,0 +1,179 @@
+//! Other tools read what the command wrote, and it reads what they wrote.
+
+mod common;
+
+use common::{disk, spoil, Folder};
+use std::fs;
+use std::path::{Path, PathBuf};
+use testkit::json::Json;
+use testkit::listing::{self, Partition};
+use testkit::{fmaptool, peer};
+
+/// A disk as a person fills it, with all that the verbs do.
+fn filled(folder: &Folder) -> PathBuf {
+    let image = disk(folder, "disk.img", 131_072);
+    for (size, kind, name, attributes) in [
+        ("10M", "system", "EFI System", "0x1"),
+        ("2048", "linux", "boot", "4"),
+        ("4MiB", "swap", "swap", "0"),
+        ("1M", "data", "data", "0x8000000000000000"),
+        ("1K", "msft", "", "0"),
+    ] {
+        run!["gpt", "add", image, "--size", size, "--type", kind, "--name", name, "--attributes", attributes]
+            .done();
+    }
+    run!["gpt", "delete", image, "3"].done();
+    run!["gpt", "resize", image, "4", "512K"].done();
+    run!["gpt", "rename", image, "5", "reserved"].done();
+    run!["gpt", "add", image, "--size", "3M", "--type", "FE3A2A5D-4F32-41A7-B725-ACCC3285A309"].done();
+    image
+}
+
+/// The rows of `gpt show --json`.
+fn shown(image: &Path) -> Vec<Partition> {
+    let json = run!["gpt", "show", image, "--json"].json();
+    json.list("partitions").iter().map(row).collect()
+}
+
+fn row(partition: &Json) -> Partition {
+    let bits = partition.text("attributes").trim_start_matches("0x");
+    Partition {
+        slot: partition.number("number"),
+        first: partition.number("first"),
+        last: partition.number("last"),
+        kind: partition.text("type").to_string(),
+        unique: partition.text("guid").to_string(),
+        attributes: u64::from_str_radix(bits, 16).expect("a hex number"),
+        name: partition.text("name").to_string(),
+    }
+}
+
+/// By hand: first and last block of each slot, from 34 on, the lowest room first.
+const PLACES: [(u64, u64, u64); 5] =
+    [(1, 34, 20_513), (2, 20_514, 22_561), (3, 22_562, 28_705), (4, 30_754, 31_777), (5, 32_802, 32_803)];
+
+#[test]
+fn places_are_those_of_the_rules() {
+    let folder = Folder::new();
+    let places: Vec<_> = shown(&filled(&folder)).iter().map(|row| (row.slot, row.first, row.last)).collect();
+    assert_eq!(places, PLACES);
+}
+
+#[test]
+fn sgdisk_reads_the_disk() {
+    if !peer::present("sgdisk", "gdisk") {
+        return;
+    }
+    let folder = Folder::new();
+    let image = filled(&folder);
+    assert_eq!(listing::sgdisk(&image), shown(&image));
+    let verdict = peer::printed("sgdisk", [Path::new("-v"), &image]);
+    assert!(verdict.contains("No problems found"), "{verdict}");
+    let free = run!["gpt", "free", image, "--json"].json();
+    assert_eq!(listing::sgdisk_free(&image), (free.number("free_blocks"), free.number("longest_run")));
+    spoil(&image, 512);
+    run!["gpt", "repair", image].done();
+    assert_eq!(listing::sgdisk(&image), shown(&image));
+}
+
+#[test]
+fn sfdisk_and_cgpt_read_the_disk() {
+    let folder = Folder::new();
+    let image = filled(&folder);
+    if peer::present("sfdisk", "fdisk") {
+        assert_eq!(listing::sfdisk(&image), shown(&image));
+    }
+    if peer::present("cgpt", "cgpt") {
+        assert_eq!(listing::cgpt(&image, PLACES.map(|(slot, ..)| slot)), shown(&image));
+    }
+}
+
+#[test]
+fn a_disk_of_sfdisk_is_read_and_edited() {
+    if !peer::present("sfdisk", "fdisk") {
+        return;
+    }
+    let folder = Folder::new();
+    let image = folder.sparse("disk.img", 4 << 20);
+    let script = "label: gpt\nfirst-lba: 34\nstart=100, size=50, name=\"a, b\"\nstart=34, size=6, type=S\n";
+    peer::feed("sfdisk", [Path::new("-q"), &image], script);
+    assert_eq!(shown(&image), listing::sfdisk(&image));
+    run!["gpt", "add", image, "--size", "7", "--name", "c"].done();
+    let rows = listing::sfdisk(&image);
+    let places: Vec<_> = rows.iter().map(|row| (row.slot, row.first, row.last)).collect();
+    assert_eq!(places, [(1, 100, 149), (2, 34, 39), (3, 40, 46)]);
+    let drawing = run!["gpt", "show", image, "--width", "70"].done();
+    let drawing = drawing.lines().last().expect("a drawing").to_string();
+    assert_eq!(drawing.trim_end_matches('.'), "23.1");
+}
+
+const LAYOUT: &str = "FLASH@0xff800000 8M {\n BOOT 2M { FMAP 4K }\n RW_CAL(PRESERVE)@3M 64K\n RW_LOG\n}\n";
+
+#[test]
+fn other_tools_read_the_map() {
+    let folder = Folder::new();
+    let (layout, image) = (folder.file("board.fmd", LAYOUT), folder.path("board.bin"));
+    run!["fmd", "write", layout, image, "--create"].done();
+    let json = run!["fmap", "show", image, "--json"].json();
+    let areas: Vec<_> = json
+        .list("areas")
+        .iter()
+        .map(|area| listing::Area {
+            name: area.text("name").to_string(),
+            offset: area.number("offset"),
+            size: area.number("size"),
+        })
+        .collect();
+    if peer::present("dump_fmap", "vboot-utils") {
+        assert_eq!(listing::dump_fmap(&image), areas);
+    }
+    if peer::present("cbfstool", "coreboot-utils") {
+        assert_eq!(listing::preserved(&image), ["RW_CAL"]);
+        let text = image.to_str().expect("UTF-8");
+        let out = folder.path("out.bin");
+        peer::printed("cbfstool", [text, "read", "-r", "RW_CAL", "-f", out.to_str().expect("UTF-8")]);
+        assert_eq!(run!["fmap", "extract", image, "RW_CAL"].bytes, fs::read(&out).expect("an area"));
+    }
+}
+
+/// fmaptool asks for a section COREBOOT that is marked CBFS.
+#[test]
+fn fmaptool_makes_the_same_map() {
+    if !peer::present(fmaptool::TOOL, fmaptool::PACKAGE) {
+        return;
+    }
+    let folder = Folder::new();
+    let layout = folder.file("board.fmd", LAYOUT.replace("RW_LOG", "COREBOOT(CBFS)"));
+    let (image, map) = (folder.path("board.bin"), folder.path("map.bin"));
+    run!["fmd", "write", layout, image, "--create"].done();
+    peer::printed(fmaptool::TOOL, [&layout, &map]);
+    let map = fs::read(&map).expect("a map");
+    assert_eq!(fs::read(&image).expect("an image")[..map.len()], map);
+}
+
+/// cbfstool writes calibration into the old image, and reads it from the new one after the carry.
+#[test]
+fn cbfstool_reads_what_was_carried() {
+    if !peer::present("cbfstool", "coreboot-utils") {
+        return;
+    }
+    let folder = Folder::new();
+    let (old, new) = (folder.path("old.bin"), folder.path("new.bin"));
+    let layout = folder.file("old.fmd", LAYOUT);
+    run!["fmd", "write", layout, old, "--create"].done();
+    let moved = folder.file("new.fmd", LAYOUT.replace("@3M", "@5M"));
+    run!["fmd", "write", moved, new, "--create"].done();
+    let bytes: Vec<u8> = (0..65_536u32).map(|k| (k % 251) as u8).collect();
+    let (from, to) = (folder.file("cal.bin", &bytes), folder.path("out.bin"));
+    let text = |path: &PathBuf| path.to_str().expect("UTF-8").to_string();
+    peer::printed(
+        "cbfstool",
+        [text(&old), "write".into(), "-r".into(), "RW_CAL".into(), "-f".into(), text(&from)],
+    );
+    run!["fmap", "carry", old, new].done();
+    peer::printed(
+        "cbfstool",
+        [text(&new), "read".into(), "-r".into(), "RW_CAL".into(), "-f".into(), text(&to)],
+    );
+    assert_eq!(fs::read(&to).expect("an area"), bytes);
+}

@@ -1,0 +1,203 @@
+//! Power lost between the two writes of a disk, and writes that fail: the disk still reads, and repair makes it whole.
+
+mod common;
+
+use common::{add, disk, Ended, Folder, Loop};
+use std::fs;
+use std::path::{Path, PathBuf};
+use std::process::Command;
+use std::sync::OnceLock;
+
+/// `tests/c/disk_writes.c`, compiled.
+fn watcher() -> &'static Path {
+    static BUILT: OnceLock<PathBuf> = OnceLock::new();
+    BUILT.get_or_init(|| {
+        let source = testkit::host().join("../tests/c/disk_writes.c");
+        let library = Path::new(env!("CARGO_TARGET_TMPDIR")).join("disk_writes.so");
+        let options = ["-std=c99", "-O1", "-Wall", "-Wextra", "-Werror", "-shared", "-fPIC"];
+        let made =
+            Command::new("gcc").args(options).arg(&source).arg("-o").arg(&library).arg("-ldl").output();
+        let made = made.expect("gcc");
+        assert!(made.status.success(), "{}", String::from_utf8_lossy(&made.stderr));
+        library
+    })
+}
+
+fn disturbed(how: &str, log: &Path, words: &[&str]) -> Ended {
+    let mut command = common::command();
+    command.env("LD_PRELOAD", watcher()).env("DISTURB", how).env("WRITES_LOG", log).args(words);
+    command.output().expect("the command").into()
+}
+
+const HEAD: usize = 17_408;
+
+struct Tried {
+    _folder: Folder,
+    path: PathBuf,
+    before: Vec<u8>,
+    after: Vec<u8>,
+    ended: Ended,
+}
+
+/// A disk of 1000 blocks with a partition, on which an add is disturbed.
+fn disturbed_add(how: &str) -> Tried {
+    let folder = Folder::new();
+    let path = disk(&folder, "disk.img", 1000);
+    add(&path, "10", "first");
+    let before = fs::read(&path).expect("an image");
+    let text = path.to_str().expect("UTF-8");
+    let ended =
+        disturbed(how, &folder.path("log"), &["gpt", "add", text, "--size", "20", "--name", "second"]);
+    let after = fs::read(&path).expect("an image");
+    Tried { _folder: folder, path, before, after, ended }
+}
+
+impl Tried {
+    fn head_changed(&self) -> bool {
+        self.before[..HEAD] != self.after[..HEAD]
+    }
+
+    fn tail_changed(&self) -> bool {
+        self.before[HEAD..] != self.after[HEAD..]
+    }
+
+    /// The disk reads, says so, and repair makes both copies good and the same; how many partitions there are then.
+    fn repaired(&self, state: u64) -> usize {
+        let path = &self.path;
+        let shown = run!["gpt", "show", path, "--json"].json();
+        assert_eq!(shown.number("state"), state, "{}", shown.text("copies"));
+        assert_eq!(run!["gpt", "verify", path].status, Some(1));
+        run!["gpt", "repair", path].done();
+        let shown_after = run!["gpt", "show", path, "--json"].json();
+        assert_eq!(shown_after.number("state"), 1);
+        assert_eq!(shown_after.list("partitions"), shown.list("partitions"));
+        run!["gpt", "verify", path].done();
+        run!["gpt", "add", path, "--size", "1"].done();
+        shown.list("partitions").len()
+    }
+}
+
+/// Rule D10: the primary is used, so that the add is not made.
+#[test]
+fn killed_between_the_two_writes() {
+    let tried = disturbed_add("kill:2");
+    assert_eq!(tried.ended.status, None, "{}", tried.ended.err);
+    assert!(tried.tail_changed() && !tried.head_changed());
+    assert_eq!(tried.repaired(2), 1);
+}
+
+#[test]
+fn killed_before_the_first_write() {
+    let tried = disturbed_add("kill:1");
+    assert_eq!((tried.ended.status, tried.before == tried.after), (None, true));
+}
+
+/// On a disk without a table the backup alone is there then.
+#[test]
+fn killed_while_it_formats() {
+    let folder = Folder::new();
+    let path = folder.sparse("disk.img", 1000 * 512);
+    let text = path.to_str().expect("UTF-8");
+    let ended = disturbed("kill:2", &folder.path("log"), &["gpt", "format", text]);
+    assert_eq!(ended.status, None);
+    let shown = run!["gpt", "show", path, "--json"].json();
+    assert_eq!(shown.number("state"), 4);
+    run!["gpt", "repair", path].done();
+    run!["gpt", "verify", path].done();
+    assert_eq!(run!["gpt", "show", path, "--json"].json().text("guid"), shown.text("guid"));
+}
+
+#[test]
+fn no_space_for_the_primary() {
+    let tried = disturbed_add("full:2");
+    assert_eq!((tried.ended.status, tried.ended.out.as_str()), (Some(2), ""));
+    let said = "could not be written: the backup copy was written, the primary copy was not: No space left on device";
+    let path = tried.path.display();
+    let line = format!("usigrambal: {path} {said}; `usigrambal gpt repair {path}` makes both alike\n");
+    assert_eq!(tried.ended.err, line);
+    assert!(tried.tail_changed() && !tried.head_changed());
+    assert_eq!(tried.repaired(2), 1);
+}
+
+/// The new header without its entries: the primary is not good, the backup has the new table.
+#[test]
+fn a_short_write_of_the_primary() {
+    let tried = disturbed_add("short:2");
+    let said = "the backup copy was written, the primary copy was not wholly: 600 of 17408 bytes were written, then: No space";
+    assert!(tried.ended.err.contains(said), "{}", tried.ended.err);
+    assert_eq!(tried.ended.status, Some(2));
+    assert!(tried.head_changed());
+    assert_eq!(tried.repaired(4), 2);
+}
+
+#[test]
+fn a_short_write_of_the_backup() {
+    let tried = disturbed_add("short:1");
+    let said =
+        "the primary copy was not touched, the backup copy was not wholly: 600 of 16896 bytes were written";
+    assert!(tried.ended.err.contains(said), "{}", tried.ended.err);
+    assert!(tried.tail_changed() && !tried.head_changed());
+    assert_eq!(tried.repaired(3), 1);
+}
+
+#[test]
+fn nothing_is_taken() {
+    let tried = disturbed_add("none:1");
+    let said = "the primary copy was not touched, the backup copy was not: ";
+    assert!(tried.ended.err.contains(said), "{}", tried.ended.err);
+    assert_eq!((tried.ended.status, tried.before == tried.after), (Some(2), true));
+}
+
+#[test]
+fn a_flush_that_fails() {
+    let tried = disturbed_add("flush:1");
+    let said = "the primary copy was not touched, the backup copy was not wholly: Input/output error, when its bytes were to be flushed";
+    assert!(tried.ended.err.contains(said), "{}", tried.ended.err);
+    assert!(tried.tail_changed() && !tried.head_changed());
+    assert_eq!(tried.repaired(2), 1);
+}
+
+/// Backup, flush, primary, flush; a copy that does not change is not written, and what is refused writes nothing.
+#[test]
+fn the_order_of_writes() {
+    let folder = Folder::new();
+    let path = disk(&folder, "disk.img", 1000);
+    let text = path.to_str().expect("UTF-8");
+    let written = |words: &[&str]| {
+        let log = folder.path("log");
+        let _ = fs::remove_file(&log);
+        disturbed("", &log, words);
+        fs::read_to_string(&log).unwrap_or_default()
+    };
+    let tail = format!("write {} 16896\nflush 0 0\n", 967 * 512);
+    let head = "write 0 17408\nflush 0 0\n";
+    assert_eq!(written(&["gpt", "add", text, "--size", "20"]), format!("{tail}{head}"));
+    assert_eq!(written(&["gpt", "format", text, "--force"]), format!("{tail}{head}"));
+    common::spoil(&path, 512);
+    assert_eq!(written(&["gpt", "repair", text, "--dry-run"]), "");
+    assert_eq!(written(&["gpt", "repair", text]), head);
+    common::spoil(&path, 999 * 512);
+    assert_eq!(written(&["gpt", "repair", text]), tail);
+    for words in [&["repair"][..], &["show"], &["verify"], &["free"], &["delete", "7"]] {
+        let (verb, rest) = words.split_first().expect("a verb");
+        assert_eq!(written(&[&["gpt", verb, text], rest].concat()), "", "{words:?}");
+    }
+}
+
+/// On a block device a carry writes in place.
+#[test]
+fn a_short_write_of_a_flash_device() {
+    let folder = Folder::new();
+    let layout = folder.file("board.fmd", "CHIP 64K { FMAP 1K CAL(PRESERVE)@2K 1K }");
+    let (old, file) = (folder.path("old.bin"), folder.file("new.bin", vec![0; 65_536]));
+    run!["fmd", "write", layout, old, "--create"].done();
+    run!["fmd", "write", layout, file].done();
+    let Some(device) = Loop::new(&file, &[]) else { return };
+    let words = ["fmap", "carry", old.to_str().expect("UTF-8"), device.0.to_str().expect("UTF-8")];
+    let ended = disturbed("short:1", &folder.path("log"), &words);
+    let said = "could not be written: 600 of 1024 changed bytes were, then: No space left on device";
+    assert_eq!(ended.status, Some(2));
+    assert!(ended.err.contains(said), "{}", ended.err);
+    let bytes = fs::read(&device.0).expect("a device");
+    assert_eq!((bytes[2047], bytes[2048], bytes[2647], bytes[2648]), (0, 0xFF, 0xFF, 0));
+}
