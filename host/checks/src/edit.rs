@@ -1,6 +1,7 @@
 //! A must-fail edit: crates/CRATE/must-fail/LABEL.edit, whose first line says what it rules out: `# rules out: SUBJECT, SUBJECT: WORDS`.
 
 use crate::rattle;
+use std::collections::BTreeMap;
 
 /// One replacement in a file of the crate.
 #[derive(Clone, Debug, Default, PartialEq)]
@@ -58,6 +59,16 @@ impl Edit {
 
     pub fn name(&self) -> String {
         format!("{}/{}", self.krate, self.label)
+    }
+
+    /// The edited files with their new texts; none where an old text does not stand in its file once, or where nothing is changed.
+    pub fn edited(&self, text_of: &dyn Fn(&str) -> String) -> Option<BTreeMap<String, String>> {
+        let mut texts = BTreeMap::new();
+        for change in &self.changes {
+            let text = texts.entry(change.file.clone()).or_insert_with(|| text_of(&change.file));
+            *text = change.applied(text)?;
+        }
+        (!texts.is_empty()).then_some(texts)
     }
 }
 
@@ -172,6 +183,16 @@ mod tests {
             (Kind::Specification, "g".to_string())
         );
         assert_eq!(change("proofs/A.antt", "g = 1", "g = 2").place(specs).0, Kind::Proof);
+    }
+
+    #[test]
+    fn makes_all_changes_of_an_edit() {
+        let text = "file: src/lib.rt\nold: x + 1\nnew: x + 2\nold: = 5\nnew: = 6\n";
+        let edited = Edit::parse("k", "l", text).edited(&|_| TEXT.to_string()).unwrap();
+        assert!(edited["src/lib.rt"].contains("x + 2") && edited["src/lib.rt"].contains("= 6"));
+        assert!(Edit::parse("k", "l", "").edited(&|_| TEXT.to_string()).is_none());
+        let twice = Edit::parse("k", "l", "file: src/lib.rt\nold: x\nnew: y\n");
+        assert!(twice.edited(&|_| TEXT.to_string()).is_none());
     }
 
     #[test]

@@ -34,7 +34,10 @@ impl Row {
             let new = if new.is_empty() { "nothing".to_string() } else { format!("`{new}`") };
             format!("{} `{name}`: `{old}` → {new}", word(*kind))
         };
-        let change = edit.changes.iter().zip(&places).map(one).collect::<Vec<_>>().join("; ");
+        let (proof, other): (Vec<_>, Vec<_>) =
+            edit.changes.iter().zip(&places).partition(|c| c.1 .0 == Kind::Proof);
+        let mut change = other.into_iter().map(one).collect::<Vec<_>>().join("; ");
+        change += if proof.is_empty() { "" } else { "; the proof goes along" };
         let kind = places.iter().map(|place| place.0).min().unwrap_or(Kind::Proof);
         Row { edit, kind, change, fact }
     }
@@ -189,6 +192,8 @@ mod tests {
         assert!(text.contains("| `k::f` | `k/one`, `k/two` |"), "{text}");
         assert!(text.contains("| `one` | `k::f`, E1, no writes: the bit stays | code `f`: `x \\| 1` → `x \\| 0` | `p`, `returns`: a \\| b |"), "{text}");
         assert!(text.contains("code `f`: `\\| 1` → nothing"), "{text}");
+        let along = "# rules out: k::f: w\nfile: src/lib.rt\nold: x | 1\nnew: x\nfile: proofs/P.antt\nold: fn\nnew: f\n";
+        assert_eq!(row("along", along, "").change, "code `f`: `x | 1` → `x`; the proof goes along");
         let facts = facts(&text);
         assert_eq!(facts["k/one"], "`p`, `returns`: a | b");
         assert_eq!(facts["k/two"], "`p`, `returns`: c");

@@ -1,6 +1,7 @@
 //! The log that `rt must-fail` leaves of an edit, and the fact of its first error.
 
 use crate::edit::Edit;
+use std::collections::BTreeMap;
 use std::fs;
 
 /// A shown message has at most so many characters.
@@ -21,39 +22,45 @@ impl Fact {
     }
 }
 
-/// The log of an edit as it stands today; none if it was not tried, or with other text.
-pub fn of_edit(edit: &Edit) -> Option<String> {
+/// The log of an edit whose files are these now; none if it was not refused, or was tried with other files.
+pub fn of_edit(edit: &Edit, edited: &BTreeMap<String, String>) -> Option<String> {
     let folder = format!("target/must-fail/{}", edit.name());
-    if fs::read_to_string(format!("{folder}.res")).ok()?.trim() != "refused" {
-        return None;
-    }
-    let mut files: Vec<&str> = edit.changes.iter().map(|c| c.file.as_str()).collect();
-    files.dedup();
-    for file in files {
-        let own = fs::read_to_string(format!("crates/{}/{file}", edit.krate)).ok()?;
-        let changes = edit.changes.iter().filter(|c| c.file == file);
-        let edited = changes.fold(Some(own), |text, change| change.applied(&text?))?;
-        if fs::read_to_string(format!("{folder}/{file}")).ok()? != edited {
-            return None;
-        }
-    }
-    fs::read_to_string(format!("{folder}/.log")).ok()
+    let text = |path: String| fs::read_to_string(path).ok();
+    let tried = edited.iter().all(|(file, now)| text(format!("{folder}/{file}")).as_ref() == Some(now));
+    let refused = text(format!("{folder}.res")).is_some_and(|word| word.trim() == "refused");
+    text(format!("{folder}/.log")).filter(|_| tried && refused)
 }
 
-/// The first error of the log of an edit.
+/// The first error of the log of an edit; where a function has no proof of its own, the first need that the prover could not meet, at its place in the source.
 pub fn first_error(log: &str, name: &str) -> Option<Fact> {
     let lines: Vec<&str> = log.lines().collect();
-    let is_error = |line: &&str| line.split_once(": error").is_some_and(|(path, _)| !path.contains(' '));
+    in_a_proof(&lines, name).or_else(|| lines.iter().find_map(|line| in_the_source(line, name)))
+}
+
+/// The file of a place, `FOLDER/NAME/FILE:LINE:COLUMN`.
+fn file_of(place: &str, name: &str) -> Option<String> {
+    let (_, place) = place.split_once(&format!("/{name}/"))?;
+    Some(place.split(':').next()?.to_string())
+}
+
+/// `PLACE: error: `NAME`: MESSAGE`, with the lines below it that are indented.
+fn in_a_proof(lines: &[&str], name: &str) -> Option<Fact> {
+    let is_error = |line: &&str| line.split_once(": error").is_some_and(|(place, _)| !place.contains(' '));
     let at = lines.iter().position(|line| is_error(&line))?;
     let (place, said) = lines[at].split_once(": error: ")?;
-    let file = place.split(&format!("/{name}/")).last()?.split(':').next()?;
     let more = lines[at + 1..].iter().take_while(|line| line.starts_with("  "));
     let whole = [said].into_iter().chain(more.map(|line| line.trim())).collect::<Vec<_>>().join(" ");
-    let (name, message) = match whole.strip_prefix('`').and_then(|rest| rest.split_once("`: ")) {
-        Some((name, message)) => (name.to_string(), message.to_string()),
-        None => (String::new(), whole),
-    };
-    Some(Fact { file: file.to_string(), name, message: plain(&message) })
+    let named = whole.strip_prefix('`').and_then(|rest| rest.split_once("`: "));
+    let (fact, message) = named.unwrap_or(("", &whole));
+    Some(Fact { file: file_of(place, name)?, name: fact.to_string(), message: plain(message) })
+}
+
+/// `note: PLACE: MESSAGE (`NAME`)`
+fn in_the_source(line: &str, name: &str) -> Option<Fact> {
+    let (place, said) = line.strip_prefix("note: ")?.split_once(": ")?;
+    let (message, fact) = said.strip_suffix("`)")?.rsplit_once(" (`")?;
+    let file = file_of(place, name).filter(|_| !place.contains(' '))?;
+    Some(Fact { file, name: fact.to_string(), message: plain(message) })
 }
 
 /// How the comparison of two types begins that says most; one of the types as they are printed may stand before it.
@@ -135,6 +142,16 @@ mod tests {
         );
         assert!(is_fact(&fact.message));
         assert!(first_error("logic=not-proved\n", "k/far").is_none());
+    }
+
+    #[test]
+    fn reads_a_need_at_its_place_in_the_source() {
+        let log = "note: what antt said: /r/k/far/x: no (`f`)\nnote: /r/target/must-fail/k/far/src/lib.rt:16:5: it is not proved that what `f` requires holds at this call (`f-requires`)\nlogic=not-proved\n";
+        let fact = first_error(log, "k/far").unwrap();
+        assert_eq!(
+            fact.shown(),
+            "`src/lib.rt`, `f-requires`: it is not proved that what `f` requires holds at this call"
+        );
     }
 
     #[test]

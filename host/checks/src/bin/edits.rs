@@ -18,26 +18,37 @@ fn edits_of(krate: &str) -> Vec<Edit> {
     paths.iter().map(|path| Edit::parse(krate, &label(path), &read(path))).collect()
 }
 
-/// Every edit with its row: the fact is that of its log, or else that of the document.
+/// The fact of an edit: that of its log, or else that of the document; and what is wrong with it.
+fn fact(edit: &Edit, log: Option<&str>, told: Option<&String>) -> (String, Option<String>) {
+    let name = edit.name();
+    match log.map(|text| log::first_error(text, &name)) {
+        Some(Some(error)) => {
+            let odd = !log::is_fact(&error.message);
+            (
+                error.shown(),
+                odd.then(|| format!("{name}: its first error is no failed fact: {}", error.message)),
+            )
+        }
+        Some(None) => (UNTRIED.to_string(), Some(format!("{name}: its log has no error that names a fact"))),
+        None => (told.cloned().unwrap_or(UNTRIED.to_string()), None),
+    }
+}
+
+/// Every edit with its row, and how many have a log.
 fn rows(crates: &[String], told: &BTreeMap<String, String>, found: &mut Vec<String>) -> (Vec<Row>, usize) {
     let (mut rows, mut logs) = (Vec::new(), 0);
     for edit in crates.iter().flat_map(|krate| edits_of(krate)) {
-        let name = edit.name();
-        let mut fact = told.get(&name).cloned().unwrap_or(UNTRIED.to_string());
-        if let Some(text) = log::of_edit(&edit) {
-            logs += 1;
-            match log::first_error(&text, &name) {
-                Some(error) => {
-                    if !log::is_fact(&error.message) {
-                        found.push(format!("{name}: its first error is no failed fact: {}", error.shown()));
-                    }
-                    fact = error.shown();
-                }
-                None => found.push(format!("{name}: its log has no error that names a fact")),
-            }
-        }
         let krate = edit.krate.clone();
-        rows.push(Row::new(edit, fact, &|file| read(format!("crates/{krate}/{file}"))));
+        let text_of = |file: &str| read(format!("crates/{krate}/{file}"));
+        let edited = edit.edited(&text_of);
+        if edited.is_none() {
+            found.push(format!("{}: it has an old text that does not stand in its file once", edit.name()));
+        }
+        let log = edited.and_then(|texts| log::of_edit(&edit, &texts));
+        logs += usize::from(log.is_some());
+        let (fact, fault) = fact(&edit, log.as_deref(), told.get(&edit.name()));
+        found.extend(fault);
+        rows.push(Row::new(edit, fact, &text_of));
     }
     (rows, logs)
 }
