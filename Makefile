@@ -2,12 +2,13 @@
 # make archive prove the C interface and write the archive that a C or Rust program links, target/staticlib/libusigrambal.a
 # make install the command, the C header and the archive, to PREFIX (default: /usr/local)
 # make test    the gate: format, every proof, every test
-# make bench   the table of ratios, all rows measured in one run
+# make bench   the table of ratios, all rows measured in one run; for README: make bench BENCH="--markdown --peers"
 # make fuzz    each call of the C interface against the second implementation under libFuzzer, 30 s a call; longer: make fuzz SECONDS_PER_CALL=600
 .PHONY: run archive install test bench fuzz
 
 PREFIX = /usr/local
 SECONDS_PER_CALL = 30
+BENCH =
 C_CRATES = c_text c_disk c_flash c_layout
 
 run:
@@ -31,9 +32,10 @@ test:
 bench: archive
 	rt check fmd_list >/dev/null
 	rt staticlib bench_octets >/dev/null
-	tests/peer zlib zlib1g-dev
 	tests/moves
-	cd host && cargo run --release --quiet -p bench
+	host/bench/peers/make
+	cd host && cargo build --release --quiet
+	cd host && cargo run --release --quiet -p bench -- $(BENCH)
 
 fuzz: archive
 	SECONDS_PER_CALL=$(SECONDS_PER_CALL) fuzz/run

@@ -1,8 +1,7 @@
-//! Links what is measured beside the library itself, and the system's zlib.
+//! Links what is measured beside the library itself.
 
 include!("../archive.rs");
 
 fn main() {
     link_archive("bench_octets", "rt staticlib bench_octets");
-    println!("cargo:rustc-link-lib=z");
 }

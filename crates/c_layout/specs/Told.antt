@@ -1,5 +1,4 @@
--- What C is told of a call of the layout language. Definitions, and the statement that an accepted call can't be taken for a refused one.
-use mathlib.Core.Path.{_≡_}
+-- What C is told of a call of the layout language. Definitions only.
 use mathlib.Core.Bool.{cond}
 use mathlib.Core.List.{List, [], _∷_}
 use mathlib.Core.Option.{Option, none, some}
@@ -7,8 +6,7 @@ use Prim.Native.Nat.{ℕ}
 use lib.Dec.{eqb}
 use lib.ListN.{length}
 use Rattle.octets.specs.Rows.{codeOf}
-use Rattle.fmd.specs.Calls.{numberOf, Read, Recorded, Written}
-use Rattle.fmd.specs.declared.Answer.{Answer}
+use Rattle.fmd.specs.Calls.{Read, Recorded, Written}
 use Rattle.fmd.specs.declared.Image.{Image}
 
 -- reading: the result, the name's buffer, and the numbers behind the pointers for size, address and count afterwards
@@ -50,7 +48,3 @@ pub record WriteTold : Type 0 where
 
 abbrev pub writeTold : Written → WriteTold
 writeTold o = record { result = codeOf (o .answer); image = o .image }
-
--- no refusal's number is 0
-abbrev pub ZeroIsAccepted : Type 0
-ZeroIsAccepted = (a : Answer) → codeOf (numberOf a) ≡ 0 → numberOf a ≡ none

@@ -24,38 +24,38 @@ place-none xs k h = ap (λ (a : Area). a .place) (sym (List·getD-eq-default (ar
 -- ---- the numbers looked up
 
 -- of the first i areas
-pub record MatchedTo (olds news : List Area) (twins : List ℕ) (i : ℕ) : Type 0 where
-  pub each : (j : ℕ) → j < i → getD twins j 0 ≡ findIx (named (getD olds j blank .name)) news
+pub record MatchedTo (olds news : List Area) (matches : List ℕ) (i : ℕ) : Type 0 where
+  pub each : (j : ℕ) → j < i → getD matches j 0 ≡ findIx (named (getD olds j blank .name)) news
 
-pub matched-none : (olds news : List Area) (twins : List ℕ) → MatchedTo olds news twins 0
-matched-none olds news twins = record { each = λ j h. absurd (omega (arith, h)) }
+pub matched-none : (olds news : List Area) (matches : List ℕ) → MatchedTo olds news matches 0
+matched-none olds news matches = record { each = λ j h. absurd (omega (arith, h)) }
 
-pub matched-more : (olds news : List Area) (twins : List ℕ) (i v : ℕ) → i < length twins → MatchedTo olds news twins i
-    → v ≡ findIx (named (getD olds i blank .name)) news → MatchedTo olds news (set twins i v) (i + 1)
-matched-more olds news twins i v h m e = record { each = λ j k. go j k (eqb j i) refl }
+pub matched-more : (olds news : List Area) (matches : List ℕ) (i v : ℕ) → i < length matches → MatchedTo olds news matches i
+    → v ≡ findIx (named (getD olds i blank .name)) news → MatchedTo olds news (set matches i v) (i + 1)
+matched-more olds news matches i v h m e = record { each = λ j k. go j k (eqb j i) refl }
   where
-    go : (j : ℕ) → j < i + 1 → (t : Bool) → eqb j i ≡ t → getD (set twins i v) j 0 ≡ findIx (named (getD olds j blank .name)) news
+    go : (j : ℕ) → j < i + 1 → (t : Bool) → eqb j i ≡ t → getD (set matches i v) j 0 ≡ findIx (named (getD olds j blank .name)) news
     go j k true w =
         let q : j ≡ i = eqb-true _ _ w in
-        ap (λ (x : ℕ). getD (set twins i v) x 0) q ∙ getD-set-same twins i v 0 h ∙ e ∙ ap (λ (x : ℕ). findIx (named (getD olds x blank .name)) news) (sym q)
-    go j k false w = let q : j ≡ i → ⊥ = eqb-false _ _ w in getD-set-other twins i j v 0 q ∙ m .each j (omega arith)
+        ap (λ (x : ℕ). getD (set matches i v) x 0) q ∙ getD-set-same matches i v 0 h ∙ e ∙ ap (λ (x : ℕ). findIx (named (getD olds x blank .name)) news) (sym q)
+    go j k false w = let q : j ≡ i → ⊥ = eqb-false _ _ w in getD-set-other matches i j v 0 q ∙ m .each j (omega arith)
 
-pub matched-all : (xs : List ℕ) (news : List Area) (twins : List ℕ) (i : ℕ) → length xs / 42 ≤ i → length xs / 42 ≤ length twins
-    → MatchedTo (areasIn xs) news twins i → Matched (areasIn xs) news twins
-matched-all xs news twins i h l m =
+pub matched-all : (xs : List ℕ) (news : List Area) (matches : List ℕ) (i : ℕ) → length xs / 42 ≤ i → length xs / 42 ≤ length matches
+    → MatchedTo (areasIn xs) news matches i → Matched (areasIn xs) news matches
+matched-all xs news matches i h l m =
     let n = length-areas xs in record { long = omega arith; each = λ j k. m .each j (omega (arith, k)) }
 
-module _ (xs : List ℕ) (news : List Area) (twins : List ℕ) (m : Matched (areasIn xs) news twins) where
-  pub matched-long : (i : ℕ) → i < length xs / 42 → i < length twins
+module _ (xs : List ℕ) (news : List Area) (matches : List ℕ) (m : Matched (areasIn xs) news matches) where
+  pub matched-long : (i : ℕ) → i < length xs / 42 → i < length matches
   matched-long i h = omega (arith, m .long, length-areas xs)
 
-  pub matched-each : (i : ℕ) → i < length xs / 42 → getD twins i 0 ≡ findIx (named (getD (areasIn xs) i blank .name)) news
+  pub matched-each : (i : ℕ) → i < length xs / 42 → getD matches i 0 ≡ findIx (named (getD (areasIn xs) i blank .name)) news
   matched-each i h = m .each i (omega (arith, length-areas xs))
 
-  pub matched-at : (i : ℕ) (b : List ℕ) → i < length xs / 42 → areaOf b ≡ getD (areasIn xs) i blank → getD twins i 0 ≡ findIx (named (areaOf b .name)) news
+  pub matched-at : (i : ℕ) (b : List ℕ) → i < length xs / 42 → areaOf b ≡ getD (areasIn xs) i blank → getD matches i 0 ≡ findIx (named (areaOf b .name)) news
   matched-at i b h e = matched-each i h ∙ ap (λ (a : Area). findIx (named (a .name)) news) (sym e)
 
-  pub target-at : (i : ℕ) (x : Extent) → i < length xs / 42 → x ≡ getD news (getD twins i 0) blank .place → x ≡ target news (getD (areasIn xs) i blank)
+  pub target-at : (i : ℕ) (x : Extent) → i < length xs / 42 → x ≡ getD news (getD matches i 0) blank .place → x ≡ target news (getD (areasIn xs) i blank)
   unfolding withName
   target-at i x h e = e ∙ ap (λ (k : ℕ). getD news k blank .place) (matched-each i h)
 
@@ -98,10 +98,10 @@ clear-by : (news : List Area) (a b : Area) (x y : Extent) → x ≡ target news 
 unfolding clear
 clear-by news a b x y p q = ap₂ (λ (u v : Extent). clearBy a u b v) p q
 
-module _ (xs : List ℕ) (news : List Area) (twins : List ℕ) (m : Matched (areasIn xs) news twins) (i j : ℕ) (h : i < length xs / 42) (k : j < length xs / 42) where
+module _ (xs : List ℕ) (news : List Area) (matches : List ℕ) (m : Matched (areasIn xs) news matches) (i j : ℕ) (h : i < length xs / 42) (k : j < length xs / 42) where
   pub clear-at : (a b : List ℕ) (x y : Extent) → areaOf a ≡ getD (areasIn xs) i blank → areaOf b ≡ getD (areasIn xs) j blank
-      → x ≡ getD news (getD twins i 0) blank .place → y ≡ getD news (getD twins j 0) blank .place
+      → x ≡ getD news (getD matches i 0) blank .place → y ≡ getD news (getD matches j 0) blank .place
       → clear news (getD (areasIn xs) i blank) (areaOf b) ≡ clearBy (areaOf a) x (areaOf b) y
   clear-at a b x y p q r t =
       ap (λ (l : Area). clear news l (areaOf b)) (sym p)
-      ∙ sym (clear-by news (areaOf a) (areaOf b) x y (target-at xs news twins m i x h r ∙ ap (target news) (sym p)) (target-at xs news twins m j y k t ∙ ap (target news) (sym q)))
+      ∙ sym (clear-by news (areaOf a) (areaOf b) x y (target-at xs news matches m i x h r ∙ ap (target news) (sym p)) (target-at xs news matches m j y k t ∙ ap (target news) (sym q)))

@@ -87,9 +87,9 @@ carryAreas old olds new news = outcome (refusal (carryRows olds news)) (carried 
 -- ---- what the functions hand each other
 
 -- for each old area the number of the new one with its name; their count where there is none
-pub record Matched (olds news : List Area) (twins : List ℕ) : Type 0 where
-  pub long : length olds ≤ length twins
-  pub each : (i : ℕ) → i < length olds → getD twins i 0 ≡ findIx (named (getD olds i blank .name)) news
+pub record Matched (olds news : List Area) (matches : List ℕ) : Type 0 where
+  pub long : length olds ≤ length matches
+  pub each : (i : ℕ) → i < length olds → getD matches i 0 ≡ findIx (named (getD olds i blank .name)) news
 
 -- an area that is carried lies in the old image, and where it goes lies in the new one and has its size
 pub record Fit (oldLength newLength : ℕ) (news : List Area) (a : Area) : Type 0 where

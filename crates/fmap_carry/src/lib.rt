@@ -42,16 +42,16 @@ fn place_of(areas: &[u8], k: usize) -> Extent
 }
 
 // For each old area the number of the new one with its name.
-pub fn match_areas(olds: &[u8], news: &[u8], twins: &mut [u8])
-    requires { ⌜ (length (now olds) / 42 ≤ length (now twins)) × (length (now news) / 42 ≤ 128) ⌝ }
-    ensures { λ _. ⌜ Matched (areasIn (now (olds .entry))) (areasIn (now (news .entry))) (now (twins .exit)) ⌝ }
+pub fn match_areas(olds: &[u8], news: &[u8], matches: &mut [u8])
+    requires { ⌜ (length (now olds) / 42 ≤ length (now matches)) × (length (now news) / 42 ≤ 128) ⌝ }
+    ensures { λ _. ⌜ Matched (areasIn (now (olds .entry))) (areasIn (now (news .entry))) (now (matches .exit)) ⌝ }
 {
     let n = olds.len() / 42;
     let mut i = 0;
     while i < n {
         let a = fmap_rules::area_at(olds, i);
         let k = fmap_rules::find_named(news, &a[8..40]);
-        twins[i] = k as u8;
+        matches[i] = k as u8;
         i += 1;
     }
 }
@@ -66,14 +66,14 @@ fn is_missing(a: &[u8], news: &[u8], k: usize) -> bool
     k == news.len() / 42
 }
 
-fn some_missing(olds: &[u8], news: &[u8], twins: &[u8]) -> bool
-    requires { ⌜ Matched (areasIn (now olds)) (areasIn (now news)) (now twins) ⌝ }
+fn some_missing(olds: &[u8], news: &[u8], matches: &[u8]) -> bool
+    requires { ⌜ Matched (areasIn (now olds)) (areasIn (now news)) (now matches) ⌝ }
     ensures { λ r. ⌜ r ≡ any (missing (areasIn (now (news .entry)))) (areasIn (now (olds .entry))) ⌝ }
 {
     let n = olds.len() / 42;
     let mut i = 0;
     while i < n {
-        if is_missing(fmap_rules::area_at(olds, i), news, twins[i] as usize) {
+        if is_missing(fmap_rules::area_at(olds, i), news, matches[i] as usize) {
             return true;
         }
         i += 1;
@@ -91,14 +91,14 @@ fn is_other_size(a: &[u8], news: &[u8], k: usize) -> bool
     fmap_rules::extent_of(a).size != place_of(news, k).size
 }
 
-fn some_other_size(olds: &[u8], news: &[u8], twins: &[u8]) -> bool
-    requires { ⌜ Matched (areasIn (now olds)) (areasIn (now news)) (now twins) ⌝ }
+fn some_other_size(olds: &[u8], news: &[u8], matches: &[u8]) -> bool
+    requires { ⌜ Matched (areasIn (now olds)) (areasIn (now news)) (now matches) ⌝ }
     ensures { λ r. ⌜ r ≡ any (otherSize (areasIn (now (news .entry)))) (areasIn (now (olds .entry))) ⌝ }
 {
     let n = olds.len() / 42;
     let mut i = 0;
     while i < n {
-        if is_other_size(fmap_rules::area_at(olds, i), news, twins[i] as usize) {
+        if is_other_size(fmap_rules::area_at(olds, i), news, matches[i] as usize) {
             return true;
         }
         i += 1;
@@ -124,15 +124,15 @@ fn is_clear(a: &[u8], x: Extent, b: &[u8], y: Extent) -> bool
 }
 
 // Area i goes with each later one.
-fn clear_of_later(olds: &[u8], news: &[u8], twins: &[u8], i: usize) -> bool
-    requires { ⌜ Matched (areasIn (now olds)) (areasIn (now news)) (now twins) × (i < length (now olds) / 42) ⌝ }
+fn clear_of_later(olds: &[u8], news: &[u8], matches: &[u8], i: usize) -> bool
+    requires { ⌜ Matched (areasIn (now olds)) (areasIn (now news)) (now matches) × (i < length (now olds) / 42) ⌝ }
     ensures { λ r. ⌜ r ≡ all (clear (areasIn (now (news .entry))) (getD (areasIn (now (olds .entry))) i blank)) (drop (i + 1) (areasIn (now (olds .entry)))) ⌝ }
 {
-    let x = place_of(news, twins[i] as usize);
+    let x = place_of(news, matches[i] as usize);
     let n = olds.len() / 42;
     let mut j = i + 1;
     while j < n {
-        let y = place_of(news, twins[j] as usize);
+        let y = place_of(news, matches[j] as usize);
         if !is_clear(
             fmap_rules::area_at(olds, i),
             x,
@@ -146,14 +146,14 @@ fn clear_of_later(olds: &[u8], news: &[u8], twins: &[u8], i: usize) -> bool
     true
 }
 
-fn all_clear(olds: &[u8], news: &[u8], twins: &[u8]) -> bool
-    requires { ⌜ Matched (areasIn (now olds)) (areasIn (now news)) (now twins) ⌝ }
+fn all_clear(olds: &[u8], news: &[u8], matches: &[u8]) -> bool
+    requires { ⌜ Matched (areasIn (now olds)) (areasIn (now news)) (now matches) ⌝ }
     ensures { λ r. ⌜ r ≡ pairs (clear (areasIn (now (news .entry)))) (areasIn (now (olds .entry))) ⌝ }
 {
     let n = olds.len() / 42;
     let mut i = 0;
     while i < n {
-        if !clear_of_later(olds, news, twins, i) {
+        if !clear_of_later(olds, news, matches, i) {
             return false;
         }
         i += 1;
@@ -184,15 +184,15 @@ fn is_on_map(a: &[u8], news: &[u8], k: usize, f: Extent) -> bool
     !fmap_rules::is_disjoint(place_of(news, k), f)
 }
 
-fn some_on_map(olds: &[u8], news: &[u8], twins: &[u8]) -> bool
-    requires { ⌜ Matched (areasIn (now olds)) (areasIn (now news)) (now twins) ⌝ }
+fn some_on_map(olds: &[u8], news: &[u8], matches: &[u8]) -> bool
+    requires { ⌜ Matched (areasIn (now olds)) (areasIn (now news)) (now matches) ⌝ }
     ensures { λ r. ⌜ r ≡ any (onMap (areasIn (now (news .entry)))) (areasIn (now (olds .entry))) ⌝ }
 {
     let f = map_place(news);
     let n = olds.len() / 42;
     let mut i = 0;
     while i < n {
-        if is_on_map(fmap_rules::area_at(olds, i), news, twins[i] as usize, f) {
+        if is_on_map(fmap_rules::area_at(olds, i), news, matches[i] as usize, f) {
             return true;
         }
         i += 1;
@@ -201,20 +201,20 @@ fn some_on_map(olds: &[u8], news: &[u8], twins: &[u8]) -> bool
 }
 
 // Judges a carry by the areas of two maps; writes nothing.
-pub fn judge(olds: &[u8], news: &[u8], twins: &[u8]) -> Judged
-    requires { ⌜ Matched (areasIn (now olds)) (areasIn (now news)) (now twins) ⌝ }
+pub fn judge(olds: &[u8], news: &[u8], matches: &[u8]) -> Judged
+    requires { ⌜ Matched (areasIn (now olds)) (areasIn (now news)) (now matches) ⌝ }
     ensures { λ r. ⌜ judgedNumber r ≡ refusal (carryRows (areasIn (now (olds .entry))) (areasIn (now (news .entry)))) ⌝ }
 {
-    if some_missing(olds, news, twins) {
+    if some_missing(olds, news, matches) {
         return Judged::Missing;
     }
-    if some_other_size(olds, news, twins) {
+    if some_other_size(olds, news, matches) {
         return Judged::OtherSize;
     }
-    if !all_clear(olds, news, twins) {
+    if !all_clear(olds, news, matches) {
         return Judged::Shared;
     }
-    if some_on_map(olds, news, twins) {
+    if some_on_map(olds, news, matches) {
         return Judged::OnMap;
     }
     Judged::Free
@@ -243,8 +243,8 @@ fn carry_area(old: &[u8], a: &[u8], news: &[u8], k: usize, new: &mut [u8])
 }
 
 // Writes each preserved area into the new image.
-pub fn write_areas(old: &[u8], olds: &[u8], new: &mut [u8], news: &[u8], twins: &[u8])
-    requires { ⌜ Matched (areasIn (now olds)) (areasIn (now news)) (now twins)
+pub fn write_areas(old: &[u8], olds: &[u8], new: &mut [u8], news: &[u8], matches: &[u8])
+    requires { ⌜ Matched (areasIn (now olds)) (areasIn (now news)) (now matches)
         × Fitting (length (now old)) (length (now new)) (areasIn (now news)) (areasIn (now olds)) ⌝ }
     ensures { λ _. ⌜ now (new .exit) ≡ carried (now (old .entry)) (areasIn (now (news .entry))) (areasIn (now (olds .entry))) (now (new .entry)) ⌝ }
 {
@@ -255,7 +255,7 @@ pub fn write_areas(old: &[u8], olds: &[u8], new: &mut [u8], news: &[u8], twins: 
             old,
             fmap_rules::area_at(olds, i),
             news,
-            twins[i] as usize,
+            matches[i] as usize,
             new,
         );
         i += 1;
@@ -269,15 +269,15 @@ pub fn carry_areas(old: &[u8], olds: &[u8], new: &mut [u8], news: &[u8]) -> Judg
     ensures { λ r. ⌜ record { answer = judgedNumber r; image = now (new .exit) }
         ≡ carryAreas (now (old .entry)) (areasIn (now (olds .entry))) (now (new .entry)) (areasIn (now (news .entry))) ⌝ }
 {
-    let mut twins = [0u8; 128];
-    match_areas(olds, news, &mut twins);
-    match judge(olds, news, &twins) {
+    let mut matches = [0u8; 128];
+    match_areas(olds, news, &mut matches);
+    match judge(olds, news, &matches) {
         Judged::Missing => Judged::Missing,
         Judged::OtherSize => Judged::OtherSize,
         Judged::Shared => Judged::Shared,
         Judged::OnMap => Judged::OnMap,
         Judged::Free => {
-            write_areas(old, olds, new, news, &twins);
+            write_areas(old, olds, new, news, &matches);
             Judged::Free
         }
     }

@@ -10,10 +10,9 @@ use Rattle.octets.specs.Tests.{all, any, pairs}
 use Rattle.octets.specs.Bytes.{part, rest}
 use Rattle.octets.proofs.Bools.{and-l, and-r, and-t, and-f}
 use Rattle.octets.proofs.Tests.{all-get}
-use Rattle.octets.proofs.Parts.{length-part, length-rest, rest-slice}
+use Rattle.octets.proofs.Parts.{length-rest, rest-slice}
 use Rattle.fmap_rules.specs.declared.Area.{Area}
 use Rattle.fmap_rules.specs.Map.{signed, countOf, mapSize, areasIn, areasOf, blank, endOf, goodHeader, goodArea, goodPair, goodAreas, goodMap, holdsMap}
-use Rattle.fmap_rules.proofs.Areas.{length-areas}
 
 -- what lets a map's bytes be read; m is the bytes from its position on
 pub record Fits (m : List ℕ) : Type 0 where
@@ -59,12 +58,6 @@ module _ (image : List ℕ) (at : ℕ) (g : goodMap image at ≡ true) where
 
   pub good-within : at + mapSize (countOf (rest at image)) ≤ length image
   good-within = omega (arith, good-fits .whole, good-fits .some, length-rest image at)
-
-pub length-of : (m : List ℕ) → mapSize (countOf m) ≤ length m → length (areasOf m) ≡ countOf m
-unfolding areasOf
-length-of m h =
-    let l = length-part m 56 (42 * countOf m) (omega arith) in
-    length-areas (part 56 (42 * countOf m) m) ∙ omega arith
 
 -- an unsigned position has no good map
 pub unsigned-bad : (image : List ℕ) (at : ℕ) → signed (rest at image) ≡ false → goodMap image at ≡ false

@@ -249,7 +249,7 @@ fn count_of(m: &[u8]) -> usize
 }
 
 // The bytes of all areas.
-fn areas_of<'a>(m: &'a [u8]) -> &'a [u8]
+fn areas_part<'a>(m: &'a [u8]) -> &'a [u8]
     requires { ⌜ mapSize (countOf (now m)) ≤ length (now m) ⌝ }
     ensures { λ r. ⌜ (now r ≡ part 56 (42 * countOf (now (m .entry))) (now (m .entry))) × (length (now r) ≡ 42 * countOf (now (m .entry))) ⌝ }
 {
@@ -307,7 +307,7 @@ pub fn good_at(image: &[u8], at: ImagePosition) -> bool
     if !good_header(m, image.len()) {
         return false;
     }
-    good_areas(areas_of(m), image.len(), at)
+    good_areas(areas_part(m), image.len(), at)
 }
 
 // The bytes of the areas of a good map.
@@ -316,5 +316,5 @@ pub fn areas_at<'a>(image: &'a [u8], at: ImagePosition) -> &'a [u8]
     ensures { λ r. ⌜ (areasIn (now r) ≡ areasOf (rest (at .0) (now (image .entry)))) × (length (now r) ≤ 5376) ⌝ }
 {
     let a = at.0 as usize;
-    areas_of(&image[a..])
+    areas_part(&image[a..])
 }

@@ -38,10 +38,6 @@ numberOf Undecided = some 57
 numberOf Unfit = some 58
 numberOf NoMapSection = some 59
 
--- the answer that a number stands for; 0 for Accepted
-abbrev pub answerAs : ℕ → Option ℕ
-answerAs k = cond (eqb k 0) none (some k)
-
 -- ---- what a layout text says
 
 -- no image, where a text is refused

@@ -7,6 +7,7 @@ use mathlib.Core.Option.{none, some}
 use Prim.Native.Nat.{ℕ, _+_, _≤_, _<_}
 use lib.ListN.{length, getD}
 use Rattle.octets.specs.Bytes.{rest}
+use Rattle.octets.specs.Rows.{codeOf}
 use Rattle.fmap_rules.specs.Map.{blank, mapSize, areasOf, goodMap}
 use Rattle.fmap_rules.specs.Written.{Writable, Headed}
 use Rattle.fmap.specs.Find.{accepted, findMap}
@@ -16,7 +17,12 @@ use Rattle.fmd_plan.specs.declared.Placed.{Placed}
 use Rattle.fmd_check.specs.Check.{good, checkText}
 use Rattle.fmd_areas.specs.Areas.{areaAt}
 use Rattle.fmd_areas.specs.Nested.{Nested}
-use Rattle.fmd.specs.Calls.{Said, layoutIn, writeText}
+use Rattle.fmd.specs.Calls.{numberOf, Said, layoutIn, writeText}
+use Rattle.fmd.specs.declared.Answer.{Answer}
+
+-- no refusal's number is 0
+abbrev pub ZeroIsAccepted : Type 0
+ZeroIsAccepted = (a : Answer) → codeOf (numberOf a) ≡ 0 → numberOf a ≡ none
 
 -- (L14), (L15) sections lie in their parents and in the image, and any two, at any depth, are disjoint or one lies in the other
 abbrev pub SectionsNested : Type 0

@@ -4,13 +4,14 @@ ghost use mathlib.Core.Option.{none, some};
 ghost use mathlib.Core.Path.{_≡_};
 ghost use Prim.Native.Nat.{_+_, _≤_, _<_};
 ghost use lib.ListN.{length, getD};
+ghost use Rattle.octets.specs.Rows.{codeOf};
 ghost use Rattle.fmap_rules.specs.Map.{blank, mapSize};
 ghost use Rattle.fmap_write.specs.Areas.{listOf, Sound};
 ghost use Rattle.fmd_parse.specs.Layouts.{listOf as sectionsOf, Sound as SoundList};
 ghost use Rattle.fmd_plan.specs.Plans.{planOf, Sound as SoundPlan};
 ghost use Rattle.fmd_check.specs.Check.{good};
 ghost use Rattle.fmd_check.specs.Facts.{Numbered, Accepted};
-ghost use Rattle.fmd.specs.Calls.{numberOf, answerAs, said, refusedWith, baseOf, imageOf, saidBy, layoutIn, layoutFor, reading, readText, sectionOf, filled, listed, listText, recorded, recordText, written, writeBy, writeText};
+ghost use Rattle.fmd.specs.Calls.{numberOf, said, refusedWith, baseOf, imageOf, saidBy, layoutIn, layoutFor, reading, readText, sectionOf, filled, listed, listText, recorded, recordText, written, writeBy, writeText};
 use fmap_rules::Area;
 use fmap_rules::Extent;
 use fmap_rules::ImagePosition;
@@ -68,7 +69,7 @@ pub struct Layout {
 
 // The number of an answer; 0 for Accepted.
 pub fn number(a: Answer) -> u32
-    ensures { λ r. ⌜ (answerAs r ≡ numberOf a) × (r < 60) ⌝ }
+    ensures { λ r. ⌜ r ≡ codeOf (numberOf a) ⌝ }
 {
     match a {
         Answer::Accepted => 0,

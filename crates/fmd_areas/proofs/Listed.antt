@@ -1,19 +1,15 @@
 -- Laws of the functions over the places of a plan, and of the loop over all sections.
 use mathlib.Core.Path.{_≡_, refl, sym, ap, _∙_}
-use mathlib.Core.Bool.{Bool, true, false}
 use mathlib.Core.List.{List, [], _∷_, _++_, append-assoc, append-nil}
 use Prim.Native.Nat.{ℕ, zero, suc, _+_, _-_, _≤_, _<_}
 use native.Mathlib.Nat.{sub-zero}
 use native.Mathlib.Numerals.{add-one, sub-one}
 use native.Mathlib.Omega.{arith}
-use lib.Dec.{ltb}
-use lib.ListN.{length, getD, set, take, drop, length-drop}
-use lib.Seq.{take-all, getD-set-same, getD-set-other}
-use borrow.Author.Tests.{ltb-true, ltb-false}
+use lib.ListN.{length, getD, take, drop, length-drop}
+use lib.Seq.{take-all}
 use Rattle.octets.specs.Bytes.{part, put, zeros}
 use Rattle.octets.proofs.Parts.{length-part, length-zeros, part-zeros}
 use Rattle.octets.proofs.Puts.{put-eq}
-use Rattle.fmap_rules.specs.Map.{blank as blankArea}
 use Rattle.fmap_rules.specs.declared.Area.{Area}
 use Rattle.fmap_write.specs.Areas.{listOf}
 use Rattle.fmap_write.specs.declared.Areas.{Areas}
@@ -29,7 +25,7 @@ use Rattle.fmd_plan.specs.declared.Plan.{Plan}
 use Rattle.fmd_plan.proofs.Plans.{counted, item}
 use Rattle.fmd_areas.specs.Areas.{positionIn, Climbs, storedName, areaFrom, areaAt, areasFrom, areasOf}
 use Rattle.fmd_areas.proofs.Places.{climbs, ends}
-use Rattle.fmd_areas.proofs.Names.{length-name, name-short}
+use Rattle.fmd_areas.proofs.Names.{name-short}
 
 -- ---- names
 
@@ -49,15 +45,6 @@ name-stored s name place n h g e =
     let z = length-zeros 32 in
     let c : 0 + length (take n (drop place s)) ≡ n = omega arith in
     e ∙ rw (k, put-eq 0 (take n (drop place s)) (zeros 32) (omega arith), c, rest-zeros n 32 g)
-
--- the names of a list with one area more
-pub names-push : (l : List Area) (n : ℕ) (a : Area) → n < length l → ((k : ℕ) → k < n → length (getD l k blankArea .name) ≡ 32) → length (a .name) ≡ 32
-    → (k : ℕ) → k < n + 1 → length (getD (set l n a) k blankArea .name) ≡ 32
-names-push l n a h f e k q = by-place (ltb k n) refl
-  where
-    by-place : (b : Bool) → ltb k n ≡ b → length (getD (set l n a) k blankArea .name) ≡ 32
-    by-place true t = let x = ltb-true k n t in rw (getD-set-other l n k a blankArea (λ i. omega arith)) (f k x)
-    by-place false t = let x : k ≡ n = omega (arith, ltb-false k n t) in rw (x, getD-set-same l n a blankArea h) e
 
 -- ---- a section of a level and its parent
 
@@ -117,10 +104,6 @@ module _ (s : List ℕ) (l : Sections) (p : Plan) (g : Ready s l p) where
         rw (itemOf l (g .0) k in-list) at (name-short (g .2 .each k (omega (arith, countedList l (g .0), in-list)) .named))
 
     module _ (a : Area) (at : ℕ) (e : a ≡ areaFrom s (getD (l .items) k blankSection) (getD (p .items) k blank) at) where
-      pub name-full : length (a .name) ≡ 32
-      unfolding areaFrom
-      name-full = let n = name-fits in rw e (length-name s _ _ (n .0) (n .1))
-
       area-is : at ≡ positionIn (getD (p .items) k blank .level) (planOf p) k → a ≡ areaAt s (sectionsOf l) (planOf p) k
       unfolding areaAt
       area-is q = rw (e, q, itemOf l (g .0) k in-list, item p (g .1) k h)

@@ -23,7 +23,7 @@ use Rattle.fmd_rows.specs.Rows.{repeats, fmap, isFmap}
 use Rattle.fmd_plan.specs.declared.Placed.{Placed}
 use Rattle.fmd_areas.specs.Areas.{storedName, areaFrom, areaAt}
 
-pub length-name : (s : List ℕ) (p n : ℕ) → p + n ≤ length s → n ≤ 32 → length (storedName s p n) ≡ 32
+length-name : (s : List ℕ) (p n : ℕ) → p + n ≤ length s → n ≤ 32 → length (storedName s p n) ≡ 32
 unfolding storedName
 length-name s p n h g = simp (length-append, length-zeros) (omega (arith, length-part s p n h))
 

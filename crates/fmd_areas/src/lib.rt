@@ -82,7 +82,7 @@ fn nothing() -> Areas
 
 // The list with one area more.
 fn pushed(m: Areas, a: Area) -> Areas
-    requires { ⌜ Sound m × (m .count < 128) × (length (a .name) ≡ 32) ⌝ }
+    requires { ⌜ Sound m × (m .count < 128) ⌝ }
     ensures { λ r. ⌜ Sound r × (r .count ≡ m .count + 1) × (listOf r ≡ listOf m ++ (a ∷ [])) ⌝ }
 {
     let mut t = m;

@@ -16,7 +16,7 @@ use Rattle.fmd_parse.specs.Layouts.{Layout, layout, refused, layoutOf}
 use Rattle.fmd_parse.specs.declared.Section.{Section}
 use Rattle.fmd_parse.specs.declared.Image.{Image}
 use Rattle.fmd_parse.proofs.Trees.{layout-facts}
-use Rattle.fmd_rows.specs.Rows.{firstFrom, repeats, firstRepeat, holdsCbfs, firstCbfs, undecided, firstUndecided, isFmap, fmapIn, hasChild}
+use Rattle.fmd_rows.specs.Rows.{foundFrom, repeats, firstRepeat, holdsCbfs, firstCbfs, undecided, firstUndecided, isFmap, fmapIn, hasChild}
 use Rattle.fmd_rows.specs.declared.Found.{Found}
 use Rattle.fmd_rows.specs.declared.Found.the-variants.{At, Nowhere}
 use Rattle.fmd_rows.proofs.Rows.{FirstFacts, first-facts}
@@ -46,8 +46,8 @@ module _ (s : List ℕ) (i : Image) (l : List Section) (short : length s ≤ 327
 
   -- a row over the whole list: its fault, or the next one with what was found not to be
   row-facts : (p : ℕ → Bool) (n : ℕ) (c : Judged) → Numbered n → (((k : ℕ) → k < length l → p k ≡ false) → CheckedFacts s c)
-      → CheckedFacts s (atSection l n (firstFrom p (length l) 0) c)
-  row-facts p n c e g = by-found (firstFrom p (length l) 0) (first-facts p (length l) 0)
+      → CheckedFacts s (atSection l n (foundFrom p (length l) 0) c)
+  row-facts p n c e g = by-found (foundFrom p (length l) 0) (first-facts p (length l) 0)
     where
       by-found : (f : Found) → FirstFacts p (length l) 0 f → CheckedFacts s (atSection l n f c)
       by-found (At k) w = (e, here k (omega (arith, w .0)))
@@ -75,7 +75,7 @@ module _ (s : List ℕ) (i : Image) (l : List Section) (short : length s ≤ 327
 
       map-facts : CheckedFacts s (checkMap s i l ps)
       unfolding checkMap fmapIn _or_
-      map-facts = by-found (firstFrom (isFmap s l) (length l) 0) (first-facts (isFmap s l) (length l) 0)
+      map-facts = by-found (foundFrom (isFmap s l) (length l) 0) (first-facts (isFmap s l) (length l) 0)
         where
           by-found : (f : Found) → FirstFacts (isFmap s l) (length l) 0 f → CheckedFacts s (atMap s f (checkLeaf i l ps))
           by-found (At k) w = leaf-facts k (omega (arith, w .0)) (w .1)

@@ -8,7 +8,7 @@ use lib.ListN.{length}
 use Rattle.fmd_parse.specs.Layouts.{listOf, Sound}
 use Rattle.fmd_parse.specs.declared.Sections.{Sections}
 use Rattle.fmd_parse.proofs.Layouts.{counted}
-use Rattle.fmd_rows.specs.Rows.{firstFrom}
+use Rattle.fmd_rows.specs.Rows.{foundFrom}
 use Rattle.fmd_rows.specs.declared.Found.the-variants.{At}
 use Rattle.fmd_rows.proofs.Rows.{FirstFacts, first-facts}
 use Rattle.fmd_plan.specs.Plans.{planOf, unfit, plan, resolveFrom, Sound as SoundPlan}
@@ -18,7 +18,7 @@ use Rattle.fmd_plan.proofs.Plans.{counted as countedPlan}
 use Rattle.fmd_plan.proofs.Fitted.{resolve-facts}
 
 module _ (l : Sections) (g : Sound l) where
-  pub found-below : (p : ℕ → Bool) (k : ℕ) → firstFrom p (length (listOf l)) 0 ≡ At k → k < l .count
+  pub found-below : (p : ℕ → Bool) (k : ℕ) → foundFrom p (length (listOf l)) 0 ≡ At k → k < l .count
   found-below p k e = let w : FirstFacts p (length (listOf l)) 0 (At k) = rw e at (first-facts p (length (listOf l)) 0) in omega (arith, w .0, counted l g)
 
   module _ (z : ℕ) where

@@ -1,22 +1,21 @@
 -- Laws of the listing: what a lent section list says of the text.
 use mathlib.Core.Path.{_≡_, refl, sym, ap, ap₂, _∙_}
-use mathlib.Core.Bool.{true, false}
 use mathlib.Core.List.{List, _++_, map}
 use Prim.Native.Nat.{ℕ, _≤_, _<_}
 use native.Mathlib.Omega.{arith}
-use borrow.Author.Tests.{eq-eqb, ne-eqb}
-use lib.Dec.{eqb}
 use lib.ListN.{length, take, drop, length-map}
 use lib.Seq.{take-at}
 use Rattle.octets.specs.Ascii.{ascii}
 use Rattle.octets.specs.Bytes.{flat}
+use Rattle.octets.specs.Rows.{codeOf}
 use Rattle.fmd_check.specs.Check.{Judged, fault, good, checkText}
 use Rattle.fmd_check.specs.Facts.{CheckedFacts}
 use Rattle.fmd_check.proofs.Facts.{check-facts}
 use Rattle.fmd_areas.proofs.Shape.{length-areas}
-use Rattle.fmd.specs.Calls.{Listed, numberOf, answerAs, imageOf, saidBy, layoutIn, sectionOf, listBy, layoutFor, listText, listed}
+use Rattle.fmd.specs.Calls.{Listed, numberOf, imageOf, saidBy, layoutIn, sectionOf, listBy, layoutFor, listText, listed}
 use Rattle.fmd.specs.declared.Reading.{Reading}
 use Rattle.fmd.specs.declared.Section.{Section}
+use Rattle.fmd.proofs.Answers.{refused-by, accepted-by}
 use Rattle.fmd_lines.specs.Lines.{sectionLine, imageLine, numberedLine, linesOf, listingOf}
 
 -- ---- an image has as many sections as it says, and at most 128
@@ -53,16 +52,13 @@ module _ (s : List ℕ) (r : Reading) (ys zs : List Section) (n : length ys ≡ 
       (take-at xs (drop (length xs) ys) (layoutIn s .image .count) (length-map (layoutIn s .areas) sectionOf ∙ sym (count-is s .0)))
 
   -- the number k that the answer has, or 0
-  module _ (k : ℕ) (f : answerAs k ≡ numberOf (r .answer)) where
+  module _ (k : ℕ) (f : k ≡ codeOf (numberOf (r .answer))) where
     pub refused-lines : 0 < k → numberedLine (ascii "refused") k ≡ listingOf s
     unfolding listingOf
-    refused-lines h =
-        let t : eqb k 0 ≡ false = ne-eqb k 0 (λ z. omega (arith, z)) in
-        ap (linesOf (layoutIn s)) (rw t at (f ∙ answer-is))
+    refused-lines h = ap (linesOf (layoutIn s)) (sym (refused-by (r .answer) k f h) ∙ answer-is)
 
     pub accepted-lines : k ≤ 0 → imageLine (r .image) ++ flat (map sectionLine (take (r .image .count) zs)) ≡ listingOf s
     unfolding listingOf
     accepted-lines h =
-        let t : eqb k 0 ≡ true = eq-eqb k 0 (omega arith) in
         ap₂ _++_ (ap imageLine image-is) (ap (λ (xs : List Section). flat (map sectionLine xs)) sections-are)
-        ∙ ap (linesOf (layoutIn s)) (rw t at (f ∙ answer-is))
+        ∙ ap (linesOf (layoutIn s)) (sym (accepted-by (r .answer) k f h) ∙ answer-is)

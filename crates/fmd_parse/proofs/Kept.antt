@@ -11,7 +11,7 @@ use borrow.Author.Tests.{leb-false, ltb-false, eqb-true}
 use Rattle.octets.specs.Tests.{_or_, all}
 use Rattle.octets.specs.Rows.{pickRow}
 use Rattle.octets.proofs.Bools.{choice, not-f}
-use Rattle.fmd_lex.specs.Chars.{isDigit, isWord as isWordByte}
+use Rattle.fmd_lex.specs.Chars.{isDigit, isWord}
 use Rattle.fmd_lex.specs.Tokens.{wordKind, tokenAt, bytesOf, Within}
 use Rattle.fmd_lex.specs.Numbers.{numberOf}
 use Rattle.fmd_lex.specs.Names.{goodName, flagOf}
@@ -23,7 +23,7 @@ use Rattle.fmd_lex.specs.declared.Flag.the-variants.{Cbfs, Preserve, Unknown}
 use Rattle.fmd_lex.proofs.Numbers.{NumberFits, number-fits}
 use Rattle.fmd_lex.proofs.Tokens.{earlier}
 use Rattle.fmd_lex.proofs.Places.{token-within, word-bytes}
-use Rattle.fmd_parse.specs.Heads.{next, isWord, isSign, counted, amountAt, onward, judged, namedAt, marked, flagAt, lastAt, otherAt, flagsAt, withOffset, offsetAt, withSize, sizeAt, headAt}
+use Rattle.fmd_parse.specs.Heads.{next, isKind, counted, amountAt, onward, judged, namedAt, marked, markAt, lastAt, otherAt, flagsAt, withOffset, offsetAt, withSize, sizeAt, headAt}
 use Rattle.fmd_parse.specs.Trees.{Numbered, Named}
 use Rattle.fmd_parse.specs.declared.Section.{Section}
 use Rattle.fmd_parse.specs.declared.Amount.{Amount}
@@ -35,7 +35,7 @@ use Rattle.fmd_parse.specs.declared.Part.the-variants.{Read, Fault}
 
 pub record From (s : List ℕ) (at : ℕ) (u : Token) : Type 0 where
   pub within : Within (length s) at u
-  pub word : u .kind ≡ wordKind → all isWordByte (bytesOf s u) ≡ true
+  pub word : u .kind ≡ wordKind → all isWord (bytesOf s u) ≡ true
 
 pub token-from : (s : List ℕ) (at : ℕ) → at ≤ length s → From s at (tokenAt s at)
 token-from s at h = record { within = token-within s at h; word = word-bytes s at }
@@ -74,7 +74,7 @@ AmountFrom s a (Uncounted k p) = Faulty s k p
 pub amount-from : {s : List ℕ} {a : ℕ} {t : Token} → From s a t → AmountFrom s (t .end) (amountAt s t)
 unfolding amountAt _or_
 amount-from {s} {a} {t} w =
-    choice (AmountFrom s (t .end)) (isWord t) _ _ (λ e. by-number (numberOf (bytesOf s t)) (number-fits (bytesOf s t))) (λ e. fault-here w 51 refl)
+    choice (AmountFrom s (t .end)) (isKind wordKind t) _ _ (λ e. by-number (numberOf (bytesOf s t)) (number-fits (bytesOf s t))) (λ e. fault-here w 51 refl)
   where
     by-number : (n : Number) → NumberFits n → AmountFrom s (t .end) (counted s t n)
     by-number (Value n) h = (next-from w, h)
@@ -109,9 +109,9 @@ onward-keeps s a b h (Read k u) f w o g =
 onward-keeps s a b h (Fault n p) f w o g = w
 
 module _ {s : List ℕ} {a : ℕ} {t : Token} (w : From s a t) (h : Section) where
-  flag-keeps : Keeps s (t .end) h (flagAt s t h)
-  unfolding flagAt _or_
-  flag-keeps = choice (Keeps s (t .end) h) (isWord t) _ _ (λ e. by-flag (flagOf (bytesOf s t))) (λ e. fault-here w 51 refl)
+  flag-keeps : Keeps s (t .end) h (markAt s t h)
+  unfolding markAt _or_
+  flag-keeps = choice (Keeps s (t .end) h) (isKind wordKind t) _ _ (λ e. by-flag (flagOf (bytesOf s t))) (λ e. fault-here w 51 refl)
     where
       by-flag : (f : Flag) → Keeps s (t .end) h (marked s t h f)
       by-flag Cbfs = choice (Keeps s (t .end) h) (h .cbfs) _ _ (λ e. fault-here w 56 refl) (λ e. (next-from w, record { place = refl; length = refl; parent = refl; level = refl }))
@@ -120,21 +120,21 @@ module _ {s : List ℕ} {a : ℕ} {t : Token} (w : From s a t) (h : Section) whe
 
   last-keeps : Keeps s (t .end) h (lastAt s t h)
   unfolding lastAt
-  last-keeps = choice (Keeps s (t .end) h) (isSign 41 t) _ _ (λ e. (next-from w, kept h)) (λ e. flag-keeps)
+  last-keeps = choice (Keeps s (t .end) h) (isKind 41 t) _ _ (λ e. (next-from w, kept h)) (λ e. flag-keeps)
 
 module _ {s : List ℕ} {a : ℕ} {t : Token} (w : From s a t) (h : Section) where
   other-keeps : Keeps s (t .end) h (otherAt s t h)
   unfolding otherAt
   other-keeps =
-      choice (Keeps s (t .end) h) (isSign 41 t) _ _ (λ e. (next-from w, kept h))
-      (λ e. onward-keeps s (t .end) (t .end) h (flagAt s t h) _ (flag-keeps w h) (omega arith)
+      choice (Keeps s (t .end) h) (isKind 41 t) _ _ (λ e. (next-from w, kept h))
+      (λ e. onward-keeps s (t .end) (t .end) h (markAt s t h) _ (flag-keeps w h) (omega arith)
       (λ k u v. keeps s (u .end) (u .start) k k (lastAt s u k) (kept k) (omega arith) (last-keeps v k)))
 
   pub offset-keeps : Keeps s (t .start) h (offsetAt s t h)
   unfolding offsetAt
   offset-keeps =
       let x = next-from w in
-      choice (Keeps s (t .start) h) (isSign 64 t) _ _ (λ e. by-amount (amountAt s (next s t)) (amount-from x)) (λ e. (own-from w, kept h))
+      choice (Keeps s (t .start) h) (isKind 64 t) _ _ (λ e. by-amount (amountAt s (next s t)) (amount-from x)) (λ e. (own-from w, kept h))
     where
       by-amount : (m : Amount) → AmountFrom s (next s t .end) m → Keeps s (t .start) h (withOffset h m)
       by-amount (Counted n u) v =
@@ -145,7 +145,7 @@ module _ {s : List ℕ} {a : ℕ} {t : Token} (w : From s a t) (h : Section) whe
   pub size-keeps : Keeps s (t .start) h (sizeAt s t h)
   unfolding sizeAt
   size-keeps =
-      choice (Keeps s (t .start) h) (isWord t) _ _
+      choice (Keeps s (t .start) h) (isKind wordKind t) _ _
       (λ e. choice (Keeps s (t .start) h) (isDigit (getD s (t .start) 0)) _ _ (λ f. by-amount (amountAt s t) (amount-from w)) (λ f. (own-from w, kept h)))
       (λ e. (own-from w, kept h))
     where
@@ -157,8 +157,8 @@ pub flags-keeps : {s : List ℕ} {a : ℕ} {t : Token} → From s a t → (h : S
 unfolding flagsAt
 flags-keeps {s} {a} {t} w h =
     let x = next-from w in
-    choice (Keeps s (t .start) h) (isSign 40 t) _ _
-    (λ e. onward-keeps s (next s t .end) (t .start) h (flagAt s (next s t) h) _ (flag-keeps x h) (omega arith)
+    choice (Keeps s (t .start) h) (isKind 40 t) _ _
+    (λ e. onward-keeps s (next s t .end) (t .start) h (markAt s (next s t) h) _ (flag-keeps x h) (omega arith)
     (λ k u v. keeps s (u .end) (u .start) k k (otherAt s u k) (kept k) (omega arith) (other-keeps v k)))
     (λ e. (own-from w, kept h))
 
@@ -186,12 +186,12 @@ named-heads : {s : List ℕ} {a : ℕ} {t : Token} → From s a t → (lv par n 
 unfolding namedAt _or_
 named-heads {s} {a} {t} w lv par n =
     let P = Heads s (t .start + 1) lv par n in
-    row-choice P (not (isWord t)) 51 _ _ _ (λ e. fault-here w 51 refl)
+    row-choice P (not (isKind wordKind t)) 51 _ _ _ (λ e. fault-here w 51 refl)
     (λ e. row-choice P (not (goodName (bytesOf s t))) 53 _ _ _ (λ f. fault-here w 53 refl)
     (λ f. row-choice P (leb 128 n) 55 _ _ _ (λ g. fault-here w 55 refl)
     (λ g. row-choice P (ltb 8 lv) 55 _ _ _ (λ d. fault-here w 55 refl)
     (λ d.
-    let k : t .kind ≡ wordKind = eqb-true (t .kind) wordKind (not-f (isWord t) e) in
+    let k : t .kind ≡ wordKind = eqb-true (t .kind) wordKind (not-f (isKind wordKind t) e) in
     let l = w .within .filled k in (
       from-earlier (next-from w) (omega arith),
       record {

@@ -16,9 +16,9 @@ use Rattle.octets.proofs.Bools.{choice, not-f, and-l, and-r}
 use Rattle.fmd_lex.specs.Tokens.{endKind, wordKind, tokenAt, bytesOf}
 use Rattle.fmd_lex.specs.Names.{goodName}
 use Rattle.fmd_lex.specs.declared.Token.{Token}
-use Rattle.fmd_parse.specs.Heads.{next, isWord, isSign, amountAt, headAt}
+use Rattle.fmd_parse.specs.Heads.{next, isKind, amountAt, headAt}
 use Rattle.fmd_parse.specs.Images.{onward, titleAt, withAddress, addressAt, withLength, lengthAt, openAt, imageAt}
-use Rattle.fmd_parse.specs.Layouts.{Parsed, fault, parsed, afterHead, afterSection, sectionFrom, listFrom, afterImage, afterList, endOf, layoutOf}
+use Rattle.fmd_parse.specs.Layouts.{Parsed, fault, parsed, afterHead, afterSection, sectionFrom, listFrom, afterImage, afterList, endedBy, layoutOf}
 use Rattle.fmd_parse.specs.Trees.{Named, blank, Under, Standing, Tree, AddressFits, Imaged, LayoutFacts}
 use Rattle.fmd_parse.specs.declared.Section.{Section}
 use Rattle.fmd_parse.specs.declared.Part.{Part}
@@ -127,7 +127,7 @@ mutual
       after-head s l (t .start + 1) lv par (headAt s t lv par (length l)) _ (head-heads w lv par (length l))
       (λ h u v d.
       let n = l ++ (h ∷ []) in
-      choice (Facts s l (t .start + 1)) (isSign 123 u) _ _
+      choice (Facts s l (t .start + 1)) (isKind 123 u) _ _
       (λ e.
       let y = next-from v in
       facts-on s l n (next s u .start + 1) (t .start + 1) (listFrom f s (next s u) (lv + 1) (length l) n) (push-grown r d) (omega arith)
@@ -140,7 +140,7 @@ mutual
   list-facts (suc f) s a t lv par l m w o x r =
       after-section s l (t .start + 1) (sectionFrom f s t lv par l) _ (section-facts f s a t lv par l (omega arith) w o x r)
       (λ n u v y g.
-      choice (Facts s l (t .start + 1)) (isSign 125 u) _ _
+      choice (Facts s l (t .start + 1)) (isKind 125 u) _ _
       (λ e. (from-earlier (next-from v) (omega arith), y, g))
       (λ e.
       facts-on s l n (u .start + 1) (t .start + 1) (listFrom f s u lv par n) g (omega arith)
@@ -160,15 +160,15 @@ module _ {s : List ℕ} {a : ℕ} {t : Token} (w : From s a t) where
   title-facts : Titled s (titleAt s t)
   unfolding titleAt _or_
   title-facts =
-      row-choice (Titled s) (not (isWord t)) 51 _ _ _ (λ e. fault-here w 51 refl)
+      row-choice (Titled s) (not (isKind wordKind t)) 51 _ _ _ (λ e. fault-here w 51 refl)
       (λ e. row-choice (Titled s) (not (goodName (bytesOf s t))) 53 _ _ _ (λ f. fault-here w 53 refl)
-      (λ f. (from-earlier (next-from w) (omega arith), name-here w (eqb-true (t .kind) wordKind (not-f (isWord t) e)) (not-f _ f), tt)))
+      (λ f. (from-earlier (next-from w) (omega arith), name-here w (eqb-true (t .kind) wordKind (not-f (isKind wordKind t) e)) (not-f _ f), tt)))
 
   module _ (i : Image) (d : Named s (i .place) (i .length)) (f : AddressFits (i .address)) where
     address-facts : Titled s (addressAt s t i)
     unfolding addressAt
     address-facts =
-        choice (Titled s) (isSign 64 t) _ _ (λ e. by-amount (amountAt s (next s t)) (amount-from (next-from w))) (λ e. (from-earlier (own-from w) (omega arith), d, f))
+        choice (Titled s) (isKind 64 t) _ _ (λ e. by-amount (amountAt s (next s t)) (amount-from (next-from w))) (λ e. (from-earlier (own-from w) (omega arith), d, f))
       where
         by-amount : (m : Amount) → AmountFrom s (next s t .end) m → Titled s (withAddress i m)
         by-amount (Counted n u) v = (from-earlier (v .0) (omega arith), d, v .1)
@@ -187,7 +187,7 @@ module _ {s : List ℕ} {a : ℕ} {t : Token} (w : From s a t) where
 
   open-facts : (i : Image) → Imaged s i → Measured s (openAt s t i)
   unfolding openAt _or_
-  open-facts i d = choice (Measured s) (isSign 123 t) _ _ (λ e. (from-earlier (next-from w) (omega arith), d)) (λ e. fault-here w 51 refl)
+  open-facts i d = choice (Measured s) (isKind 123 t) _ _ (λ e. (from-earlier (next-from w) (omega arith), d)) (λ e. fault-here w 51 refl)
 
 titled-on : (s : List ℕ) (P : Heading → Type 0) (p : Heading) (f : Image → Token → Heading) → Titled s p
     → ((n k : ℕ) → Faulty s n k → P (FaultImage n k)) → ((i : Image) (u : Token) → From s 0 u → Named s (i .place) (i .length) → AddressFits (i .address) → P (f i u)) → P (onward p f)
@@ -216,12 +216,12 @@ layout-facts s = by-image (imageAt s (tokenAt s 0)) (image-facts (token-from s 0
     none : Tree s []
     none = record { room = omega arith; each = λ k q. absurd (not-suc-le-zero q) }
 
-    by-list : (i : Image) (a : ℕ) → Imaged s i → (p : Parsed) → Facts s [] a p → LayoutFacts s (afterList p (endOf i))
+    by-list : (i : Image) (a : ℕ) → Imaged s i → (p : Parsed) → Facts s [] a p → LayoutFacts s (afterList p (endedBy i))
     by-list i a d (fault n p) w = w
     by-list i a d (parsed l u) w =
-        choice (LayoutFacts s) (isSign endKind u) _ _ (λ e. (d, w .1, w .2 .longer)) (λ e. fault-here (w .0) 51 refl)
+        choice (LayoutFacts s) (isKind endKind u) _ _ (λ e. (d, w .1, w .2 .longer)) (λ e. fault-here (w .0) 51 refl)
 
-    by-image : (p : Heading) → Measured s p → LayoutFacts s (afterImage p (λ i t. afterList (listFrom (2 * length s + 2) s t 1 128 []) (endOf i)))
+    by-image : (p : Heading) → Measured s p → LayoutFacts s (afterImage p (λ i t. afterList (listFrom (2 * length s + 2) s t 1 128 []) (endedBy i)))
     by-image (FaultImage n p) w = w
     by-image (ReadImage i t) w =
         by-list i (t .start + 1) (w .1) (listFrom (2 * length s + 2) s t 1 128 [])

@@ -30,12 +30,9 @@ use Rattle.fmd_parse.specs.declared.Part.the-variants.{Read, Fault}
 abbrev pub next : List ℕ → Token → Token
 next s t = tokenAt s (t .end)
 
-abbrev pub isWord : Token → Bool
-isWord t = eqb (t .kind) wordKind
-
--- the sign with the byte b; in decimal ( is 40, ) 41, @ 64, { 123 and } 125
-abbrev pub isSign : ℕ → Token → Bool
-isSign b t = eqb (t .kind) b
+-- a sign's kind is its byte; in decimal ( is 40, ) 41, @ 64, { 123 and } 125
+abbrev pub isKind : ℕ → Token → Bool
+isKind k t = eqb (t .kind) k
 
 -- ---- numbers
 
@@ -45,7 +42,7 @@ counted s t (Value n) = Counted n (next s t)
 counted s t Wrong = Uncounted 52 (t .start)
 
 unfoldable pub amountAt : List ℕ → Token → Amount
-amountAt s t = cond (isWord t) (counted s t (numberOf (bytesOf s t))) (Uncounted 51 (t .start))
+amountAt s t = cond (isKind wordKind t) (counted s t (numberOf (bytesOf s t))) (Uncounted 51 (t .start))
 
 -- ---- the parts of a section, in their order; a section with what is read of it so far
 
@@ -71,7 +68,7 @@ unfoldable pub namedAt : List ℕ → Token → ℕ → ℕ → ℕ → Part
 namedAt s t lv par n =
     judged
     (refusal
-    (row (not (isWord t)) 51 ∷ row (not (goodName (bytesOf s t))) 53 ∷ row (leb 128 n) 55 ∷ row (ltb 8 lv) 55 ∷ []))
+    (row (not (isKind wordKind t)) 51 ∷ row (not (goodName (bytesOf s t))) 53 ∷ row (leb 128 n) 55 ∷ row (ltb 8 lv) 55 ∷ []))
     (λ m. Fault m (t .start))
     (Read (bare t lv par) (next s t))
 
@@ -94,21 +91,21 @@ marked s t h Cbfs = cond (h .cbfs) (Fault 56 (t .start)) (Read (setCbfs h) (next
 marked s t h Preserve = cond (h .preserve) (Fault 56 (t .start)) (Read (setPreserve h) (next s t))
 marked s t h Unknown = Fault 56 (t .start)
 
--- one flag
-unfoldable pub flagAt : List ℕ → Token → Section → Part
-flagAt s t h = cond (isWord t) (marked s t h (flagOf (bytesOf s t))) (Fault 51 (t .start))
+-- one flag, marked in the section
+unfoldable pub markAt : List ℕ → Token → Section → Part
+markAt s t h = cond (isKind wordKind t) (marked s t h (flagOf (bytesOf s t))) (Fault 51 (t .start))
 
 -- after both flags: the end, for a third word is unknown or repeats
 unfoldable pub lastAt : List ℕ → Token → Section → Part
-lastAt s t h = cond (isSign 41 t) (Read h (next s t)) (flagAt s t h)
+lastAt s t h = cond (isKind 41 t) (Read h (next s t)) (markAt s t h)
 
 -- after one flag: the end, or the other flag
 unfoldable pub otherAt : List ℕ → Token → Section → Part
-otherAt s t h = cond (isSign 41 t) (Read h (next s t)) (onward (flagAt s t h) (λ k u. lastAt s u k))
+otherAt s t h = cond (isKind 41 t) (Read h (next s t)) (onward (markAt s t h) (λ k u. lastAt s u k))
 
 -- L2: optional flags in parentheses (CBFS, PRESERVE, at least one, blanks between)
 unfoldable pub flagsAt : List ℕ → Token → Section → Part
-flagsAt s t h = cond (isSign 40 t) (onward (flagAt s (next s t) h) (λ k u. otherAt s u k)) (Read h t)
+flagsAt s t h = cond (isKind 40 t) (onward (markAt s (next s t) h) (λ k u. otherAt s u k)) (Read h t)
 
 -- L2: optional @offset from its parent
 abbrev pub withOffset : Section → Amount → Part
@@ -116,7 +113,7 @@ withOffset h (Counted n u) = Read (setOffset n h) u
 withOffset h (Uncounted k p) = Fault k p
 
 unfoldable pub offsetAt : List ℕ → Token → Section → Part
-offsetAt s t h = cond (isSign 64 t) (withOffset h (amountAt s (next s t))) (Read h t)
+offsetAt s t h = cond (isKind 64 t) (withOffset h (amountAt s (next s t))) (Read h t)
 
 -- L7: After a section's name, flags or offset, a word beginning with a digit is its size.
 abbrev pub withSize : Section → Amount → Part
@@ -124,7 +121,7 @@ withSize h (Counted n u) = Read (setSize n h) u
 withSize h (Uncounted k p) = Fault k p
 
 unfoldable pub sizeAt : List ℕ → Token → Section → Part
-sizeAt s t h = cond (isWord t) (cond (isDigit (getD s (t .start) 0)) (withSize h (amountAt s t)) (Read h t)) (Read h t)
+sizeAt s t h = cond (isKind wordKind t) (cond (isDigit (getD s (t .start) 0)) (withSize h (amountAt s t)) (Read h t)) (Read h t)
 
 -- L2: A section: name, optional flags in parentheses (..), optional @offset from its parent, optional size, ..
 unfoldable pub headAt : List ℕ → Token → ℕ → ℕ → ℕ → Part

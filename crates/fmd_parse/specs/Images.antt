@@ -5,10 +5,10 @@ use Prim.Native.Nat.{ℕ, _-_}
 use lib.Dec.{leb}
 use Rattle.octets.specs.Tests.{_and_}
 use Rattle.octets.specs.Rows.{row, refusal}
-use Rattle.fmd_lex.specs.Tokens.{bytesOf, Within}
+use Rattle.fmd_lex.specs.Tokens.{wordKind, bytesOf, Within}
 use Rattle.fmd_lex.specs.Names.{goodName}
 use Rattle.fmd_lex.specs.declared.Token.{Token}
-use Rattle.fmd_parse.specs.Heads.{next, isWord, isSign, amountAt, judged}
+use Rattle.fmd_parse.specs.Heads.{next, isKind, amountAt, judged}
 use Rattle.fmd_parse.specs.declared.Address.the-variants.{Given, Omitted}
 use Rattle.fmd_parse.specs.declared.Image.{Image}
 use Rattle.fmd_parse.specs.declared.Amount.{Amount}
@@ -25,7 +25,7 @@ onward (Fault n p) k = Fault n p
 -- the name
 unfoldable pub titleAt : List ℕ → Token → Heading
 titleAt s t =
-    judged (refusal (row (not (isWord t)) 51 ∷ row (not (goodName (bytesOf s t))) 53 ∷ [])) (λ n. Fault n (t .start))
+    judged (refusal (row (not (isKind wordKind t)) 51 ∷ row (not (goodName (bytesOf s t))) 53 ∷ [])) (λ n. Fault n (t .start))
     (Read (record { address = Omitted; size = 0; place = t .start; length = t .end - t .start }) (next s t))
 
 -- the optional @address
@@ -37,7 +37,7 @@ withAddress i (Counted n u) = Read (setAddress n i) u
 withAddress i (Uncounted k p) = Fault k p
 
 unfoldable pub addressAt : List ℕ → Token → Image → Heading
-addressAt s t i = cond (isSign 64 t) (withAddress i (amountAt s (next s t))) (Read i t)
+addressAt s t i = cond (isKind 64 t) (withAddress i (amountAt s (next s t))) (Read i t)
 
 -- the size; Q4: A flash image is 98 to 16,777,216 bytes.
 abbrev pub setLength : ℕ → Image → Image
@@ -52,7 +52,7 @@ lengthAt s t i = withLength i t (amountAt s t)
 
 -- the opening brace
 unfoldable pub openAt : List ℕ → Token → Image → Heading
-openAt s t i = cond (isSign 123 t) (Read i (next s t)) (Fault 51 (t .start))
+openAt s t i = cond (isKind 123 t) (Read i (next s t)) (Fault 51 (t .start))
 
 unfoldable pub imageAt : List ℕ → Token → Heading
 imageAt s t = onward (titleAt s t) (λ i u. onward (addressAt s u i) (λ j v. onward (lengthAt s v j) (λ k w. openAt s w k)))

@@ -6,7 +6,7 @@ use Prim.Native.Nat.{ℕ, zero, suc, _+_, _*_, _-_, _≤_, _<_}
 use lib.ListN.{length, take}
 use Rattle.fmd_lex.specs.Tokens.{endKind, tokenAt, Within}
 use Rattle.fmd_lex.specs.declared.Token.{Token}
-use Rattle.fmd_parse.specs.Heads.{next, isSign, headAt}
+use Rattle.fmd_parse.specs.Heads.{next, isKind, headAt}
 use Rattle.fmd_parse.specs.Images.{imageAt}
 use Rattle.fmd_parse.specs.declared.Section.{Section}
 use Rattle.fmd_parse.specs.declared.Part.{Part}
@@ -46,14 +46,14 @@ unfoldable mutual
   sectionFrom (suc f) s t lv par l =
       afterHead (headAt s t lv par (length l))
       (λ h u.
-      cond (isSign 123 u) (listFrom f s (next s u) (lv + 1) (length l) (l ++ (h ∷ []))) (parsed (l ++ (h ∷ [])) u))
+      cond (isKind 123 u) (listFrom f s (next s u) (lv + 1) (length l) (l ++ (h ∷ []))) (parsed (l ++ (h ∷ [])) u))
 
   -- L3: Braces hold at least one section, and a section may hold sections to any allowed depth.
   pub listFrom : ℕ → List ℕ → Token → ℕ → ℕ → List Section → Parsed
   listFrom zero s t lv par l = fault 0 0
   listFrom (suc f) s t lv par l =
       afterSection (sectionFrom f s t lv par l)
-      (λ m u. cond (isSign 125 u) (parsed m (next s u)) (listFrom f s u lv par m))
+      (λ m u. cond (isKind 125 u) (parsed m (next s u)) (listFrom f s u lv par m))
 
 -- ---- a whole text
 
@@ -71,14 +71,14 @@ afterList (fault n p) k = refused n p
 afterList (parsed l t) k = k l t
 
 -- L10: After the last brace only blanks and comments.
-abbrev pub endOf : Image → List Section → Token → Layout
-endOf i l u = cond (isSign endKind u) (layout i l) (refused 51 (u .start))
+abbrev pub endedBy : Image → List Section → Token → Layout
+endedBy i l u = cond (isKind endKind u) (layout i l) (refused 51 (u .start))
 
 -- L1: An image: .., braces.
 unfoldable pub layoutOf : List ℕ → Layout
 layoutOf s =
     afterImage (imageAt s (tokenAt s 0))
-    (λ i t. afterList (listFrom (2 * length s + 2) s t 1 128 []) (endOf i))
+    (λ i t. afterList (listFrom (2 * length s + 2) s t 1 128 []) (endedBy i))
 
 -- ---- what the values of the code say
 

@@ -3,7 +3,7 @@ ghost use mathlib.Core.Path.{_≡_};
 ghost use Prim.Native.Nat.{_+_, _≤_};
 ghost use lib.ListN.{length};
 ghost use Rattle.fmd_lex.specs.Tokens.{Within};
-ghost use Rattle.fmd_parse.specs.Heads.{amountAt, namedAt, flagAt, lastAt, otherAt, flagsAt, offsetAt, sizeAt, headAt, setOffset, setSize, AmountIn, PartIn, HeadIn};
+ghost use Rattle.fmd_parse.specs.Heads.{amountAt, namedAt, markAt, lastAt, otherAt, flagsAt, offsetAt, sizeAt, headAt, setOffset, setSize, AmountIn, PartIn, HeadIn};
 use super::Amount;
 use super::Offset;
 use super::ParentOffset;
@@ -69,10 +69,10 @@ fn named_at(text: &[u8], t: Token, level: u8, parent: u8, count: usize) -> Part
     Part::Fault(53, t.start)
 }
 
-// One flag.
-fn flag_at(text: &[u8], t: Token, h: Section) -> Part
+// One flag, marked in the section.
+fn mark_at(text: &[u8], t: Token, h: Section) -> Part
     requires { ⌜ Within (length (now text)) 0 t ⌝ }
-    ensures { λ r. ⌜ r ≡ flagAt (now (text .entry)) t h ⌝ }
+    ensures { λ r. ⌜ r ≡ markAt (now (text .entry)) t h ⌝ }
     ensures within { λ r. ⌜ PartIn (length (now (text .entry))) (t .end) r ⌝ }
 {
     if t.kind != WORD {
@@ -110,7 +110,7 @@ fn last_at(text: &[u8], t: Token, h: Section) -> Part
         let u = next_token(text, t.end);
         return Part::Read(h, u);
     }
-    flag_at(text, t, h)
+    mark_at(text, t, h)
 }
 
 // After one flag: the end, or the other flag.
@@ -123,7 +123,7 @@ fn other_at(text: &[u8], t: Token, h: Section) -> Part
         let u = next_token(text, t.end);
         return Part::Read(h, u);
     }
-    match flag_at(text, t, h) {
+    match mark_at(text, t, h) {
         Part::Read(k, u) => last_at(text, u, k),
         Part::Fault(n, p) => Part::Fault(n, p),
     }
@@ -139,7 +139,7 @@ fn flags_at(text: &[u8], t: Token, h: Section) -> Part
         return Part::Read(h, t);
     }
     let u = next_token(text, t.end);
-    match flag_at(text, u, h) {
+    match mark_at(text, u, h) {
         Part::Read(k, v) => other_at(text, v, k),
         Part::Fault(n, p) => Part::Fault(n, p),
     }

@@ -4,7 +4,7 @@ ghost use mathlib.Core.List.{[]};
 ghost use mathlib.Core.Path.{_≡_};
 ghost use Prim.Native.Nat.{_≤_};
 ghost use lib.ListN.{length};
-ghost use Rattle.fmd_parse.specs.Layouts.{Sound, listOf, reachedOf, outcomeOf, afterList, endOf, layoutOf};
+ghost use Rattle.fmd_parse.specs.Layouts.{Sound, listOf, reachedOf, outcomeOf, afterList, endedBy, layoutOf};
 use fmd_lex::Token;
 use fmd_lex::next_token;
 
@@ -127,7 +127,7 @@ pub fn empty() -> Sections
 // After the last brace.
 fn ended(i: Image, o: Reached) -> Outcome
     requires { ⌜ Sound (o .list) ⌝ }
-    ensures { λ r. ⌜ Sound (r .list) × (outcomeOf r ≡ afterList (reachedOf o) (endOf i)) ⌝ }
+    ensures { λ r. ⌜ Sound (r .list) × (outcomeOf r ≡ afterList (reachedOf o) (endedBy i)) ⌝ }
 {
     let step = o.step;
     let list = o.list;

@@ -1,16 +1,12 @@
 -- What holds of every resolution: the statement of a theorem (proofs/Fitted: resolve-facts).
 use mathlib.Core.List.{List}
 use mathlib.Core.Path.{_≡_}
-use Prim.Native.Nat.{ℕ, _+_, _≤_, _<_}
+use Prim.Native.Nat.{ℕ, _≤_, _<_}
 use lib.ListN.{length, getD, take}
 use Rattle.fmd_parse.specs.Trees.{blank as blankSection}
 use Rattle.fmd_parse.specs.declared.Section.{Section}
-use Rattle.fmd_plan.specs.Plans.{blank, roomOf, Resolved, unfit, plan}
+use Rattle.fmd_plan.specs.Plans.{blank, endOf, roomOf, Resolved, unfit, plan}
 use Rattle.fmd_plan.specs.declared.Placed.{Placed}
-
--- the end of a section in its parent
-abbrev pub endOf : Placed → ℕ
-endOf p = p .offset .0 + p .size
 
 -- L14: Sizes are at least 1, siblings ascend without overlap and end within the parent. The section p at the index k.
 pub record Lies (z : ℕ) (ps : List Placed) (k : ℕ) (p : Placed) : Type 0 where

@@ -26,9 +26,13 @@ use Rattle.fmd_plan.specs.declared.Resolution.{Resolution}
 abbrev pub blank : Placed
 blank = record { offset = record { 0 = 0 }; size = 0; parent = 0; level = 0 }
 
--- the end, in its parent, of a section with this parent, e for any other
+-- the end of a section in its parent
+abbrev pub endOf : Placed → ℕ
+endOf p = p .offset .0 + p .size
+
+-- the end of a section with this parent, e for any other
 unfoldable pub endWith : ℕ → ℕ → Placed → ℕ
-endWith par e p = cond (eqb (p .parent) par) (p .offset .0 + p .size) e
+endWith par e p = cond (eqb (p .parent) par) (endOf p) e
 
 -- the end of the last section with this parent; e where there is none
 unfoldable pub endIn : ℕ → ℕ → List Placed → ℕ

@@ -3,10 +3,10 @@
 ghost use mathlib.Core.List.{_++_, _∷_, []};
 ghost use mathlib.Core.Path.{_≡_};
 ghost use Prim.Native.Nat.{_+_, _-_, _≤_, _<_};
-ghost use lib.ListN.{length, drop, getD};
+ghost use lib.ListN.{drop, getD};
 ghost use Rattle.fmd_parse.specs.Layouts.{listOf, Sound as SoundList};
 ghost use Rattle.fmd_parse.specs.Trees.{blank as blankSection};
-ghost use Rattle.fmd_plan.specs.Plans.{endWith, endIn, roomOf, startOf, sizeOf, fits, spotOf, spotIn, placeOf, resolveFrom, planOf, resolutionOf, Sound};
+ghost use Rattle.fmd_plan.specs.Plans.{endWith, endIn, roomOf, startOf, sizeOf, spotOf, spotIn, placeOf, resolveFrom, planOf, resolutionOf, Sound};
 use fmd_parse::Offset;
 use fmd_parse::ParentOffset;
 use fmd_parse::Section;

@@ -1,22 +1,21 @@
 -- Laws of the lines that show records.
-use mathlib.Core.Path.{_≡_, ap, _∙_}
-use mathlib.Core.Bool.{true, false}
+use mathlib.Core.Path.{_≡_, sym, ap, _∙_}
 use mathlib.Core.List.{List, [], _∷_, _++_, map}
 use Prim.Native.Nat.{ℕ, _+_, _*_, _≤_, _<_}
 use native.Mathlib.Omega.{arith}
-use borrow.Author.Tests.{eq-eqb, ne-eqb}
-use lib.Dec.{eqb}
 use lib.ListN.{length, take, replicate}
 use lib.Seq.{take-all}
 use Rattle.octets.specs.Ascii.{ascii}
 use Rattle.octets.specs.Bytes.{flat}
+use Rattle.octets.specs.Rows.{codeOf}
 use Rattle.text_out.specs.Text.{hexDigits, Puts}
 use Rattle.text_out.proofs.Digits.{length-hex}
 use Rattle.text_out.proofs.Puts.{puts-then, puts-as}
-use Rattle.fmd.specs.Calls.{numberOf, answerAs, listed, listText}
+use Rattle.fmd.specs.Calls.{numberOf, listed, listText}
 use Rattle.fmd.specs.declared.Answer.{Answer}
 use Rattle.fmd.specs.declared.Reading.{Reading}
 use Rattle.fmd.specs.declared.Section.{Section}
+use Rattle.fmd.proofs.Answers.{refused-by, accepted-by}
 use Rattle.fmd_lines.specs.Lines.{numbersText, numberedLine}
 use Rattle.fmd_records.specs.Records.{pattern, hexBytes, recordLine, answerLine, linesOf, recordsOf}
 
@@ -40,16 +39,12 @@ record-put s at a b r xs ys zs us p q t =
     (omega (arith, p .0, q .0, t .0), puts-then _ _ _ _ _ _ _ _ (puts-then _ _ _ _ _ _ _ _ (p .1) (q .1)) t)
 
 -- the number k that an answer has, or 0
-module _ (a : Answer) (k count : ℕ) (f : answerAs k ≡ numberOf a) where
+module _ (a : Answer) (k count : ℕ) (f : k ≡ codeOf (numberOf a)) where
   pub refused-is : 0 < k → numberedLine (ascii "refused") k ≡ answerLine count (numberOf a)
-  refused-is h =
-      let t : eqb k 0 ≡ false = ne-eqb k 0 (λ z. omega (arith, z)) in
-      ap (answerLine count) (rw t at f)
+  refused-is h = ap (answerLine count) (sym (refused-by a k f h))
 
   pub accepted-is : k ≤ 0 → numberedLine (ascii "accepted") count ≡ answerLine count (numberOf a)
-  accepted-is h =
-      let t : eqb k 0 ≡ true = eq-eqb k 0 (omega arith) in
-      ap (answerLine count) (rw t at f)
+  accepted-is h = ap (answerLine count) (sym (accepted-by a k f h))
 
 -- what is shown of a list of the pattern that was lent
 pub records-are : (s : List ℕ) (r : Reading) (p : Section) (zs : List Section) → p ≡ pattern → listed r zs ≡ listText s (replicate 128 p)

@@ -20,7 +20,7 @@ use Rattle.fmd_parse.specs.Trees.{blank, Tree}
 use Rattle.fmd_parse.specs.declared.Section.{Section}
 use Rattle.fmd_parse.specs.declared.Sections.{Sections}
 use Rattle.fmd_parse.proofs.Layouts.{counted}
-use Rattle.fmd_rows.specs.Rows.{firstFrom, nameOf, repeats, siblingIn, Inside}
+use Rattle.fmd_rows.specs.Rows.{foundFrom, nameOf, repeats, siblingIn, Inside}
 use Rattle.fmd_rows.specs.declared.Found.{Found}
 use Rattle.fmd_rows.specs.declared.Found.the-variants.{At, Nowhere}
 use Rattle.fmd_rows.specs.declared.Sibling.the-variants.{Next, Last}
@@ -32,16 +32,16 @@ among s l k j = any (λ e. same (nameOf s e) (nameOf s (getD (l .items) k blank)
 -- ---- the first index that passes
 
 module _ (p : ℕ → Bool) (n k : ℕ) where
-  pub first-on : k < n → p k ≡ false → firstFrom p (n - (k + 1)) (k + 1) ≡ firstFrom p (n - k) k
-  unfolding firstFrom
+  pub first-on : k < n → p k ≡ false → foundFrom p (n - (k + 1)) (k + 1) ≡ foundFrom p (n - k) k
+  unfolding foundFrom
   first-on h e = let m : n - k ≡ suc (n - (k + 1)) = omega arith in rw (m, e, add-one k)
 
-  pub first-stop : k < n → p k ≡ true → At k ≡ firstFrom p (n - k) k
-  unfolding firstFrom
+  pub first-stop : k < n → p k ≡ true → At k ≡ foundFrom p (n - k) k
+  unfolding foundFrom
   first-stop h e = let m : n - k ≡ suc (n - (k + 1)) = omega arith in rw (m, e)
 
-  pub first-done : n ≤ k → Nowhere ≡ firstFrom p (n - k) k
-  unfolding firstFrom
+  pub first-done : n ≤ k → Nowhere ≡ foundFrom p (n - k) k
+  unfolding foundFrom
   first-done h = let m : n - k ≡ 0 = omega arith in rw m
 
 -- of the n indices from k on, the one found passes; where none is found, none does
@@ -57,14 +57,14 @@ later p n k e Nowhere w = λ j a b. cases j a b (bool-cases (eqb j k))
     cases j a b (inl q) = rw (eqb-true j k q) e
     cases j a b (inr q) = let d : j ≡ k → ⊥ = eqb-false j k q in w j (omega arith) (omega arith)
 
-pub first-facts : (p : ℕ → Bool) (n k : ℕ) → FirstFacts p n k (firstFrom p n k)
-unfolding firstFrom
+pub first-facts : (p : ℕ → Bool) (n k : ℕ) → FirstFacts p n k (foundFrom p n k)
+unfolding foundFrom
 first-facts p zero k = λ j a b. absurd (omega arith)
 first-facts p (suc n) k =
-    choice (FirstFacts p (suc n) k) (p k) (At k) (firstFrom p n (suc k)) (λ e. (omega arith, e)) (λ e. later p n k e (firstFrom p n (suc k)) (first-facts p n (suc k)))
+    choice (FirstFacts p (suc n) k) (p k) (At k) (foundFrom p n (suc k)) (λ e. (omega arith, e)) (λ e. later p n k e (foundFrom p n (suc k)) (first-facts p n (suc k)))
 
 module _ (l : Sections) (g : Sound l) where
-  pub first-start : (p : ℕ → Bool) → firstFrom p (l .count - 0) 0 ≡ firstFrom p (length (listOf l)) 0
+  pub first-start : (p : ℕ → Bool) → foundFrom p (l .count - 0) 0 ≡ foundFrom p (length (listOf l)) 0
   first-start p = rw (counted l g, sub-zero)
 
   -- a place below the count holds the section of that index

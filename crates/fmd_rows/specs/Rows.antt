@@ -17,9 +17,9 @@ use Rattle.fmd_rows.specs.declared.Sibling.{Sibling}
 use Rattle.fmd_rows.specs.declared.Sibling.the-variants.{Next, Last}
 
 -- the first of the n indices from k on that passes
-unfoldable pub firstFrom : (ℕ → Bool) → ℕ → ℕ → Found
-firstFrom p zero k = Nowhere
-firstFrom p (suc n) k = cond (p k) (At k) (firstFrom p n (suc k))
+unfoldable pub foundFrom : (ℕ → Bool) → ℕ → ℕ → Found
+foundFrom p zero k = Nowhere
+foundFrom p (suc n) k = cond (p k) (At k) (foundFrom p n (suc k))
 
 -- the bytes of a section's name
 abbrev pub nameOf : List ℕ → Section → List ℕ
@@ -30,7 +30,7 @@ unfoldable pub repeats : List ℕ → List Section → ℕ → Bool
 repeats s l k = any (λ e. same (nameOf s e) (nameOf s (getD l k blank))) (take k l)
 
 unfoldable pub firstRepeat : List ℕ → List Section → Found
-firstRepeat s l = firstFrom (repeats s l) (length l) 0
+firstRepeat s l = foundFrom (repeats s l) (length l) 0
 
 -- "FMAP"
 abbrev pub fmap : List ℕ
@@ -41,7 +41,7 @@ isFmap s l k = same (nameOf s (getD l k blank)) fmap
 
 -- (R22) section FMAP; nested ones count too
 unfoldable pub fmapIn : List ℕ → List Section → Found
-fmapIn s l = firstFrom (isFmap s l) (length l) 0
+fmapIn s l = foundFrom (isFmap s l) (length l) 0
 
 -- section k has children
 unfoldable pub hasChild : List Section → ℕ → Bool
@@ -52,7 +52,7 @@ unfoldable pub holdsCbfs : List Section → ℕ → Bool
 holdsCbfs l k = getD l k blank .cbfs and hasChild l k
 
 unfoldable pub firstCbfs : List Section → Found
-firstCbfs l = firstFrom (holdsCbfs l) (length l) 0
+firstCbfs l = foundFrom (holdsCbfs l) (length l) 0
 
 -- the next sibling of a section with this parent, by its offset; the list: the sections after it
 unfoldable pub siblingIn : ℕ → List Section → Sibling
@@ -70,7 +70,7 @@ unfoldable pub undecided : List Section → ℕ → Bool
 undecided l k = isUndecided (getD l k blank .size) (siblingIn (getD l k blank .parent) (drop (k + 1) l))
 
 unfoldable pub firstUndecided : List Section → Found
-firstUndecided l = firstFrom (undecided l) (length l) 0
+firstUndecided l = foundFrom (undecided l) (length l) 0
 
 -- every name lies in the text
 abbrev pub Inside : List ℕ → List Section → Type 0

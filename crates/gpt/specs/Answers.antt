@@ -1,9 +1,14 @@
 -- W15: When an answer is an enum, a definition states this paper's number and values for each enum case. Definitions only.
-use mathlib.Core.List.{[], _∷_}
+use mathlib.Core.Path.{_≡_}
+use mathlib.Core.Bool.{true}
+use mathlib.Core.List.{List, [], _∷_}
 use mathlib.Core.Option.{Option, none, some}
 use Prim.Native.Nat.{ℕ}
-use Rattle.gpt_model.specs.Disk.{usedSide}
-use Rattle.gpt_model.specs.Calls.{Answer, refused, accepted}
+use lib.Dec.{eqb}
+use Rattle.octets.specs.Tests.{any}
+use Rattle.octets.specs.Rows.{refusal}
+use Rattle.gpt_model.specs.Disk.{disk512, usedSide, state, tableOf}
+use Rattle.gpt_model.specs.Calls.{Answer, refused, accepted, read, rowsOf}
 use Rattle.gpt_copies.specs.States.{behind, entriesPlace}
 use Rattle.gpt.specs.declared.Refusal.{Refusal}
 use Rattle.gpt.specs.declared.Refusal.the-variants.{WrongLength, BlockCount, NoDiskGuid, NeitherGood, NotTheSame, NoSuchSlot, SlotUnused, NoSize, NoType, NoUniqueGuid, BadName, NoUnusedSlot, NoRoom}
@@ -32,6 +37,13 @@ numberOf BadName = 23
 numberOf NoUnusedSlot = 24
 numberOf NoRoom = 25
 
+-- one of these numbers
+abbrev pub numbers : List ℕ
+numbers = 1 ∷ 2 ∷ 3 ∷ 10 ∷ 11 ∷ 12 ∷ 13 ∷ 20 ∷ 21 ∷ 22 ∷ 23 ∷ 24 ∷ 25 ∷ []
+
+abbrev pub Numbered : ℕ → Type 0
+Numbered k = any (eqb k) numbers ≡ true
+
 -- R3: other writers only that they accepted
 abbrev pub doneOf : Done → Answer
 doneOf done.Accepted = accepted []
@@ -56,7 +68,20 @@ abbrev pub countedOf : Counted → Answer
 countedOf (counting.Free blocks longest) = accepted (blocks ∷ longest ∷ [])
 countedOf (counting.Refused r) = refused (numberOf r)
 
--- D11: inside whichever of the two lent buffers was used: where the part begins, by where head and tail begin. On a refusal it is empty and lies at the head's start
-abbrev pub handedAt : Option ℕ → ℕ → ℕ × ℕ → ℕ × ℕ → ℕ × ℕ
-handedAt none s h t = entriesPlace (usedSide s) h t
-handedAt (some k) s h t = behind 0 h
+-- W9: the part of head or tail that reading hands back: its bytes, and where it begins
+pub record Part : Type 0 where
+  pub bytes : List ℕ
+  pub place : ℕ × ℕ
+
+abbrev pub part : List ℕ → ℕ × ℕ → Part
+part bs p = record { bytes = bs; place = p }
+
+-- D11: It hands back the 16,384 entry bytes inside whichever of the two lent buffers was used, by where head and tail begin.
+-- R1: an empty part where a part is returned; it lies at the head's start.
+module _ (n : ℕ) (h t : List ℕ) (head tail : ℕ × ℕ) where
+  abbrev pub handedBy : Option ℕ → Part
+  handedBy none = part (tableOf disk512 n h t) (entriesPlace (usedSide (state disk512 n h t)) head tail)
+  handedBy (some k) = part [] (behind 0 head)
+
+  abbrev pub handedPart : Part
+  handedPart = handedBy (refusal (rowsOf disk512 n h t read))

@@ -1,25 +1,20 @@
 // The GPT calls on a disk of 512-byte blocks. The caller lends the head (blocks 0 to 33) and the tail (the last 33 blocks) and says N, the number of blocks.
 // Every call takes any buffers and any numbers; its contract is one equation with `format` or `step` of gpt_model for its answer and both buffers afterwards.
-mod checks;
-mod edits;
-mod entry;
-
-use checks::Check;
+// A call asks its judge of gpt_checks first, and writes after, by gpt_edits or gpt_copies.
+use gpt_checks::Check;
+use gpt_checks::Start;
 use gpt_copies::Side;
 use gpt_copies::State;
 use gpt_table::Block;
 ghost use mathlib.Core.Path.{_≡_};
 ghost use mathlib.Core.List.{[], _∷_};
-ghost use mathlib.Core.Option.{none};
 ghost use Prim.Native.Nat.{_*_, _≤_};
 ghost use lib.ListN.{length};
-ghost use Rattle.octets.specs.Rows.{refusal};
 ghost use Rattle.gpt_model.specs.Ranges.{freeCount, longestFree};
 ghost use Rattle.gpt_model.specs.Table.{tableBytes, slots};
-ghost use Rattle.gpt_model.specs.Disk.{disk512, lastUsable, primary, backup, lentBytes, guidIn, entriesIn, state, withCopy};
-ghost use Rattle.gpt_model.specs.Calls.{accepted, out, step, format as formatOn, read as readCall, freeCounts, repair as repairCall, edit, add as addCall, delete as deleteCall, resize as resizeCall, rename as renameCall, rowsOf, handed};
-ghost use Rattle.gpt.specs.Answers.{doneOf, readingOf, addedOf, countedOf, handedAt};
-ghost use Rattle.gpt.specs.Checks.{lentRows};
+ghost use Rattle.gpt_model.specs.Disk.{disk512, lastUsable};
+ghost use Rattle.gpt_model.specs.Calls.{accepted, out, step, format as formatOn, read as readCall, freeCounts, repair as repairCall, edit, add as addCall, delete as deleteCall, resize as resizeCall, rename as renameCall};
+ghost use Rattle.gpt.specs.Answers.{numberOf, Numbered, doneOf, readingOf, addedOf, countedOf, part, handedPart};
 
 // Why a call is refused; specs/Answers gives each its number.
 pub enum Refusal {
@@ -62,12 +57,34 @@ pub enum Counted {
     Refused(Refusal),
 }
 
+// The refusal of that number.
+fn refusal_of(k: u64) -> Refusal
+    requires { ⌜ Numbered k ⌝ }
+    ensures { λ r. ⌜ numberOf r ≡ k ⌝ }
+{
+    match k {
+        1 => Refusal::WrongLength,
+        2 => Refusal::BlockCount,
+        3 => Refusal::NoDiskGuid,
+        10 => Refusal::NeitherGood,
+        11 => Refusal::NotTheSame,
+        12 => Refusal::NoSuchSlot,
+        13 => Refusal::SlotUnused,
+        20 => Refusal::NoSize,
+        21 => Refusal::NoType,
+        22 => Refusal::NoUniqueGuid,
+        23 => Refusal::BadName,
+        24 => Refusal::NoUnusedSlot,
+        _ => Refusal::NoRoom,
+    }
+}
+
 // Writes both copies with no entries, and block 0.
 pub fn format(head: &mut [u8], tail: &mut [u8], n: u64, guid: [u8; 16]) -> Done
     ensures { λ r. ⌜ out (doneOf r) (now (head .exit)) (now (tail .exit)) ≡ formatOn disk512 n guid (now (head .entry)) (now (tail .entry)) ⌝ }
 {
-    match checks::format(&head[..], &tail[..], n, &guid) {
-        Check::Stop(r) => Done::Refused(r),
+    match gpt_checks::format(&head[..], &tail[..], n, &guid) {
+        Check::Stop(k) => Done::Refused(refusal_of(k)),
         Check::Pass => {
             gpt_copies::writing::fresh_head(head, n, &guid);
             gpt_copies::writing::fresh_tail(tail, n, &guid);
@@ -76,27 +93,19 @@ pub fn format(head: &mut [u8], tail: &mut [u8], n: u64, guid: [u8; 16]) -> Done
     }
 }
 
-// The state of the two copies, where lengths and N are right.
-fn found(head: &[u8], tail: &[u8], n: u64) -> Reading
-    requires { ⌜ refusal (lentRows n (now head) (now tail)) ≡ none ⌝ }
-    ensures { λ r. ⌜ out (readingOf r) (now (head .entry)) (now (tail .entry)) ≡ step disk512 n (now (head .entry)) (now (tail .entry)) readCall ⌝ }
-{
-    match gpt_copies::reading::state(head, tail, n) {
-        State::Both => Reading::Same,
-        State::Differ => Reading::Different,
-        State::PrimaryOnly => Reading::PrimaryOnly,
-        State::BackupOnly => Reading::BackupOnly,
-        State::Neither => Reading::Refused(Refusal::NeitherGood),
-    }
-}
-
 // The state of the two copies.
 pub fn read(head: &[u8], tail: &[u8], n: u64) -> Reading
     ensures { λ r. ⌜ out (readingOf r) (now (head .entry)) (now (tail .entry)) ≡ step disk512 n (now (head .entry)) (now (tail .entry)) readCall ⌝ }
 {
-    match checks::lent(head, tail, n) {
-        Check::Stop(r) => Reading::Refused(r),
-        Check::Pass => found(head, tail, n),
+    match gpt_checks::lent(head, tail, n) {
+        Check::Stop(k) => Reading::Refused(refusal_of(k)),
+        Check::Pass => match gpt_copies::reading::state(head, tail, n) {
+            State::Both => Reading::Same,
+            State::Differ => Reading::Different,
+            State::PrimaryOnly => Reading::PrimaryOnly,
+            State::BackupOnly => Reading::BackupOnly,
+            State::Neither => Reading::Refused(Refusal::NeitherGood),
+        },
     }
 }
 
@@ -104,9 +113,12 @@ pub fn read(head: &[u8], tail: &[u8], n: u64) -> Reading
 pub fn delete(head: &mut [u8], tail: &mut [u8], n: u64, slot: u64) -> Done
     ensures { λ r. ⌜ out (doneOf r) (now (head .exit)) (now (tail .exit)) ≡ step disk512 n (now (head .entry)) (now (tail .entry)) (edit (deleteCall slot)) ⌝ }
 {
-    match checks::opened(&head[..], &tail[..], n) {
-        Check::Stop(r) => Done::Refused(r),
-        Check::Pass => edits::delete(head, tail, n, slot),
+    match gpt_checks::delete(&head[..], &tail[..], n, slot) {
+        Check::Stop(k) => Done::Refused(refusal_of(k)),
+        Check::Pass => {
+            gpt_edits::delete(head, tail, n, slot);
+            Done::Accepted
+        }
     }
 }
 
@@ -124,9 +136,22 @@ pub fn add(
     ensures { λ r. ⌜ out (addedOf r) (now (head .exit)) (now (tail .exit))
         ≡ step disk512 n (now (head .entry)) (now (tail .entry)) (edit (addCall kind unique size attributes name)) ⌝ }
 {
-    match checks::opened(&head[..], &tail[..], n) {
-        Check::Stop(r) => Added::Refused(r),
-        Check::Pass => edits::add(head, tail, n, &kind, &unique, size, attributes, &name),
+    match gpt_checks::add(&head[..], &tail[..], n, &kind, &unique, size, &name) {
+        Start::Stop(k) => Added::Refused(refusal_of(k)),
+        Start::At(first) => {
+            let slot = gpt_edits::add(
+                head,
+                tail,
+                n,
+                &kind,
+                &unique,
+                size,
+                attributes,
+                &name,
+                first,
+            );
+            Added::At { slot, first }
+        }
     }
 }
 
@@ -134,9 +159,12 @@ pub fn add(
 pub fn resize(head: &mut [u8], tail: &mut [u8], n: u64, slot: u64, size: u64) -> Done
     ensures { λ r. ⌜ out (doneOf r) (now (head .exit)) (now (tail .exit)) ≡ step disk512 n (now (head .entry)) (now (tail .entry)) (edit (resizeCall slot size)) ⌝ }
 {
-    match checks::opened(&head[..], &tail[..], n) {
-        Check::Stop(r) => Done::Refused(r),
-        Check::Pass => edits::resize(head, tail, n, slot, size),
+    match gpt_checks::resize(&head[..], &tail[..], n, slot, size) {
+        Check::Stop(k) => Done::Refused(refusal_of(k)),
+        Check::Pass => {
+            gpt_edits::resize(head, tail, n, slot, size);
+            Done::Accepted
+        }
     }
 }
 
@@ -144,9 +172,12 @@ pub fn resize(head: &mut [u8], tail: &mut [u8], n: u64, slot: u64, size: u64) ->
 pub fn rename(head: &mut [u8], tail: &mut [u8], n: u64, slot: u64, name: [u16; 36]) -> Done
     ensures { λ r. ⌜ out (doneOf r) (now (head .exit)) (now (tail .exit)) ≡ step disk512 n (now (head .entry)) (now (tail .entry)) (edit (renameCall slot name)) ⌝ }
 {
-    match checks::opened(&head[..], &tail[..], n) {
-        Check::Stop(r) => Done::Refused(r),
-        Check::Pass => edits::rename(head, tail, n, slot, &name),
+    match gpt_checks::rename(&head[..], &tail[..], n, slot, &name) {
+        Check::Stop(k) => Done::Refused(refusal_of(k)),
+        Check::Pass => {
+            gpt_edits::rename(head, tail, n, slot, &name);
+            Done::Accepted
+        }
     }
 }
 
@@ -157,51 +188,24 @@ pub fn repair(head: &mut [u8], tail: &mut [u8], n: u64) -> Reading
     match read(&head[..], &tail[..], n) {
         Reading::Same => Reading::Same,
         Reading::Different => {
-            repair_tail(&head[..], tail, n);
+            gpt_edits::repair_tail(&head[..], tail, n);
             Reading::Different
         }
         Reading::PrimaryOnly => {
-            repair_tail(&head[..], tail, n);
+            gpt_edits::repair_tail(&head[..], tail, n);
             Reading::PrimaryOnly
         }
         Reading::BackupOnly => {
-            repair_head(head, &tail[..], n);
+            gpt_edits::repair_head(head, &tail[..], n);
             Reading::BackupOnly
         }
         Reading::Refused(r) => Reading::Refused(r),
     }
 }
 
-fn repair_tail(head: &[u8], tail: &mut [u8], n: u64)
-    requires { ⌜ (length (now head) ≡ lentBytes disk512 primary) × (length (now tail) ≡ lentBytes disk512 backup) × (2 * disk512 .first ≤ n) ⌝ }
-    ensures { λ _. ⌜ now (tail .exit) ≡ withCopy disk512 n backup (guidIn disk512 primary (now (head .entry))) (entriesIn disk512 primary (now (head .entry))) (now (tail .entry)) ⌝ }
-{
-    gpt_copies::writing::put_copy(
-        tail,
-        Side::Backup,
-        n,
-        gpt_copies::guid_in(head, Side::Primary),
-        gpt_copies::entries_in(head, Side::Primary),
-    );
-}
-
-fn repair_head(head: &mut [u8], tail: &[u8], n: u64)
-    requires { ⌜ (length (now head) ≡ lentBytes disk512 primary) × (length (now tail) ≡ lentBytes disk512 backup) × (2 * disk512 .first ≤ n) ⌝ }
-    ensures { λ _. ⌜ now (head .exit) ≡ withCopy disk512 n primary (guidIn disk512 backup (now (tail .entry))) (entriesIn disk512 backup (now (tail .entry))) (now (head .entry)) ⌝ }
-{
-    gpt_copies::writing::put_copy(
-        head,
-        Side::Primary,
-        n,
-        gpt_copies::guid_in(tail, Side::Backup),
-        gpt_copies::entries_in(tail, Side::Backup),
-    );
-}
-
 // The 16,384 entry bytes inside the buffer whose copy is used; empty on a refusal.
 pub fn table<'a>(head: &'a [u8], tail: &'a [u8], n: u64) -> &'a [u8]
-    ensures { λ r. ⌜ (now r ≡ handed disk512 n (now (head .entry)) (now (tail .entry)) (refusal (rowsOf disk512 n (now (head .entry)) (now (tail .entry)) readCall)))
-        × (r .ptr ≡ handedAt (refusal (rowsOf disk512 n (now (head .entry)) (now (tail .entry)) readCall)) (state disk512 n (now (head .entry)) (now (tail .entry))) (head .entry .ptr) (tail .entry .ptr)) ⌝ }
+    ensures { λ r. ⌜ part (now r) (r .ptr) ≡ handedPart n (now (head .entry)) (now (tail .entry)) (head .entry .ptr) (tail .entry .ptr) ⌝ }
 {
     match read(head, tail, n) {
         Reading::Same => gpt_copies::entries_in(head, Side::Primary),

@@ -2,4 +2,3 @@ pub mod Places
 pub mod Headers
 pub mod Writes
 pub mod Judged
-pub mod Used

@@ -1,4 +1,4 @@
-// What reading finds: which copies are good, and the table of the copy that is used.
+// What reading finds: which copies are good.
 ghost use mathlib.Core.Path.{_≡_};
 ghost use mathlib.Core.Bool.{false};
 ghost use Prim.Native.Nat.{_*_, _≤_};
@@ -6,7 +6,7 @@ ghost use lib.ListN.{length};
 ghost use Rattle.octets.specs.Bytes.{same};
 ghost use Rattle.gpt_model.specs.Disk.{disk512, primary, backup, lentBytes, entriesIn, goodCopy, stateOf, state as stateOn};
 ghost use Rattle.gpt_copies.specs.Sides.{sideOf};
-ghost use Rattle.gpt_copies.specs.States.{stateNumber, partOf, placeOf};
+ghost use Rattle.gpt_copies.specs.States.{stateNumber};
 use super::Side;
 use super::State;
 
@@ -81,18 +81,4 @@ pub fn state(head: &[u8], tail: &[u8], n: u64) -> State
         return state_alike(head, tail, n);
     }
     state_apart(head, tail, n)
-}
-
-// D11: It hands back the 16,384 entry bytes inside whichever of the two lent buffers was used; empty where there is none.
-pub fn part<'a>(state: State, head: &'a [u8], tail: &'a [u8]) -> &'a [u8]
-    requires { ⌜ (length (now head) ≡ lentBytes disk512 primary) × (length (now tail) ≡ lentBytes disk512 backup) ⌝ }
-    ensures { λ r. ⌜ (now r ≡ partOf state (now (head .entry)) (now (tail .entry))) × (r .ptr ≡ placeOf state (head .entry .ptr) (tail .entry .ptr)) ⌝ }
-{
-    match state {
-        State::Both => super::entries_in(head, Side::Primary),
-        State::Differ => super::entries_in(head, Side::Primary),
-        State::PrimaryOnly => super::entries_in(head, Side::Primary),
-        State::BackupOnly => super::entries_in(tail, Side::Backup),
-        State::Neither => &head[0..0],
-    }
 }

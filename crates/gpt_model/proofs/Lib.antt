@@ -1,4 +1,4 @@
--- Laws that the crates above cite, and the theorems (Demand3, Touches, Samples).
+-- Laws that the crates above cite, and the theorems (Demand3, Touches, SameSize).
 pub mod Room
 pub mod Counts
 pub mod Longest
@@ -13,4 +13,4 @@ pub mod Ways
 pub mod Steps
 pub mod Demand3
 pub mod Touches
-pub mod Samples
+pub mod SameSize

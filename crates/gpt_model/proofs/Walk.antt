@@ -76,10 +76,6 @@ module _ (s : List Slot) (len : length s ≡ 128) where
       let w1 = w .1 in
       (r .0, (h, omega arith, omega arith))
 
-  -- all from a to the last block of the range that holds a
-  pub covered : (a i : ℕ) → Holds fs ls a i → (c : ℕ) → a ≤ c → c ≤ getD ls i 0 → lies s c ≡ true
-  covered a i h c p q = let u = h .1 in held c i (h .0, omega arith, q)
-
   pub uncovered : (a : ℕ) → ((i : ℕ) → Holds fs ls a i → ⊥) → lies s a ≡ false
   uncovered a f = go (bool-cases (lies s a))
     where

@@ -129,9 +129,6 @@ module _ (g : Shape) (n : ℕ) (h t : List ℕ) (d : Edit) where
   pub edit-stops : (k : ℕ) → refusal (openRows g n h t d) ≡ some k → refusal (rowsOf g n h t (edit d)) ≡ some k
   edit-stops k e = refusal-first (openRows g n h t d) (tableRows (g .first) (lastUsable g n) (tableOf g n h t) d) k e
 
-  pub read-stops : (k : ℕ) → refusal (readRows g n h t (lengthsOf d)) ≡ some k → refusal (openRows g n h t d) ≡ some k
-  read-stops k e = refusal-first (readRows g n h t (lengthsOf d)) (row (not (eqb (state g n h t) 1)) 11 ∷ []) k e
-
 -- where lengths and N are right and the disk reads as state 1, the rows before an edit's own do not hold
 pub open-none : (g : Shape) (n : ℕ) (h t : List ℕ) (d : Edit) → length h ≡ lentBytes g primary → length t ≡ lentBytes g backup
     → lengthsOf d ≡ true → inRange g n ≡ true → state g n h t ≡ 1 → refusal (openRows g n h t d) ≡ none

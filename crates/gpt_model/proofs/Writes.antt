@@ -1,5 +1,5 @@
 -- What code that writes a copy cites: a header filled field by field, its CRC stored last, one entry copied into its place, a formatted head and tail.
-use mathlib.Core.Path.{_≡_, refl, sym, ap, ap₂, _∙_}
+use mathlib.Core.Path.{_≡_, refl, sym, ap, _∙_}
 use mathlib.Core.List.{List, [], _∷_, _++_, map}
 use Prim.Native.Nat.{ℕ, _+_, _-_, _*_, _≤_, _<_}
 use native.Mathlib.Omega.{arith}
@@ -8,7 +8,7 @@ use Rattle.octets.specs.Tests.{_and_}
 use Rattle.octets.specs.Bytes.{le, part, put, zeros, putChunk, flat}
 use Rattle.octets.proofs.Numbers.{length-le}
 use Rattle.octets.proofs.Parts.{length-zeros, part-zeros}
-use Rattle.octets.proofs.Puts.{put-put, put-all, put-over, put-inside, put-self, part-put-in, part-put-below}
+use Rattle.octets.proofs.Puts.{put-put, put-all, put-over, put-inside, put-self, part-put-below}
 use Rattle.octets.proofs.Chunks.{putChunk-put}
 use Rattle.gpt_model.specs.Table.{writeAll}
 use Rattle.gpt_model.specs.Disk.{Shape, Side, primary, backup, lentBytes, headerAt, entriesAt, entriesIn, headerFields, headerWith, headerCrc, header, withTable, block0, freshHead, freshTail}
@@ -68,16 +68,6 @@ module _ (g : Shape) (wide : 92 ≤ g .block) (side : Side) (b : List ℕ) (lb :
   entry-written =
       let h = entries-inside g wide side in
       ap (λ (x : List ℕ). put (entriesAt g side) x b) entry-put ∙ put-inside e b (entriesAt g side) 16384 (i * 128) (omega arith) (omega arith)
-
-  -- and that table is then what stands there
-  pub entry-reads : entriesIn g side (put (entriesAt g side + i * 128) e b) ≡ putChunk 128 i e (entriesIn g side b)
-  entry-reads = part-put-in e b (entriesAt g side) 16384 (i * 128) (omega arith) ∙ sym entry-put
-
-  -- so the copy is written by copying the entry and writing the header anew
-  pub entry-with : (n : ℕ) (guid : List ℕ) → withTable g n side guid (putChunk 128 i e (entriesIn g side b)) b
-      ≡ put (headerAt g side) (header g n side guid (entriesIn g side (put (entriesAt g side + i * 128) e b))) (put (entriesAt g side + i * 128) e b)
-  unfolding withTable
-  entry-with n guid = ap₂ (put (headerAt g side)) (ap (header g n side guid) (sym entry-reads)) entry-written
 
 -- ---- a formatting: no entry byte need be written on zeros
 

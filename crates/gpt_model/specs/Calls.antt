@@ -145,11 +145,6 @@ module _ (g : Shape) (n : ℕ) (h t : List ℕ) where
   rowsOf repair = readRows true
   rowsOf (edit d) = openRows d ++ tableRows (g .first) (lastUsable g n) (tableOf g n h t) d
 
-  -- D11: It hands back the 16,384 entry bytes. R1: an empty part where a part is returned
-  abbrev pub handed : Option ℕ → List ℕ
-  handed none = tableOf g n h t
-  handed (some k) = []
-
   -- D24: Repair in state 1 changes nothing; otherwise it writes the other copy's 33 blocks from the good one (state 2: from the primary), header tail zero.
   abbrev pub repaired : ℕ → Out
   repaired s =

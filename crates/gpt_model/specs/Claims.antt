@@ -4,14 +4,14 @@ use mathlib.Core.Logic.{_↔_, _⊎_, _≢_}
 use mathlib.Core.Bool.{true, false}
 use mathlib.Core.List.{List, [], _∷_, _++_}
 use mathlib.Core.Option.{none}
-use Prim.Native.Nat.{ℕ, _+_, _*_, _≤_, _<_}
+use Prim.Native.Nat.{ℕ, suc, _+_, _-_, _*_, _≤_, _<_}
 use lib.ListN.{length, getD}
 use Rattle.octets.specs.Rows.{refusal}
 use Rattle.octets.specs.Bytes.{isZero, zeros}
-use Rattle.gpt_model.specs.Table.{vacant, slotCount, tableBytes, entryBytes}
+use Rattle.gpt_model.specs.Table.{vacant, slotCount, tableBytes, entryBytes, firstOf, lastOf}
 use Rattle.gpt_model.specs.Disk.{Shape, lastUsable, usable, inRange, Side, primary, backup, headerBytes, lentBytes, headerAt, entriesAt, lent, state, tableOf}
 use Rattle.gpt_model.specs.Ranges.{inside, roomAt, taken, freeCount, longestFree}
-use Rattle.gpt_model.specs.Calls.{Edit, add, Call, repair, edit, refused, accepted, addRows, change, edited, openRows, rowsOf, step, format}
+use Rattle.gpt_model.specs.Calls.{Edit, add, delete, resize, Call, repair, edit, refused, accepted, out, entryOf, addRows, change, edited, openRows, rowsOf, step, format}
 use Rattle.gpt_model.specs.Lists.{Run, run, answers, applied, begun, slotsOf, StartsAfresh}
 
 -- ---- demand 3
@@ -104,3 +104,10 @@ EditTouches =
     × ((k : ℕ) → Outside (entriesAt g side + change (g .first) (lastUsable g n) (tableOf g n h t) d .index * entryBytes) entryBytes k
     → Outside (headerAt g side + 16) 4 k → Outside (headerAt g side + 88) 4 k
     → getD (lent side (o .head) (o .tail)) k 0 ≡ getD (lent side h t) k 0)
+
+-- D18: a resize to the present size is accepted and changes no byte, where the head's list holds bytes; the copies are both good and the same, and the slot is used
+abbrev pub ResizeToSame : Type 0
+ResizeToSame =
+    (g : Shape) (n : ℕ) (h t : List ℕ) (k : ℕ) → headerBytes ≤ g .block → ((i : ℕ) → getD h i 0 < 256) → refusal (rowsOf g n h t (edit (delete k))) ≡ none
+    → let e = entryOf (tableOf g n h t) k in
+    step g n h t (edit (resize k (suc (lastOf e) - firstOf e))) ≡ out (accepted []) h t

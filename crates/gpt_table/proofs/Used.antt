@@ -1,7 +1,7 @@
 -- Laws of used entries decoded into numbers.
 use mathlib.Core.Path.{_≡_, refl, sym, ap, ap₂, subst, _∙_}
 use mathlib.Core.Logic.{_⊎_, inl, inr}
-use mathlib.Core.Bool.{Bool, true, false, not}
+use mathlib.Core.Bool.{Bool, true, false}
 use mathlib.Core.List.{List, [], _∷_, _++_, map, append-nil}
 use Prim.Native.Nat.{ℕ, zero, suc, _+_, _≤_, _<_, suc-le-suc}
 use native.Mathlib.Nat.{not-suc-le-zero, le-of-suc-le-suc}
@@ -13,7 +13,7 @@ use Rattle.octets.specs.Tests.{_or_}
 use Rattle.octets.specs.Bytes.{field}
 use Rattle.octets.proofs.Bools.{bool-cases}
 use Rattle.gpt_model.specs.Ranges.{inside, lies}
-use Rattle.gpt_model.specs.Table.{vacant, spans, unused, slotOf, entries}
+use Rattle.gpt_model.specs.Table.{vacant, spans, unused, slotOf}
 use Rattle.gpt_model.proofs.Walk.{getD-map}
 use Rattle.gpt_model.proofs.Entries.{zero-unused, slot-unused, slot-used}
 use Rattle.gpt_table.specs.Decoded.{used, Decoded, ranges}

@@ -1,19 +1,16 @@
 -- Laws of the zero test and of comparison: as facts of lists, and along a loop by any number of bytes a step.
-use mathlib.Core.Path.{_≡_, refl, sym, ap, ap₂, subst, _∙_}
-use mathlib.Core.Bool.{Bool, true, false, true≢false, false≢true}
+use mathlib.Core.Path.{_≡_, refl, sym, ap, ap₂, _∙_}
+use mathlib.Core.Bool.{Bool, true, false, false≢true}
 use mathlib.Core.List.{List, [], _∷_, _++_}
-use Prim.Native.Nat.{ℕ, zero, suc, _+_, _*_, _≤_, _<_}
-use native.Mathlib.Nat.{add-zero, add-suc, suc-add}
-use native.Mathlib.Numerals.{add-one}
+use Prim.Native.Nat.{ℕ, zero, suc, _+_, _≤_, _<_}
 use native.Mathlib.Omega.{arith}
 use lib.Dec.{eqb}
-use lib.ListN.{length, getD, take, drop, replicate, length-drop, drop-of-length-le, take-append-drop}
+use lib.ListN.{length, getD, take, drop, length-drop, drop-of-length-le, take-append-drop}
 use lib.Seq.{drop-cons, drop-drop}
-use borrow.Author.Tests.{eqb-true, eqb-false, eq-eqb, ne-eqb}
-use Rattle.octets.specs.Tests.{_and_, all}
+use borrow.Author.Tests.{eqb-true, eq-eqb}
+use Rattle.octets.specs.Tests.{_and_}
 use Rattle.octets.specs.Bytes.{unle, part, field, zeros, isZero, same}
 use Rattle.octets.proofs.Bools.{and-l, and-r, and-i}
-use Rattle.octets.proofs.Tests.{all-on, all-stop}
 use Rattle.octets.proofs.Numbers.{unle-inj}
 use Rattle.octets.proofs.Parts.{length-part, getD-part}
 

@@ -1,8 +1,8 @@
 -- Laws of little-endian numbers, over the width.
 use mathlib.Core.Path.{_≡_, refl, sym, ap, ap₂, subst, _∙_}
 use mathlib.Core.List.{List, [], _∷_, _++_}
-use Prim.Native.Nat.{ℕ, zero, suc, _+_, _*_, _/_, _%_, _^_, _≤_, _<_}
-use native.Mathlib.Nat.{add-zero, add-suc, suc-add, zero-add, pow-suc, pow-succ', mul-assoc, mul-add, one-mul, mul-zero, div-div-eq-div-mul, div-one, div-lt-iff-lt-mul, suc-inj, suc-ne-zero, zero-lt-suc}
+use Prim.Native.Nat.{ℕ, zero, suc, _+_, _*_, _/_, _%_, _^_, _<_}
+use native.Mathlib.Nat.{add-zero, suc-add, zero-add, pow-suc, pow-succ', mul-assoc, mul-add, one-mul, mul-zero, div-div-eq-div-mul, div-one, div-lt-iff-lt-mul, suc-inj, suc-ne-zero, zero-lt-suc}
 use native.Mathlib.Omega.{arith}
 use Prim.Native.Nat.{suc-le-suc}
 use lib.Arith.{mod-mul}

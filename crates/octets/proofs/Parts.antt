@@ -2,11 +2,11 @@
 use mathlib.Core.Path.{_≡_, refl, sym, ap, _∙_}
 use mathlib.Core.List.{List, [], _∷_, _++_}
 use Prim.Native.Nat.{ℕ, zero, suc, _+_, _-_, _≤_, _<_}
-use native.Mathlib.Nat.{zero-add, suc-add, add-zero}
+use native.Mathlib.Nat.{zero-add, suc-add}
 use native.Mathlib.Omega.{arith}
-use lib.ListN.{length, getD, take, drop, length-take, length-drop, length-replicate, take-append-drop}
+use lib.ListN.{length, getD, take, drop, length-drop, length-replicate, take-append-drop}
 use lib.Seq.{take-at, drop-at, drop-append-add, drop-append-le, take-append-le, length-take-le, take-all, take-nil, take-take, drop-drop, getD-take, getD-drop}
-use Rattle.octets.specs.Bytes.{part, rest, field, zeros}
+use Rattle.octets.specs.Bytes.{part, rest, zeros}
 
 -- ---- a part of two lists one after the other
 
@@ -30,10 +30,6 @@ part-in p q at k h =
 pub part-whole : (p : List ℕ) (k : ℕ) → length p ≡ k → part 0 k p ≡ p
 unfolding part
 part-whole p k e = take-all k p (omega arith)
-
-pub rest-skip : (p q : List ℕ) (m at : ℕ) → length p ≡ m → rest (m + at) (p ++ q) ≡ rest at q
-unfolding rest
-rest-skip p q m at e = ap (λ (x : ℕ). drop (x + at) (p ++ q)) (sym e) ∙ drop-append-add p q at
 
 pub rest-at : (p q : List ℕ) (m : ℕ) → length p ≡ m → rest m (p ++ q) ≡ q
 unfolding rest
@@ -67,19 +63,9 @@ getD-part xs at k i h = getD-take k (drop at xs) i 0 h ∙ getD-drop at xs i 0
 
 -- ---- the parts make the whole
 
-pub part-rest : (xs : List ℕ) (m : ℕ) → part 0 m xs ++ rest m xs ≡ xs
-unfolding part rest
-part-rest xs m = take-append-drop m xs
-
 pub part-on : (xs : List ℕ) (at k : ℕ) → part at k xs ++ rest (at + k) xs ≡ rest at xs
 unfolding part rest
 part-on xs at k = ap (λ (l : List ℕ). take k (drop at xs) ++ l) (sym (drop-drop k at xs)) ∙ take-append-drop k (drop at xs)
-
--- what stands before m is as it was, whatever follows
-pub part-before : (e r : List ℕ) (m at k : ℕ) → m ≤ length e → at + k ≤ m → part at k (part 0 m e ++ r) ≡ part at k e
-part-before e r m at k h g =
-    let w : length (part 0 m e) ≡ m = length-part e 0 m (omega arith) in
-    part-in (part 0 m e) r at k (omega arith) ∙ sym (part-in (part 0 m e) (rest m e) at k (omega arith)) ∙ ap (part at k) (part-rest e m)
 
 -- ---- a part of a part
 

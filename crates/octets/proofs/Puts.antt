@@ -2,11 +2,11 @@
 use mathlib.Core.Path.{_≡_, refl, sym, ap, _∙_}
 use mathlib.Core.Logic.{_⊎_, inl, inr, _≢_}
 use mathlib.Core.List.{List, [], _∷_, _++_, append-assoc, append-nil}
-use Prim.Native.Nat.{ℕ, zero, suc, _+_, _-_, _/_, _%_, _^_, _≤_, _<_}
+use Prim.Native.Nat.{ℕ, suc, _+_, _-_, _/_, _%_, _^_, _≤_, _<_}
 use native.Mathlib.Nat.{add-zero, add-suc, suc-add}
 use native.Mathlib.Omega.{arith}
-use lib.ListN.{length, getD, set, take, drop, length-append, drop-of-length-le, take-append-drop}
-use lib.Seq.{sets, length-sets, sets-eq, take-set-le, take-set-lt, drop-set-lt, drop-set-add, drop-drop, set-comm, set-set, getD-set-other, take-at, take-add, take-length, length-take-le}
+use lib.ListN.{length, getD, set, take, drop, drop-of-length-le, take-append-drop}
+use lib.Seq.{sets, length-sets, sets-eq, take-set-le, take-set-lt, drop-set-lt, drop-set-add, drop-drop, set-comm, set-set, getD-set-other, take-add, take-length, length-take-le}
 use Rattle.octets.specs.Bytes.{le, part, put}
 use Rattle.octets.proofs.Numbers.{length-le, le-add, le-mod}
 use Rattle.octets.proofs.Parts.{length-part}
@@ -163,13 +163,6 @@ put-over (u ∷ us) [] xs i e = absurd (omega (arith, e))
 put-over (u ∷ us) (v ∷ vs) xs i e =
     ap (λ (l : List ℕ). sets l (suc i) vs) (sym (set-put us (set xs i u) i (suc i) v (omega arith)) ∙ ap (λ (l : List ℕ). sets l (suc i) us) (set-set xs i u v))
     ∙ put-over us vs (set xs i v) (suc i) (omega (arith, e))
-
--- a write of the last bytes
-pub put-last : (p q vs : List ℕ) (n : ℕ) → length p ≡ n → length q ≡ length vs → put n vs (p ++ q) ≡ p ++ vs
-put-last p q vs n e l =
-    let k : n + length vs ≡ length (p ++ q) = rw length-append (omega arith) in
-    put-eq n vs (p ++ q) (omega arith)
-    ∙ rw (take-at p q n e, drop-of-length-le (p ++ q) {i = n + length vs} (omega arith)) (append-nil (p ++ vs))
 
 -- a part written back with a write in it is that write
 pub put-inside : (vs xs : List ℕ) (a k i : ℕ) → a + k ≤ length xs → i + length vs ≤ k → put a (put i vs (part a k xs)) xs ≡ put (a + i) vs xs

@@ -1,1 +1,4 @@
+pub mod Disks
+pub mod Guids
+pub mod Layouts
 pub mod Starred

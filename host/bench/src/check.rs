@@ -1,13 +1,16 @@
 //! What is measured must do its work: both sides are held to the same results before any timing.
 
+use crate::disk::Disk;
 use crate::work::{bytes, loads, stores, zeros};
 use crate::{ours, peers};
+use std::path::Path;
 
-pub fn crc(size: usize) {
+/// Partitions of each disk once the work on it is done.
+pub const PARTITIONS: usize = 128;
+
+pub fn crc(peer: &str, crc32: impl Fn(&[u8]) -> u32, size: usize) {
     let a = bytes(size);
-    let ours = usigrambal::raw::crc32(a);
-    assert_eq!(ours, peers::zlib_crc32(a), "crc32 of {size} bytes, by zlib");
-    assert_eq!(ours, peers::table_crc32(a), "crc32 of {size} bytes, by the table");
+    assert_eq!(usigrambal::raw::crc32(a), crc32(a), "crc32 of {size} bytes, by {peer}");
 }
 
 pub fn octets(size: usize) {
@@ -21,6 +24,16 @@ pub fn octets(size: usize) {
     tests("same", |s| ours::same(s, a), a);
     tests("the byte loop for same", |s| peers::byte_same(s, a), a);
     tests("memcmp", |s| peers::memcmp_same(s, a), a);
+}
+
+/// The disk that is left in a file is in state 1 and has all partitions.
+pub fn disk_left(who: &str, path: &Path) {
+    let left = Disk::in_file(path);
+    assert_eq!(
+        (left.read(), left.partitions()),
+        (1, PARTITIONS),
+        "{who}: state and partitions of the disk left"
+    );
 }
 
 /// Both sides leave the same bytes, other than those they found.

@@ -1,10 +1,15 @@
 //! Disks for the rows of the disk calls: full tables whose free blocks lie in gaps too short for what is asked, so that
 //! a search has to walk them all.
 
+use std::path::Path;
+use testkit::disk::Scratch;
 use usigrambal::raw;
 
-pub const N: u64 = 1 << 20;
-const KIND: [u8; 16] = [0xAF; 16];
+const N: u64 = 1 << 20;
+pub const KIND: [u8; 16] = [0xAF; 16];
+/// The signature of the primary header.
+const SIGNATURE_AT: usize = 512;
+const ENTRY_LEN: usize = 128;
 const NAME: [u16; 36] = [0; 36];
 /// The size of the add that is timed; longer than every gap but the last.
 const ASKED: u64 = 2;
@@ -58,6 +63,47 @@ impl Disk {
         let disk = Disk { head: self.head.clone(), tail: other.tail };
         assert_eq!(disk.read(), 2);
         disk
+    }
+
+    /// The disk with a primary header that has lost its signature: only the backup is good.
+    pub fn with_a_broken_header(&self) -> Disk {
+        let mut disk = self.clone();
+        disk.head[SIGNATURE_AT] ^= 1;
+        assert_eq!(disk.read(), 4);
+        disk
+    }
+
+    /// The disk in a file of its own, zero between head and tail.
+    pub fn image(&self) -> Scratch {
+        self.stored().image()
+    }
+
+    pub fn write_to(&self, path: &Path) {
+        self.stored().write(path).expect("the disk's file is written");
+    }
+
+    fn stored(&self) -> testkit::disk::Disk {
+        testkit::disk::Disk { head: self.head.clone(), tail: self.tail.clone(), n: N }
+    }
+
+    pub fn in_file(path: &Path) -> Disk {
+        let testkit::disk::Disk { head, tail, n } = testkit::disk::Disk::read(path).expect("the disk's file");
+        assert_eq!(n, N);
+        Disk { head, tail }
+    }
+
+    /// The first block of each used entry.
+    pub fn firsts(&self) -> Vec<u64> {
+        let (mut in_tail, mut offset) = (0, 0);
+        assert_eq!(raw::gpt_table(&self.head, &self.tail, N, &mut in_tail, &mut offset), 0);
+        let table = if in_tail == 0 { &self.head } else { &self.tail };
+        let entries = table[offset as usize..].chunks_exact(ENTRY_LEN).take(128);
+        let used = entries.filter(|entry| entry.iter().any(|byte| *byte != 0));
+        used.map(|entry| u64::from_le_bytes(entry[32..40].try_into().expect("eight bytes"))).collect()
+    }
+
+    pub fn partitions(&self) -> usize {
+        self.firsts().len()
     }
 
     fn add(&mut self, unique: u8, size: u64) -> u32 {

@@ -1,8 +1,10 @@
 //! The rows of the flash map calls.
 
 use crate::peers::memmem_signature;
-use crate::table::Table;
+use crate::table::{Label, Table};
+use crate::timed::calls;
 use crate::work::{self, of};
+use std::hint::black_box;
 use testkit::flash::{map_len, Area, Map, PRESERVE};
 use usigrambal::raw;
 
@@ -16,24 +18,34 @@ const CARRY_LEAST: f64 = 0.8;
 /// Twice the bytes take twice the time; the rest is for the clock and the caches.
 const DOUBLE_MOST: f64 = 2.2;
 
+/// Finding beside memmem, carrying beside memcpy.
 pub fn rows(t: &mut Table) {
-    let (ff, random) = (work::repeated(LARGEST, &[0xFF]), work::bytes(LARGEST));
-    for (what, image) in [("find in FF / memmem", ff), ("find in random bytes / memmem", random)] {
+    for (what, image) in [("fmap find in FF", ff()), ("fmap find in random bytes", work::bytes(LARGEST))] {
         assert_eq!((find(image), memmem_signature(image)), (41, None), "{what}");
-        t.row_at_least((what, FIND_LEAST), LARGEST, of(image, find), of(image, memmem_signature));
+        let label = Label::new(what, "memmem").bytes(LARGEST).at_least(FIND_LEAST);
+        t.row(label, calls(of(image, find)), calls(of(image, memmem_signature)));
     }
-    carry_rows(t);
+    carry_row(t);
+}
+
+/// Images full of signatures, and images twice as long.
+pub fn bounds(t: &mut Table) {
+    let ff = ff();
     for (what, pattern) in full() {
         let image = work::repeated(LARGEST, &pattern(LARGEST));
         assert_eq!((find(image), memmem_signature(image)), (42, Some(0)), "{what}");
-        t.units((what, FULL_MOST), of(image, find), ("memmem over 16 MiB of FF", of(ff, memmem_signature)));
+        let label = Label::new(what, "memmem in FF").bytes(LARGEST).at_most_units(FULL_MOST);
+        t.row(label, calls(of(image, find)), calls(of(ff, memmem_signature)));
     }
-    let ff_of = |size: usize| work::repeated(size, &[0xFF]);
-    doubled(t, "fmap: find in FF", ff_of);
-    doubled(t, "fmap: find in random bytes", work::bytes);
+    doubled(t, "fmap find in FF", |size| work::repeated(size, &[0xFF]));
+    doubled(t, "fmap find in random bytes", work::bytes);
     for (what, pattern) in full() {
         doubled(t, what, |size| work::repeated(size, &pattern(size)));
     }
+}
+
+fn ff() -> &'static [u8] {
+    work::repeated(LARGEST, &[0xFF])
 }
 
 fn find(image: &[u8]) -> u32 {
@@ -46,8 +58,8 @@ type Pattern = fn(usize) -> Vec<u8>;
 /// Patterns that fill an image with signatures, none of them of a good map.
 fn full() -> [(&'static str, Pattern); 2] {
     [
-        ("fmap: a signature every 8 bytes", |_| b"__FMAP__".to_vec()),
-        ("fmap: headers right in every field but the count", |size| map(size, Vec::new()).to_bytes()),
+        ("fmap find, a signature every 8 bytes", |_| b"__FMAP__".to_vec()),
+        ("fmap find, headers wrong in the count alone", |size| map(size, Vec::new()).to_bytes()),
     ]
 }
 
@@ -56,14 +68,15 @@ fn map(size: usize, areas: Vec<Area>) -> Map {
 }
 
 /// The same kind of image of 16 MiB, in units of the time for 8 MiB.
-fn doubled(t: &mut Table, what: &'static str, image: impl Fn(usize) -> &'static [u8]) {
+fn doubled(t: &mut Table, what: &str, image: impl Fn(usize) -> &'static [u8]) {
     let (whole, half) = (image(LARGEST), image(LARGEST / 2));
     assert_eq!(find(whole), find(half), "{what}");
-    t.units((what, DOUBLE_MOST), of(whole, find), ("the same on 8 MiB, where it has 16", of(half, find)));
+    let label = Label::new(what, "itself on 8 MiB").bytes(LARGEST).at_most_units(DOUBLE_MOST);
+    t.row(label, calls(of(whole, find)), calls(of(half, find)));
 }
 
 /// Both maps stand at the start, so that their search takes no time; memcpy copies the same areas.
-fn carry_rows(t: &mut Table) {
+fn carry_row(t: &mut Table) {
     let place = |k: usize| map_len(AREAS + 1) + k * MIB;
     let area = |k: usize| Area {
         offset: place(k) as u32,
@@ -87,10 +100,10 @@ fn carry_rows(t: &mut Table) {
     copied(&old, &mut by_peer);
     assert!(by_ours == by_peer && by_ours != new, "a carry is not what memcpy makes of the areas");
     let old: &'static [u8] = old.leak();
-    t.row_at_least(
-        ("carry, areas of 1 MiB / memcpy", CARRY_LEAST),
-        AREAS * MIB,
-        move || raw::fmap_carry(std::hint::black_box(old), std::hint::black_box(&mut by_ours)),
-        move || copied(std::hint::black_box(old), std::hint::black_box(&mut by_peer)),
+    let label = Label::new("fmap carry, areas of 1 MiB", "memcpy").bytes(AREAS * MIB).at_least(CARRY_LEAST);
+    t.row(
+        label,
+        calls(move || raw::fmap_carry(black_box(old), black_box(&mut by_ours))),
+        calls(move || copied(black_box(old), black_box(&mut by_peer))),
     );
 }

@@ -1,36 +1,49 @@
-//! A layout of 128 sections, listed by our program `fmd_list` and compiled by fmaptool, each in a process of its own;
-//! and texts of growing length.
+//! The rows of the layout language: 128 sections, listed by our program `fmd_list` and compiled by fmaptool, each in a
+//! process of its own; and texts of growing length.
 
+use crate::peers;
+use crate::table::{Label, Table};
+use crate::timed::{calls, runs};
+use crate::work::of;
 use std::fs::{self, File};
-use std::path::{Path, PathBuf};
+use std::path::PathBuf;
 use std::process::{Command, Stdio};
+use std::rc::Rc;
 use testkit::disk::Scratch;
-use testkit::{fmaptool, peer};
+use testkit::fmaptool;
 
 const SECTIONS: usize = 128;
 const HEADER_LEN: usize = 56;
 const AREA_LEN: usize = 42;
 
+pub fn rows(t: &mut Table) {
+    match Programs::ready() {
+        Ok(programs) => list_row(t, Rc::new(programs)),
+        Err(why) => t.left_out.push(format!("fmd_list: {why}")),
+    }
+}
+
+fn list_row(t: &mut Table, programs: Rc<Programs>) {
+    let label = Label::new("fmd_list", "fmaptool").size("128 sections").at_least(1.0);
+    let same = programs.clone();
+    t.row(label, runs(|| (), move || programs.list()), runs(|| (), move || same.compile()));
+}
+
 /// Both programs, with the same text in a file.
-pub struct Programs {
+struct Programs {
     list: PathBuf,
     text: Scratch,
     map: Scratch,
 }
 
 impl Programs {
-    /// Both are there and say the same of the text; or why the row is skipped.
-    pub fn ready() -> Result<Programs, String> {
-        let list = Path::new(env!("CARGO_MANIFEST_DIR")).join("../../target/bin/fmd_list");
+    /// Both are there and say the same of the text; or what is missing.
+    fn ready() -> Result<Programs, String> {
+        let list = testkit::host().join("../target/bin/fmd_list");
         if !list.is_file() {
-            return Err(
-                "skipped: fmd_list / fmaptool (target/bin/fmd_list is not built: run `rt check fmd_list`)"
-                    .into(),
-            );
+            return Err("target/bin/fmd_list (`rt check fmd_list` builds it)".into());
         }
-        if !peer::present(fmaptool::TOOL, fmaptool::PACKAGE) {
-            return Err("skipped: fmd_list / fmaptool (no fmaptool)".into());
-        }
+        peers::program(fmaptool::TOOL, fmaptool::PACKAGE)?;
         let programs = Programs { list, text: Scratch::new(), map: Scratch::new() };
         fs::write(&programs.text.path, text()).expect("a file for the text");
         programs.compile();
@@ -46,12 +59,12 @@ impl Programs {
         command
     }
 
-    pub fn list(&self) {
+    fn list(&self) {
         let status = self.lister().stdout(Stdio::null()).status().expect("fmd_list runs");
         assert!(status.success(), "fmd_list: {status}");
     }
 
-    pub fn compile(&self) {
+    fn compile(&self) {
         let mut command = Command::new(fmaptool::TOOL);
         command.arg(&self.text.path).arg(&self.map.path).stdout(Stdio::null()).stderr(Stdio::null());
         let status = command.status().expect("fmaptool runs");
@@ -90,15 +103,18 @@ fn text() -> String {
 
 /// A row for a text of 16 and of 32 KiB, with the one of 8 KiB as its unit, for two ways to grow: 128 sections with
 /// longer comments, and more sections. Linear is twice and four times as long.
-pub fn growing() -> Vec<(&'static str, f64, &'static [u8], &'static [u8])> {
-    let longer = |kib: usize| long_text(SECTIONS, kib * 1024);
-    let more = |kib: usize| long_text(4 * kib, kib * 1024);
-    vec![
-        ("fmd: read 16 KiB / 8 KiB, 128 sections", 2.5, longer(16), longer(8)),
-        ("fmd: read 32 KiB / 8 KiB, 128 sections", 5.0, longer(32), longer(8)),
-        ("fmd: read 16 KiB / 8 KiB, 64 / 32 sections", 2.5, more(16), more(8)),
-        ("fmd: read 32 KiB / 8 KiB, 128 / 32 sections", 5.0, more(32), more(8)),
-    ]
+pub fn bounds(t: &mut Table) {
+    for (kib, most) in [(16, 2.5), (32, 5.0)] {
+        let longer = |kib: usize| long_text(SECTIONS, kib * 1024);
+        let more = |kib: usize| long_text(4 * kib, kib * 1024);
+        growing_row(t, ("fmd read, 128 sections", longer(kib), longer(8)), most);
+        growing_row(t, ("fmd read, 4 sections a KiB", more(kib), more(8)), most);
+    }
+}
+
+fn growing_row(t: &mut Table, (what, text, unit): (&str, &'static [u8], &'static [u8]), most: f64) {
+    let label = Label::new(what, "itself on 8 KiB").bytes(text.len()).at_most_units(most);
+    t.row(label, calls(of(text, read)), calls(of(unit, read)));
 }
 
 /// So many sections in exactly so many bytes.
@@ -117,7 +133,7 @@ fn long_text(sections: usize, len: usize) -> &'static [u8] {
     text.leak()
 }
 
-pub fn read(text: &[u8]) -> u64 {
+fn read(text: &[u8]) -> u64 {
     let (mut name, mut size, mut address, mut count) = ([0; 32], 0, 0, 0);
     let refusal = usigrambal::raw::fmd_read(text, &mut name, &mut size, &mut address, &mut count);
     assert_eq!(refusal, 0);

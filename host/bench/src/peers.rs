@@ -1,41 +1,28 @@
 //! What ours is measured beside. Each is a call of its own, never inlined, on pointers and lengths and
 //! with guards, as ours is, so that the work alone differs.
 
-use std::ffi::{c_uint, c_ulong, c_void};
+use crate::library::Library;
+use std::ffi::c_void;
 
 extern "C" {
-    fn crc32(crc: c_ulong, buf: *const u8, len: c_uint) -> c_ulong;
     fn memmem(s: *const c_void, len: usize, part: *const c_void, part_len: usize) -> *const c_void;
 }
 
-/// zlib's CRC-32.
-pub fn zlib_crc32(data: &[u8]) -> u32 {
-    let length = c_uint::try_from(data.len()).expect("a length that zlib takes");
-    unsafe { crc32(0, data.as_ptr(), length) as u32 }
+/// A program of that name is there; or what is missing.
+pub fn program(name: &str, package: &str) -> Result<(), String> {
+    let folders = std::env::var_os("PATH").unwrap_or_default();
+    let there = std::env::split_paths(&folders).any(|folder| folder.join(name).is_file());
+    there.then_some(()).ok_or_else(|| format!("{name} (Debian: {package})"))
 }
 
-/// The common byte loop over one table.
-#[inline(never)]
-pub fn table_crc32(data: &[u8]) -> u32 {
-    !data.iter().fold(!0, |crc: u32, &byte| crc >> 8 ^ TABLE[(crc as u8 ^ byte) as usize])
-}
+type Crc32 = extern "C" fn(*const u8, usize) -> u32;
 
-static TABLE: [u32; 256] = table();
-
-const fn table() -> [u32; 256] {
-    let mut table = [0; 256];
-    let mut index = 0;
-    while index < 256 {
-        let mut crc = index as u32;
-        let mut bit = 0;
-        while bit < 8 {
-            crc = if crc & 1 == 1 { crc >> 1 ^ 0xEDB8_8320 } else { crc >> 1 };
-            bit += 1;
-        }
-        table[index] = crc;
-        index += 1;
-    }
-    table
+/// The CRC-32 of a library.
+pub fn crc32(name: &'static str, package: &str) -> Result<impl Fn(&[u8]) -> u32 + Copy, String> {
+    let library = Library::open(name, package)?;
+    // Safety: each library of a CRC-32 has this function, and pointer and length come from one slice.
+    let crc32: Crc32 = unsafe { library.function(c"peer_crc32") };
+    Ok(move |data: &[u8]| crc32(data.as_ptr(), data.len()))
 }
 
 #[inline(never)]

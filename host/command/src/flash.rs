@@ -36,7 +36,7 @@ pub fn show(given: &Given) -> Result<Report, Failure> {
     );
     text += &area_table(&areas, &rows);
     let json = vec![
-        ("image", path_text(path)),
+        ("image", path.into()),
         ("bytes", len.into()),
         ("name", map.name.into()),
         ("position", map.position.into()),
@@ -91,13 +91,15 @@ pub fn carry(given: &Given) -> Result<Report, Failure> {
         ])
     };
     let json = vec![
-        ("old", path_text(old_path)),
-        ("new", path_text(new_path)),
+        ("old", old_path.into()),
+        ("new", new_path.into()),
         ("dry_run", dry_run.into()),
         ("changed", changed.into()),
         ("carried", carried.iter().map(one).collect()),
     ];
-    Ok(Report::new(text, json))
+    let none =
+        carried.is_empty().then(|| format!("note: the map of {} marks no area PRESERVE", old_path.display()));
+    Ok(Report { notes: none.into_iter().collect(), ..Report::new(text, json) })
 }
 
 /// The bytes of a carried area in the new image.
@@ -162,8 +164,4 @@ fn save(path: &Path, image: &image::Image, target: &Path, bytes: &[u8]) -> Resul
     let opened = OpenOptions::new().write(true).open(target);
     let written = opened.and_then(|mut file| file.write_all(bytes));
     written.map_err(|error| storage::unusable(target, "cannot be written", &error))
-}
-
-fn path_text(path: &Path) -> Json {
-    path.to_string_lossy().into_owned().into()
 }

@@ -9,7 +9,6 @@ use crate::show::{bar, printable, Item, Side, Table};
 use crate::sizes::{self, human, of_blocks, BLOCK_LEN};
 use std::fs::File;
 use std::io::Read;
-use std::path::Path;
 use usigrambal::{Disk, Guid, Name, NewPartition, Partition, Run, State};
 
 const BAR_WIDTH: u64 = 64;
@@ -38,7 +37,7 @@ pub fn show(given: &Given) -> Result<Report, Failure> {
     text += &if partitions.is_empty() { "no partitions\n".to_string() } else { table(&partitions) };
     text += &format!("\n{drawing}\n");
     let json = vec![
-        ("disk", path_text(path)),
+        ("disk", path.into()),
         ("blocks", disk.n.into()),
         ("block_bytes", BLOCK_LEN.into()),
         ("guid", guid.to_string().into()),
@@ -60,7 +59,7 @@ pub fn free(given: &Given) -> Result<Report, Failure> {
     let free = ends.disk().free()?;
     let (blocks, longest) = (of_blocks(free.blocks), of_blocks(free.longest_run));
     let json = vec![
-        ("disk", path_text(given.path(0))),
+        ("disk", given.path(0).into()),
         ("free_blocks", free.blocks.into()),
         ("longest_run", free.longest_run.into()),
     ];
@@ -74,7 +73,7 @@ pub fn verify(given: &Given) -> Result<Report, Failure> {
     let line = format!("{}: {words}", path.display());
     let good = state == State::Same;
     let json = vec![
-        ("disk", path_text(path)),
+        ("disk", path.into()),
         ("verified", good.into()),
         ("state", (state as u64).into()),
         ("copies", words.into()),
@@ -211,7 +210,7 @@ fn edited<T>(
     let edit = disk::edit(given.path(0), mode, call)?;
     let (text, told) = tell(&edit.answer, &|done, would| if mode.dry_run { would } else { done });
     let mut json = vec![
-        ("disk", path_text(given.path(0))),
+        ("disk", given.path(0).into()),
         ("dry_run", mode.dry_run.into()),
         ("changed", edit.changed.into()),
     ];
@@ -323,8 +322,4 @@ fn drawing(partitions: &[Partition], runs: &[Run], width: usize) -> String {
     let items: Vec<Item> =
         items.into_iter().map(|(run, number)| Item { number, blocks: run.blocks() }).collect();
     bar(&items, width)
-}
-
-fn path_text(path: &Path) -> Json {
-    path.to_string_lossy().into_owned().into()
 }

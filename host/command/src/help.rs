@@ -84,7 +84,7 @@ fn examples<'a>(verbs: impl IntoIterator<Item = &'a Verb>) -> String {
 /// Lines of at most WIDTH columns; those that follow are indented. An option in brackets stays whole.
 fn wrapped(text: &str, indent: usize) -> String {
     let mut lines = vec![String::new()];
-    for word in text.replace(" [", "\0[").split(['\0', ' ']).fold(Vec::new(), whole) {
+    for word in text.split(' ').fold(Vec::new(), whole) {
         let line = lines.last_mut().expect("a line");
         if line.is_empty() {
             *line = word;

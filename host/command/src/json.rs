@@ -1,6 +1,7 @@
 //! One JSON document (RFC 8259).
 
 use std::fmt;
+use std::path::Path;
 
 #[derive(Clone, Debug, PartialEq)]
 pub enum Json {
@@ -33,6 +34,13 @@ impl From<&str> for Json {
 impl From<String> for Json {
     fn from(value: String) -> Json {
         Json::Text(value)
+    }
+}
+
+/// As text, as far as it is UTF-8.
+impl From<&Path> for Json {
+    fn from(value: &Path) -> Json {
+        Json::Text(value.to_string_lossy().into_owned())
     }
 }
 

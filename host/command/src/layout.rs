@@ -3,7 +3,6 @@
 use crate::arguments::Given;
 use crate::failure::{words, Failure};
 use crate::image;
-use crate::json::Json;
 use crate::report::Report;
 use crate::show::{area_table, areas_json, gaps_json, tree, Area, Span};
 use crate::sizes::human;
@@ -31,7 +30,7 @@ pub fn list(given: &Given) -> Result<Report, Failure> {
     );
     listing += &area_table(&areas, &rows);
     let json = vec![
-        ("layout", path_text(given.path(0))),
+        ("layout", given.path(0).into()),
         ("name", layout.name.into()),
         ("size", layout.size.into()),
         ("address", format!("{:#x}", layout.address).into()),
@@ -59,21 +58,19 @@ pub fn write(given: &Given) -> Result<Report, Failure> {
     let sections = layout::sections(&text)?;
     let position = sections.iter().find(|section| section.name == "FMAP").map(|section| section.position);
     let position = u64::from(position.unwrap_or_default());
-    let verb = if dry_run { "would write" } else { "wrote" };
-    let what = match (create, changed) {
-        (true, _) => format!(", a new image of {} bytes ({})", layout.size, human(layout.size)),
-        (_, true) => String::new(),
-        (_, false) => ", which has it already".to_string(),
+    let map = format!("the map of {} with {} areas", layout.name, layout.sections);
+    let (verb, image_path) = (if dry_run { "would write" } else { "wrote" }, path.display());
+    let text = match (create, changed) {
+        (true, _) => {
+            let size = format!("{} bytes ({})", layout.size, human(layout.size));
+            format!("{verb} {map} at {position:#010x} into {image_path}, a new image of {size}\n")
+        }
+        (false, true) => format!("{verb} {map} at {position:#010x} into {image_path}\n"),
+        (false, false) => format!("{image_path} has {map} at {position:#010x} already; no byte changes\n"),
     };
-    let text = format!(
-        "{verb} the map of {} with {} areas at {position:#010x} into {}{what}\n",
-        layout.name,
-        layout.sections,
-        path.display()
-    );
     let json = vec![
-        ("layout", path_text(source)),
-        ("image", path_text(path)),
+        ("layout", source.into()),
+        ("image", path.into()),
         ("dry_run", dry_run.into()),
         ("changed", changed.into()),
         ("created", (create && !dry_run).into()),
@@ -135,8 +132,4 @@ fn read(path: &Path) -> Result<Vec<u8>, Failure> {
         read.map_err(|error| unusable(path, "cannot be read", &error))?;
     }
     Ok(text)
-}
-
-fn path_text(path: &Path) -> Json {
-    path.to_string_lossy().into_owned().into()
 }

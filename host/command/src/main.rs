@@ -23,19 +23,23 @@ use std::process::ExitCode;
 
 fn main() -> ExitCode {
     let words: Vec<OsString> = env::args_os().skip(1).collect();
-    let json = words.iter().any(|word| word == "--json");
-    match answer(&words, json) {
+    let request = arguments::read(&words);
+    let json = match &request {
+        Ok(Request::Call(_, given)) => given.has("--json"),
+        Ok(Request::Say(_)) => false,
+        Err(_) => words.iter().any(|word| word == "--json"),
+    };
+    match request.and_then(|request| answer(request, json)) {
         Ok(()) => ExitCode::SUCCESS,
         Err(failure) => failed(&failure, json),
     }
 }
 
-fn answer(words: &[OsString], json: bool) -> Result<(), Failure> {
-    let (verb, given) = match arguments::read(words)? {
+fn answer(request: Request, json: bool) -> Result<(), Failure> {
+    let report = match request {
         Request::Say(text) => return report::print(text.as_bytes()),
-        Request::Call(verb, given) => (verb, given),
+        Request::Call(verb, given) => (verb.run)(&given)?,
     };
-    let report = (verb.run)(&given)?;
     report.notes.iter().for_each(|note| report::say(&format!("usigrambal: {note}")));
     let text = if json { format!("{}\n", report.json) } else { report.text };
     report::print(text.as_bytes())

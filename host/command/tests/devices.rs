@@ -45,8 +45,10 @@ fn a_device_in_use() {
     assert_eq!(fs::read(path).expect("a device"), before);
     run!["gpt", "show", path].done();
     run!["gpt", "add", path, "--size", "1", "--dry-run"].done();
+    // The kernel does not read the table of a device in use.
     let forced = run!["gpt", "add", path, "--size", "1", "--force"];
     assert_eq!(forced.status, Some(0), "{}", forced.err);
+    assert!(forced.err.is_empty() || forced.err.contains("note: the kernel still goes by the old table"));
     drop(held);
     run!["gpt", "add", path, "--size", "1"].done();
     assert_eq!(run!["gpt", "show", path, "--json"].json().list("partitions").len(), 2);
@@ -83,7 +85,7 @@ fn partitions_appear() {
     let name = path.file_name().and_then(|name| name.to_str()).expect("a name");
     let size = |slot: u64| fs::read_to_string(format!("/sys/block/{name}/{name}p{slot}/size")).ok();
     if size(1).is_none() {
-        println!("skipped: partitions of loop devices");
+        common::skipped("partitions of loop devices");
         return;
     }
     add(path, "30", "b");

@@ -150,13 +150,13 @@ fn calls_at_once_follow_each_other() {
     let folder = Folder::new();
     let image = disk(&folder, "disk.img", 1000);
     std::thread::scope(|scope| {
-        for name in 0..12 {
+        for name in 0..5 {
             let image = &image;
             scope.spawn(move || add(image, "10", &name.to_string()));
         }
     });
     let shown = run!["gpt", "show", image, "--json"].json();
-    assert_eq!((shown.number("state"), shown.list("partitions").len()), (1, 12));
+    assert_eq!((shown.number("state"), shown.list("partitions").len()), (1, 5));
 }
 
 /// Each carry that was told as done is in the image, however many are at work.

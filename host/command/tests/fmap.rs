@@ -125,6 +125,19 @@ RW_CAL  0x00002000  0x00003000  0x00000100  256 B  changed
 }
 
 #[test]
+fn nothing_to_carry_is_noted() {
+    let folder = Folder::new();
+    let (_, new) = pair(&folder);
+    let mut plain = areas(0x2000);
+    plain[0].flags = 7;
+    let (old, before) = (folder.file("plain.bin", image(plain, 1)), fs::read(&new).unwrap());
+    let ended = run!["fmap", "carry", old, new];
+    assert_eq!((ended.status, fs::read(&new).unwrap()), (Some(0), before));
+    assert!(ended.out.starts_with("0 areas carried"), "{}", ended.out);
+    assert!(ended.err.contains("plain.bin marks no area PRESERVE"), "{}", ended.err);
+}
+
+#[test]
 fn a_refused_carry_writes_nothing() {
     let folder = Folder::new();
     let (old, _) = pair(&folder);

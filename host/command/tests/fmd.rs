@@ -114,6 +114,7 @@ fn a_map_is_written_and_nothing_else() {
     assert_eq!(bytes[44 + 56 + 3 * 42..], [0x55; 300 - 44 - 56 - 3 * 42]);
     let again = run!["fmd", "write", layout, image, "--json"].json();
     assert_eq!((again.at("changed"), again.number("position")), (&Json::Bool(false), 44));
+    assert!(run!["fmd", "write", layout, image].done().contains("at 0x0000002c already; no byte changes"));
     assert_eq!(folder.names(), ["board.fmd", "image.bin"]);
 }
 

@@ -95,9 +95,9 @@ fn an_empty_and_a_full_table_are_drawn() {
     }
     let shown = run!["gpt", "show", image, "--width", "128"].done();
     let drawing = shown.lines().last().expect("a drawing");
-    // 64 partitions of a block, each behind a free one, and the run at the end: every one has its column.
-    assert_eq!(drawing.chars().count(), 129);
-    assert_eq!(drawing.chars().filter(|c| *c == '.').count(), 65);
+    // 64 partitions of a block, each behind a free one, have their columns; the run at the end has half of the width.
+    assert_eq!(drawing.chars().count(), 128 + 64);
+    assert_eq!(drawing.chars().filter(|c| *c == '.').count(), 64 + 64);
 }
 
 #[test]
@@ -113,6 +113,8 @@ fn names_come_through() {
     assert!(renamed.starts_with(
         "renamed partition 1: blocks 34 to 34, 1 block (512 B), linux, \"boot\"; before: \"Größe"
     ));
+    let renamed = run!["gpt", "add", image, "--size", "1", "--name", "--json"].done();
+    assert!(renamed.ends_with("linux, \"--json\"\n"), "{renamed}");
     let long = "x".repeat(36);
     run!["gpt", "rename", image, "1", long].done();
     run!["gpt", "rename", image, "1", format!("{long}x")].sentence("the name has 37 UTF-16 units");

@@ -15,9 +15,9 @@ pub const TOPIC: Topic = Topic {
         ("guid: written lengths", written_lengths),
     ],
     cells: &[
-        ("guid_read", &[Cell::Answer(0), Cell::Answer(1), Cell::Answer(30)]),
-        ("type_read", &[Cell::Answer(0), Cell::Answer(1), Cell::Answer(30)]),
-        ("guid_write", &[Cell::Answer(0), Cell::Answer(1)]),
+        ("guid_read", &[&[Cell::Answer(0), Cell::Answer(1), Cell::Answer(30)]]),
+        ("type_read", &[&[Cell::Answer(0), Cell::Answer(1), Cell::Answer(30)]]),
+        ("guid_write", &[&[Cell::Answer(0), Cell::Answer(1)]]),
     ],
     at_least: ("guid_", 100_000),
     variants,

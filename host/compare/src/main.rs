@@ -79,8 +79,9 @@ fn compare_topic(run: &mut Run, topic: &Topic) -> bool {
 /// Prints how often each call was seen to do what it must; answers how many cells are empty.
 fn print_table(run: &Run) -> usize {
     let mut empty = 0;
-    for (call, cells) in TOPICS.iter().flat_map(|topic| topic.cells) {
-        let times: Vec<_> = cells.iter().map(|cell| (cell, run.times(call, *cell))).collect();
+    for (call, groups) in TOPICS.iter().flat_map(|topic| topic.cells) {
+        let cells = groups.iter().copied().flatten();
+        let times: Vec<_> = cells.map(|cell| (cell, run.times(call, *cell))).collect();
         let words: Vec<_> = times.iter().map(|(cell, times)| format!("{cell}: {times}")).collect();
         println!("{call}: {}", words.join(", "));
         for (cell, _) in times.iter().filter(|(_, times)| *times == 0) {

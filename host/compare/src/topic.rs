@@ -9,8 +9,8 @@ pub type Part = (&'static str, fn(&mut Run) -> Outcome);
 pub struct Topic {
     /// The slow ones last: a wrong variant is compared only up to its first difference.
     pub parts: &'static [Part],
-    /// What each call must have been seen to do.
-    pub cells: &'static [(&'static str, &'static [Cell])],
+    /// What each call must have been seen to do, in groups.
+    pub cells: &'static [(&'static str, &'static [&'static [Cell]])],
     /// Calls whose names begin so must have been compared so often.
     pub at_least: (&'static str, u64),
     /// Wrong variants of the second implementation; the comparison must report every one of them.
@@ -33,12 +33,15 @@ pub fn variant(name: impl Into<String>, rule: &'static str, change: impl FnOnce(
     Variant { name: name.into(), rule, rules }
 }
 
-/// An order of rows in the rules.
-pub type Order = fn(&mut Rules) -> &mut &'static [Row];
+/// A call, the sentence of its order, the order, and a row that never holds together with the one before it.
+pub type Order = (&'static str, &'static str, fn(&mut Rules) -> &mut &'static [Row], Option<Row>);
 
-/// The order with each row left out, and with each two neighbours exchanged, but for the row `alone` and the one
-/// before it, which never hold together.
-pub fn order_variants(call: &str, rule: &'static str, order: Order, alone: Option<Row>) -> Vec<Variant> {
+/// Each row of each order left out, and each two neighbours exchanged.
+pub fn order_variants(orders: &[Order]) -> Vec<Variant> {
+    orders.iter().flat_map(changed_order).collect()
+}
+
+fn changed_order((call, rule, order, alone): &Order) -> Vec<Variant> {
     let rows = *order(&mut RULES.clone());
     let without = |k: usize| {
         let rest: Vec<Row> = rows.iter().copied().filter(|row| *row != rows[k]).collect();
@@ -50,6 +53,14 @@ pub fn order_variants(call: &str, rule: &'static str, order: Order, alone: Optio
         let name = format!("{call}-{:?}-before-{:?}", rows[k], rows[k - 1]);
         variant(name, rule, |r| *order(r) = swapped.leak())
     };
-    let neighbours = (1..rows.len()).filter(|k| Some(rows[*k]) != alone);
+    let neighbours = (1..rows.len()).filter(|k| Some(rows[*k]) != *alone);
     (0..rows.len()).map(without).chain(neighbours.map(exchanged)).collect()
+}
+
+/// Each refusal under another number.
+pub fn number_variants(rows: &[(Row, &'static str, u32)]) -> Vec<Variant> {
+    let renumbered = |&(row, rule, number): &(Row, &'static str, u32)| {
+        variant(format!("number-{number}-for-{row:?}"), rule, |r| r.refusals.renumber(row, number))
+    };
+    rows.iter().map(renumbered).collect()
 }

@@ -1,8 +1,8 @@
 //! The flash map calls of the second implementation, under the right rules.
 
 use second::RULES;
-use testkit::fixture;
-use testkit::flash_calls::{self, answered, Calls};
+use testkit::flash_calls::Calls;
+use testkit::{answered, fixture};
 
 const CALLS: Calls = Calls {
     find: |image| {
@@ -20,30 +20,7 @@ const CALLS: Calls = Calls {
     carry: |old, new| answered(second::fmap_carry(&RULES, old, new), ()),
 };
 
-#[test]
-fn fixtures_read_as_their_tool_said() {
-    flash_calls::fixtures_read_as_their_tool_said(&CALLS);
-}
-
-#[test]
-fn dump_fmap_lists_the_same_areas() {
-    flash_calls::dump_fmap_lists_the_same_areas(&CALLS);
-}
-
-#[test]
-fn cbfstool_lists_the_same_areas() {
-    flash_calls::cbfstool_lists_the_same_areas(&CALLS);
-}
-
-#[test]
-fn flashrom_lists_the_same_areas() {
-    flash_calls::flashrom_lists_the_same_areas(&CALLS);
-}
-
-#[test]
-fn a_carry_is_what_dump_fmap_and_futility_make() {
-    flash_calls::a_carry_is_what_dump_fmap_and_futility_make(&CALLS);
-}
+testkit::flash_tests!(CALLS);
 
 #[test]
 fn the_areas_are_counted() {

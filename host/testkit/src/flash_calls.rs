@@ -15,12 +15,22 @@ pub struct Calls {
     pub carry: fn(&[u8], &mut [u8]) -> Result<(), u32>,
 }
 
-/// What a call that answers 0 or a refusal's number came to.
-pub fn answered<T>(number: u32, value: T) -> Result<T, u32> {
-    match number {
-        0 => Ok(value),
-        number => Err(number),
-    }
+/// The tests of an implementation's flash map calls.
+#[macro_export]
+macro_rules! flash_tests {
+    ($calls:expr) => {
+        $crate::tests!(
+            flash_calls,
+            $calls,
+            [
+                fixtures_read_as_their_tool_said,
+                dump_fmap_lists_the_same_areas,
+                cbfstool_lists_the_same_areas,
+                flashrom_lists_the_same_areas,
+                a_carry_is_what_dump_fmap_and_futility_make,
+            ]
+        );
+    };
 }
 
 /// Answered where the map has no such area.

@@ -1,6 +1,7 @@
 //! What the tests are made of: other tools, bytes that they made (`fixtures/`), drawn inputs.
 
 pub mod disk;
+pub mod disk_calls;
 pub mod edit;
 pub mod fixture;
 pub mod flash;
@@ -17,4 +18,23 @@ use std::path::{Path, PathBuf};
 /// Folder `host` of the repository.
 pub fn host() -> PathBuf {
     Path::new(env!("CARGO_MANIFEST_DIR")).join("..")
+}
+
+/// What a call that answers 0 or a refusal's number came to.
+pub fn answered<T>(number: u32, value: T) -> Result<T, u32> {
+    match number {
+        0 => Ok(value),
+        number => Err(number),
+    }
+}
+
+/// A test by each of these functions of a module, which hold the calls to something.
+#[macro_export]
+macro_rules! tests {
+    ($module:ident, $calls:expr, [$($name:ident),+ $(,)?]) => {
+        $(#[test]
+        fn $name() {
+            $crate::$module::$name(&$calls);
+        })+
+    };
 }

@@ -1,7 +1,7 @@
 use mathlib.Core.Path.{_≡_}
 use lib.ListN.{length}
 use native.Mathlib.Omega.{arith}
-use Rattle.c_layout.proofs.Told.{code-is, image-refused, image-accepted}
+use Rattle.c_layout.proofs.Told.{image-refused, image-accepted}
 use borrow.Author.Needs.{needs}
 use Rattle.c_layout.proofs.image.Statement.{statement}
 use Rattle.c_layout.proofs.image.Tie as tie
@@ -10,7 +10,7 @@ number-requires : tie.Need-number-requires
 number-requires c κs = search needs
 
 returns : tie.Need-returns
-returns c = image-refused _ _ (c .before .before .before .args .a) _ (code-is _ _ (c .before .number .ensures .0)) (c .if1 .taken)
+returns c = image-refused _ _ (c .before .before .before .args .a) _ (c .before .number .ensures) (c .if1 .taken)
 
 slice-aggregate-copy : tie.Need-slice-aggregate-copy
 slice-aggregate-copy c = search needs
@@ -39,7 +39,7 @@ returns-2 c =
     let wide : length (top .args .a .image .name) ≡ 32 = search needs in
     let s1 = c .before .before .before .before .before in
     let s2 = s1 .before .before .before .before .before in
-    image-accepted _ _ _ (top .args .a) _ (top .pre) wide (code-is _ _ (s2 .before .number .ensures .0)) (s2 .if1 .left) (s1 .copy .ensures)
+    image-accepted _ _ _ (top .args .a) _ (top .pre) wide (s2 .before .number .ensures) (s2 .if1 .left) (s1 .copy .ensures)
 
 pub image-spec : {M : Type 1} → statement M
 image-spec =

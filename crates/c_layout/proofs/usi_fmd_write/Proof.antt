@@ -1,4 +1,4 @@
-use Rattle.c_layout.proofs.Told.{code-is, write-tells}
+use Rattle.c_layout.proofs.Told.{write-tells}
 use borrow.Author.Needs.{needs}
 use Rattle.c_layout.proofs.usi_fmd_write.Statement.{statement}
 use Rattle.c_layout.proofs.usi_fmd_write.Tie as tie
@@ -13,7 +13,7 @@ same-length : tie.Need-same-length
 same-length c = search needs
 
 returns : tie.Need-returns
-returns c = write-tells _ _ _ _ (c .before .before .before .write-map .ensures) (code-is _ _ (c .number .ensures .0))
+returns c = write-tells _ _ _ _ (c .before .before .before .write-map .ensures) (c .number .ensures)
 
 pub usi-fmd-write-spec : {M : Type 1} → statement M
 usi-fmd-write-spec = tie.close (tie.spec write-map-requires number-requires same-length returns)

@@ -41,29 +41,33 @@ area-in-requires c κs = search needs
 
 returns : tie.Need-returns
 unfolding areaNumbered
-returns c = (c .no-area .ensures) ∙ ap
-    (areaBy (now (c .before .before .before .before .before .args .image)) (λ areas. (c .before .before .before .before .before .args .k)))
+returns c =
+    let s1 = c .before .before .before .before .before in
+    (c .no-area .ensures) ∙ ap (areaBy (now (s1 .args .image)) (λ areas. (s1 .args .k)))
     (sym (ap foundReply (c .before .enum-told .given .1)) ∙ (c .before .before .before .find .ensures))
 
 returns-2 : tie.Need-returns-2
 unfolding areaNumbered
-returns-2 c = (c .no-area2 .ensures) ∙ ap
-    (areaBy (now (c .before .before .before .before .before .args .image)) (λ areas. (c .before .before .before .before .before .args .k)))
+returns-2 c =
+    let s1 = c .before .before .before .before .before in
+    (c .no-area2 .ensures) ∙ ap (areaBy (now (s1 .args .image)) (λ areas. (s1 .args .k)))
     (sym (ap foundReply (c .before .enum-told2 .given .1)) ∙ (c .before .before .before .find .ensures))
 
 returns-3 : tie.Need-returns-3
 unfolding areaNumbered
-returns-3 c = (c .no-area3 .ensures) ∙ ap
-    (areaBy (now (c .before .before .before .before .before .args .image)) (λ areas. (c .before .before .before .before .before .args .k)))
+returns-3 c =
+    let s1 = c .before .before .before .before .before in
+    (c .no-area3 .ensures) ∙ ap (areaBy (now (s1 .args .image)) (λ areas. (s1 .args .k)))
     (sym (ap foundReply (c .before .enum-told3 .given .1)) ∙ (c .before .before .before .find .ensures))
 
 returns-4 : tie.Need-returns-4
 unfolding areaNumbered
 returns-4 c =
-    (c .area-in .ensures) ∙ ap (λ (l : List Area). areaIn l (c .before .before .before .before .before .before .before .args .k)) (c .before .areas-at .ensures .0)
-    ∙ ap (areaBy (now (c .before .before .before .before .before .before .before .args .image))
-    (λ areas. (c .before .before .before .before .before .before .before .args .k)))
-    (sym (ap foundReply (c .before .before .before .p .given .1)) ∙ (c .before .before .before .before .before .find .ensures))
+    let s1 = c .before .before .before in
+    let s2 = s1 .before .before in
+    let s3 = s2 .before .before in
+    (c .area-in .ensures) ∙ ap (λ (l : List Area). areaIn l (s3 .args .k)) (c .before .areas-at .ensures .0)
+    ∙ ap (areaBy (now (s3 .args .image)) (λ areas. (s3 .args .k))) (sym (ap foundReply (s1 .p .given .1)) ∙ (s2 .find .ensures))
 
 pub area-spec : {M : Type 1} → statement M
 area-spec =

@@ -50,9 +50,11 @@ returns-3 c = ap (countBy (now (c .before .before .before .before .args .image))
 returns-4 : tie.Need-returns-4
 unfolding countAreas
 returns-4 c =
+    let s1 = c .before .before in
+    let s2 = s1 .before .before in
+    let s3 = s2 .before .before in
     ap (λ (k : ℕ). accepted k) (sym (length-areas _)) ∙ ap (λ (l : List Area). accepted (length l)) (c .areas-at .ensures .0)
-    ∙ ap (countBy (now (c .before .before .before .before .before .before .args .image)))
-    (sym (ap foundReply (c .before .before .p .given .1)) ∙ (c .before .before .before .before .find .ensures))
+    ∙ ap (countBy (now (s3 .args .image))) (sym (ap foundReply (s1 .p .given .1)) ∙ (s2 .find .ensures))
 
 pub area-count-spec : {M : Type 1} → statement M
 area-count-spec =

@@ -42,34 +42,33 @@ area-called-requires c κs = search needs
 
 returns : tie.Need-returns
 unfolding areaNamed
-returns c = (c .no-area .ensures) ∙ ap
-    (areaBy (now (c .before .before .before .before .before .before .args .image))
-    (findIx (called (now (c .before .before .before .before .before .before .args .name)))))
+returns c =
+    let s1 = c .before .before .before .before .before .before in
+    (c .no-area .ensures) ∙ ap (areaBy (now (s1 .args .image)) (findIx (called (now (s1 .args .name)))))
     (sym (ap foundReply (c .before .enum-told .given .1)) ∙ (c .before .before .before .find .ensures))
 
 returns-2 : tie.Need-returns-2
 unfolding areaNamed
-returns-2 c = (c .no-area2 .ensures) ∙ ap
-    (areaBy (now (c .before .before .before .before .before .before .args .image))
-    (findIx (called (now (c .before .before .before .before .before .before .args .name)))))
+returns-2 c =
+    let s1 = c .before .before .before .before .before .before in
+    (c .no-area2 .ensures) ∙ ap (areaBy (now (s1 .args .image)) (findIx (called (now (s1 .args .name)))))
     (sym (ap foundReply (c .before .enum-told2 .given .1)) ∙ (c .before .before .before .find .ensures))
 
 returns-3 : tie.Need-returns-3
 unfolding areaNamed
-returns-3 c = (c .no-area3 .ensures) ∙ ap
-    (areaBy (now (c .before .before .before .before .before .before .args .image))
-    (findIx (called (now (c .before .before .before .before .before .before .args .name)))))
+returns-3 c =
+    let s1 = c .before .before .before .before .before .before in
+    (c .no-area3 .ensures) ∙ ap (areaBy (now (s1 .args .image)) (findIx (called (now (s1 .args .name)))))
     (sym (ap foundReply (c .before .enum-told3 .given .1)) ∙ (c .before .before .before .find .ensures))
 
 returns-4 : tie.Need-returns-4
 unfolding areaNamed
 returns-4 c =
-    (c .area-called .ensures) ∙ ap
-    (λ (l : List Area). areaIn l (findIx (called (now (c .before .before .before .before .before .before .before .before .args .name))) l))
-    (c .before .areas-at .ensures .0)
-    ∙ ap (areaBy (now (c .before .before .before .before .before .before .before .before .args .image))
-    (findIx (called (now (c .before .before .before .before .before .before .before .before .args .name)))))
-    (sym (ap foundReply (c .before .before .before .p .given .1)) ∙ (c .before .before .before .before .before .find .ensures))
+    let s1 = c .before .before .before in
+    let s2 = s1 .before .before in
+    let s3 = s2 .before .before .before in
+    (c .area-called .ensures) ∙ ap (λ (l : List Area). areaIn l (findIx (called (now (s3 .args .name))) l)) (c .before .areas-at .ensures .0)
+    ∙ ap (areaBy (now (s3 .args .image)) (findIx (called (now (s3 .args .name))))) (sym (ap foundReply (s1 .p .given .1)) ∙ (s2 .find .ensures))
 
 pub area-named-spec : {M : Type 1} → statement M
 area-named-spec =

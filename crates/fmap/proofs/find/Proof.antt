@@ -30,12 +30,17 @@ cast-if3 c = search needs
 
 returns-3 : tie.Need-returns-3 Inv-loop μ-loop
 returns-3 c =
-    let s = now (c .before .before .before .before .before .before .args .image) in
-    find-41 s (in-range _ (c .before .before .before .before .if1 .left) (c .before .before .before .if2 .left))
-    (none-below s (signedAt s) _ (c .before .before .next-signed .ensures .0) (c .if3 .taken))
+    let s1 = c .before .before in
+    let s2 = s1 .before in
+    let s3 = s2 .before in
+    let s4 = s3 .before .before in
+    let s = now (s4 .args .image) in
+    find-41 s (in-range _ (s3 .if1 .left) (s2 .if2 .left)) (none-below s (signedAt s) _ (s1 .next-signed .ensures .0) (c .if3 .taken))
 
 loop-holds : tie.Need-loop-holds Inv-loop μ-loop
-loop-holds c = looking-starts _ _ (c .before .before .next-signed .ensures .0) (c .before .before .next-signed .ensures .1)
+loop-holds c =
+    let s1 = c .before .before in
+    looking-starts _ _ (s1 .next-signed .ensures .0) (s1 .next-signed .ensures .1)
 
 cast-if4 : tie.Need-cast-if4 Inv-loop μ-loop
 cast-if4 c = search needs
@@ -45,21 +50,28 @@ good-at-requires c κs = search needs
 
 returns-4 : tie.Need-returns-4 Inv-loop μ-loop
 returns-4 c =
-    let s = now (c .before .before .before .before .before .before .before .before .before .before .before .args .image) in
-    finds s _ (c .before .before .before .before .before .before .before .before .before .if1 .left)
-    (c .before .before .before .before .before .before .before .before .if2 .left)
-    (some-below s (signedAt s) _ (c .before .before .before .before .before .before .before .next-signed .ensures .0) (c .before .before .before .before .before .if3 .left))
-    (c .before .before .if4 .taken)
-    (looking-hits s _ (c .before .before .before .before .loop .inv) (c .before .before .if4 .taken) (sym (c .before .good-at .ensures) ∙ (c .if5 .taken)))
+    let s1 = c .before .before in
+    let s2 = s1 .before .before in
+    let s3 = s2 .before in
+    let s4 = s3 .before .before in
+    let s5 = s4 .before in
+    let s6 = s5 .before in
+    let s7 = s6 .before .before in
+    let s = now (s7 .args .image) in
+    finds s _ (s6 .if1 .left) (s5 .if2 .left) (some-below s (signedAt s) _ (s4 .next-signed .ensures .0) (s3 .if3 .left)) (s1 .if4 .taken)
+    (looking-hits s _ (s2 .loop .inv) (s1 .if4 .taken) (sym (c .before .good-at .ensures) ∙ (c .if5 .taken)))
 
 add-t11 : tie.Need-add-t11 Inv-loop μ-loop
 add-t11 c = omega (arith, room _ _ (c .before .before .before .before .before .loop .inv) (c .before .before .before .if4 .taken))
 
 next-signed-requires-2 : tie.Need-next-signed-requires-2 Inv-loop μ-loop
-next-signed-requires-2 c κs = (
-  omega (arith, room _ _ (c .before .before .before .before .before .loop .inv) (c .before .before .before .if4 .taken)),
-  c .before .before .before .before .before .before .before .before .before .if2 .left,
-)
+next-signed-requires-2 c κs =
+    let s1 = c .before .before .before in
+    let s2 = s1 .before .before in
+    let s3 = s2 .before .before .before .before in (
+      omega (arith, room _ _ (s2 .loop .inv) (s1 .if4 .taken)),
+      s3 .if2 .left,
+    )
 
 loop-less : tie.Need-loop-less Inv-loop μ-loop
 loop-less c =
@@ -70,15 +82,25 @@ loop-less c =
     )
 
 loop-again : tie.Need-loop-again Inv-loop μ-loop
-loop-again c = looking-goes _ _ (c .before .before .before .before .before .before .loop .inv) _ (c .before .before .before .before .if4 .taken)
-    (sym (c .before .before .before .good-at .ensures) ∙ (c .before .before .if5 .left)) (c .next-signed2 .ensures .0) (c .next-signed2 .ensures .1)
+loop-again c =
+    let s1 = c .before .before in
+    let s2 = s1 .before in
+    let s3 = s2 .before in
+    let s4 = s3 .before .before in
+    looking-goes _ _ (s4 .loop .inv) _ (s3 .if4 .taken)
+    (sym (s2 .good-at .ensures) ∙ (s1 .if5 .left)) (c .next-signed2 .ensures .0) (c .next-signed2 .ensures .1)
 
 returns-5 : tie.Need-returns-5 Inv-loop μ-loop
 returns-5 c =
-    let s = now (c .before .before .before .before .before .before .before .before .before .args .image) in
-    find-42 s (in-range _ (c .before .before .before .before .before .before .before .if1 .left) (c .before .before .before .before .before .before .if2 .left))
-    (some-below s (signedAt s) _ (c .before .before .before .before .before .next-signed .ensures .0) (c .before .before .before .if3 .left))
-    (looking-ends s _ (c .before .before .loop .inv) (c .if4 .left))
+    let s1 = c .before .before in
+    let s2 = s1 .before in
+    let s3 = s2 .before .before in
+    let s4 = s3 .before in
+    let s5 = s4 .before in
+    let s6 = s5 .before .before in
+    let s = now (s6 .args .image) in
+    find-42 s (in-range _ (s5 .if1 .left) (s4 .if2 .left)) (some-below s (signedAt s) _ (s3 .next-signed .ensures .0) (s2 .if3 .left))
+    (looking-ends s _ (s1 .loop .inv) (c .if4 .left))
 
 pub find-spec : {M : Type 1} → statement M
 find-spec =

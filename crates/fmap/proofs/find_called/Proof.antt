@@ -27,8 +27,10 @@ is-called-requires : tie.Need-is-called-requires Inv-loop μ-loop
 is-called-requires c κs = search needs
 
 returns : tie.Need-returns Inv-loop μ-loop
-returns c = find-here _ (c .before .before .before .before .loop .i) (omega arith) _ (c .before .before .area-at .ensures .0) (called _)
-    (sym (c .before .is-called .ensures) ∙ (c .if1 .taken)) (c .before .before .before .before .loop .inv .1)
+returns c =
+    let s1 = c .before .before .before .before in
+    find-here _ (s1 .loop .i) (omega arith) _ (c .before .before .area-at .ensures .0) (called _)
+    (sym (c .before .is-called .ensures) ∙ (c .if1 .taken)) (s1 .loop .inv .1)
 
 add-i : tie.Need-add-i Inv-loop μ-loop
 add-i c = search needs
@@ -37,11 +39,12 @@ loop-less : tie.Need-loop-less Inv-loop μ-loop
 loop-less c = search needs
 
 loop-again : tie.Need-loop-again Inv-loop μ-loop
-loop-again c = (
-  omega arith,
-  find-next _ (c .before .before .before .before .loop .i) (omega arith) _ (c .before .before .area-at .ensures .0) (called _)
-      (sym (c .before .is-called .ensures) ∙ (c .if1 .left)) (c .before .before .before .before .loop .inv .1),
-)
+loop-again c =
+    let s1 = c .before .before .before .before in (
+      omega arith,
+      find-next _ (s1 .loop .i) (omega arith) _ (c .before .before .area-at .ensures .0) (called _)
+          (sym (c .before .is-called .ensures) ∙ (c .if1 .left)) (s1 .loop .inv .1),
+    )
 
 returns-2 : tie.Need-returns-2 Inv-loop μ-loop
 returns-2 c = find-over _ (c .before .loop .i) (omega arith) (called _) (c .before .loop .inv .1)

@@ -52,9 +52,10 @@ cast-t15 c = search needs
 
 returns : tie.Need-returns Inv-loop μ-loop
 returns c =
-    let s = now (c .before .before .before .before .before .before .before .before .before .before .args .image) in
-    let i = c .before .before .before .before .before .before .before .loop .i in (
-      sym ((c .before .before .before .before .before .before .before .loop .inv .1)
+    let s1 = c .before .before .before .before .before .before .before in
+    let s = now (s1 .before .before .before .args .image) in
+    let i = s1 .loop .i in (
+      sym ((s1 .loop .inv .1)
           ∙ first-stop (length s) i (signedAt s) (omega arith) (signed-slice s i _ _ (c .before .is-signed .ensures) (c .if2 .taken))),
       omega arith,
     )
@@ -67,10 +68,11 @@ loop-less c = search needs
 
 loop-again : tie.Need-loop-again Inv-loop μ-loop
 loop-again c =
-    let s = now (c .before .before .before .before .before .before .before .before .before .before .args .image) in
-    let i = c .before .before .before .before .before .before .before .loop .i in (
+    let s1 = c .before .before .before .before .before .before .before in
+    let s = now (s1 .before .before .before .args .image) in
+    let i = s1 .loop .i in (
       omega arith,
-      (c .before .before .before .before .before .before .before .loop .inv .1)
+      (s1 .loop .inv .1)
           ∙ first-step (length s) i (signedAt s) (omega arith) (signed-slice s i _ _ (c .before .is-signed .ensures) (c .if2 .left)),
     )
 
@@ -82,10 +84,11 @@ loop-less-2 c = search needs
 
 loop-again-2 : tie.Need-loop-again-2 Inv-loop μ-loop
 loop-again-2 c =
-    let s = now (c .before .before .before .before .before .before .before .args .image) in
-    let i = c .before .before .before .before .loop .i in (
+    let s1 = c .before .before .before .before in
+    let s = now (s1 .before .before .before .args .image) in
+    let i = s1 .loop .i in (
       omega arith,
-      (c .before .before .before .before .loop .inv .1) ∙ first-skip 8 (length s) i (signedAt s) (omega arith)
+      (s1 .loop .inv .1) ∙ first-skip 8 (length s) i (signedAt s) (omega arith)
           (λ j a b. unsigned s i j (sym (c .before .is-letter .ensures) ∙ (c .if1 .left)) a b),
     )
 

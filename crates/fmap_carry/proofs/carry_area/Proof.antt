@@ -22,27 +22,30 @@ place-of-requires c κs = search needs
 
 copy-area-requires : tie.Need-copy-area-requires
 copy-area-requires c κs =
-    let a = areaOf (now (c .before .before .before .before .before .before .before .before .before .args .a)) in
-    let p = sym (c .before .before .before .before .is-preserved .ensures) ∙ not-false _ (c .before .before .before .if1 .left) in
-    can-copy (now (c .before .before .before .before .before .before .before .before .before .args .old))
-    (areasIn (now (c .before .before .before .before .before .before .before .before .before .args .news))) a p _ _ (c .before .before .extent-of .ensures)
-    (target-by (now (c .before .before .before .before .before .before .before .before .before .args .news)) a _ _
-    (c .before .before .before .before .before .before .before .before .before .pre .1) (c .place-of .ensures)) _
-    ((c .before .before .before .before .before .before .before .before .before .pre .2) p)
+    let s1 = c .before .before in
+    let s2 = s1 .before in
+    let s3 = s2 .before in
+    let s4 = s3 .before .before .before .before .before in
+    let a = areaOf (now (s4 .args .a)) in
+    let p = sym (s3 .is-preserved .ensures) ∙ not-false _ (s2 .if1 .left) in
+    can-copy (now (s4 .args .old)) (areasIn (now (s4 .args .news))) a p _ _ (s1 .extent-of .ensures) (target-by (now (s4 .args .news)) a _ _
+    (s4 .pre .1) (c .place-of .ensures)) _ ((s4 .pre .2) p)
 
 same-length : tie.Need-same-length
 same-length c = search needs
 
 returns-2 : tie.Need-returns-2
 returns-2 c =
-    let a = areaOf (now (c .before .before .before .before .before .before .before .before .before .before .before .before .args .a)) in
-    (c .before .before .copy-area .ensures)
-    ∙ carry-by (now (c .before .before .before .before .before .before .before .before .before .before .before .before .args .old))
-    (areasIn (now (c .before .before .before .before .before .before .before .before .before .before .before .before .args .news))) a
-    (sym (c .before .before .before .before .before .before .before .is-preserved .ensures) ∙ not-false _
-    (c .before .before .before .before .before .before .if1 .left)) _ _ (c .before .before .before .before .before .extent-of .ensures)
-    (target-by (now (c .before .before .before .before .before .before .before .before .before .before .before .before .args .news)) a _ _
-    (c .before .before .before .before .before .before .before .before .before .before .before .before .pre .1) (c .before .before .before .place-of .ensures)) _
+    let s1 = c .before .before in
+    let s2 = s1 .before in
+    let s3 = s2 .before .before in
+    let s4 = s3 .before in
+    let s5 = s4 .before in
+    let s6 = s5 .before .before .before .before .before in
+    let a = areaOf (now (s6 .args .a)) in
+    (s1 .copy-area .ensures)
+    ∙ carry-by (now (s6 .args .old)) (areasIn (now (s6 .args .news))) a (sym (s5 .is-preserved .ensures) ∙ not-false _
+    (s4 .if1 .left)) _ _ (s3 .extent-of .ensures) (target-by (now (s6 .args .news)) a _ _ (s6 .pre .1) (s2 .place-of .ensures)) _
 
 pub carry-area-spec : {M : Type 1} → statement M
 carry-area-spec =

@@ -38,14 +38,15 @@ slice-aggregate-write-areas : tie.Need-slice-aggregate-write-areas
 slice-aggregate-write-areas c = search needs
 
 write-areas-requires : tie.Need-write-areas-requires
-write-areas-requires c κs = (
-  (c .before .before .before .before .before .before .before .match-areas .ensures),
-  fitting (areasIn (now (c .before .before .before .before .before .before .before .before .before .before .before .before .before .args .olds)))
-      (areasIn (now (c .before .before .before .before .before .before .before .before .before .before .before .before .before .args .news)))
-      (sym (c .before .before .before .before .judge .ensures) ∙ ap judgedNumber (c .before .before .enum-told5 .given .1)) _ _
-      (c .before .before .before .before .before .before .before .before .before .before .before .before .before .pre .2)
-      (c .before .before .before .before .before .before .before .before .before .before .before .before .before .pre .3),
-)
+write-areas-requires c κs =
+    let s1 = c .before .before in
+    let s2 = s1 .before .before in
+    let s3 = s2 .before .before .before in
+    let s4 = s3 .before .before .before .before .before .before in (
+      (s3 .match-areas .ensures),
+      fitting (areasIn (now (s4 .args .olds))) (areasIn (now (s4 .args .news)))
+          (sym (s2 .judge .ensures) ∙ ap judgedNumber (s1 .enum-told5 .given .1)) _ _ (s4 .pre .2) (s4 .pre .3),
+    )
 
 returns : tie.Need-returns
 returns c = refuses _ _ _ _ 60 (sym (ap judgedNumber (c .enum-told .given .1)) ∙ (c .before .before .judge .ensures))
@@ -63,9 +64,11 @@ same-length : tie.Need-same-length
 same-length c = search needs
 
 returns-5 : tie.Need-returns-5
-returns-5 c = accepts _ _ _ _ _
-    (sym (ap judgedNumber (c .before .before .before .before .before .enum-told5 .given .1)) ∙
-    (c .before .before .before .before .before .before .before .judge .ensures)) (c .before .before .write-areas .ensures)
+returns-5 c =
+    let s1 = c .before .before in
+    let s2 = s1 .before .before .before in
+    let s3 = s2 .before .before in
+    accepts _ _ _ _ _ (sym (ap judgedNumber (s2 .enum-told5 .given .1)) ∙ (s3 .judge .ensures)) (s1 .write-areas .ensures)
 
 pub carry-areas-spec : {M : Type 1} → statement M
 carry-areas-spec =

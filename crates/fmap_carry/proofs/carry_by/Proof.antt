@@ -25,22 +25,28 @@ slice-aggregate-carry-areas : tie.Need-slice-aggregate-carry-areas
 slice-aggregate-carry-areas c = sym (c .before .before .before .before .keep-areas .ensures .2)
 
 carry-areas-requires : tie.Need-carry-areas-requires
-carry-areas-requires c κs = (
-  (c .before .before .areas-at .ensures .1),
-  omega (arith, (c .before .before .before .before .keep-areas .ensures .1), (c .before .before .before .before .keep-areas .ensures .2)),
-  good-ends _ _ _ (c .before .before .before .before .before .before .before .before .before .pre .0) (c .before .before .areas-at .ensures .0),
-  good-ends _ _ _ (c .before .before .before .before .before .before .before .before .before .pre .1) (c .before .before .before .before .keep-areas .ensures .0),
-)
+carry-areas-requires c κs =
+    let s1 = c .before .before in
+    let s2 = s1 .before .before in
+    let s3 = s2 .before .before .before .before .before in (
+      (s1 .areas-at .ensures .1),
+      omega (arith, (s2 .keep-areas .ensures .1), (s2 .keep-areas .ensures .2)),
+      good-ends _ _ _ (s3 .pre .0) (s1 .areas-at .ensures .0),
+      good-ends _ _ _ (s3 .pre .1) (s2 .keep-areas .ensures .0),
+    )
 
 same-length : tie.Need-same-length
 same-length c = search needs
 
 returns : tie.Need-returns
 returns c =
-    (c .before .before .carry-areas .ensures)
-    ∙ ap₂ (λ (olds news : List Area). carryAreas (now (c .before .before .before .before .before .before .before .before .before .before .before .before .args .old))
-    olds (now (c .before .before .before .before .before .before .before .before .before .before .before .before .args .new)) news)
-    (c .before .before .before .before .before .areas-at .ensures .0) (c .before .before .before .before .before .before .before .keep-areas .ensures .0)
+    let s1 = c .before .before in
+    let s2 = s1 .before .before .before in
+    let s3 = s2 .before .before in
+    let s4 = s3 .before .before .before .before .before in
+    (s1 .carry-areas .ensures)
+    ∙ ap₂ (λ (olds news : List Area). carryAreas (now (s4 .args .old))
+    olds (now (s4 .args .new)) news) (s2 .areas-at .ensures .0) (s3 .keep-areas .ensures .0)
 
 pub carry-by-spec : {M : Type 1} → statement M
 carry-by-spec =

@@ -14,15 +14,17 @@ use Rattle.fmap_carry.proofs.clear_of_later.Statement.{statement}
 use Rattle.fmap_carry.proofs.clear_of_later.Tie as tie
 
 abbrev Inv-loop : tie.InvT-loop
-Inv-loop olds news twins i x n j₀ j =
+Inv-loop olds news matches i x n j₀ j =
     (j ≤ n) × (all (clear (areasIn news) (getD (areasIn olds) i blank)) (drop j (areasIn olds)) ≡ all (clear (areasIn news) (getD (areasIn olds) i blank))
     (drop (i + 1) (areasIn olds)))
 
 abbrev μ-loop : tie.MeasureT-loop
-μ-loop olds news twins i x n j₀ j = n - j
+μ-loop olds news matches i x n j₀ j = n - j
 
 shared-slice-read-place-of : tie.Need-shared-slice-read-place-of Inv-loop μ-loop
-shared-slice-read-place-of c = matched-long _ _ _ (c .before .before .before .before .pre .0) _ (c .before .before .before .before .pre .1)
+shared-slice-read-place-of c =
+    let s1 = c .before .before .before .before in
+    matched-long _ _ _ (s1 .pre .0) _ (s1 .pre .1)
 
 cast-place-of : tie.Need-cast-place-of Inv-loop μ-loop
 cast-place-of c = omega (arith, (c .before .shared-slice-known3 .given) (c .before .before .before .before .args .i))
@@ -57,19 +59,16 @@ is-clear-requires c κs = search needs
 
 returns : tie.Need-returns Inv-loop μ-loop
 returns c =
-    all-fails _ (c .before .before .before .before .before .before .before .loop .j) (omega arith) (now (c .before .before .area-at2 .result))
-    (c .before .before .area-at2 .ensures .0)
-    (clear (areasIn (now (c .before .before .before .before .before .before .before .before .before .before .before .before .before .args .news)))
-    (getD (areasIn (now (c .before .before .before .before .before .before .before .before .before .before .before .before .before .args .olds)))
-    (c .before .before .before .before .before .before .before .before .before .before .before .before .before .args .i) blank))
-    (clear-at _ _ _ (c .before .before .before .before .before .before .before .before .before .before .before .before .before .pre .0)
-    (c .before .before .before .before .before .before .before .before .before .before .before .before .before .args .i)
-    (c .before .before .before .before .before .before .before .loop .j)
-    (c .before .before .before .before .before .before .before .before .before .before .before .before .before .pre .1) (omega arith) _ _ _ _
-    (c .before .before .before .area-at .ensures .0) (c .before .before .area-at2 .ensures .0)
-    (c .before .before .before .before .before .before .before .before .place-of .ensures) (c .before .before .before .before .place-of2 .ensures)
-    ∙ sym (c .before .is-clear .ensures) ∙ not-true _ (c .if1 .taken))
-    (c .before .before .before .before .before .before .before .loop .inv .1)
+    let s1 = c .before .before in
+    let s2 = s1 .before in
+    let s3 = s2 .before in
+    let s4 = s3 .before .before .before in
+    let s5 = s4 .before in
+    let s6 = s5 .before .before .before .before .before in
+    all-fails _ (s4 .loop .j) (omega arith) (now (s1 .area-at2 .result)) (s1 .area-at2 .ensures .0) (clear (areasIn (now (s6 .args .news)))
+    (getD (areasIn (now (s6 .args .olds))) (s6 .args .i) blank)) (clear-at _ _ _ (s6 .pre .0) (s6 .args .i) (s4 .loop .j)
+    (s6 .pre .1) (omega arith) _ _ _ _ (s2 .area-at .ensures .0) (s1 .area-at2 .ensures .0) (s5 .place-of .ensures) (s3 .place-of2 .ensures)
+    ∙ sym (c .before .is-clear .ensures) ∙ not-true _ (c .if1 .taken)) (s4 .loop .inv .1)
 
 add-j-2 : tie.Need-add-j-2 Inv-loop μ-loop
 add-j-2 c = search needs
@@ -78,22 +77,19 @@ loop-less : tie.Need-loop-less Inv-loop μ-loop
 loop-less c = search needs
 
 loop-again : tie.Need-loop-again Inv-loop μ-loop
-loop-again c = (
-  omega arith,
-  all-next _ (c .before .before .before .before .before .before .before .loop .j) (omega arith) (now (c .before .before .area-at2 .result))
-      (c .before .before .area-at2 .ensures .0)
-      (clear (areasIn (now (c .before .before .before .before .before .before .before .before .before .before .before .before .before .args .news)))
-      (getD (areasIn (now (c .before .before .before .before .before .before .before .before .before .before .before .before .before .args .olds)))
-      (c .before .before .before .before .before .before .before .before .before .before .before .before .before .args .i) blank))
-      (clear-at _ _ _ (c .before .before .before .before .before .before .before .before .before .before .before .before .before .pre .0)
-      (c .before .before .before .before .before .before .before .before .before .before .before .before .before .args .i)
-      (c .before .before .before .before .before .before .before .loop .j)
-      (c .before .before .before .before .before .before .before .before .before .before .before .before .before .pre .1) (omega arith) _ _ _ _
-      (c .before .before .before .area-at .ensures .0) (c .before .before .area-at2 .ensures .0)
-      (c .before .before .before .before .before .before .before .before .place-of .ensures) (c .before .before .before .before .place-of2 .ensures)
-      ∙ sym (c .before .is-clear .ensures) ∙ not-false _ (c .if1 .left))
-      (c .before .before .before .before .before .before .before .loop .inv .1),
-)
+loop-again c =
+    let s1 = c .before .before in
+    let s2 = s1 .before in
+    let s3 = s2 .before in
+    let s4 = s3 .before .before .before in
+    let s5 = s4 .before in
+    let s6 = s5 .before .before .before .before .before in (
+      omega arith,
+      all-next _ (s4 .loop .j) (omega arith) (now (s1 .area-at2 .result)) (s1 .area-at2 .ensures .0) (clear (areasIn (now (s6 .args .news)))
+          (getD (areasIn (now (s6 .args .olds))) (s6 .args .i) blank)) (clear-at _ _ _ (s6 .pre .0) (s6 .args .i) (s4 .loop .j)
+          (s6 .pre .1) (omega arith) _ _ _ _ (s2 .area-at .ensures .0) (s1 .area-at2 .ensures .0) (s5 .place-of .ensures) (s3 .place-of2 .ensures)
+          ∙ sym (c .before .is-clear .ensures) ∙ not-false _ (c .if1 .left)) (s4 .loop .inv .1),
+    )
 
 returns-2 : tie.Need-returns-2 Inv-loop μ-loop
 returns-2 c = all-over _ (c .before .loop .j) (omega arith) (clear _ _) (c .before .loop .inv .1)

@@ -35,10 +35,14 @@ is-disjoint-requires c κs = search needs
 returns-3 : tie.Need-returns-3
 unfolding clearBy
 returns-3 c =
-    or-f (ap not (sym (c .before .before .before .before .before .before .before .is-preserved .ensures)) ∙
-    (c .before .before .before .before .before .before .if1 .left))
-    (or-f (ap not (sym (c .before .before .before .before .before .is-preserved2 .ensures)) ∙ (c .before .before .before .before .if2 .left))
-    (and-f _ (sym ((c .before .is-disjoint .ensures) ∙ ap₂ disjoint (c .before .before .before .extent-of .ensures) (c .before .before .extent-of2 .ensures)) ∙
+    let s1 = c .before .before in
+    let s2 = s1 .before in
+    let s3 = s2 .before in
+    let s4 = s3 .before in
+    let s5 = s4 .before in
+    let s6 = s5 .before in
+    or-f (ap not (sym (s6 .is-preserved .ensures)) ∙ (s5 .if1 .left)) (or-f (ap not (sym (s4 .is-preserved2 .ensures)) ∙ (s3 .if2 .left))
+    (and-f _ (sym ((c .before .is-disjoint .ensures) ∙ ap₂ disjoint (s2 .extent-of .ensures) (s1 .extent-of2 .ensures)) ∙
     not-true _ (c .if3 .taken))))
 
 is-disjoint-requires-2 : tie.Need-is-disjoint-requires-2
@@ -47,11 +51,16 @@ is-disjoint-requires-2 c κs = search needs
 returns-4 : tie.Need-returns-4
 unfolding clearBy
 returns-4 c =
-    or-f (ap not (sym (c .before .before .before .before .before .before .before .before .is-preserved .ensures)) ∙
-    (c .before .before .before .before .before .before .before .if1 .left))
-    (or-f (ap not (sym (c .before .before .before .before .before .before .is-preserved2 .ensures)) ∙ (c .before .before .before .before .before .if2 .left))
-    (and-t (sym ((c .before .before .is-disjoint .ensures) ∙ ap₂ disjoint (c .before .before .before .before .extent-of .ensures)
-    (c .before .before .before .extent-of2 .ensures)) ∙ not-false _ (c .before .if3 .left)) (c .is-disjoint2 .ensures)))
+    let s1 = c .before .before in
+    let s2 = s1 .before in
+    let s3 = s2 .before in
+    let s4 = s3 .before in
+    let s5 = s4 .before in
+    let s6 = s5 .before in
+    let s7 = s6 .before in
+    or-f (ap not (sym (s7 .is-preserved .ensures)) ∙ (s6 .if1 .left)) (or-f (ap not (sym (s5 .is-preserved2 .ensures)) ∙ (s4 .if2 .left))
+    (and-t (sym ((s1 .is-disjoint .ensures) ∙ ap₂ disjoint (s3 .extent-of .ensures)
+    (s2 .extent-of2 .ensures)) ∙ not-false _ (c .before .if3 .left)) (c .is-disjoint2 .ensures)))
 
 pub is-clear-spec : {M : Type 1} → statement M
 is-clear-spec =

@@ -21,8 +21,11 @@ is-disjoint-requires : tie.Need-is-disjoint-requires
 is-disjoint-requires c κs = search needs
 
 returns-2 : tie.Need-returns-2
-returns-2 c = on-map-by _ _ (sym (c .before .before .before .is-preserved .ensures) ∙ not-false _ (c .before .before .if1 .left)) _
-    (c .before .before .before .before .before .before .pre .1) _ _ (c .before .place-of .ensures) (c .before .before .before .before .before .before .pre .2)
+returns-2 c =
+    let s1 = c .before .before in
+    let s2 = s1 .before in
+    let s3 = s2 .before .before .before in
+    on-map-by _ _ (sym (s2 .is-preserved .ensures) ∙ not-false _ (s1 .if1 .left)) _ (s3 .pre .1) _ _ (c .before .place-of .ensures) (s3 .pre .2)
     (c .is-disjoint .ensures)
 
 pub is-on-map-spec : {M : Type 1} → statement M

@@ -21,9 +21,14 @@ place-of-requires : tie.Need-place-of-requires
 place-of-requires c κs = search needs
 
 returns-2 : tie.Need-returns-2
-returns-2 c = other-size-by _ _ (sym (c .before .before .before .before .before .is-preserved .ensures) ∙ not-false _ (c .before .before .before .before .if1 .left))
-    _ (c .before .before .before .before .before .before .before .before .pre .1) _ _ (c .before .before .before .extent-of .ensures)
-    (c .before .before .place-of .ensures)
+returns-2 c =
+    let s1 = c .before .before in
+    let s2 = s1 .before in
+    let s3 = s2 .before in
+    let s4 = s3 .before in
+    let s5 = s4 .before .before .before in
+    other-size-by _ _ (sym (s4 .is-preserved .ensures) ∙ not-false _ (s3 .if1 .left))
+    _ (s5 .pre .1) _ _ (s2 .extent-of .ensures) (s1 .place-of .ensures)
 
 pub is-other-size-spec : {M : Type 1} → statement M
 is-other-size-spec =

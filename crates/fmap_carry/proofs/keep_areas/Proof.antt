@@ -14,11 +14,13 @@ same-length : tie.Need-same-length
 same-length c = search needs
 
 returns : tie.Need-returns
-returns c = (
-  kept-are _ _ _ _ (omega arith) (c .before .before .copy .ensures) (c .before .before .before .before .areas-at .ensures .0),
-  (c .before .before .before .before .areas-at .ensures .1),
-  kept-length _ _ _ (omega arith) (c .before .before .copy .ensures),
-)
+returns c =
+    let s1 = c .before .before in
+    let s2 = s1 .before .before in (
+      kept-are _ _ _ _ (omega arith) (s1 .copy .ensures) (s2 .areas-at .ensures .0),
+      (s2 .areas-at .ensures .1),
+      kept-length _ _ _ (omega arith) (s1 .copy .ensures),
+    )
 
 pub keep-areas-spec : {M : Type 1} → statement M
 keep-areas-spec = tie.close (tie.spec areas-at-requires copy-requires same-length returns)

@@ -13,10 +13,10 @@ use Rattle.fmap_carry.proofs.match_areas.Statement.{statement}
 use Rattle.fmap_carry.proofs.match_areas.Tie as tie
 
 abbrev Inv-loop : tie.InvT-loop
-Inv-loop olds news twins₀ n i₀ twins i = (i ≤ n) × MatchedTo (areasIn olds) (areasIn news) twins i × (length twins ≡ length twins₀)
+Inv-loop olds news matches₀ n i₀ matches i = (i ≤ n) × MatchedTo (areasIn olds) (areasIn news) matches i × (length matches ≡ length matches₀)
 
 abbrev μ-loop : tie.MeasureT-loop
-μ-loop olds news twins₀ n i₀ twins i = n - i
+μ-loop olds news matches₀ n i₀ matches i = n - i
 
 loop-holds : tie.Need-loop-holds Inv-loop μ-loop
 loop-holds c = (search needs, matched-none _ _ _, refl)
@@ -36,11 +36,11 @@ part-find-named-end c = search needs
 find-named-requires : tie.Need-find-named-requires Inv-loop μ-loop
 find-named-requires c κs = search needs
 
-cast-twins : tie.Need-cast-twins Inv-loop μ-loop
-cast-twins c = search needs
+cast-matches : tie.Need-cast-matches Inv-loop μ-loop
+cast-matches c = search needs
 
-slice-write-twins : tie.Need-slice-write-twins Inv-loop μ-loop
-slice-write-twins c = search needs
+slice-write-matches : tie.Need-slice-write-matches Inv-loop μ-loop
+slice-write-matches c = search needs
 
 add-i : tie.Need-add-i Inv-loop μ-loop
 add-i c = search needs
@@ -50,15 +50,15 @@ loop-less c = search needs
 
 loop-again : tie.Need-loop-again Inv-loop μ-loop
 unfolding areaOf part
-loop-again c = (
-  omega arith,
-  matched-more _ _ (c .before .before .before .before .loop .twins) (c .before .before .before .before .loop .i) _ (omega arith)
-      (c .before .before .before .before .loop .inv .1)
-      ((c .find-named .ensures .0) ∙ ap
-      (λ (a : Area). findIx (named (a .name)) (areasIn (now (c .before .before .before .before .before .before .before .before .args .news))))
-      (c .before .before .area-at .ensures .0)),
-  length-set (c .before .before .before .before .loop .twins) (c .before .before .before .before .loop .i) _ ∙ (c .before .before .before .before .loop .inv .2),
-)
+loop-again c =
+    let s1 = c .before .before in
+    let s2 = s1 .before .before in
+    let s3 = s2 .before .before .before .before in (
+      omega arith,
+      matched-more _ _ (s2 .loop .matches) (s2 .loop .i) _ (omega arith) (s2 .loop .inv .1) ((c .find-named .ensures .0) ∙ ap
+          (λ (a : Area). findIx (named (a .name)) (areasIn (now (s3 .args .news)))) (s1 .area-at .ensures .0)),
+      length-set (s2 .loop .matches) (s2 .loop .i) _ ∙ (s2 .loop .inv .2),
+    )
 
 same-length : tie.Need-same-length Inv-loop μ-loop
 same-length c = search needs
@@ -78,8 +78,8 @@ match-areas-spec =
     part-find-named-start
     part-find-named-end
     find-named-requires
-    cast-twins
-    slice-write-twins
+    cast-matches
+    slice-write-matches
     add-i
     loop-less
     loop-again

@@ -14,11 +14,11 @@ use Rattle.fmap_carry.proofs.write_areas.Statement.{statement}
 use Rattle.fmap_carry.proofs.write_areas.Tie as tie
 
 abbrev Inv-loop : tie.InvT-loop
-Inv-loop old olds new₀ news twins n i₀ new i =
+Inv-loop old olds new₀ news matches n i₀ new i =
     (i ≤ n) × (length new ≡ length new₀) × (carried old (areasIn news) (drop i (areasIn olds)) new ≡ carried old (areasIn news) (areasIn olds) new₀)
 
 abbrev μ-loop : tie.MeasureT-loop
-μ-loop old olds new₀ news twins n i₀ new i = n - i
+μ-loop old olds new₀ news matches n i₀ new i = n - i
 
 loop-holds : tie.Need-loop-holds Inv-loop μ-loop
 loop-holds c = (search needs, refl, refl)
@@ -34,13 +34,14 @@ cast-carry-area : tie.Need-cast-carry-area Inv-loop μ-loop
 cast-carry-area c = omega (arith, (c .shared-slice-known5 .given) (c .before .before .before .loop .i))
 
 carry-area-requires : tie.Need-carry-area-requires Inv-loop μ-loop
-carry-area-requires c κs = (
-  (c .before .before .area-at .ensures .1),
-  matched-at _ _ _ (c .before .before .before .before .before .before .before .before .before .before .pre .0) (c .before .before .before .before .loop .i) _
-      (omega arith) (c .before .before .area-at .ensures .0),
-  λ p. fit-at _ _ _ _ _ (c .before .before .before .before .loop .i) _ (c .before .before .before .before .before .before .before .before .before .before .pre .1)
-      (omega arith) (c .before .before .area-at .ensures .0) (c .before .before .before .before .loop .inv .1) p,
-)
+carry-area-requires c κs =
+    let s1 = c .before .before in
+    let s2 = s1 .before .before in
+    let s3 = s2 .before .before .before .before .before .before in (
+      (s1 .area-at .ensures .1),
+      matched-at _ _ _ (s3 .pre .0) (s2 .loop .i) _ (omega arith) (s1 .area-at .ensures .0),
+      λ p. fit-at _ _ _ _ _ (s2 .loop .i) _ (s3 .pre .1) (omega arith) (s1 .area-at .ensures .0) (s2 .loop .inv .1) p,
+    )
 
 add-i : tie.Need-add-i Inv-loop μ-loop
 add-i c = search needs
@@ -49,25 +50,26 @@ loop-less : tie.Need-loop-less Inv-loop μ-loop
 loop-less c = search needs
 
 loop-again : tie.Need-loop-again Inv-loop μ-loop
-loop-again c = (
-  omega arith,
-  ap length (c .before .before .carry-area .ensures) ∙ length-area _ _ _ _ ∙ (c .before .before .before .before .before .before .before .loop .inv .1),
-  carried-next _ _ (areasIn (now (c .before .before .before .before .before .before .before .before .before .before .before .before .before .args .olds)))
-      (c .before .before .before .before .before .before .before .loop .i) (c .before .before .before .before .before .before .before .loop .new) _ _
-      (omega (arith, length-areas (now (c .before .before .before .before .before .before .before .before .before .before .before .before .before .args .olds))))
-      ((c .before .before .carry-area .ensures) ∙ ap
-      (λ (a : Area). carryArea (now (c .before .before .before .before .before .before .before .before .before .before .before .before .before .args .old))
-      (areasIn (now (c .before .before .before .before .before .before .before .before .before .before .before .before .before .args .news))) a
-      (c .before .before .before .before .before .before .before .loop .new)) (c .before .before .before .before .before .area-at .ensures .0))
-      (c .before .before .before .before .before .before .before .loop .inv .2),
-)
+loop-again c =
+    let s1 = c .before .before in
+    let s2 = s1 .before .before .before in
+    let s3 = s2 .before .before in
+    let s4 = s3 .before .before .before .before .before .before in (
+      omega arith,
+      ap length (s1 .carry-area .ensures) ∙ length-area _ _ _ _ ∙ (s3 .loop .inv .1),
+      carried-next _ _ (areasIn (now (s4 .args .olds))) (s3 .loop .i) (s3 .loop .new) _ _ (omega (arith, length-areas (now (s4 .args .olds))))
+          ((s1 .carry-area .ensures) ∙ ap (λ (a : Area). carryArea (now (s4 .args .old)) (areasIn (now (s4 .args .news))) a
+          (s3 .loop .new)) (s2 .area-at .ensures .0)) (s3 .loop .inv .2),
+    )
 
 same-length : tie.Need-same-length Inv-loop μ-loop
 same-length c = search needs
 
 returns : tie.Need-returns Inv-loop μ-loop
-returns c = carried-over _ _ (areasIn (now (c .before .before .before .before .before .before .before .args .olds))) (c .before .loop .i) _ _
-    (omega (arith, length-areas (now (c .before .before .before .before .before .before .before .args .olds)))) (c .before .loop .inv .2)
+returns c =
+    let s1 = c .before .before .before .before .before .before .before in
+    carried-over _ _ (areasIn (now (s1 .args .olds))) (c .before .loop .i) _ _
+    (omega (arith, length-areas (now (s1 .args .olds)))) (c .before .loop .inv .2)
 
 pub write-areas-spec : {M : Type 1} → statement M
 write-areas-spec =

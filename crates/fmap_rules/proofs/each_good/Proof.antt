@@ -26,8 +26,10 @@ is-good-area-requires : tie.Need-is-good-area-requires Inv-loop μ-loop
 is-good-area-requires c κs = search needs
 
 returns : tie.Need-returns Inv-loop μ-loop
-returns c = all-fails _ (c .before .before .before .before .loop .i) (omega arith) _ (c .before .before .area-at .ensures .0) (goodArea _)
-    (sym (c .before .is-good-area .ensures) ∙ not-true _ (c .if1 .taken)) (c .before .before .before .before .loop .inv .1)
+returns c =
+    let s1 = c .before .before .before .before in
+    all-fails _ (s1 .loop .i) (omega arith) _ (c .before .before .area-at .ensures .0) (goodArea _)
+    (sym (c .before .is-good-area .ensures) ∙ not-true _ (c .if1 .taken)) (s1 .loop .inv .1)
 
 add-i : tie.Need-add-i Inv-loop μ-loop
 add-i c = search needs
@@ -36,11 +38,12 @@ loop-less : tie.Need-loop-less Inv-loop μ-loop
 loop-less c = search needs
 
 loop-again : tie.Need-loop-again Inv-loop μ-loop
-loop-again c = (
-  omega arith,
-  all-next _ (c .before .before .before .before .loop .i) (omega arith) _ (c .before .before .area-at .ensures .0) (goodArea _)
-      (sym (c .before .is-good-area .ensures) ∙ not-false _ (c .if1 .left)) (c .before .before .before .before .loop .inv .1),
-)
+loop-again c =
+    let s1 = c .before .before .before .before in (
+      omega arith,
+      all-next _ (s1 .loop .i) (omega arith) _ (c .before .before .area-at .ensures .0) (goodArea _)
+          (sym (c .before .is-good-area .ensures) ∙ not-false _ (c .if1 .left)) (s1 .loop .inv .1),
+    )
 
 returns-2 : tie.Need-returns-2 Inv-loop μ-loop
 returns-2 c = all-over _ (c .before .loop .i) (omega arith) (goodArea _) (c .before .loop .inv .1)

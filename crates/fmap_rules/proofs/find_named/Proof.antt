@@ -38,12 +38,13 @@ same-requires c κs = search needs
 
 returns : tie.Need-returns Inv-loop μ-loop
 unfolding named areaOf part
-returns c = (
-  find-here _ (c .before .before .before .before .before .loop .i) (omega arith) (now (c .before .before .before .area-at .result))
-      (c .before .before .before .area-at .ensures .0) (named _) (sym (c .before .same .ensures) ∙ (c .if1 .taken))
-      (c .before .before .before .before .before .loop .inv .1),
-  omega arith,
-)
+returns c =
+    let s1 = c .before .before .before in
+    let s2 = s1 .before .before in (
+      find-here _ (s2 .loop .i) (omega arith) (now (s1 .area-at .result))
+          (s1 .area-at .ensures .0) (named _) (sym (c .before .same .ensures) ∙ (c .if1 .taken)) (s2 .loop .inv .1),
+      omega arith,
+    )
 
 add-i : tie.Need-add-i Inv-loop μ-loop
 add-i c = search needs
@@ -53,12 +54,13 @@ loop-less c = search needs
 
 loop-again : tie.Need-loop-again Inv-loop μ-loop
 unfolding named areaOf part
-loop-again c = (
-  omega arith,
-  find-next _ (c .before .before .before .before .before .loop .i) (omega arith) (now (c .before .before .before .area-at .result))
-      (c .before .before .before .area-at .ensures .0) (named _) (sym (c .before .same .ensures) ∙ (c .if1 .left))
-      (c .before .before .before .before .before .loop .inv .1),
-)
+loop-again c =
+    let s1 = c .before .before .before in
+    let s2 = s1 .before .before in (
+      omega arith,
+      find-next _ (s2 .loop .i) (omega arith) (now (s1 .area-at .result))
+          (s1 .area-at .ensures .0) (named _) (sym (c .before .same .ensures) ∙ (c .if1 .left)) (s2 .loop .inv .1),
+    )
 
 returns-2 : tie.Need-returns-2 Inv-loop μ-loop
 returns-2 c = (find-over _ (c .before .loop .i) (omega arith) (named _) (c .before .loop .inv .1), omega arith)

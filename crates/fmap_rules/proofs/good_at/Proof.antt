@@ -30,19 +30,20 @@ good-header-requires c κs = search needs
 returns : tie.Need-returns
 returns c = bad-header _ _ _ (rest-slice _ _) (sym (c .before .good-header .ensures) ∙ not-true _ (c .if1 .taken))
 
-areas-of-requires : tie.Need-areas-of-requires
-areas-of-requires c κs = header-fits _ _ (sym (c .before .good-header .ensures) ∙ not-false _ (c .if1 .left)) .whole
+areas-part-requires : tie.Need-areas-part-requires
+areas-part-requires c κs = header-fits _ _ (sym (c .before .good-header .ensures) ∙ not-false _ (c .if1 .left)) .whole
 
 good-areas-requires : tie.Need-good-areas-requires
 good-areas-requires c κs = let f = header-fits _ _ (sym (c .before .before .good-header .ensures) ∙ not-false _ (c .before .if1 .left)) in omega
-    (arith, f .few, (c .areas-of .ensures .1))
+    (arith, f .few, (c .areas-part .ensures .1))
 
 returns-2 : tie.Need-returns-2
 returns-2 c =
-    by-areas _ _ _ (rest-slice _ _) (sym (c .before .before .before .good-header .ensures) ∙ not-false _ (c .before .before .if1 .left))
-    ((c .good-areas .ensures) ∙ ap
-    (λ (l : List ℕ). goodAreas (length (now (c .before .before .before .before .before .before .before .args .image)))
-    (c .before .before .before .before .before .before .before .args .at .0) (areasIn l)) (c .before .areas-of .ensures .0))
+    let s1 = c .before .before in
+    let s2 = s1 .before in
+    let s3 = s2 .before .before .before .before in
+    by-areas _ _ _ (rest-slice _ _) (sym (s2 .good-header .ensures) ∙ not-false _ (s1 .if1 .left)) ((c .good-areas .ensures) ∙ ap
+    (λ (l : List ℕ). goodAreas (length (now (s3 .args .image))) (s3 .args .at .0) (areasIn l)) (c .before .areas-part .ensures .0))
 
 pub good-at-spec : {M : Type 1} → statement M
 good-at-spec =
@@ -54,6 +55,6 @@ good-at-spec =
     part-m-end
     good-header-requires
     returns
-    areas-of-requires
+    areas-part-requires
     good-areas-requires
     returns-2)

@@ -26,9 +26,12 @@ shared-slice-read-if4 : tie.Need-shared-slice-read-if4
 shared-slice-read-if4 c = search needs
 
 returns-4 : tie.Need-returns-4
-returns-4 c = other-minor _ _ (c .before .before .before .before .before .before .if1 .left)
-    (sym (c .before .before .before .before .before .is-signed .ensures) ∙ not-false _ (c .before .before .before .before .if2 .left)) (c .before .before .if3 .left)
-    (c .if4 .taken)
+returns-4 c =
+    let s1 = c .before .before in
+    let s2 = s1 .before .before in
+    let s3 = s2 .before in
+    let s4 = s3 .before in
+    other-minor _ _ (s4 .if1 .left) (sym (s3 .is-signed .ensures) ∙ not-false _ (s2 .if2 .left)) (s1 .if3 .left) (c .if4 .taken)
 
 load32-requires : tie.Need-load32-requires
 load32-requires c κs = search needs
@@ -37,29 +40,43 @@ cast-if5 : tie.Need-cast-if5
 cast-if5 c = search needs
 
 returns-5 : tie.Need-returns-5
-returns-5 c = other-size _ _ (c .before .before .before .before .before .before .before .before .if1 .left)
-    (sym (c .before .before .before .before .before .before .before .is-signed .ensures) ∙ not-false _
-    (c .before .before .before .before .before .before .if2 .left)) (c .before .before .before .before .if3 .left) (c .before .before .if4 .left)
+returns-5 c =
+    let s1 = c .before .before in
+    let s2 = s1 .before .before in
+    let s3 = s2 .before .before in
+    let s4 = s3 .before in
+    let s5 = s4 .before in
+    other-size _ _ (s5 .if1 .left) (sym (s4 .is-signed .ensures) ∙ not-false _ (s3 .if2 .left)) (s2 .if3 .left) (s1 .if4 .left)
     (λ q. (c .if5 .taken) ((c .before .load32 .ensures) ∙ q))
 
 count-of-requires : tie.Need-count-of-requires
 count-of-requires c κs = search needs
 
 returns-6 : tie.Need-returns-6
-returns-6 c = no-area _ _ (c .before .before .before .before .before .before .before .before .before .before .if1 .left)
-    (sym (c .before .before .before .before .before .before .before .before .before .is-signed .ensures) ∙ not-false _
-    (c .before .before .before .before .before .before .before .before .if2 .left)) (c .before .before .before .before .before .before .if3 .left)
-    (c .before .before .before .before .if4 .left) (sym (c .before .before .before .load32 .ensures) ∙ (c .before .before .if5 .left))
-    (rw (← (c .before .count-of .ensures)) (c .if6 .taken))
+returns-6 c =
+    let s1 = c .before .before in
+    let s2 = s1 .before in
+    let s3 = s2 .before in
+    let s4 = s3 .before .before in
+    let s5 = s4 .before .before in
+    let s6 = s5 .before in
+    let s7 = s6 .before in
+    no-area _ _ (s7 .if1 .left) (sym (s6 .is-signed .ensures) ∙ not-false _ (s5 .if2 .left)) (s4 .if3 .left)
+    (s3 .if4 .left) (sym (s2 .load32 .ensures) ∙ (s1 .if5 .left)) (rw (← (c .before .count-of .ensures)) (c .if6 .taken))
 
 returns-7 : tie.Need-returns-7
 returns-7 c =
-    too-many _ _ (c .before .before .before .before .before .before .before .before .before .before .before .if1 .left)
-    (sym (c .before .before .before .before .before .before .before .before .before .before .is-signed .ensures) ∙ not-false _
-    (c .before .before .before .before .before .before .before .before .before .if2 .left)) (c .before .before .before .before .before .before .before .if3 .left)
-    (c .before .before .before .before .before .if4 .left) (sym (c .before .before .before .before .load32 .ensures) ∙ (c .before .before .before .if5 .left))
-    (rw (← (c .before .before .count-of .ensures)) (c .before .if6 .left))
-    (rw (← (c .before .before .count-of .ensures)) (c .if7 .taken))
+    let s1 = c .before .before in
+    let s2 = s1 .before in
+    let s3 = s2 .before in
+    let s4 = s3 .before in
+    let s5 = s4 .before .before in
+    let s6 = s5 .before .before in
+    let s7 = s6 .before in
+    let s8 = s7 .before in
+    too-many _ _ (s8 .if1 .left) (sym (s7 .is-signed .ensures) ∙ not-false _ (s6 .if2 .left)) (s5 .if3 .left)
+    (s4 .if4 .left) (sym (s3 .load32 .ensures) ∙ (s2 .if5 .left)) (rw (← (s1 .count-of .ensures)) (c .before .if6 .left))
+    (rw (← (s1 .count-of .ensures)) (c .if7 .taken))
 
 mul-if8 : tie.Need-mul-if8
 mul-if8 c = search needs
@@ -69,13 +86,18 @@ add-if8 c = search needs
 
 returns-8 : tie.Need-returns-8
 returns-8 c =
-    cut-off _ _ (c .before .before .before .before .before .before .before .before .before .before .before .before .if1 .left)
-    (sym (c .before .before .before .before .before .before .before .before .before .before .before .is-signed .ensures) ∙ not-false _
-    (c .before .before .before .before .before .before .before .before .before .before .if2 .left))
-    (c .before .before .before .before .before .before .before .before .if3 .left) (c .before .before .before .before .before .before .if4 .left)
-    (sym (c .before .before .before .before .before .load32 .ensures) ∙ (c .before .before .before .before .if5 .left))
-    (rw (← (c .before .before .before .count-of .ensures)) (c .before .before .if6 .left))
-    (rw (← (c .before .before .before .count-of .ensures)) (c .before .if7 .left)) (rw (← (c .before .before .before .count-of .ensures)) (c .if8 .taken))
+    let s1 = c .before .before in
+    let s2 = s1 .before in
+    let s3 = s2 .before in
+    let s4 = s3 .before in
+    let s5 = s4 .before in
+    let s6 = s5 .before .before in
+    let s7 = s6 .before .before in
+    let s8 = s7 .before in
+    let s9 = s8 .before in
+    cut-off _ _ (s9 .if1 .left) (sym (s8 .is-signed .ensures) ∙ not-false _ (s7 .if2 .left)) (s6 .if3 .left) (s5 .if4 .left)
+    (sym (s4 .load32 .ensures) ∙ (s3 .if5 .left)) (rw (← (s2 .count-of .ensures)) (s1 .if6 .left))
+    (rw (← (s2 .count-of .ensures)) (c .before .if7 .left)) (rw (← (s2 .count-of .ensures)) (c .if8 .taken))
 
 sub-is-legal-name : tie.Need-sub-is-legal-name
 sub-is-legal-name c = search needs
@@ -92,15 +114,20 @@ is-legal-name-requires c κs = search needs
 returns-9 : tie.Need-returns-9
 unfolding part
 returns-9 c =
-    by-name _ _ (c .before .before .before .before .before .before .before .before .before .before .before .before .before .before .if1 .left)
-    (sym (c .before .before .before .before .before .before .before .before .before .before .before .before .before .is-signed .ensures) ∙ not-false _
-    (c .before .before .before .before .before .before .before .before .before .before .before .before .if2 .left))
-    (c .before .before .before .before .before .before .before .before .before .before .if3 .left)
-    (c .before .before .before .before .before .before .before .before .if4 .left)
-    (sym (c .before .before .before .before .before .before .before .load32 .ensures) ∙ (c .before .before .before .before .before .before .if5 .left))
-    (rw (← (c .before .before .before .before .before .count-of .ensures)) (c .before .before .before .before .if6 .left))
-    (rw (← (c .before .before .before .before .before .count-of .ensures)) (c .before .before .before .if7 .left))
-    (rw (← (c .before .before .before .before .before .count-of .ensures)) (c .before .before .if8 .left)) (c .is-legal-name .ensures)
+    let s1 = c .before .before in
+    let s2 = s1 .before in
+    let s3 = s2 .before in
+    let s4 = s3 .before in
+    let s5 = s4 .before in
+    let s6 = s5 .before in
+    let s7 = s6 .before in
+    let s8 = s7 .before .before in
+    let s9 = s8 .before .before in
+    let s10 = s9 .before in
+    let s11 = s10 .before in
+    by-name _ _ (s11 .if1 .left) (sym (s10 .is-signed .ensures) ∙ not-false _ (s9 .if2 .left)) (s8 .if3 .left) (s7 .if4 .left)
+    (sym (s6 .load32 .ensures) ∙ (s5 .if5 .left)) (rw (← (s4 .count-of .ensures)) (s3 .if6 .left)) (rw (← (s4 .count-of .ensures)) (s2 .if7 .left))
+    (rw (← (s4 .count-of .ensures)) (s1 .if8 .left)) (c .is-legal-name .ensures)
 
 pub good-header-spec : {M : Type 1} → statement M
 good-header-spec =

@@ -33,9 +33,10 @@ is-good-pair-requires : tie.Need-is-good-pair-requires Inv-loop μ-loop
 is-good-pair-requires c κs = search needs
 
 returns : tie.Need-returns Inv-loop μ-loop
-returns c = all-fails _ (c .before .before .before .before .before .loop .j) (omega arith) _ (c .before .before .area-at2 .ensures .0) (goodPair _)
-    (rw (← (c .before .before .before .area-at .ensures .0)) (sym (c .before .is-good-pair .ensures) ∙ not-true _ (c .if1 .taken)))
-    (c .before .before .before .before .before .loop .inv .1)
+returns c =
+    let s1 = c .before .before .before .before .before in
+    all-fails _ (s1 .loop .j) (omega arith) _ (c .before .before .area-at2 .ensures .0) (goodPair _)
+    (rw (← (c .before .before .before .area-at .ensures .0)) (sym (c .before .is-good-pair .ensures) ∙ not-true _ (c .if1 .taken))) (s1 .loop .inv .1)
 
 add-j-2 : tie.Need-add-j-2 Inv-loop μ-loop
 add-j-2 c = search needs
@@ -44,12 +45,13 @@ loop-less : tie.Need-loop-less Inv-loop μ-loop
 loop-less c = search needs
 
 loop-again : tie.Need-loop-again Inv-loop μ-loop
-loop-again c = (
-  omega arith,
-  all-next _ (c .before .before .before .before .before .loop .j) (omega arith) _ (c .before .before .area-at2 .ensures .0) (goodPair _)
-      (rw (← (c .before .before .before .area-at .ensures .0)) (sym (c .before .is-good-pair .ensures) ∙ not-false _ (c .if1 .left)))
-      (c .before .before .before .before .before .loop .inv .1),
-)
+loop-again c =
+    let s1 = c .before .before .before .before .before in (
+      omega arith,
+      all-next _ (s1 .loop .j) (omega arith) _ (c .before .before .area-at2 .ensures .0) (goodPair _)
+          (rw (← (c .before .before .before .area-at .ensures .0)) (sym (c .before .is-good-pair .ensures) ∙ not-false _ (c .if1 .left)))
+          (s1 .loop .inv .1),
+    )
 
 returns-2 : tie.Need-returns-2 Inv-loop μ-loop
 returns-2 c = all-over _ (c .before .loop .j) (omega arith) (goodPair _) (c .before .loop .inv .1)

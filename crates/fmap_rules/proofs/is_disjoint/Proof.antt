@@ -13,8 +13,9 @@ cast-if1 c = search needs
 
 returns : tie.Need-returns
 unfolding disjoint
-returns c = or-t _ (le-leb (endOf (c .before .before .before .args .x)) (c .before .before .before .args .y .start .0)
-    (rw (← (c .before .before .end-of .ensures)) (c .if1 .taken)))
+returns c =
+    let s1 = c .before .before .before in
+    or-t _ (le-leb (endOf (s1 .args .x)) (s1 .args .y .start .0) (rw (← (c .before .before .end-of .ensures)) (c .if1 .taken)))
 
 end-of-requires-2 : tie.Need-end-of-requires-2
 end-of-requires-2 c κs = search needs
@@ -24,7 +25,9 @@ cast-result c = search needs
 
 returns-2 : tie.Need-returns-2
 unfolding disjoint
-returns-2 c = or-f (lt-leb (endOf (c .before .before .before .before .before .args .x)) (c .before .before .before .before .before .args .y .start .0)
+returns-2 c =
+    let s1 = c .before .before .before .before .before in
+    or-f (lt-leb (endOf (s1 .args .x)) (s1 .args .y .start .0)
     (rw (← (c .before .before .before .before .end-of .ensures)) (c .before .before .if1 .left))) (rw (c .before .end-of2 .ensures))
 
 pub is-disjoint-spec : {M : Type 1} → statement M

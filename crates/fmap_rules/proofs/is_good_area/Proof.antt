@@ -22,10 +22,12 @@ end-of-requires c κs = search needs
 returns-2 : tie.Need-returns-2
 unfolding goodArea
 returns-2 c =
-    and-t (sym (ap (λ (x : Extent). leb 1 (x .size)) (c .before .before .before .before .extent-of .ensures)) ∙ le-leb _ _ (c .before .before .if1 .left))
-    (and-f _ (sym (ap (λ (x : Extent). leb (endOf x) (c .before .before .before .before .before .before .args .len))
-    (c .before .before .before .before .extent-of .ensures)) ∙ lt-leb (endOf (c .before .before .before .before .extent-of .result))
-    (c .before .before .before .before .before .before .args .len) (rw (← (c .before .end-of .ensures)) (c .if2 .taken))))
+    let s1 = c .before .before in
+    let s2 = s1 .before .before in
+    let s3 = s2 .before .before in
+    and-t (sym (ap (λ (x : Extent). leb 1 (x .size)) (s2 .extent-of .ensures)) ∙ le-leb _ _ (s1 .if1 .left))
+    (and-f _ (sym (ap (λ (x : Extent). leb (endOf x) (s3 .args .len)) (s2 .extent-of .ensures)) ∙ lt-leb (endOf (s2 .extent-of .result))
+    (s3 .args .len) (rw (← (c .before .end-of .ensures)) (c .if2 .taken))))
 
 sub-is-legal-name : tie.Need-sub-is-legal-name
 sub-is-legal-name c = search needs
@@ -42,12 +44,14 @@ is-legal-name-requires c κs = search needs
 returns-3 : tie.Need-returns-3
 unfolding goodArea areaOf part
 returns-3 c =
-    and-t (sym (ap (λ (x : Extent). leb 1 (x .size)) (c .before .before .before .before .before .before .extent-of .ensures)) ∙ le-leb _ _
-    (c .before .before .before .before .if1 .left))
-    (and-t (sym (ap (λ (x : Extent). leb (endOf x) (c .before .before .before .before .before .before .before .before .args .len))
-    (c .before .before .before .before .before .before .extent-of .ensures)) ∙ le-leb (endOf (c .before .before .before .before .before .before .extent-of .result))
-    (c .before .before .before .before .before .before .before .before .args .len)
-    (rw (← (c .before .before .before .end-of .ensures)) (c .before .before .if2 .left))) (c .is-legal-name .ensures))
+    let s1 = c .before .before in
+    let s2 = s1 .before in
+    let s3 = s2 .before in
+    let s4 = s3 .before .before in
+    let s5 = s4 .before .before in
+    and-t (sym (ap (λ (x : Extent). leb 1 (x .size)) (s4 .extent-of .ensures)) ∙ le-leb _ _ (s3 .if1 .left))
+    (and-t (sym (ap (λ (x : Extent). leb (endOf x) (s5 .args .len)) (s4 .extent-of .ensures)) ∙ le-leb (endOf (s4 .extent-of .result)) (s5 .args .len)
+    (rw (← (s2 .end-of .ensures)) (s1 .if2 .left))) (c .is-legal-name .ensures))
 
 pub is-good-area-spec : {M : Type 1} → statement M
 is-good-area-spec =

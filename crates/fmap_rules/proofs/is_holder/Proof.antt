@@ -33,9 +33,13 @@ extent-of-requires c κs = search needs
 
 returns-2 : tie.Need-returns-2
 unfolding holdsMap named areaOf part zeros
-returns-2 c = and-t (sym (c .before .before .before .before .before .same .ensures) ∙ not-false _ (c .before .before .before .before .if1 .left))
-    (and-f _ (sym (ap (λ (x : Extent). eqb (x .start .0) (c .before .before .before .before .before .before .before .before .before .args .at .0))
-    (c .before .before .before .extent-of .ensures)) ∙ ne-eqb _ _ (c .if2 .taken)))
+returns-2 c =
+    let s1 = c .before .before .before in
+    let s2 = s1 .before in
+    let s3 = s2 .before in
+    let s4 = s3 .before .before .before .before in
+    and-t (sym (s3 .same .ensures) ∙ not-false _ (s2 .if1 .left)) (and-f _ (sym (ap (λ (x : Extent). eqb (x .start .0) (s4 .args .at .0))
+    (s1 .extent-of .ensures)) ∙ ne-eqb _ _ (c .if2 .taken)))
 
 mul-result : tie.Need-mul-result
 mul-result c = search needs
@@ -49,11 +53,13 @@ cast-result c = search needs
 returns-3 : tie.Need-returns-3
 unfolding holdsMap named areaOf part zeros
 returns-3 c =
-    and-t (sym (c .before .before .before .before .before .before .same .ensures) ∙ not-false _ (c .before .before .before .before .before .if1 .left))
-    (and-t (sym (ap (λ (x : Extent). eqb (x .start .0) (c .before .before .before .before .before .before .before .before .before .before .args .at .0))
-    (c .before .before .before .before .extent-of .ensures)) ∙ eq-eqb _ _ (c .before .if2 .left))
-    (ap (λ (x : Extent). leb (mapSize (c .before .before .before .before .before .before .before .before .before .before .args .count)) (x .size))
-    (c .before .before .before .before .extent-of .ensures)))
+    let s1 = c .before .before .before .before in
+    let s2 = s1 .before in
+    let s3 = s2 .before in
+    let s4 = s3 .before .before .before .before in
+    and-t (sym (s3 .same .ensures) ∙ not-false _ (s2 .if1 .left)) (and-t (sym (ap (λ (x : Extent). eqb (x .start .0) (s4 .args .at .0))
+    (s1 .extent-of .ensures)) ∙ eq-eqb _ _ (c .before .if2 .left)) (ap (λ (x : Extent). leb (mapSize (s4 .args .count)) (x .size))
+    (s1 .extent-of .ensures)))
 
 pub is-holder-spec : {M : Type 1} → statement M
 is-holder-spec =

@@ -25,21 +25,22 @@ shared-slice-read-if1 c = search needs
 
 returns : tie.Need-returns Inv-loop μ-loop
 unfolding nameLength
-returns c = (
-  sym (findIx-stop stops _ 0 (c .before .before .before .loop .i) (omega arith) (below _ (c .if1 .taken))) ∙ (c .before .before .before .loop .inv .1),
-  omega arith,
-)
+returns c =
+    let s1 = c .before .before .before in (
+      sym (findIx-stop stops _ 0 (s1 .loop .i) (omega arith) (below _ (c .if1 .taken))) ∙ (s1 .loop .inv .1),
+      omega arith,
+    )
 
 shared-slice-read-if2 : tie.Need-shared-slice-read-if2 Inv-loop μ-loop
 shared-slice-read-if2 c = search needs
 
 returns-2 : tie.Need-returns-2 Inv-loop μ-loop
 unfolding nameLength
-returns-2 c = (
-  sym (findIx-stop stops _ 0 (c .before .before .before .before .before .loop .i) (omega arith)
-      (above _ (c .before .before .if1 .left) (c .if2 .taken))) ∙ (c .before .before .before .before .before .loop .inv .1),
-  omega arith,
-)
+returns-2 c =
+    let s1 = c .before .before .before .before .before in (
+      sym (findIx-stop stops _ 0 (s1 .loop .i) (omega arith) (above _ (c .before .before .if1 .left) (c .if2 .taken))) ∙ (s1 .loop .inv .1),
+      omega arith,
+    )
 
 add-i : tie.Need-add-i Inv-loop μ-loop
 add-i c = search needs
@@ -48,12 +49,11 @@ loop-less : tie.Need-loop-less Inv-loop μ-loop
 loop-less c = search needs
 
 loop-again : tie.Need-loop-again Inv-loop μ-loop
-loop-again c = (
-  omega arith,
-  sym
-      (findIx-on stops _ 0 (c .before .before .before .before .before .loop .i) (omega arith) (goes _ (c .before .before .if1 .left) (c .if2 .left))) ∙
-      (c .before .before .before .before .before .loop .inv .1),
-)
+loop-again c =
+    let s1 = c .before .before .before .before .before in (
+      omega arith,
+      sym (findIx-on stops _ 0 (s1 .loop .i) (omega arith) (goes _ (c .before .before .if1 .left) (c .if2 .left))) ∙ (s1 .loop .inv .1),
+    )
 
 returns-3 : tie.Need-returns-3 Inv-loop μ-loop
 unfolding nameLength

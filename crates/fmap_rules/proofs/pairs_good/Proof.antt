@@ -23,8 +23,9 @@ good-with-later-requires : tie.Need-good-with-later-requires Inv-loop μ-loop
 good-with-later-requires c κs = search needs
 
 returns : tie.Need-returns Inv-loop μ-loop
-returns c = pairs-fails _ (c .before .before .before .loop .i) (omega arith) goodPair (sym (c .before .good-with-later .ensures) ∙ not-true _ (c .if1 .taken))
-    (c .before .before .before .loop .inv .1)
+returns c =
+    let s1 = c .before .before .before in
+    pairs-fails _ (s1 .loop .i) (omega arith) goodPair (sym (c .before .good-with-later .ensures) ∙ not-true _ (c .if1 .taken)) (s1 .loop .inv .1)
 
 add-i : tie.Need-add-i Inv-loop μ-loop
 add-i c = search needs
@@ -33,11 +34,11 @@ loop-less : tie.Need-loop-less Inv-loop μ-loop
 loop-less c = search needs
 
 loop-again : tie.Need-loop-again Inv-loop μ-loop
-loop-again c = (
-  omega arith,
-  pairs-next _ (c .before .before .before .loop .i) (omega arith) goodPair
-      (sym (c .before .good-with-later .ensures) ∙ not-false _ (c .if1 .left)) (c .before .before .before .loop .inv .1),
-)
+loop-again c =
+    let s1 = c .before .before .before in (
+      omega arith,
+      pairs-next _ (s1 .loop .i) (omega arith) goodPair (sym (c .before .good-with-later .ensures) ∙ not-false _ (c .if1 .left)) (s1 .loop .inv .1),
+    )
 
 returns-2 : tie.Need-returns-2 Inv-loop μ-loop
 returns-2 c = pairs-over _ (c .before .loop .i) (omega arith) goodPair (c .before .loop .inv .1)

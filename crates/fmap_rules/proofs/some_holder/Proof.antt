@@ -30,8 +30,10 @@ is-holder-requires : tie.Need-is-holder-requires Inv-loop μ-loop
 is-holder-requires c κs = search needs
 
 returns : tie.Need-returns Inv-loop μ-loop
-returns c = any-holds _ (c .before .before .before .before .loop .i) (omega arith) _ (c .before .before .area-at .ensures .0) (holdsMap _ _)
-    (sym (c .before .is-holder .ensures) ∙ (c .if1 .taken)) (c .before .before .before .before .loop .inv .1)
+returns c =
+    let s1 = c .before .before .before .before in
+    any-holds _ (s1 .loop .i) (omega arith) _ (c .before .before .area-at .ensures .0) (holdsMap _ _)
+    (sym (c .before .is-holder .ensures) ∙ (c .if1 .taken)) (s1 .loop .inv .1)
 
 add-i : tie.Need-add-i Inv-loop μ-loop
 add-i c = search needs
@@ -40,11 +42,12 @@ loop-less : tie.Need-loop-less Inv-loop μ-loop
 loop-less c = search needs
 
 loop-again : tie.Need-loop-again Inv-loop μ-loop
-loop-again c = (
-  omega arith,
-  any-next _ (c .before .before .before .before .loop .i) (omega arith) _ (c .before .before .area-at .ensures .0) (holdsMap _ _)
-      (sym (c .before .is-holder .ensures) ∙ (c .if1 .left)) (c .before .before .before .before .loop .inv .1),
-)
+loop-again c =
+    let s1 = c .before .before .before .before in (
+      omega arith,
+      any-next _ (s1 .loop .i) (omega arith) _ (c .before .before .area-at .ensures .0) (holdsMap _ _)
+          (sym (c .before .is-holder .ensures) ∙ (c .if1 .left)) (s1 .loop .inv .1),
+    )
 
 returns-2 : tie.Need-returns-2 Inv-loop μ-loop
 returns-2 c = any-over _ (c .before .loop .i) (omega arith) (holdsMap _ _) (c .before .loop .inv .1)

@@ -18,7 +18,9 @@ areas-of-requires c κs =
     (start .pre .0, start .pre .1, start .pre .2 .tree, (start .args .i .size, omega (arith, start .pre .2 .image .high), start .pre .2 .fitted))
 
 image-of-requires : tie.Need-image-of-requires
-image-of-requires c κs = let n = name-short (c .before .before .pre .2 .image .named) in (n .0, n .1, (c .before .before .pre) .0 .room)
+image-of-requires c κs =
+    let s1 = c .before .before in
+    let n = name-short (s1 .pre .2 .image .named) in (n .0, n .1, (s1 .pre) .0 .room)
 
 mul-a : tie.Need-mul-a
 mul-a c = search needs
@@ -28,8 +30,10 @@ element-copy-out-a c = search needs
 
 returns : tie.Need-returns
 returns c =
-    let start = c .before .before .before .before .before .before in
-    let w = c .before .before .before .before .areas-of .ensures in (w .0, said-is (start .args .text .now) (start .args .i) (sectionsOf (start .args .l)) (planOf (start .args .p)) (start .args .m) (start .pre .2) (c .before .before .before .image-of .result) _ _ (c .before .before .before .image-of .ensures ∙ ap (imageOf (start .args .text .now) (start .args .i)) (sym (countedList (start .args .l) (start .pre .0)))) (w .1) (ap (λ (x : Area). x .place .start) (map-area (start .args .text .now) (start .args .i) (sectionsOf (start .args .l)) (planOf (start .args .p)) (start .args .m) (start .pre .2) (c .before .before .before .before .areas-of .result) (w .0) (w .1) _)))
+    let s1 = c .before .before .before in
+    let s2 = s1 .before in
+    let start = s2 .before .before in
+    let w = s2 .areas-of .ensures in (w .0, said-is (start .args .text .now) (start .args .i) (sectionsOf (start .args .l)) (planOf (start .args .p)) (start .args .m) (start .pre .2) (s1 .image-of .result) _ _ (s1 .image-of .ensures ∙ ap (imageOf (start .args .text .now) (start .args .i)) (sym (countedList (start .args .l) (start .pre .0)))) (w .1) (ap (λ (x : Area). x .place .start) (map-area (start .args .text .now) (start .args .i) (sectionsOf (start .args .l)) (planOf (start .args .p)) (start .args .m) (start .pre .2) (s2 .areas-of .result) (w .0) (w .1) _)))
 
 pub accepted-spec : {M : Type 1} → statement M
 accepted-spec =

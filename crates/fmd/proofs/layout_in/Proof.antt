@@ -13,8 +13,9 @@ enum-known-verdict c = search needs
 
 accepted-requires : tie.Need-accepted-requires
 accepted-requires c κs =
-    let start = c .before .before .before .before .before in
-    (c .before .before .before .check .ensures .list, c .before .before .before .check .ensures .plan, rw (sym (rw (c .before .verdict .given .1) at (c .before .before .before .check .ensures .same))) at (check-facts (start .args .text .now)))
+    let s1 = c .before .before .before in
+    let start = s1 .before .before in
+    (s1 .check .ensures .list, s1 .check .ensures .plan, rw (sym (rw (c .before .verdict .given .1) at (s1 .check .ensures .same))) at (check-facts (start .args .text .now)))
 
 enum-known-verdict-2 : tie.Need-enum-known-verdict-2
 enum-known-verdict-2 c = search needs

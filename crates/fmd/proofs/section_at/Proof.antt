@@ -18,11 +18,11 @@ element-copy-out-a c = search needs
 
 returns : tie.Need-returns
 returns c =
-    let a = c .before .before .before .before .args in
-    let p = c .before .before .before .before .pre in
+    let s1 = c .before .before .before .before in
+    let a = s1 .args in
+    let p = s1 .pre in
     let h : a .i < length (a .t1 .items) = omega (arith, p .0 .room, p .0 .full, p .1) in
-    ap sectionOf
-    (getD-within (a .t1 .items) (a .i) (record { place = record { start = position 0; size = 0 }; name = []; flags = 0 }) blank h)
+    ap sectionOf (getD-within (a .t1 .items) (a .i) (record { place = record { start = position 0; size = 0 }; name = []; flags = 0 }) blank h)
 
 pub section-at-spec : {M : Type 1} → statement M
 section-at-spec = tie.close (tie.spec mul-a element-copy-out-a returns)

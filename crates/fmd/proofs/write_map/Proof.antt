@@ -18,13 +18,16 @@ enum-known-verdict c = search needs
 
 accepted-requires : tie.Need-accepted-requires
 accepted-requires c κs =
-    let start = c .before .before .before .before .before .before in
-    (c .before .before .before .check .ensures .list, c .before .before .before .check .ensures .plan, rw (sym (rw (c .before .verdict .given .1) at (c .before .before .before .check .ensures .same))) at (check-facts (start .args .text .now)))
+    let s1 = c .before .before .before in
+    let start = s1 .before .before .before in
+    (s1 .check .ensures .list, s1 .check .ensures .plan, rw (sym (rw (c .before .verdict .given .1) at (s1 .check .ensures .same))) at (check-facts (start .args .text .now)))
 
 put-layout-requires : tie.Need-put-layout-requires
 put-layout-requires c κs =
-    let start = c .before .before .before .before .before .before .before .before in
-    put-room (start .args .text .now) (c .before .before .before .verdict .given .0 .0) (sectionsOf (c .before .before .before .before .before .check .result .list)) (planOf (c .before .before .before .before .before .check .result .plan)) (c .before .before .before .verdict .given .0 .1 .0) (rw (sym (rw (c .before .before .before .verdict .given .1) at (c .before .before .before .before .before .check .ensures .same))) at (check-facts (start .args .text .now))) (c .before .accepted .result) (c .before .accepted .ensures .0) (c .before .accepted .ensures .1)
+    let s1 = c .before .before .before in
+    let s2 = s1 .before .before in
+    let start = s2 .before .before .before in
+    put-room (start .args .text .now) (s1 .verdict .given .0 .0) (sectionsOf (s2 .check .result .list)) (planOf (s2 .check .result .plan)) (s1 .verdict .given .0 .1 .0) (rw (sym (rw (s1 .verdict .given .1) at (s2 .check .ensures .same))) at (check-facts (start .args .text .now))) (c .before .accepted .result) (c .before .accepted .ensures .0) (c .before .accepted .ensures .1)
 
 enum-known-verdict-2 : tie.Need-enum-known-verdict-2
 enum-known-verdict-2 c = search needs
@@ -40,8 +43,12 @@ same-length c = search needs
 returns : tie.Need-returns
 unfolding writeText layoutIn
 returns c =
-    let start = c .before .before .before .before .before .before .before .before .before .before .before in
-    rw (sym (rw (c .before .before .before .before .before .before .verdict .given .1) at (c .before .before .before .before .before .before .before .before .check .ensures .same))) (c .before .before .put-layout .ensures ∙ ap (λ (x : Said). writeBy x (start .args .image .now) none) (c .before .before .before .before .accepted .ensures .1))
+    let s1 = c .before .before in
+    let s2 = s1 .before .before in
+    let s3 = s2 .before .before in
+    let s4 = s3 .before .before in
+    let start = s4 .before .before .before in
+    rw (sym (rw (s3 .verdict .given .1) at (s4 .check .ensures .same))) (s1 .put-layout .ensures ∙ ap (λ (x : Said). writeBy x (start .args .image .now) none) (s2 .accepted .ensures .1))
 
 returns-2 : tie.Need-returns-2
 unfolding writeText layoutIn

@@ -7,7 +7,7 @@ use Rattle.fmap_write.specs.Areas.{listOf, Sound}
 use Rattle.fmd_parse.specs.Layouts.{listOf as sectionsOf}
 use Rattle.fmd_plan.specs.Plans.{planOf}
 use Rattle.fmd_areas.specs.Areas.{areasFrom, areasOf}
-use Rattle.fmd_areas.proofs.Listed.{section-climbs, position-fits, name-fits, name-full, areas-on, areas-done, areas-start}
+use Rattle.fmd_areas.proofs.Listed.{section-climbs, position-fits, name-fits, areas-on, areas-done, areas-start}
 use Rattle.fmd_areas.proofs.areas_of.Statement.{statement}
 use Rattle.fmd_areas.proofs.areas_of.Tie as tie
 
@@ -52,10 +52,7 @@ area-from-requires c κs =
     name-fits _ _ _ (start .pre) _ h
 
 pushed-requires : tie.Need-pushed-requires Inv-loop μ-loop
-pushed-requires c κs =
-    let start = c .before .before .before .before .before .before .before .before in
-    let h = c .before .before .before .before .loop-test .taken in
-    (c .before .before .before .before .before .loop .inv .1, search needs, name-full _ _ _ (start .pre) _ h _ _ (c .area-from .ensures))
+pushed-requires c κs = search needs
 
 add-k : tie.Need-add-k Inv-loop μ-loop
 add-k c = search needs

@@ -4,7 +4,6 @@ use native.Mathlib.Omega.{arith}
 use lib.ListN.{length, length-set}
 use lib.Seq.{take-suc-set}
 use borrow.Author.Needs.{needs}
-use Rattle.fmd_areas.proofs.Listed.{names-push}
 use Rattle.fmd_areas.proofs.pushed.Statement.{statement}
 use Rattle.fmd_areas.proofs.pushed.Tie as tie
 
@@ -20,16 +19,8 @@ add-t c = search needs
 returns : tie.Need-returns
 returns c =
     let m = c .args .m in
-    let a = c .args .a in
-    let h : m .count < length (m .items) = omega arith in (
-      record {
-        room = search needs;
-        full = simp length-set (c .pre .0 .full);
-        names = names-push (m .items) (m .count) a h (c .pre .0 .names) (c .pre .2);
-      },
-      search needs,
-      rw (add-one (m .count)) (take-suc-set (m .items) (m .count) a h),
-    )
+    let h : m .count < length (m .items) = omega arith in
+    (record { room = search needs; full = simp length-set (c .pre .0 .full) }, search needs, rw (add-one (m .count)) (take-suc-set (m .items) (m .count) (c .args .a) h))
 
 pub pushed-spec : {M : Type 1} → statement M
 pushed-spec = tie.close (tie.spec mul-a element-set-from-a add-t returns)

@@ -22,8 +22,9 @@ enum-known-answer c = search needs
 
 check-list-requires : tie.Need-check-list-requires
 check-list-requires c κs =
-    let start = c .before .before .before .before .before .before in
-    (c .before .before .before .read-layout .ensures .0, inside ((rw (sym (rw (c .before .answer .given .1) at (c .before .before .before .read-layout .ensures .1))) at (layout-facts (start .args .text .now))) .1))
+    let s1 = c .before .before .before in
+    let start = s1 .before .before .before in
+    (s1 .read-layout .ensures .0, inside ((rw (sym (rw (c .before .answer .given .1) at (s1 .read-layout .ensures .1))) at (layout-facts (start .args .text .now))) .1))
 
 enum-known-answer-2 : tie.Need-enum-known-answer-2
 enum-known-answer-2 c = search needs

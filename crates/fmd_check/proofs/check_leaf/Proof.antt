@@ -7,7 +7,7 @@ use Rattle.fmd_parse.proofs.Layouts.{counted}
 use Rattle.octets.specs.Tests.{_or_}
 use borrow.Author.Tests.{lt-ltb, le-ltb}
 use native.Mathlib.Omega.{arith}
-use mathlib.Core.Path.{sym, _∙_, ap}
+use mathlib.Core.Path.{sym, _∙_}
 use borrow.Author.Needs.{needs}
 use Rattle.fmd_check.proofs.check_leaf.Statement.{statement}
 use Rattle.fmd_check.proofs.check_leaf.Tie as tie

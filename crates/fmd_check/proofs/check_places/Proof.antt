@@ -1,6 +1,6 @@
 use Rattle.fmd_check.proofs.Found.{unfit-below, plan-count}
 use Rattle.fmd_check.specs.Check.{checkPlaces}
-use mathlib.Core.Path.{sym, ap}
+use mathlib.Core.Path.{sym}
 use borrow.Author.Needs.{needs}
 use Rattle.fmd_check.proofs.check_places.Statement.{statement}
 use Rattle.fmd_check.proofs.check_places.Tie as tie
@@ -21,8 +21,9 @@ enum-told c = search needs
 
 check-map-requires : tie.Need-check-map-requires
 check-map-requires c κs =
-    let start = c .before .before .before .before in
-    (start .pre .0, c .before .before .resolve .ensures .0, start .pre .1, plan-count (start .args .l) (start .pre .0) (start .args .i .size) (c .before .before .resolve .result .plan) (c .before .before .resolve .ensures .0) (rw (c .enum-told .given .1) at (c .before .before .resolve .ensures .1)))
+    let s1 = c .before .before in
+    let start = s1 .before .before in
+    (start .pre .0, s1 .resolve .ensures .0, start .pre .1, plan-count (start .args .l) (start .pre .0) (start .args .i .size) (s1 .resolve .result .plan) (s1 .resolve .ensures .0) (rw (c .enum-told .given .1) at (s1 .resolve .ensures .1)))
 
 returns : tie.Need-returns
 unfolding checkPlaces

@@ -16,7 +16,9 @@ fault-requires : tie.Need-fault-requires
 fault-requires c κs = search needs
 
 returns : tie.Need-returns
-returns c = rw (item (c .before .before .before .args .t2) (c .before .before .before .pre .0) (c .before .before .before .args .k) (c .before .before .before .pre .1)) (c .fault .ensures)
+returns c =
+    let s1 = c .before .before .before in
+    rw (item (s1 .args .t2) (s1 .pre .0) (s1 .args .k) (s1 .pre .1)) (c .fault .ensures)
 
 pub fault-at-spec : {M : Type 1} → statement M
 fault-at-spec = tie.close (tie.spec mul-h element-copy-out-h cast-fault fault-requires returns)

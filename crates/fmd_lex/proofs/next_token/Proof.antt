@@ -36,14 +36,24 @@ add-t13 c = search needs
 
 returns-3 : tie.Need-returns-3
 unfolding tokenAt tokenHere
-returns-3 c = (simp (sym (c .before .before .before .before .before .before .skip .ensures .0), lt-ltb _ _ (c .before .before .before .before .before .if1 .left), sym (c .before .before .before .is-word .ensures), c .before .before .if2 .left, sym (c .before .is-sign .ensures), c .if3 .taken), search needs)
+returns-3 c =
+    let s1 = c .before .before in
+    let s2 = s1 .before in
+    let s3 = s2 .before .before in
+    let s4 = s3 .before in
+    (simp (sym (s4 .skip .ensures .0), lt-ltb _ _ (s3 .if1 .left), sym (s2 .is-word .ensures), s1 .if2 .left, sym (c .before .is-sign .ensures), c .if3 .taken), search needs)
 
 add-t6 : tie.Need-add-t6
 add-t6 c = search needs
 
 returns-4 : tie.Need-returns-4
 unfolding tokenAt tokenHere
-returns-4 c = (simp (sym (c .before .before .before .before .before .before .skip .ensures .0), lt-ltb _ _ (c .before .before .before .before .before .if1 .left), sym (c .before .before .before .is-word .ensures), c .before .before .if2 .left, sym (c .before .is-sign .ensures), c .if3 .left), search needs)
+returns-4 c =
+    let s1 = c .before .before in
+    let s2 = s1 .before in
+    let s3 = s2 .before .before in
+    let s4 = s3 .before in
+    (simp (sym (s4 .skip .ensures .0), lt-ltb _ _ (s3 .if1 .left), sym (s2 .is-word .ensures), s1 .if2 .left, sym (c .before .is-sign .ensures), c .if3 .left), search needs)
 
 pub next-token-spec : {M : Type 1} → statement M
 next-token-spec =

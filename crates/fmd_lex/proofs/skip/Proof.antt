@@ -26,10 +26,13 @@ is-blank-requires c κs = search needs
 
 returns : tie.Need-returns Inv-loop μ-loop
 returns c =
-    let s = c .before .before .before .before .before .before .before .before .args .text .now in
-    let i = c .before .before .before .before .before .before .loop .i in
+    let s1 = c .before .before in
+    let s2 = s1 .before .before .before .before in
+    let s3 = s2 .before .before in
+    let s = s3 .args .text .now in
+    let i = s2 .loop .i in
     let h : i < length s = search needs in
-    (cc (skip-stop s i h (cc) (c .before .before .if3 .left)), search needs)
+    (cc (skip-stop s i h (cc) (s1 .if3 .left)), search needs)
 
 add-i : tie.Need-add-i Inv-loop μ-loop
 add-i c = search needs

@@ -1,6 +1,6 @@
 -- `fmd_lines::lend` meets its contract: a walk of its MIR, by hand. The list is copied into a local array, which is lent to `fmd::list` for a lifetime
 -- that is made for the call, and taken back.
-use mathlib.Core.Path.{_≡_, refl, sym, _∙_, ap, subst}
+use mathlib.Core.Path.{_≡_, refl, sym, _∙_, subst}
 use Prim.Native.Nat.{ℕ}
 use mathlib.Core.List.{[], _∷_, List, map}
 use lib.ListN.{length, length-map}

@@ -2,6 +2,7 @@ use mathlib.Core.Path.{refl}
 use native.Mathlib.Omega.{arith}
 use borrow.Author.Needs.{needs}
 use Rattle.text_out.proofs.Puts.{puts-then, puts-start}
+use Rattle.fmd.proofs.Answers.{number-small}
 use Rattle.fmd_lines.proofs.Listings.{count-small, refused-lines, accepted-lines}
 use Rattle.fmd_lines.proofs.listing.Statement.{statement}
 use Rattle.fmd_lines.proofs.listing.Tie as tie
@@ -22,7 +23,9 @@ cast-numbered : tie.Need-cast-numbered
 cast-numbered c = search needs
 
 numbered-requires : tie.Need-numbered-requires
-numbered-requires c κs = search needs
+numbered-requires c κs =
+    let s1 = c .before .before .before in
+    (omega (arith, number-small (s1 .before .before .lend .result .reading .answer) _ (s1 .number .ensures)), search needs)
 
 same-length : tie.Need-same-length
 same-length c = search needs
@@ -34,7 +37,7 @@ returns c =
     let s3 = s2 .before .before in
     let top = s3 .before .before .before .before in
     puts-start _ _ _ _ _
-    (refused-lines _ (s3 .lend .result .reading) _ _ refl (s3 .lend .ensures) (s2 .number .result) (s2 .number .ensures .0) (omega arith))
+    (refused-lines _ (s3 .lend .result .reading) _ _ refl (s3 .lend .ensures) (s2 .number .result) (s2 .number .ensures) (omega arith))
     (s1 .numbered .ensures .1) (omega (arith, s1 .numbered .ensures .0, top .pre))
 
 image-line-requires : tie.Need-image-line-requires
@@ -63,7 +66,7 @@ returns-2 c =
     let top = s4 .before .before .before .before in
     let n = count-small _ (s4 .lend .result .reading) _ _ refl (s4 .lend .ensures) in
     puts-start _ _ _ _ _
-    (accepted-lines _ (s4 .lend .result .reading) _ _ refl (s4 .lend .ensures) (s3 .number .result) (s3 .number .ensures .0) (omega arith))
+    (accepted-lines _ (s4 .lend .result .reading) _ _ refl (s4 .lend .ensures) (s3 .number .result) (s3 .number .ensures) (omega arith))
     (puts-then _ _ _ _ _ _ _ _ (s2 .image-line .ensures .1) (s1 .section-lines .ensures .1))
     (omega (arith, n, s2 .image-line .ensures .0, s1 .section-lines .ensures .0, top .pre))
 

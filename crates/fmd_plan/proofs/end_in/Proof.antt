@@ -39,7 +39,9 @@ loop-again c =
     (search needs, c .end-with .ensures .1, rw (c .end-with .ensures .0) (end-on (start .args .t1) (start .pre) (start .args .parent) (turn .loop .e) (turn .loop .j) (c .before .before .loop-test .taken)) ∙ turn .loop .inv .2)
 
 returns : tie.Need-returns Inv-loop μ-loop
-returns c = (end-done (c .before .before .args .t1) (c .before .before .pre) (c .before .before .args .parent) (c .before .loop .e) (c .before .loop .j) (omega arith) ∙ c .before .loop .inv .2, c .before .loop .inv .1)
+returns c =
+    let s1 = c .before .before in
+    (end-done (s1 .args .t1) (s1 .pre) (s1 .args .parent) (c .before .loop .e) (c .before .loop .j) (omega arith) ∙ c .before .loop .inv .2, c .before .loop .inv .1)
 
 pub end-in-spec : {M : Type 1} → statement M
 end-in-spec =

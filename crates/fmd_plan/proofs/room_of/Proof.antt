@@ -13,7 +13,9 @@ element-copy-out-q c = search needs
 
 returns : tie.Need-returns
 unfolding roomOf
-returns c = rw (counted (c .before .before .args .t1) (c .before .before .pre), lt-ltb _ _ (c .before .if1 .taken), item (c .before .before .args .t1) (c .before .before .pre) _ (c .before .if1 .taken))
+returns c =
+    let s1 = c .before .before in
+    rw (counted (s1 .args .t1) (s1 .pre), lt-ltb _ _ (c .before .if1 .taken), item (s1 .args .t1) (s1 .pre) _ (c .before .if1 .taken))
 
 returns-2 : tie.Need-returns-2
 unfolding roomOf

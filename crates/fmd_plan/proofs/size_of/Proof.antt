@@ -36,7 +36,11 @@ returns-2 : tie.Need-returns-2
 returns-2 c = (rw (c .before .before .before .enum-told .given .1, c .before .enum-told2 .given .1) (c .reach .ensures .0), c .reach .ensures .1)
 
 returns-3 : tie.Need-returns-3
-returns-3 c = (rw (c .before .before .before .before .before .before .before .enum-told .given .1, c .before .before .before .before .before .next .given .1, c .before .before .o .given .1) (c .reach2 .ensures .0), c .reach2 .ensures .1)
+returns-3 c =
+    let s1 = c .before .before in
+    let s2 = s1 .before .before .before in
+    let s3 = s2 .before .before in
+    (rw (s3 .enum-told .given .1, s2 .next .given .1, s1 .o .given .1) (c .reach2 .ensures .0), c .reach2 .ensures .1)
 
 returns-4 : tie.Need-returns-4
 returns-4 c = search needs

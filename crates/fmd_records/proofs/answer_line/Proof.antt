@@ -1,6 +1,7 @@
 use native.Mathlib.Omega.{arith}
 use borrow.Author.Needs.{needs}
 use Rattle.text_out.proofs.Puts.{puts-as}
+use Rattle.fmd.proofs.Answers.{number-small}
 use Rattle.fmd_records.proofs.Shown.{refused-is, accepted-is}
 use Rattle.fmd_records.proofs.answer_line.Statement.{statement}
 use Rattle.fmd_records.proofs.answer_line.Tie as tie
@@ -15,7 +16,9 @@ cast-numbered : tie.Need-cast-numbered
 cast-numbered c = search needs
 
 numbered-requires : tie.Need-numbered-requires
-numbered-requires c κs = search needs
+numbered-requires c κs =
+    let s1 = c .before .before .before in
+    (omega (arith, number-small (s1 .before .before .before .args .r .answer) _ (s1 .number .ensures)), search needs)
 
 same-length : tie.Need-same-length
 same-length c = search needs
@@ -26,7 +29,7 @@ returns c =
     let s2 = s1 .before .before .before .before in
     let top = s2 .before .before .before in (
       omega (arith, s1 .numbered .ensures .0),
-      puts-as _ _ _ _ _ _ (refused-is (top .args .r .answer) (s2 .number .result) _ (s2 .number .ensures .0) (omega arith)) (s1 .numbered .ensures .1),
+      puts-as _ _ _ _ _ _ (refused-is (top .args .r .answer) (s2 .number .result) _ (s2 .number .ensures) (omega arith)) (s1 .numbered .ensures .1),
     )
 
 slice-aggregate-numbered-2 : tie.Need-slice-aggregate-numbered-2
@@ -47,7 +50,7 @@ returns-2 c =
     let s2 = s1 .before .before .before .before .before in
     let top = s2 .before .before .before in (
       omega (arith, s1 .numbered2 .ensures .0),
-      puts-as _ _ _ _ _ _ (accepted-is (top .args .r .answer) (s2 .number .result) _ (s2 .number .ensures .0) (omega arith)) (s1 .numbered2 .ensures .1),
+      puts-as _ _ _ _ _ _ (accepted-is (top .args .r .answer) (s2 .number .result) _ (s2 .number .ensures) (omega arith)) (s1 .numbered2 .ensures .1),
     )
 
 pub answer-line-spec : {M : Type 1} → statement M

@@ -2,14 +2,14 @@ use mathlib.Core.Path.{_≡_, sym, _∙_}
 use Prim.Native.Nat.{_≤_, _-_}
 use native.Mathlib.Omega.{arith}
 use borrow.Author.Needs.{needs}
-use Rattle.fmd_rows.specs.Rows.{firstFrom, holdsCbfs, firstCbfs}
+use Rattle.fmd_rows.specs.Rows.{foundFrom, holdsCbfs, firstCbfs}
 use Rattle.fmd_parse.specs.Layouts.{listOf}
 use Rattle.fmd_rows.proofs.Rows.{first-start, first-on, first-stop, first-done}
 use Rattle.fmd_rows.proofs.first_cbfs.Statement.{statement}
 use Rattle.fmd_rows.proofs.first_cbfs.Tie as tie
 
 abbrev Inv-loop : tie.InvT-loop
-Inv-loop l n k₀ k = (k ≤ n) × (firstFrom (holdsCbfs (listOf l)) (n - k) k ≡ firstCbfs (listOf l))
+Inv-loop l n k₀ k = (k ≤ n) × (foundFrom (holdsCbfs (listOf l)) (n - k) k ≡ firstCbfs (listOf l))
 
 abbrev μ-loop : tie.MeasureT-loop
 μ-loop l n k₀ k = n - k
@@ -40,7 +40,9 @@ loop-again c =
     (search needs, first-on (holdsCbfs (listOf (start .args .l))) (start .args .l .count) (turn .loop .k) (c .before .before .loop-test .taken) (sym (c .before .holds-cbfs .ensures) ∙ c .if1 .left) ∙ turn .loop .inv .1)
 
 returns-2 : tie.Need-returns-2 Inv-loop μ-loop
-returns-2 c = first-done (holdsCbfs (listOf (c .before .before .args .l))) (c .before .before .args .l .count) (c .before .loop .k) (omega arith) ∙ c .before .loop .inv .1
+returns-2 c =
+    let s1 = c .before .before in
+    first-done (holdsCbfs (listOf (s1 .args .l))) (s1 .args .l .count) (c .before .loop .k) (omega arith) ∙ c .before .loop .inv .1
 
 pub first-cbfs-spec : {M : Type 1} → statement M
 first-cbfs-spec =

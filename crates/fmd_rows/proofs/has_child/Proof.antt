@@ -49,7 +49,9 @@ loop-again c =
     (search needs, child-on (start .args .t1) (start .pre) (start .args .k) (turn .loop .j) (c .before .before .before .loop-test .taken) (c .if1 .left) ∙ turn .loop .inv .1)
 
 returns-2 : tie.Need-returns-2 Inv-loop μ-loop
-returns-2 c = child-done (c .before .before .args .t1) (c .before .before .pre) (c .before .before .args .k) (c .before .loop .j) (omega arith) ∙ c .before .loop .inv .1
+returns-2 c =
+    let s1 = c .before .before in
+    child-done (s1 .args .t1) (s1 .pre) (s1 .args .k) (c .before .loop .j) (omega arith) ∙ c .before .loop .inv .1
 
 pub has-child-spec : {M : Type 1} → statement M
 has-child-spec =

@@ -22,7 +22,9 @@ returns c =
 
 returns-2 : tie.Need-returns-2
 unfolding holdsCbfs _and_
-returns-2 c = rw (item (c .before .before .args .t1) (c .before .before .pre .0) (c .before .before .args .k) (c .before .before .pre .1), c .if1 .left)
+returns-2 c =
+    let s1 = c .before .before in
+    rw (item (s1 .args .t1) (s1 .pre .0) (s1 .args .k) (s1 .pre .1), c .if1 .left)
 
 pub holds-cbfs-spec : {M : Type 1} → statement M
 holds-cbfs-spec =

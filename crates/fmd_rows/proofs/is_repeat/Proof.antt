@@ -22,7 +22,9 @@ element-copy-out-h : tie.Need-element-copy-out-h Inv-loop μ-loop
 element-copy-out-h c = search needs
 
 loop-holds : tie.Need-loop-holds Inv-loop μ-loop
-loop-holds c = (search needs, among-start (c .before .before .args .t2) (c .before .before .pre .0) (c .before .before .args .text .now) (c .before .before .args .k) (c .before .before .pre .1))
+loop-holds c =
+    let s1 = c .before .before in
+    (search needs, among-start (s1 .args .t2) (s1 .pre .0) (s1 .args .text .now) (s1 .args .k) (s1 .pre .1))
 
 mul-e : tie.Need-mul-e Inv-loop μ-loop
 mul-e c = search needs
@@ -32,9 +34,10 @@ element-copy-out-e c = search needs
 
 same-name-requires : tie.Need-same-name-requires Inv-loop μ-loop
 same-name-requires c κs =
-    let start = c .before .before .before .before .before in
+    let s1 = c .before .before in
+    let start = s1 .before .before .before in
     let n = counted (start .args .t2) (start .pre .0) in (
-      rw (item (start .args .t2) (start .pre .0) (c .before .before .loop .j) (omega arith)) at (start .pre .2 (c .before .before .loop .j) (omega arith)),
+      rw (item (start .args .t2) (start .pre .0) (s1 .loop .j) (omega arith)) at (start .pre .2 (s1 .loop .j) (omega arith)),
       rw (item (start .args .t2) (start .pre .0) (start .args .k) (start .pre .1)) at (start .pre .2 (start .args .k) (omega arith)),
     )
 

@@ -43,7 +43,9 @@ loop-again c =
     (search needs, sibling-on (start .args .t1) (start .pre .0) (start .args .parent) (turn .loop .j) (c .before .before .before .loop-test .taken) (c .if1 .left) ∙ turn .loop .inv .1)
 
 returns-2 : tie.Need-returns-2 Inv-loop μ-loop
-returns-2 c = sibling-done (c .before .before .args .t1) (c .before .before .pre .0) (c .before .before .args .parent) (c .before .loop .j) (omega arith) ∙ c .before .loop .inv .1
+returns-2 c =
+    let s1 = c .before .before in
+    sibling-done (s1 .args .t1) (s1 .pre .0) (s1 .args .parent) (c .before .loop .j) (omega arith) ∙ c .before .loop .inv .1
 
 pub next-sibling-spec : {M : Type 1} → statement M
 next-sibling-spec =

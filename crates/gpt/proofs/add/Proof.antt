@@ -1,20 +1,11 @@
-use Rattle.gpt.proofs.Adding.{add-lengths}
-use Rattle.gpt.proofs.Outcomes.{edit-not-open}
-use Rattle.gpt.proofs.Opened.{passed, stopped}
-use Rattle.gpt_model.specs.Calls.{add}
+use mathlib.Core.Path.{sym, ap, _∙_}
 use denote.Ref.{now}
+use Rattle.gpt.proofs.Refusals.{stop-numbered, stop-step}
+use Rattle.gpt_checks.specs.Checks.{stopBy, startBy}
+use Rattle.gpt_model.specs.Calls.{edit, add}
 use borrow.Author.Needs.{needs}
 use Rattle.gpt.proofs.add.Statement.{statement}
 use Rattle.gpt.proofs.add.Tie as tie
-
-opened-requires : tie.Need-opened-requires
-opened-requires c κs = search needs
-
-enum-known-r : tie.Need-enum-known-r
-enum-known-r c = search needs
-
-enum-told : tie.Need-enum-told
-enum-told c = search needs
 
 slice-aggregate-add : tie.Need-slice-aggregate-add
 slice-aggregate-add c = search needs
@@ -26,8 +17,33 @@ slice-aggregate-add-3 : tie.Need-slice-aggregate-add-3
 slice-aggregate-add-3 c = search needs
 
 add-requires : tie.Need-add-requires
-add-requires c κs =
-    (passed _ (c .before .before .before .before .before .enum-told .given .1) (c .before .before .before .before .before .before .before .opened .ensures), search needs, search needs, search needs)
+add-requires c κs = search needs
+
+enum-known-k : tie.Need-enum-known-k
+enum-known-k c = search needs
+
+refusal-of-requires : tie.Need-refusal-of-requires
+refusal-of-requires c κs =
+    let a = c .before .before .before .before .before .before .before .before .before .before .before .args in
+    stop-numbered (a .n) (now (a .head)) (now (a .tail)) (edit (add (a .t4) (a .t5) (a .size) (a .attributes) (a .t8))) _ (sym (c .before .before .before .add .ensures .0 (a .attributes)) ∙ ap stopBy (c .before .k .given .1))
+
+enum-known-first : tie.Need-enum-known-first
+enum-known-first c = search needs
+
+slice-aggregate-add-4 : tie.Need-slice-aggregate-add-4
+slice-aggregate-add-4 c = search needs
+
+slice-aggregate-add-5 : tie.Need-slice-aggregate-add-5
+slice-aggregate-add-5 c = search needs
+
+slice-aggregate-add-6 : tie.Need-slice-aggregate-add-6
+slice-aggregate-add-6 c = search needs
+
+add-requires-2 : tie.Need-add-requires-2
+add-requires-2 c κs =
+    let e = c .before .before .before .before .before .before .before .before .add .ensures in
+    let p = c .before .before .before .before .before .before .first .given .1 in
+    (sym (e .0 (c .before .before .before .before .before .before .before .before .before .before .before .before .before .before .before .before .args .attributes)) ∙ ap stopBy p, e .1 _ (ap startBy p))
 
 same-length : tie.Need-same-length
 same-length c = search needs
@@ -37,12 +53,8 @@ same-length-2 c = search needs
 
 returns : tie.Need-returns
 returns c =
-    let a = c .before .before .before .before .before .before .before .before .args in
-    let h = now (a .head) in
-    let t = now (a .tail) in
-    edit-not-open (a .n) h t (add (a .t4) (a .t5) (a .size) (a .attributes) (a .t8))
-    (add-lengths (a .t4) (a .t5) (a .size) (a .attributes) (a .t8) (search needs) (search needs) (search needs)) _
-    (stopped _ _ (c .before .r .given .1) (c .before .before .before .opened .ensures))
+    let a = c .before .before .before .before .before .before .before .before .before .before .before .before .args in
+    stop-step (a .n) (now (a .head)) (now (a .tail)) (edit (add (a .t4) (a .t5) (a .size) (a .attributes) (a .t8))) _ (sym (c .before .before .before .before .add .ensures .0 (a .attributes)) ∙ ap stopBy (c .before .before .k .given .1)) _ (c .refusal-of .ensures)
 
 same-length-3 : tie.Need-same-length-3
 same-length-3 c = search needs
@@ -57,13 +69,17 @@ pub add-spec : {M : Type 1} → statement M
 add-spec =
     tie.close
     (tie.spec
-    opened-requires
-    enum-known-r
-    enum-told
     slice-aggregate-add
     slice-aggregate-add-2
     slice-aggregate-add-3
     add-requires
+    enum-known-k
+    refusal-of-requires
+    enum-known-first
+    slice-aggregate-add-4
+    slice-aggregate-add-5
+    slice-aggregate-add-6
+    add-requires-2
     same-length
     same-length-2
     returns

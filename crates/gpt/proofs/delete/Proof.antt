@@ -1,23 +1,27 @@
-use mathlib.Core.Path.{refl}
-use Rattle.gpt.proofs.Outcomes.{edit-not-open}
-use Rattle.gpt.proofs.Opened.{passed, stopped}
-use Rattle.gpt_model.specs.Calls.{delete}
 use denote.Ref.{now}
+use Rattle.gpt.proofs.Refusals.{stop-numbered, stop-step}
+use Rattle.gpt_checks.proofs.Judged.{passed, stopped}
+use Rattle.gpt_model.specs.Calls.{edit, delete}
 use borrow.Author.Needs.{needs}
 use Rattle.gpt.proofs.delete.Statement.{statement}
 use Rattle.gpt.proofs.delete.Tie as tie
 
-opened-requires : tie.Need-opened-requires
-opened-requires c κs = search needs
+delete-requires : tie.Need-delete-requires
+delete-requires c κs = search needs
 
-enum-known-r : tie.Need-enum-known-r
-enum-known-r c = search needs
+enum-known-k : tie.Need-enum-known-k
+enum-known-k c = search needs
+
+refusal-of-requires : tie.Need-refusal-of-requires
+refusal-of-requires c κs =
+    let a = c .before .before .before .before .before .before .before .before .args in
+    stop-numbered (a .n) (now (a .head)) (now (a .tail)) (edit (delete (a .slot))) _ (stopped _ _ (c .before .k .given .1) (c .before .before .before .delete .ensures))
 
 enum-told : tie.Need-enum-told
 enum-told c = search needs
 
-delete-requires : tie.Need-delete-requires
-delete-requires c κs = passed _ (c .before .before .enum-told .given .1) (c .before .before .before .before .opened .ensures)
+delete-requires-2 : tie.Need-delete-requires-2
+delete-requires-2 c κs = passed _ (c .before .before .enum-told .given .1) (c .before .before .before .before .delete .ensures)
 
 same-length : tie.Need-same-length
 same-length c = search needs
@@ -27,9 +31,8 @@ same-length-2 c = search needs
 
 returns : tie.Need-returns
 returns c =
-    let a = c .before .before .before .before .before .before .before .before .args in
-    edit-not-open (a .n) (now (a .head)) (now (a .tail)) (delete (a .slot)) refl _
-    (stopped _ _ (c .before .r .given .1) (c .before .before .before .opened .ensures))
+    let a = c .before .before .before .before .before .before .before .before .before .args in
+    stop-step (a .n) (now (a .head)) (now (a .tail)) (edit (delete (a .slot))) _ (stopped _ _ (c .before .before .k .given .1) (c .before .before .before .before .delete .ensures)) _ (c .refusal-of .ensures)
 
 same-length-3 : tie.Need-same-length-3
 same-length-3 c = search needs
@@ -44,10 +47,11 @@ pub delete-spec : {M : Type 1} → statement M
 delete-spec =
     tie.close
     (tie.spec
-    opened-requires
-    enum-known-r
-    enum-told
     delete-requires
+    enum-known-k
+    refusal-of-requires
+    enum-told
+    delete-requires-2
     same-length
     same-length-2
     returns

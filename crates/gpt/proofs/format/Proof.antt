@@ -1,5 +1,7 @@
-use Rattle.gpt.proofs.Opened.{passed, stopped, format-facts, format-stopped, format-done}
 use denote.Ref.{now}
+use Rattle.gpt.proofs.Found.{format-facts, format-done}
+use Rattle.gpt.proofs.Refusals.{format-numbered, format-stop}
+use Rattle.gpt_checks.proofs.Judged.{passed, stopped}
 use borrow.Author.Needs.{needs}
 use Rattle.gpt.proofs.format.Statement.{statement}
 use Rattle.gpt.proofs.format.Tie as tie
@@ -10,8 +12,13 @@ slice-aggregate-format c = search needs
 format-requires : tie.Need-format-requires
 format-requires c κs = search needs
 
-enum-known-r : tie.Need-enum-known-r
-enum-known-r c = search needs
+enum-known-k : tie.Need-enum-known-k
+enum-known-k c = search needs
+
+refusal-of-requires : tie.Need-refusal-of-requires
+refusal-of-requires c κs =
+    let a = c .before .before .before .before .before .before .before .before .before .args in
+    format-numbered (a .n) (now (a .head)) (now (a .tail)) (a .t4) _ (stopped _ _ (c .before .k .given .1) (c .before .before .before .format .ensures))
 
 enum-told : tie.Need-enum-told
 enum-told c = search needs
@@ -42,9 +49,8 @@ same-length-2 c = search needs
 
 returns : tie.Need-returns
 returns c =
-    let a = c .before .before .before .before .before .before .before .before .before .args in
-    format-stopped (a .n) (a .t4) (now (a .head)) (now (a .tail)) _
-    (stopped _ _ (c .before .r .given .1) (c .before .before .before .format .ensures))
+    let a = c .before .before .before .before .before .before .before .before .before .before .args in
+    format-stop (a .n) (now (a .head)) (now (a .tail)) (a .t4) _ (stopped _ _ (c .before .before .k .given .1) (c .before .before .before .before .format .ensures)) _ (c .refusal-of .ensures)
 
 same-length-3 : tie.Need-same-length-3
 same-length-3 c = search needs
@@ -55,9 +61,7 @@ same-length-4 c = search needs
 returns-2 : tie.Need-returns-2
 returns-2 c =
     let a = c .before .before .before .before .before .before .before .before .before .before .before .before .before .before .before .before .before .before .args in
-    format-done (a .n) (a .t4) (now (a .head)) (now (a .tail)) _ _
-    (passed _ (c .before .before .before .before .before .before .before .before .before .before .enum-told .given .1) (c .before .before .before .before .before .before .before .before .before .before .before .before .format .ensures))
-    (c .before .before .before .before .before .before .before .fresh-head .ensures) (c .before .before .fresh-tail .ensures)
+    format-done (a .n) (a .t4) (now (a .head)) (now (a .tail)) (passed _ (c .before .before .before .before .before .before .before .before .before .before .enum-told .given .1) (c .before .before .before .before .before .before .before .before .before .before .before .before .format .ensures)) _ _ (c .before .before .before .before .before .before .before .fresh-head .ensures) (c .before .before .fresh-tail .ensures)
 
 pub format-spec : {M : Type 1} → statement M
 format-spec =
@@ -65,7 +69,8 @@ format-spec =
     (tie.spec
     slice-aggregate-format
     format-requires
-    enum-known-r
+    enum-known-k
+    refusal-of-requires
     enum-told
     slice-aggregate-fresh-head
     fresh-head-requires

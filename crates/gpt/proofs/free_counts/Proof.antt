@@ -1,4 +1,4 @@
-use Rattle.gpt.proofs.States.{found-lent, table-in-head, table-in-tail, counts-are, refused-counts}
+use Rattle.gpt.proofs.Found.{found-lent, table-in-head, table-in-tail, counts-are, refused-counts}
 use Rattle.gpt.specs.declared.Reading.the-variants.{Same, Different, PrimaryOnly, BackupOnly}
 use denote.Ref.{now}
 use native.Mathlib.Omega.{arith}

@@ -1,28 +1,33 @@
-use lib.ListN.{length}
-use Rattle.gpt.proofs.Outcomes.{edit-not-open}
-use Rattle.gpt.proofs.Opened.{passed, stopped}
-use Rattle.gpt_model.specs.Calls.{rename}
-use borrow.Author.Tests.{eq-eqb}
 use denote.Ref.{now}
+use Rattle.gpt.proofs.Refusals.{stop-numbered, stop-step}
+use Rattle.gpt_checks.proofs.Judged.{passed, stopped}
+use Rattle.gpt_model.specs.Calls.{edit, rename}
 use borrow.Author.Needs.{needs}
 use Rattle.gpt.proofs.rename.Statement.{statement}
 use Rattle.gpt.proofs.rename.Tie as tie
-
-opened-requires : tie.Need-opened-requires
-opened-requires c κs = search needs
-
-enum-known-r : tie.Need-enum-known-r
-enum-known-r c = search needs
-
-enum-told : tie.Need-enum-told
-enum-told c = search needs
 
 slice-aggregate-rename : tie.Need-slice-aggregate-rename
 slice-aggregate-rename c = search needs
 
 rename-requires : tie.Need-rename-requires
-rename-requires c κs =
-    (passed _ (c .before .before .before .enum-told .given .1) (c .before .before .before .before .before .opened .ensures), search needs)
+rename-requires c κs = search needs
+
+enum-known-k : tie.Need-enum-known-k
+enum-known-k c = search needs
+
+refusal-of-requires : tie.Need-refusal-of-requires
+refusal-of-requires c κs =
+    let a = c .before .before .before .before .before .before .before .before .before .args in
+    stop-numbered (a .n) (now (a .head)) (now (a .tail)) (edit (rename (a .slot) (a .t5))) _ (stopped _ _ (c .before .k .given .1) (c .before .before .before .rename .ensures))
+
+enum-told : tie.Need-enum-told
+enum-told c = search needs
+
+slice-aggregate-rename-2 : tie.Need-slice-aggregate-rename-2
+slice-aggregate-rename-2 c = search needs
+
+rename-requires-2 : tie.Need-rename-requires-2
+rename-requires-2 c κs = passed _ (c .before .before .before .enum-told .given .1) (c .before .before .before .before .before .rename .ensures)
 
 same-length : tie.Need-same-length
 same-length c = search needs
@@ -32,11 +37,8 @@ same-length-2 c = search needs
 
 returns : tie.Need-returns
 returns c =
-    let a = c .before .before .before .before .before .before .before .before .args in
-    let h = now (a .head) in
-    let t = now (a .tail) in
-    edit-not-open (a .n) h t (rename (a .slot) (a .t5)) (eq-eqb (length (a .t5)) 36 (search needs)) _
-    (stopped _ _ (c .before .r .given .1) (c .before .before .before .opened .ensures))
+    let a = c .before .before .before .before .before .before .before .before .before .before .args in
+    stop-step (a .n) (now (a .head)) (now (a .tail)) (edit (rename (a .slot) (a .t5))) _ (stopped _ _ (c .before .before .k .given .1) (c .before .before .before .before .rename .ensures)) _ (c .refusal-of .ensures)
 
 same-length-3 : tie.Need-same-length-3
 same-length-3 c = search needs
@@ -51,11 +53,13 @@ pub rename-spec : {M : Type 1} → statement M
 rename-spec =
     tie.close
     (tie.spec
-    opened-requires
-    enum-known-r
-    enum-told
     slice-aggregate-rename
     rename-requires
+    enum-known-k
+    refusal-of-requires
+    enum-told
+    slice-aggregate-rename-2
+    rename-requires-2
     same-length
     same-length-2
     returns

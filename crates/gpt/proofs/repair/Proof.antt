@@ -1,4 +1,4 @@
-use Rattle.gpt.proofs.States.{found-lent, repaired-is, refused-repair}
+use Rattle.gpt.proofs.Found.{found-lent, repaired-is, refused-repair}
 use Rattle.gpt_model.specs.Calls.{accepted, out}
 use Prim.Native.Nat.{ℕ}
 use mathlib.Core.List.{List, [], _∷_}

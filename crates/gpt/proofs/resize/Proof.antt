@@ -1,23 +1,27 @@
-use Rattle.gpt.proofs.Outcomes.{edit-not-open}
-use Rattle.gpt.proofs.Opened.{passed, stopped}
-use Rattle.gpt_model.specs.Calls.{resize}
 use denote.Ref.{now}
-use mathlib.Core.Path.{refl}
+use Rattle.gpt.proofs.Refusals.{stop-numbered, stop-step}
+use Rattle.gpt_checks.proofs.Judged.{passed, stopped}
+use Rattle.gpt_model.specs.Calls.{edit, resize}
 use borrow.Author.Needs.{needs}
 use Rattle.gpt.proofs.resize.Statement.{statement}
 use Rattle.gpt.proofs.resize.Tie as tie
 
-opened-requires : tie.Need-opened-requires
-opened-requires c κs = search needs
+resize-requires : tie.Need-resize-requires
+resize-requires c κs = search needs
 
-enum-known-r : tie.Need-enum-known-r
-enum-known-r c = search needs
+enum-known-k : tie.Need-enum-known-k
+enum-known-k c = search needs
+
+refusal-of-requires : tie.Need-refusal-of-requires
+refusal-of-requires c κs =
+    let a = c .before .before .before .before .before .before .before .before .args in
+    stop-numbered (a .n) (now (a .head)) (now (a .tail)) (edit (resize (a .slot) (a .size))) _ (stopped _ _ (c .before .k .given .1) (c .before .before .before .resize .ensures))
 
 enum-told : tie.Need-enum-told
 enum-told c = search needs
 
-resize-requires : tie.Need-resize-requires
-resize-requires c κs = passed _ (c .before .before .enum-told .given .1) (c .before .before .before .before .opened .ensures)
+resize-requires-2 : tie.Need-resize-requires-2
+resize-requires-2 c κs = passed _ (c .before .before .enum-told .given .1) (c .before .before .before .before .resize .ensures)
 
 same-length : tie.Need-same-length
 same-length c = search needs
@@ -27,10 +31,8 @@ same-length-2 c = search needs
 
 returns : tie.Need-returns
 returns c =
-    let a = c .before .before .before .before .before .before .before .before .args in
-    let h = now (a .head) in
-    let t = now (a .tail) in
-    edit-not-open (a .n) h t (resize (a .slot) (a .size)) refl _ (stopped _ _ (c .before .r .given .1) (c .before .before .before .opened .ensures))
+    let a = c .before .before .before .before .before .before .before .before .before .args in
+    stop-step (a .n) (now (a .head)) (now (a .tail)) (edit (resize (a .slot) (a .size))) _ (stopped _ _ (c .before .before .k .given .1) (c .before .before .before .before .resize .ensures)) _ (c .refusal-of .ensures)
 
 same-length-3 : tie.Need-same-length-3
 same-length-3 c = search needs
@@ -45,10 +47,11 @@ pub resize-spec : {M : Type 1} → statement M
 resize-spec =
     tie.close
     (tie.spec
-    opened-requires
-    enum-known-r
-    enum-told
     resize-requires
+    enum-known-k
+    refusal-of-requires
+    enum-told
+    resize-requires-2
     same-length
     same-length-2
     returns

@@ -5,11 +5,11 @@ use denote.Ref.{now}
 use native.Mathlib.Numerals.{add-one}
 use native.Mathlib.Omega.{arith}
 use borrow.Author.Needs.{needs}
-use Rattle.octets.proofs.Puts.{put-snoc, length-put}
+use Rattle.octets.proofs.Puts.{put-snoc}
 use Rattle.octets.specs.Bytes.{put}
 use lib.ListN.{length, take}
-use mathlib.Core.Path.{_≡_, refl, sym, ap, _∙_}
-use Prim.Native.Nat.{ℕ, _≤_, _<_, _-_, _+_}
+use mathlib.Core.Path.{_≡_, ap, _∙_}
+use Prim.Native.Nat.{ℕ, _≤_, _<_, _-_}
 use Rattle.octets.proofs.copy_bytes.Statement.{statement}
 use Rattle.octets.proofs.copy_bytes.Tie as tie
 

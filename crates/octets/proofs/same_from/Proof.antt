@@ -1,10 +1,9 @@
-use mathlib.Core.Path.{_≡_, sym, ap, _∙_}
-use Prim.Native.Nat.{ℕ, _≤_, _<_, _-_, _+_}
+use mathlib.Core.Path.{_≡_, sym, _∙_}
+use Prim.Native.Nat.{_≤_, _-_}
 use native.Mathlib.Omega.{arith}
-use lib.ListN.{length, getD, drop}
+use lib.ListN.{length, drop}
 use denote.Ref.{now}
 use borrow.Author.Needs.{needs}
-use lib.ListN.{drop-of-length-le}
 use Rattle.octets.specs.Bytes.{same}
 use Rattle.octets.proofs.Equal.{same-next, same-differ, same-done}
 use Rattle.octets.proofs.same_from.Statement.{statement}

@@ -5,8 +5,8 @@ pub struct Item {
     pub blocks: u64,
 }
 
-/// One line: each item to scale and at least one column wide, so that the line is longer than `width` where there
-/// are more items than that. A partition is its number, if that fits, and `=`; a free run is dots.
+/// One line: each item to scale and at least one column wide, so that the line is longer than `width` where many are
+/// too short for a column. A partition is its number, if that fits, and `=`; a free run is dots.
 pub fn bar(items: &[Item], width: usize) -> String {
     let lengths: Vec<u64> = items.iter().map(|item| item.blocks).collect();
     let drawn = |(item, columns): (&Item, usize)| match item.number.map(|number| number.to_string()) {
@@ -17,11 +17,13 @@ pub fn bar(items: &[Item], width: usize) -> String {
     items.iter().zip(columns(&lengths, width)).map(drawn).collect()
 }
 
-/// How many columns each length gets: what is too short for its share gets one, the others share the rest.
+/// How many columns each length gets: what is too short for its share gets one, the others share the rest, or half
+/// of the width where less is left.
 fn columns(lengths: &[u64], width: usize) -> Vec<usize> {
     let mut least = vec![false; lengths.len()];
     loop {
-        let share = width.saturating_sub(least.iter().filter(|least| **least).count()) as u128;
+        let taken = least.iter().filter(|least| **least).count();
+        let share = width.saturating_sub(taken).max(width / 2) as u128;
         let others = || lengths.iter().zip(&least).filter(|(_, least)| !**least);
         let total: u128 = others().map(|(length, _)| u128::from(*length)).sum();
         let short: Vec<bool> = lengths
@@ -75,6 +77,7 @@ mod tests {
         assert_eq!(drawn(&[(12, 1), (13, 1), (0, 1000)], 8), "##......");
         assert_eq!(drawn(&[(1, 5), (0, 5), (2, 5)], 2), "1.2");
         assert_eq!(drawn(&[(1, 5), (0, 1)], 0), "1.");
+        assert_eq!(drawn(&[(1, 1), (2, 1), (3, 1), (4, 1), (5, 1), (0, 4000)], 6), "12345...");
         assert_eq!(drawn(&[], 64), "");
     }
 

@@ -13,6 +13,8 @@ const EBUSY: i32 = 16;
 
 /// How long a lock of another program is waited for.
 const PATIENCE: Duration = Duration::from_secs(5);
+/// How long programs that look at a device that was written may take.
+const PROBES: Duration = Duration::from_millis(500);
 const PAUSE: Duration = Duration::from_millis(10);
 
 #[derive(Clone, Copy, Debug, PartialEq, Eq)]
@@ -38,20 +40,24 @@ impl Opened {
         if self.facts.kind != Kind::BlockDevice {
             return None;
         }
-        let error = device::reread(&self.file).err().filter(|e| e.kind() != io::ErrorKind::InvalidInput)?;
+        let mut answer = Ok(());
+        patient(PROBES, || {
+            answer = device::reread(&self.file);
+            answer.as_ref().err().and_then(io::Error::raw_os_error) != Some(EBUSY)
+        });
+        let error = answer.err().filter(|error| error.kind() != io::ErrorKind::InvalidInput)?;
         Some(format!("note: the kernel still goes by the old table: {}", words(&error)))
     }
 }
 
 /// Opens an image file or a block device. What is neither is not opened, since that may wait or act.
 pub fn open(path: &Path, access: Access) -> Result<Opened, Failure> {
-    let kind = kind(&metadata(path)?);
-    refuse(path, kind.unsuitable())?;
-    let file = opened(path, access, kind)?;
+    let known = facts_of_mode(&metadata(path)?);
+    let hindered = |facts: &Facts| if access == Access::Read { None } else { facts.no_writing() };
+    refuse(path, known.kind.unsuitable().or_else(|| hindered(&known)))?;
+    let file = opened(path, access, known.kind)?;
     let (metadata, facts) = facts(&file).map_err(|error| unusable(path, "cannot be measured", &error))?;
-    if access != Access::Read {
-        refuse(path, facts.no_writing())?;
-    }
+    refuse(path, hindered(&facts))?;
     Ok(Opened { file, facts, metadata })
 }
 
@@ -91,8 +97,13 @@ fn opened(path: &Path, access: Access, kind: Kind) -> Result<File, Failure> {
 /// Calls at once follow each other: a reader waits for a writer, and a writer for both. Where locks can't be had it
 /// goes on without.
 fn locked(lock: impl Fn() -> Result<(), TryLockError>) -> bool {
-    let end = Instant::now() + PATIENCE;
-    while let Err(TryLockError::WouldBlock) = lock() {
+    patient(PATIENCE, || !matches!(lock(), Err(TryLockError::WouldBlock)))
+}
+
+/// Tries until it succeeds or the time is over.
+fn patient(time: Duration, mut succeeds: impl FnMut() -> bool) -> bool {
+    let end = Instant::now() + time;
+    while !succeeds() {
         if Instant::now() > end {
             return false;
         }
@@ -103,14 +114,17 @@ fn locked(lock: impl Fn() -> Result<(), TryLockError>) -> bool {
 
 fn facts(file: &File) -> io::Result<(Metadata, Facts)> {
     let metadata = file.metadata()?;
-    let kind = kind(&metadata);
-    let facts = if kind == Kind::BlockDevice {
-        let bytes = (&*file).seek(SeekFrom::End(0))?;
-        let logical_block = Some(device::logical_block(file)?);
-        Facts { kind, bytes, logical_block, read_only: device::read_only(file)? }
-    } else {
-        let read_only = metadata.mode() & 0o222 == 0;
-        Facts { kind, bytes: metadata.len(), logical_block: None, read_only }
-    };
+    let mut facts = facts_of_mode(&metadata);
+    if facts.kind == Kind::BlockDevice {
+        facts.bytes = (&*file).seek(SeekFrom::End(0))?;
+        facts.logical_block = Some(device::logical_block(file)?);
+        facts.read_only = device::read_only(file)?;
+    }
     Ok((metadata, facts))
+}
+
+fn facts_of_mode(metadata: &Metadata) -> Facts {
+    let kind = kind(metadata);
+    let read_only = kind == Kind::Regular && metadata.mode() & 0o222 == 0;
+    Facts { kind, bytes: metadata.len(), logical_block: None, read_only }
 }

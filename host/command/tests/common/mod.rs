@@ -151,6 +151,11 @@ pub fn spoil(path: &Path, at: u64) {
     file.write_all_at(&[byte[0] ^ 1], at).expect("a byte");
 }
 
+/// Says so where the test's own output is not shown.
+pub fn skipped(what: &str) {
+    let _ = writeln!(std::io::stdout(), "skipped: {what}");
+}
+
 /// A loop device over a file, let go when it is dropped.
 pub struct Loop(pub PathBuf);
 
@@ -159,7 +164,7 @@ impl Loop {
         let made = Command::new("losetup").args(options).args(["-f", "--show"]).arg(file).output();
         let made = made.ok().filter(|made| made.status.success());
         if made.is_none() {
-            println!("skipped: loop devices");
+            skipped("loop devices");
         }
         Some(Loop(String::from_utf8(made?.stdout).expect("UTF-8").trim_end().into()))
     }

@@ -8,9 +8,19 @@ use testkit::random::Random;
 const CARRIES: usize = 1500;
 const FAULT_ROUNDS: usize = 6;
 
-/// A way to make a row hold, or almost: to lie in the old map's FMAP, or to preserve nothing, is no fault.
-#[derive(Clone, Copy, Debug, PartialEq, Eq)]
-enum Fault {
+macro_rules! faults {
+    ($($fault:ident),+ $(,)?) => {
+        /// A way to make a row hold, or almost: to lie in the old map's FMAP, or to preserve nothing, is no fault.
+        #[derive(Clone, Copy, Debug, PartialEq, Eq)]
+        enum Fault {
+            $($fault),+
+        }
+
+        const FAULTS: &[Fault] = &[$(Fault::$fault),+];
+    };
+}
+
+faults! {
     OldLength,
     OldSignature,
     OldMap,
@@ -33,33 +43,12 @@ enum Fault {
 
 use Fault::*;
 
-const FAULTS: [Fault; 18] = [
-    OldLength,
-    OldSignature,
-    OldMap,
-    NewLength,
-    NewSignature,
-    NewMap,
-    Missing,
-    Smaller,
-    Larger,
-    NestedInOld,
-    EqualInOld,
-    NestedInNew,
-    EqualInNew,
-    InFmap,
-    InOldFmap,
-    HoldsFmap,
-    FmapItself,
-    Unmarked,
-];
-
 /// Pairs of maps with the same preserved areas, in another order and elsewhere; any faults.
 pub fn any(run: &mut Run) -> Outcome {
     for _ in 0..CARRIES {
         let mut faults = Vec::new();
         if run.random.below(3) == 0 {
-            faults.push(run.random.pick(&FAULTS));
+            faults.push(run.random.pick(FAULTS));
         }
         pair(run, &faults)?;
     }

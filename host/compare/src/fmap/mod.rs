@@ -24,17 +24,17 @@ pub const TOPIC: Topic = Topic {
         ("fmap: lengths of an image", images::lengths),
     ],
     cells: &[
-        ("fmap_find", &[Answer(0), Answer(40), Answer(41), Answer(42)]),
-        ("fmap_find", kinds::FIND),
-        ("fmap_area", &[Answer(0), Answer(1), Answer(40), Answer(41), Answer(42), Answer(255)]),
-        ("fmap_named", &[Answer(0), Answer(40), Answer(41), Answer(42), Answer(255)]),
-        ("fmap_carry", CARRY),
-        ("fmap_carry", kinds::CARRY),
+        ("fmap_find", &[&[Answer(0)], MAP, kinds::FIND]),
+        ("fmap_area", &[&[Answer(0), Answer(1)], MAP, &[Answer(255)]]),
+        ("fmap_named", &[&[Answer(0)], MAP, &[Answer(255)]]),
+        ("fmap_carry", &[CARRY, kinds::CARRY]),
     ],
     at_least: ("fmap_find", 5_000),
     variants: variants::all,
     rules_to_break: variants::RULES_TO_BREAK,
 };
+
+const MAP: &[Cell] = &[Answer(40), Answer(41), Answer(42)];
 
 const CARRY: &[Cell] = &[
     Answer(0),

@@ -1,4 +1,4 @@
-use crate::topic::{order_variants, variant, Order, Variant};
+use crate::topic::{number_variants, order_variants, variant, Order, Variant};
 use second::rules::{By, CarrySlip, In, Pick, Row, Span};
 
 pub const RULES_TO_BREAK: &[&str] = &[
@@ -7,7 +7,7 @@ pub const RULES_TO_BREAK: &[&str] = &[
 ];
 
 pub fn all() -> Vec<Variant> {
-    [rows(), numbers(), orders(), layout(), good_maps(), finding(), carrying()]
+    [rows(), number_variants(NUMBERS), order_variants(ORDERS), layout(), good_maps(), finding(), carrying()]
         .into_iter()
         .flatten()
         .collect()
@@ -28,41 +28,29 @@ fn rows() -> Vec<Variant> {
     ]
 }
 
-/// Each refusal under another number.
-fn numbers() -> Vec<Variant> {
-    let rows = [
-        (Row::WrongLength, "R4", 40),
-        (Row::ImageLength, "R15", 1),
-        (Row::NoSignature, "R16", 42),
-        (Row::NoGoodMap, "R16", 41),
-        (Row::NewImageLength, "R15", 1),
-        (Row::NewNoSignature, "R16", 42),
-        (Row::NewNoGoodMap, "R16", 41),
-        (Row::AreaMissing, "R23", 61),
-        (Row::OtherSize, "R23", 60),
-        (Row::SharedByte, "R24", 63),
-        (Row::OnFmap, "R24", 62),
-        (Row::Nothing, "R31", 42),
-    ];
-    let renumbered = |(row, rule, number)| {
-        variant(format!("number-{number}-for-{row:?}"), rule, |r| r.refusals.renumber(row, number))
-    };
-    rows.into_iter().map(renumbered).collect()
-}
+/// Another number for each refusal.
+const NUMBERS: &[(Row, &str, u32)] = &[
+    (Row::WrongLength, "R4", 40),
+    (Row::ImageLength, "R15", 1),
+    (Row::NoSignature, "R16", 42),
+    (Row::NoGoodMap, "R16", 41),
+    (Row::NewImageLength, "R15", 1),
+    (Row::NewNoSignature, "R16", 42),
+    (Row::NewNoGoodMap, "R16", 41),
+    (Row::AreaMissing, "R23", 61),
+    (Row::OtherSize, "R23", 60),
+    (Row::SharedByte, "R24", 63),
+    (Row::OnFmap, "R24", 62),
+    (Row::Nothing, "R31", 42),
+];
 
-/// Each row of each order left out, and each two neighbours exchanged.
-fn orders() -> Vec<Variant> {
-    let orders: [(&str, &str, Order); 4] = [
-        ("find", "R31", |r| &mut r.fmap.find_order),
-        ("area", "R31", |r| &mut r.fmap.area_order),
-        ("named", "R31", |r| &mut r.fmap.named_order),
-        ("carry", "R32", |r| &mut r.fmap.carry_order),
-    ];
+const ORDERS: &[Order] = &[
+    ("find", "R31", |r| &mut r.fmap.find_order, None),
+    ("area", "R31", |r| &mut r.fmap.area_order, None),
+    ("named", "R31", |r| &mut r.fmap.named_order, None),
     // An area is missing in a map only where a map is.
-    let alone = |call: &str| (call == "carry").then_some(Row::AreaMissing);
-    let variants = |(call, rule, order)| order_variants(call, rule, order, alone(call));
-    orders.into_iter().flat_map(variants).collect()
-}
+    ("carry", "R32", |r| &mut r.fmap.carry_order, Some(Row::AreaMissing)),
+];
 
 fn layout() -> Vec<Variant> {
     vec![

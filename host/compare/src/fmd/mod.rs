@@ -25,7 +25,12 @@ pub const TOPIC: Topic = Topic {
         ("fmd: changed texts", texts::changed),
         ("fmd: large images", edges::large),
     ],
-    cells: &[("fmd", ways::CELLS), ("fmd_read", ANSWERS), ("fmd_records", ANSWERS), ("fmd_write", ANSWERS)],
+    cells: &[
+        ("fmd", &[ways::CELLS]),
+        ("fmd_read", &[ANSWERS]),
+        ("fmd_records", &[ANSWERS]),
+        ("fmd_write", &[ANSWERS]),
+    ],
     at_least: ("fmd_read", 20_000),
     variants: variants::all,
     rules_to_break: variants::RULES_TO_BREAK,

@@ -1,4 +1,4 @@
-use crate::topic::{order_variants, variant, Order, Variant};
+use crate::topic::{number_variants, order_variants, variant, Order, Variant};
 use second::rules::{
     Above, Compared, Counted, FaultPick, HeadPart, ListOrder, MapAt, MapSlip, MissingOffset, OtherByte,
     Reach, Row, SizeBy, Span, TooDeep, Trailing, Undecided, Unfit, Unused, Within, WordFault,
@@ -13,8 +13,8 @@ pub const RULES_TO_BREAK: &[&str] = &[
 pub fn all() -> Vec<Variant> {
     [
         quantities(),
-        numbers_of_rows(),
-        orders(),
+        number_variants(NUMBERS),
+        order_variants(ORDERS),
         places(),
         rows(),
         grammar(),
@@ -54,37 +54,27 @@ fn quantities() -> Vec<Variant> {
     ]
 }
 
-/// Each refusal under another number.
-fn numbers_of_rows() -> Vec<Variant> {
-    let rows = [
-        (Row::WrongLength, "R4", 50),
-        (Row::TextTooLong, "R17", 51),
-        (Row::OutOfGrammar, "R18", 52),
-        (Row::BadNumber, "R18", 51),
-        (Row::BadLayoutName, "R18", 51),
-        (Row::NameTwice, "R19", 53),
-        (Row::TooMany, "R19", 54),
-        (Row::BadFlag, "R20", 51),
-        (Row::CbfsOnParent, "R20", 58),
-        (Row::Undecided, "R21", 58),
-        (Row::DoesNotFit, "R21", 57),
-        (Row::NoFmap, "R22", 58),
-    ];
-    let renumbered = |(row, rule, number)| {
-        variant(format!("number-{number}-for-{row:?}"), rule, |r| r.refusals.renumber(row, number))
-    };
-    rows.into_iter().map(renumbered).collect()
-}
+/// Another number for each refusal.
+const NUMBERS: &[(Row, &str, u32)] = &[
+    (Row::WrongLength, "R4", 50),
+    (Row::TextTooLong, "R17", 51),
+    (Row::OutOfGrammar, "R18", 52),
+    (Row::BadNumber, "R18", 51),
+    (Row::BadLayoutName, "R18", 51),
+    (Row::NameTwice, "R19", 53),
+    (Row::TooMany, "R19", 54),
+    (Row::BadFlag, "R20", 51),
+    (Row::CbfsOnParent, "R20", 58),
+    (Row::Undecided, "R21", 58),
+    (Row::DoesNotFit, "R21", 57),
+    (Row::NoFmap, "R22", 58),
+];
 
-/// Each row of each order left out, and each two neighbours exchanged.
-fn orders() -> Vec<Variant> {
-    let orders: [(&str, &str, Order); 3] = [
-        ("fmd-read", "R33", |r| &mut r.fmd.read_order),
-        ("fmd-records", "R33", |r| &mut r.fmd.records_order),
-        ("fmd-write", "R34", |r| &mut r.fmd.write_order),
-    ];
-    orders.into_iter().flat_map(|(call, rule, order)| order_variants(call, rule, order, None)).collect()
-}
+const ORDERS: &[Order] = &[
+    ("fmd-read", "R33", |r| &mut r.fmd.read_order, None),
+    ("fmd-records", "R33", |r| &mut r.fmd.records_order, None),
+    ("fmd-write", "R34", |r| &mut r.fmd.write_order, None),
+];
 
 /// R33: which fault of a text is given.
 fn places() -> Vec<Variant> {

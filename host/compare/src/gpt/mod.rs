@@ -26,108 +26,25 @@ pub const TOPIC: Topic = Topic {
         ("gpt: histories with damage", histories::damaged),
     ],
     cells: &[
-        ("gpt_format", FORMAT),
-        ("gpt_read", READING),
-        ("gpt_table", READING),
-        ("gpt_free", READING),
-        ("gpt_add", ADD),
-        ("gpt_delete", DELETE),
-        ("gpt_rename", RENAME),
-        ("gpt_resize", RESIZE),
-        ("gpt_repair", READING),
+        ("gpt_format", &[LENT, &[By(1, "guid"), Answer(3)]]),
+        ("gpt_read", &[LENT, READ]),
+        ("gpt_table", &[LENT, READ]),
+        ("gpt_free", &[LENT, READ]),
+        ("gpt_add", &[LENT, READ, NOT_SAME, NEW, SIZE, NAME]),
+        ("gpt_delete", &[LENT, READ, NOT_SAME, SLOT]),
+        ("gpt_rename", &[LENT, READ, NOT_SAME, SLOT, NAME]),
+        ("gpt_resize", &[LENT, READ, NOT_SAME, SLOT, SIZE]),
+        ("gpt_repair", &[LENT, READ]),
     ],
     at_least: ("gpt_", 20_000),
     variants: variants::all,
     rules_to_break: variants::RULES_TO_BREAK,
 };
 
-const FORMAT: &[Cell] =
-    &[Answer(0), Answer(1), By(1, "head"), By(1, "tail"), By(1, "guid"), Answer(2), Answer(3)];
-
-const READING: &[Cell] = &[
-    Answer(0),
-    Answer(1),
-    By(1, "head"),
-    By(1, "tail"),
-    Answer(2),
-    Answer(10),
-    State(1),
-    State(2),
-    State(3),
-    State(4),
-];
-
-const ADD: &[Cell] = &[
-    Answer(0),
-    Answer(1),
-    By(1, "head"),
-    By(1, "tail"),
-    By(1, "type"),
-    By(1, "unique"),
-    By(1, "name"),
-    Answer(2),
-    Answer(10),
-    Answer(11),
-    Answer(20),
-    Answer(21),
-    Answer(22),
-    Answer(23),
-    Answer(24),
-    Answer(25),
-    State(1),
-    State(2),
-    State(3),
-    State(4),
-];
-
-const DELETE: &[Cell] = &[
-    Answer(0),
-    Answer(1),
-    By(1, "head"),
-    By(1, "tail"),
-    Answer(2),
-    Answer(10),
-    Answer(11),
-    Answer(12),
-    Answer(13),
-    State(1),
-    State(2),
-    State(3),
-    State(4),
-];
-
-const RENAME: &[Cell] = &[
-    Answer(0),
-    Answer(1),
-    By(1, "head"),
-    By(1, "tail"),
-    By(1, "name"),
-    Answer(2),
-    Answer(10),
-    Answer(11),
-    Answer(12),
-    Answer(13),
-    Answer(23),
-    State(1),
-    State(2),
-    State(3),
-    State(4),
-];
-
-const RESIZE: &[Cell] = &[
-    Answer(0),
-    Answer(1),
-    By(1, "head"),
-    By(1, "tail"),
-    Answer(2),
-    Answer(10),
-    Answer(11),
-    Answer(12),
-    Answer(13),
-    Answer(20),
-    Answer(25),
-    State(1),
-    State(2),
-    State(3),
-    State(4),
-];
+const LENT: &[Cell] = &[Answer(0), Answer(1), By(1, "head"), By(1, "tail"), Answer(2)];
+const READ: &[Cell] = &[Answer(10), State(1), State(2), State(3), State(4)];
+const NOT_SAME: &[Cell] = &[Answer(11)];
+const SLOT: &[Cell] = &[Answer(12), Answer(13)];
+const NEW: &[Cell] = &[By(1, "type"), By(1, "unique"), Answer(21), Answer(22), Answer(24)];
+const SIZE: &[Cell] = &[Answer(20), Answer(25)];
+const NAME: &[Cell] = &[By(1, "name"), Answer(23)];

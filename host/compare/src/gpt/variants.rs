@@ -1,4 +1,4 @@
-use crate::topic::{order_variants, variant, Order, Variant};
+use crate::topic::{number_variants, order_variants, variant, Order, Variant};
 use second::rules::{EditSlip, Holds, Longest, Place, Row, Slot, Start, Tail, Unjudged, Which};
 
 pub const RULES_TO_BREAK: &[&str] = &[
@@ -9,8 +9,17 @@ pub const RULES_TO_BREAK: &[&str] = &[
 ];
 
 pub fn all() -> Vec<Variant> {
-    let groups =
-        [quantities(), rows(), numbers(), orders(), headers(), entries(), reading(), writing(), sums()];
+    let groups = [
+        quantities(),
+        rows(),
+        number_variants(NUMBERS),
+        order_variants(ORDERS),
+        headers(),
+        entries(),
+        reading(),
+        writing(),
+        sums(),
+    ];
     groups.into_iter().flatten().collect()
 }
 
@@ -36,6 +45,7 @@ fn rows() -> Vec<Variant> {
     vec![
         variant("refusal-zeroes-a-byte", "R1", |r| r.refusals.zeroes = 1),
         variant("refusal-zeroes-answers", "R1", |r| r.refusals.zeroes_answers = true),
+        variant("no-row-but-the-first", "R2", |r| r.gpt.add_order = &[Row::WrongLength]),
         variant("repair-answers-1", "R3", |r| r.gpt.repair_answers_found = false),
         variant("add-answers-end", "R3", |r| r.gpt.add_answers_first = false),
         variant("guid-of-15", "R4", |r| r.gpt.disk_guid_len = 15),
@@ -66,50 +76,35 @@ fn rows() -> Vec<Variant> {
     ]
 }
 
-/// Each refusal under another number.
-fn numbers() -> Vec<Variant> {
-    let rows = [
-        (Row::WrongLength, "R4", 2),
-        (Row::BadBlockCount, "R5", 1),
-        (Row::ZeroDiskGuid, "R6", 4),
-        (Row::NoGoodCopy, "R7", 11),
-        (Row::NotSame, "R8", 10),
-        (Row::NoSuchSlot, "R9", 13),
-        (Row::UnusedSlot, "R9", 12),
-        (Row::ZeroSize, "R10", 25),
-        (Row::ZeroType, "R11", 22),
-        (Row::UniqueTaken, "R11", 21),
-        (Row::BadName, "R12", 53),
-        (Row::NoSlot, "R13", 25),
-        (Row::NoRoom, "R13", 24),
-    ];
-    let renumbered = |(row, rule, number)| {
-        variant(format!("number-{number}-for-{row:?}"), rule, |r| r.refusals.renumber(row, number))
-    };
-    rows.into_iter().map(renumbered).collect()
-}
+/// Another number for each refusal.
+const NUMBERS: &[(Row, &str, u32)] = &[
+    (Row::WrongLength, "R4", 2),
+    (Row::BadBlockCount, "R5", 1),
+    (Row::ZeroDiskGuid, "R6", 4),
+    (Row::NoGoodCopy, "R7", 11),
+    (Row::NotSame, "R8", 10),
+    (Row::NoSuchSlot, "R9", 13),
+    (Row::UnusedSlot, "R9", 12),
+    (Row::ZeroSize, "R10", 25),
+    (Row::ZeroType, "R11", 22),
+    (Row::UniqueTaken, "R11", 21),
+    (Row::BadName, "R12", 53),
+    (Row::NoSlot, "R13", 25),
+    (Row::NoRoom, "R13", 24),
+];
 
-/// Each row of each order left out, and each two neighbours exchanged.
-fn orders() -> Vec<Variant> {
-    let orders: [(&str, &str, Order); 9] = [
-        ("format", "R25", |r| &mut r.gpt.format_order),
-        ("read", "R26", |r| &mut r.gpt.read_order),
-        ("table", "R26", |r| &mut r.gpt.table_order),
-        ("free", "R26", |r| &mut r.gpt.free_order),
-        ("repair", "R26", |r| &mut r.gpt.repair_order),
-        ("add", "R27", |r| &mut r.gpt.add_order),
-        ("delete", "R28", |r| &mut r.gpt.delete_order),
-        ("rename", "R29", |r| &mut r.gpt.rename_order),
-        ("resize", "R30", |r| &mut r.gpt.resize_order),
-    ];
+const ORDERS: &[Order] = &[
+    ("format", "R25", |r| &mut r.gpt.format_order, None),
+    ("read", "R26", |r| &mut r.gpt.read_order, None),
+    ("table", "R26", |r| &mut r.gpt.table_order, None),
+    ("free", "R26", |r| &mut r.gpt.free_order, None),
+    ("repair", "R26", |r| &mut r.gpt.repair_order, None),
+    ("add", "R27", |r| &mut r.gpt.add_order, None),
+    ("delete", "R28", |r| &mut r.gpt.delete_order, None),
+    ("rename", "R29", |r| &mut r.gpt.rename_order, None),
     // A resize to no blocks always has room.
-    let alone = |call: &str| (call == "resize").then_some(Row::NoRoom);
-    let variants =
-        orders.into_iter().flat_map(|(call, rule, order)| order_variants(call, rule, order, alone(call)));
-    let mut variants: Vec<Variant> = variants.collect();
-    variants.push(variant("no-row-but-the-first", "R2", |r| r.gpt.add_order = &[Row::WrongLength]));
-    variants
-}
+    ("resize", "R30", |r| &mut r.gpt.resize_order, Some(Row::NoRoom)),
+];
 
 fn headers() -> Vec<Variant> {
     let mut variants = vec![

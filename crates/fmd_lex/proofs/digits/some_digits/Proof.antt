@@ -28,7 +28,9 @@ returns-2 c =
     some-out (start .args .w .now) (start .args .at) (start .args .base) (search needs) (omega arith)
 
 returns-3 : tie.Need-returns-3
-returns-3 c = some-end (c .before .before .args .w .now) (c .before .before .args .at) (c .before .before .args .base) (omega arith)
+returns-3 c =
+    let s1 = c .before .before in
+    some-end (s1 .args .w .now) (s1 .args .at) (s1 .args .base) (omega arith)
 
 pub some-digits-spec : {M : Type 1} → statement M
 some-digits-spec =

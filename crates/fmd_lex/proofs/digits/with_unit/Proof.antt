@@ -14,7 +14,9 @@ cast-t9 : tie.Need-cast-t9
 cast-t9 c = search needs
 
 returns : tie.Need-returns
-returns c = capped-in (c .before .before .args .n) (omega arith) ∙ scaled-none (c .before .before .args .w .now) (c .before .before .args .at) (c .before .before .args .n) (omega arith)
+returns c =
+    let s1 = c .before .before in
+    capped-in (s1 .args .n) (omega arith) ∙ scaled-none (s1 .args .w .now) (s1 .args .at) (s1 .args .n) (omega arith)
 
 returns-2 : tie.Need-returns-2
 returns-2 c =

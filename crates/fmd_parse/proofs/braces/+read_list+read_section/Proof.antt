@@ -109,7 +109,11 @@ read-list-returns-2 : (t : ℕ) → read-list-lts.Need-returns-2 (
   next-token-reads.Asked,
   next-token-reads.Learnt,
 ) (read-list-at t) read-list.Post read-list-Inv-loop read-list-μ-loop
-read-list-returns-2 t c = c .before .before .before .before .before .before .before .before .loop .inv .2 _ (list-closed (c .before .before .before .before .before .before .before .read-section .ensures) (c .before .before .before .before .step .given .1) (c .before .if1 .taken) (c .next-token .ensures .0) (c .next-token .ensures .1))
+read-list-returns-2 t c =
+    let s1 = c .before .before .before .before in
+    let s2 = s1 .before .before .before in
+    let s3 = s2 .before in
+    s3 .loop .inv .2 _ (list-closed (s2 .read-section .ensures) (s1 .step .given .1) (c .before .if1 .taken) (c .next-token .ensures .0) (c .next-token .ensures .1))
 
 read-list-loop-less : (t : ℕ) → read-list-lts.Need-loop-less (
   read-section-below t,
@@ -126,9 +130,13 @@ read-list-loop-again : (t : ℕ) → read-list-lts.Need-loop-again (
   next-token-reads.Asked,
   next-token-reads.Learnt,
 ) (read-list-at t) read-list.Post read-list-Inv-loop read-list-μ-loop
-read-list-loop-again t c = let w = rw (c .before .before .before .step .given .1) at (c .before .before .before .before .before .before .read-section .ensures .within) in
-    let v = c .before .before .before .before .before .before .before .loop .inv in
-    (earlier w (omega arith), c .before .before .before .before .before .before .read-section .ensures .sound, λ r g. v .2 r (list-more (c .before .before .before .before .before .before .read-section .ensures) (c .before .before .before .step .given .1) (c .if1 .left) g))
+read-list-loop-again t c =
+    let s1 = c .before .before .before in
+    let s2 = s1 .before .before .before in
+    let s3 = s2 .before in
+    let w = rw (s1 .step .given .1) at (s2 .read-section .ensures .within) in
+    let v = s3 .loop .inv in
+    (earlier w (omega arith), s2 .read-section .ensures .sound, λ r g. v .2 r (list-more (s2 .read-section .ensures) (s1 .step .given .1) (c .if1 .left) g))
 
 read-section-head-at-requires : (t : ℕ) → read-section-lts.Need-head-at-requires (
   head-at-reads.Asked,
@@ -177,8 +185,13 @@ read-section-returns : (t : ℕ) → read-section-lts.Need-returns (
   read-list-below t,
   read-list.Post,
 ) (read-section-at t) read-section.Post
-read-section-returns t c = let w = rw (c .before .before .before .before .h .given .1) at (c .before .before .before .before .before .before .head-at .ensures .1) in
-    section-shut (c .before .before .before .before .before .before .before .before .pre .1 .2) (sym (c .before .before .before .before .before .before .head-at .ensures .0) ∙ c .before .before .before .before .h .given .1) (w .0) (c .before .before .pushed .ensures .1) (c .before .before .pushed .ensures .0) (c .if1 .taken)
+read-section-returns t c =
+    let s1 = c .before .before in
+    let s2 = s1 .before .before in
+    let s3 = s2 .before .before in
+    let s4 = s3 .before .before in
+    let w = rw (s2 .h .given .1) at (s3 .head-at .ensures .1) in
+    section-shut (s4 .pre .1 .2) (sym (s3 .head-at .ensures .0) ∙ s2 .h .given .1) (w .0) (s1 .pushed .ensures .1) (s1 .pushed .ensures .0) (c .if1 .taken)
 
 read-section-cast-own : (t : ℕ) → read-section-lts.Need-cast-own (
   head-at-reads.Asked,
@@ -229,8 +242,13 @@ read-section-read-list-requires : (t : ℕ) → read-section-lts.Need-read-list-
   read-list-below t,
   read-list.Post,
 ) (read-section-at t) read-section.Post
-read-section-read-list-requires t c κs = let w = rw (c .before .before .before .before .before .h .given .1) at (c .before .before .before .before .before .before .before .head-at .ensures .1) in
-    (omega arith, (c .before .before .before .before .before .before .before .before .before .pre .1 .0, earlier (c .next-token .ensures .1) (omega arith), c .before .before .before .pushed .ensures .0))
+read-section-read-list-requires t c κs =
+    let s1 = c .before .before .before in
+    let s2 = s1 .before .before in
+    let s3 = s2 .before .before in
+    let s4 = s3 .before .before in
+    let w = rw (s2 .h .given .1) at (s3 .head-at .ensures .1) in
+    (omega arith, (s4 .pre .1 .0, earlier (c .next-token .ensures .1) (omega arith), s1 .pushed .ensures .0))
 
 read-section-enum-known-k : (t : ℕ) → read-section-lts.Need-enum-known-k (
   head-at-reads.Asked,
@@ -254,8 +272,14 @@ read-section-returns-2 : (t : ℕ) → read-section-lts.Need-returns-2 (
   read-list-below t,
   read-list.Post,
 ) (read-section-at t) read-section.Post
-read-section-returns-2 t c = let w = rw (c .before .before .before .before .before .before .h .given .1) at (c .before .before .before .before .before .before .before .before .head-at .ensures .1) in
-    section-open (c .before .before .before .before .before .before .before .before .before .before .pre .1 .2) (sym (c .before .before .before .before .before .before .before .before .head-at .ensures .0) ∙ c .before .before .before .before .before .before .h .given .1) (w .0) (c .before .before .before .before .pushed .ensures .1) (c .before .before .if1 .left) (c .before .next-token .ensures .0) (c .before .next-token .ensures .1) (c .read-list .ensures)
+read-section-returns-2 t c =
+    let s1 = c .before .before in
+    let s2 = s1 .before .before in
+    let s3 = s2 .before .before in
+    let s4 = s3 .before .before in
+    let s5 = s4 .before .before in
+    let w = rw (s3 .h .given .1) at (s4 .head-at .ensures .1) in
+    section-open (s5 .pre .1 .2) (sym (s4 .head-at .ensures .0) ∙ s3 .h .given .1) (w .0) (s2 .pushed .ensures .1) (s1 .if1 .left) (c .before .next-token .ensures .0) (c .before .next-token .ensures .1) (c .read-list .ensures)
 
 read-section-returns-3 : (t : ℕ) → read-section-lts.Need-returns-3 (
   head-at-reads.Asked,

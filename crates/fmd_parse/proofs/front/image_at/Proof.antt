@@ -36,15 +36,32 @@ enum-known-n-3 c = search needs
 
 returns : tie.Need-returns
 unfolding imageAt
-returns c = (rw (sym (c .before .before .before .before .before .before .before .before .before .before .before .before .title-at .ensures .0) ∙ c .before .before .before .before .before .before .before .before .before .before .i .given .1, sym (c .before .before .before .before .before .before .before .before .address-at .ensures .0) ∙ c .before .before .before .before .before .before .j .given .1, sym (c .before .before .before .before .length-at .ensures .0) ∙ c .before .before .k .given .1) (c .open-at .ensures .0), c .open-at .ensures .1)
+returns c =
+    let s1 = c .before .before in
+    let s2 = s1 .before .before in
+    let s3 = s2 .before .before in
+    let s4 = s3 .before .before in
+    let s5 = s4 .before .before in
+    let s6 = s5 .before .before in
+    (rw (sym (s6 .title-at .ensures .0) ∙ s5 .i .given .1, sym (s4 .address-at .ensures .0) ∙ s3 .j .given .1, sym (s2 .length-at .ensures .0) ∙ s1 .k .given .1) (c .open-at .ensures .0), c .open-at .ensures .1)
 
 returns-2 : tie.Need-returns-2
 unfolding imageAt
-returns-2 c = (rw (sym (c .before .before .before .before .before .before .before .before .before .before .before .title-at .ensures .0) ∙ c .before .before .before .before .before .before .before .before .before .i .given .1, sym (c .before .before .before .before .before .before .before .address-at .ensures .0) ∙ c .before .before .before .before .before .j .given .1, sym (c .before .before .before .length-at .ensures .0) ∙ c .before .n .given .1), tt)
+returns-2 c =
+    let s1 = c .before .before .before in
+    let s2 = s1 .before .before in
+    let s3 = s2 .before .before in
+    let s4 = s3 .before .before in
+    let s5 = s4 .before .before in
+    (rw (sym (s5 .title-at .ensures .0) ∙ s4 .i .given .1, sym (s3 .address-at .ensures .0) ∙ s2 .j .given .1, sym (s1 .length-at .ensures .0) ∙ c .before .n .given .1), tt)
 
 returns-3 : tie.Need-returns-3
 unfolding imageAt
-returns-3 c = (rw (sym (c .before .before .before .before .before .before .before .title-at .ensures .0) ∙ c .before .before .before .before .before .i .given .1, sym (c .before .before .before .address-at .ensures .0) ∙ c .before .n2 .given .1), tt)
+returns-3 c =
+    let s1 = c .before .before .before in
+    let s2 = s1 .before .before in
+    let s3 = s2 .before .before in
+    (rw (sym (s3 .title-at .ensures .0) ∙ s2 .i .given .1, sym (s1 .address-at .ensures .0) ∙ c .before .n2 .given .1), tt)
 
 returns-4 : tie.Need-returns-4
 unfolding imageAt

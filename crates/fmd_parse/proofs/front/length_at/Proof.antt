@@ -30,8 +30,12 @@ enum-known-k c = search needs
 
 returns-3 : tie.Need-returns-3
 unfolding lengthAt _and_
-returns-3 c = let w = rw (c .before .before .before .before .n .given .1) at (c .before .before .before .before .before .before .amount-at .ensures .1) in
-    (rw (sym (c .before .before .before .before .before .before .amount-at .ensures .0) ∙ c .before .before .before .before .n .given .1, le-leb _ _ (c .before .before .if1 .left), le-leb _ _ (c .before .if2 .left), c .with-length .ensures), earlier w (omega arith))
+returns-3 c =
+    let s1 = c .before .before in
+    let s2 = s1 .before .before in
+    let s3 = s2 .before .before in
+    let w = rw (s2 .n .given .1) at (s3 .amount-at .ensures .1) in
+    (rw (sym (s3 .amount-at .ensures .0) ∙ s2 .n .given .1, le-leb _ _ (s1 .if1 .left), le-leb _ _ (c .before .if2 .left), c .with-length .ensures), earlier w (omega arith))
 
 returns-4 : tie.Need-returns-4
 unfolding lengthAt _and_

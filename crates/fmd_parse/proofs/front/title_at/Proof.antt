@@ -32,10 +32,11 @@ cast-t10 c =
 
 returns-2 : tie.Need-returns-2
 unfolding titleAt pickRow
-returns-2 c = (
-  rw (eq-eqb _ _ (c .before .before .before .before .before .if1 .left), sym (c .before .before .before .before .name-at .ensures) ∙ c .before .before .before .if2 .taken, sym (c .before .before .next-token .ensures .0)),
-  earlier (c .before .before .next-token .ensures .1) (omega arith),
-)
+returns-2 c =
+    let s1 = c .before .before in (
+      rw (eq-eqb _ _ (s1 .before .before .before .if1 .left), sym (s1 .before .before .name-at .ensures) ∙ c .before .before .before .if2 .taken, sym (s1 .next-token .ensures .0)),
+      earlier (s1 .next-token .ensures .1) (omega arith),
+    )
 
 returns-3 : tie.Need-returns-3
 unfolding titleAt pickRow

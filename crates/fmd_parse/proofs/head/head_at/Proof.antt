@@ -40,20 +40,36 @@ enum-known-n-3 c = search needs
 returns : tie.Need-returns
 unfolding headAt
 returns c =
-    let a = rw (c .before .before .before .before .before .before .before .before .before .before .h .given .1) at (c .before .before .before .before .before .before .before .before .before .before .before .before .named-at .ensures .1) in
-    let b = rw (c .before .before .before .before .before .before .i .given .1) at (c .before .before .before .before .before .before .before .before .flags-at .ensures .1) in
-    let d = rw (c .before .before .j .given .1) at (c .before .before .before .before .offset-at .ensures .1) in (
-      rw (sym (c .before .before .before .before .before .before .before .before .before .before .before .before .named-at .ensures .0) ∙ c .before .before .before .before .before .before .before .before .before .before .h .given .1, sym (c .before .before .before .before .before .before .before .before .flags-at .ensures .0) ∙ c .before .before .before .before .before .before .i .given .1, sym (c .before .before .before .before .offset-at .ensures .0) ∙ c .before .before .j .given .1) (c .size-at .ensures .0),
+    let s1 = c .before .before in
+    let s2 = s1 .before .before in
+    let s3 = s2 .before .before in
+    let s4 = s3 .before .before in
+    let s5 = s4 .before .before in
+    let s6 = s5 .before .before in
+    let a = rw (s5 .h .given .1) at (s6 .named-at .ensures .1) in
+    let b = rw (s3 .i .given .1) at (s4 .flags-at .ensures .1) in
+    let d = rw (s1 .j .given .1) at (s2 .offset-at .ensures .1) in (
+      rw (sym (s6 .named-at .ensures .0) ∙ s5 .h .given .1, sym (s4 .flags-at .ensures .0) ∙ s3 .i .given .1, sym (s2 .offset-at .ensures .0) ∙ s1 .j .given .1) (c .size-at .ensures .0),
       head-in _ _ _ _ _ (c .size-at .result) (c .size-at .ensures .1) (omega arith) (a .1) (a .2),
     )
 
 returns-2 : tie.Need-returns-2
 unfolding headAt
-returns-2 c = (rw (sym (c .before .before .before .before .before .before .before .before .before .before .before .named-at .ensures .0) ∙ c .before .before .before .before .before .before .before .before .before .h .given .1, sym (c .before .before .before .before .before .before .before .flags-at .ensures .0) ∙ c .before .before .before .before .before .i .given .1, sym (c .before .before .before .offset-at .ensures .0) ∙ c .before .n .given .1), tt)
+returns-2 c =
+    let s1 = c .before .before .before in
+    let s2 = s1 .before .before in
+    let s3 = s2 .before .before in
+    let s4 = s3 .before .before in
+    let s5 = s4 .before .before in
+    (rw (sym (s5 .named-at .ensures .0) ∙ s4 .h .given .1, sym (s3 .flags-at .ensures .0) ∙ s2 .i .given .1, sym (s1 .offset-at .ensures .0) ∙ c .before .n .given .1), tt)
 
 returns-3 : tie.Need-returns-3
 unfolding headAt
-returns-3 c = (rw (sym (c .before .before .before .before .before .before .before .named-at .ensures .0) ∙ c .before .before .before .before .before .h .given .1, sym (c .before .before .before .flags-at .ensures .0) ∙ c .before .n2 .given .1), tt)
+returns-3 c =
+    let s1 = c .before .before .before in
+    let s2 = s1 .before .before in
+    let s3 = s2 .before .before in
+    (rw (sym (s3 .named-at .ensures .0) ∙ s2 .h .given .1, sym (s1 .flags-at .ensures .0) ∙ c .before .n2 .given .1), tt)
 
 returns-4 : tie.Need-returns-4
 unfolding headAt

@@ -12,12 +12,12 @@ returns : tie.Need-returns
 unfolding lastAt
 returns c = (rw (eq-eqb _ _ (c .before .if1 .taken), sym (c .next-token .ensures .0)), c .next-token .ensures .1)
 
-flag-at-requires : tie.Need-flag-at-requires
-flag-at-requires c κs = search needs
+mark-at-requires : tie.Need-mark-at-requires
+mark-at-requires c κs = search needs
 
 returns-2 : tie.Need-returns-2
 unfolding lastAt
-returns-2 c = (rw (ne-eqb _ _ (c .before .if1 .left)) (c .flag-at .ensures .0), c .flag-at .ensures .1)
+returns-2 c = (rw (ne-eqb _ _ (c .before .if1 .left)) (c .mark-at .ensures .0), c .mark-at .ensures .1)
 
 pub last-at-spec : {M : Type 1} → statement M
-last-at-spec = tie.close (tie.spec next-token-requires returns flag-at-requires returns-2)
+last-at-spec = tie.close (tie.spec next-token-requires returns mark-at-requires returns-2)

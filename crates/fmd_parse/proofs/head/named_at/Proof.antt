@@ -40,14 +40,21 @@ cast-t15 c =
 
 returns-4 : tie.Need-returns-4
 unfolding namedAt pickRow
-returns-4 c = (
-  rw (eq-eqb _ _ (c .before .before .before .before .before .before .before .if1 .left), sym (c .before .before .before .before .before .before .name-at .ensures) ∙ c .before .before .before .before .before .if2 .taken, lt-leb _ _ (c .before .before .before .before .if3 .left), le-ltb _ _ (c .before .before .before .if4 .left), sym (c .before .before .next-token .ensures .0)),
-  (
-    earlier (c .before .before .next-token .ensures .1) (omega (arith, c .before .before .before .before .before .before .before .before .before .before .pre .1 .filled (c .before .before .before .before .before .before .before .if1 .left))),
-    c .before .before .before .if4 .left,
-    c .before .before .before .before .if3 .left,
-  ),
-)
+returns-4 c =
+    let s1 = c .before .before in
+    let s2 = s1 .before in
+    let s3 = s2 .before in
+    let s4 = s3 .before in
+    let s5 = s4 .before in
+    let s6 = s5 .before in
+    let s7 = s6 .before .before .before in (
+      rw (eq-eqb _ _ (s6 .if1 .left), sym (s5 .name-at .ensures) ∙ s4 .if2 .taken, lt-leb _ _ (s3 .if3 .left), le-ltb _ _ (s2 .if4 .left), sym (s1 .next-token .ensures .0)),
+      (
+        earlier (s1 .next-token .ensures .1) (omega (arith, s7 .pre .1 .filled (s6 .if1 .left))),
+        s2 .if4 .left,
+        s3 .if3 .left,
+      ),
+    )
 
 returns-5 : tie.Need-returns-5
 unfolding namedAt pickRow

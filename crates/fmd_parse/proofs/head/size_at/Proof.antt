@@ -28,12 +28,23 @@ enum-known-k c = search needs
 
 returns-2 : tie.Need-returns-2
 unfolding sizeAt
-returns-2 c = let w = rw (c .before .before .n .given .1) at (c .before .before .before .before .amount-at .ensures .1) in
-    (rw (eq-eqb _ _ (c .before .before .before .before .before .before .before .if1 .left), sym (c .before .before .before .before .before .before .digit-at .ensures) ∙ c .before .before .before .before .before .if2 .taken, sym (c .before .before .before .before .amount-at .ensures .0) ∙ c .before .before .n .given .1, c .with-size .ensures), earlier w (omega arith))
+returns-2 c =
+    let s1 = c .before .before in
+    let s2 = s1 .before .before in
+    let s3 = s2 .before in
+    let s4 = s3 .before in
+    let s5 = s4 .before in
+    let w = rw (s1 .n .given .1) at (s2 .amount-at .ensures .1) in
+    (rw (eq-eqb _ _ (s5 .if1 .left), sym (s4 .digit-at .ensures) ∙ s3 .if2 .taken, sym (s2 .amount-at .ensures .0) ∙ s1 .n .given .1, c .with-size .ensures), earlier w (omega arith))
 
 returns-3 : tie.Need-returns-3
 unfolding sizeAt
-returns-3 c = (rw (eq-eqb _ _ (c .before .before .before .before .before .before .if1 .left), sym (c .before .before .before .before .before .digit-at .ensures) ∙ c .before .before .before .before .if2 .taken, sym (c .before .before .before .amount-at .ensures .0) ∙ c .before .k .given .1), tt)
+returns-3 c =
+    let s1 = c .before .before .before in
+    let s2 = s1 .before in
+    let s3 = s2 .before in
+    let s4 = s3 .before in
+    (rw (eq-eqb _ _ (s4 .if1 .left), sym (s3 .digit-at .ensures) ∙ s2 .if2 .taken, sym (s1 .amount-at .ensures .0) ∙ c .before .k .given .1), tt)
 
 returns-4 : tie.Need-returns-4
 unfolding sizeAt

@@ -1,0 +1,180 @@
+-- The rows of a call by its stages: those before an edit's own, then its own over the table that reading uses.
+use mathlib.Core.Path.{_≡_, sym, ap, _∙_}
+use mathlib.Core.Logic.{_≢_}
+use mathlib.Core.Bool.{Bool, true, false, not}
+use mathlib.Core.List.{List, [], _∷_, _++_}
+use mathlib.Core.Option.{Option, none, some}
+use Prim.Native.Nat.{ℕ, _≤_, _<_}
+use native.Mathlib.Omega.{arith}
+use lib.Dec.{eqb}
+use lib.ListN.{length}
+use borrow.Author.Tests.{eqb-true, eqb-false, leb-true, eq-eqb, ne-eqb}
+use Rattle.octets.specs.Rows.{Row, row, pickRow, refusal}
+use Rattle.octets.proofs.Bools.{and-l, and-r, and-i, not-f, some-none}
+use Rattle.octets.proofs.Rows.{passes, pick-true, pick-false, refusal-append, refusal-first, refusal-before}
+use Rattle.gpt_model.specs.Ranges.{place}
+use Rattle.gpt_model.specs.Table.{slots}
+use Rattle.gpt_model.specs.Disk.{disk512, lastUsable, primary, entriesIn, state, tableOf}
+use Rattle.gpt_model.specs.Calls.{Edit, add, delete, resize, rename, edit, badName, slotRows, addRows, fitsAt, tableRows, isNone, lengthsOf, readRows, openRows, rowsOf}
+use Rattle.gpt_model.proofs.Ways.{edit-decides, edit-stops}
+use Rattle.gpt_model.proofs.States.{one-primary}
+use Rattle.gpt_table.specs.Answers.{placed}
+use Rattle.gpt_table.specs.declared.Block.{Block}
+use Rattle.gpt_table.specs.declared.room.Place.{Place}
+use Rattle.gpt_table.specs.declared.room.Place.the-variants as found
+use Rattle.gpt_copies.specs.States.{stateNumber}
+use Rattle.gpt_copies.specs.declared.State.{State}
+use Rattle.gpt_checks.specs.Checks.{stopOf, lentRows, openFor}
+use Rattle.gpt_checks.specs.declared.Check.{Check}
+use Rattle.gpt_checks.specs.declared.Check.the-variants.{Pass, Stop}
+
+-- a check that is passed: no row holds. One that stops a call: the row of its number
+pub passed : {q : Option ℕ} (c : Check) → c ≡ Pass → stopOf c ≡ q → q ≡ none
+passed c p q = sym q ∙ ap stopOf p
+
+pub stopped : {q : Option ℕ} (c : Check) (k : ℕ) → c ≡ Stop k → stopOf c ≡ q → q ≡ some k
+stopped c k p q = sym q ∙ ap stopOf p
+
+module _ (n : ℕ) (h t : List ℕ) where
+  -- ---- rows 1 and 2
+
+  pub record Lent : Type 0 where
+    pub head : length h ≡ 17408
+    pub tail : length t ≡ 16896
+    pub least : 68 ≤ n
+    pub most : n ≤ 4294967296
+
+  pub lent-facts : refusal (lentRows n h t) ≡ none → Lent
+  lent-facts e =
+      let a = not-f _ (passes 1 (lentRows n h t) e) in
+      let b = not-f _ (passes 2 (lentRows n h t) e) in
+      record {
+        head = eqb-true _ _ (and-l _ _ (and-l _ _ a));
+        tail = eqb-true _ _ (and-r _ _ (and-l _ _ a));
+        least = leb-true _ _ (and-l _ _ b);
+        most = leb-true _ _ (and-r _ _ b);
+      }
+
+  -- ---- rows 1, 2, 10, 11
+
+  abbrev later : List Row
+  later = row (eqb (state disk512 n h t) 0) 10 ∷ row (not (eqb (state disk512 n h t) 1)) 11 ∷ []
+
+  pub open-lent : (k : ℕ) → refusal (lentRows n h t) ≡ some k → some k ≡ refusal (openFor n h t)
+  open-lent k e = sym (refusal-first (lentRows n h t) later k e)
+
+  pub open-found : refusal (lentRows n h t) ≡ none → (s x : State) → s ≡ x → stateNumber s ≡ state disk512 n h t
+      → pickRow (eqb (stateNumber x) 0) 10 (pickRow (not (eqb (stateNumber x) 1)) 11 none) ≡ refusal (openFor n h t)
+  open-found e s x p q =
+      sym (refusal-append (lentRows n h t) later e ∙ ap (λ (k : ℕ). pickRow (eqb k 0) 10 (pickRow (not (eqb k 1)) 11 none)) (sym q ∙ ap stateNumber p))
+
+  -- the rows before an edit's own, where GUIDs and name have the lengths of their types
+  open-is : (d : Edit) → lengthsOf d ≡ true → refusal (openRows disk512 n h t d) ≡ refusal (openFor n h t)
+  open-is d l = ap (λ (b : Bool). refusal (readRows disk512 n h t b ++ (row (not (eqb (state disk512 n h t) 1)) 11 ∷ []))) l
+
+  module _ (e : refusal (openFor n h t) ≡ none) where
+    pub open-facts : Lent
+    open-facts = lent-facts (refusal-before (lentRows n h t) later e .0)
+
+    -- the table that reading uses, as the code finds it in the head
+    pub table-is : entriesIn disk512 primary h ≡ tableOf disk512 n h t
+    table-is = sym (one-primary disk512 n h t (eqb-true _ _ (not-f _ (passes 11 (openFor n h t) e))))
+
+    -- an edit's own rows, over a part tb of the head that holds the table
+    pub own-rows : (d : Edit) → lengthsOf d ≡ true → (tb : List ℕ) → tb ≡ entriesIn disk512 primary h
+        → refusal (tableRows 34 (lastUsable disk512 n) tb d) ≡ refusal (rowsOf disk512 n h t (edit d))
+    own-rows d l tb is =
+        ap (λ (es : List ℕ). refusal (tableRows 34 (lastUsable disk512 n) es d)) (is ∙ table-is) ∙ sym (edit-decides disk512 n h t d (open-is d l ∙ e))
+
+    pub placed-in : (tb : List ℕ) → tb ≡ entriesIn disk512 primary h → (size s : ℕ) → place (slots tb) 34 (lastUsable disk512 n) size ≡ some s
+        → place (slots (tableOf disk512 n h t)) 34 (lastUsable disk512 n) size ≡ some s
+    placed-in tb is size s p = sym (ap (λ (es : List ℕ). place (slots es) 34 (lastUsable disk512 n) size) (is ∙ table-is)) ∙ p
+
+  pub open-stops : (d : Edit) → lengthsOf d ≡ true → (k : ℕ) → refusal (openFor n h t) ≡ some k → some k ≡ refusal (rowsOf disk512 n h t (edit d))
+  open-stops d l k e = sym (edit-stops disk512 n h t d k (open-is d l ∙ e))
+
+  -- ---- R29: Rename the same, then 23. R30: Resize as delete, then 20, 25
+
+  module _ (k : ℕ) where
+    abbrev slotted : List Row
+    slotted = rowsOf disk512 n h t (edit (delete k))
+
+    pub delete-open : refusal slotted ≡ none → refusal (openFor n h t) ≡ none
+    delete-open e = refusal-before (openFor n h t) (slotRows 0 0 (tableOf disk512 n h t) k) e .0
+
+    pub delete-slot : refusal slotted ≡ none → refusal (slotRows 0 0 (tableOf disk512 n h t) k) ≡ none
+    delete-slot e = refusal-before (openFor n h t) (slotRows 0 0 (tableOf disk512 n h t) k) e .1
+
+    module _ (name : List ℕ) (l : length name ≡ 36) where
+      rename-is : refusal (rowsOf disk512 n h t (edit (rename k name))) ≡ refusal (slotted ++ (row (badName name) 23 ∷ []))
+      rename-is =
+          ap (λ (b : Bool). refusal (readRows disk512 n h t b ++ (row (not (eqb (state disk512 n h t) 1)) 11 ∷ slotRows 0 0 (tableOf disk512 n h t) k ++ (row (badName name) 23 ∷ []))))
+          (eq-eqb (length name) 36 l)
+
+      pub rename-stops : (j : ℕ) → refusal slotted ≡ some j → some j ≡ refusal (rowsOf disk512 n h t (edit (rename k name)))
+      rename-stops j e = sym (rename-is ∙ refusal-first slotted (row (badName name) 23 ∷ []) j e)
+
+      pub rename-bad : refusal slotted ≡ none → badName name ≡ true → some 23 ≡ refusal (rowsOf disk512 n h t (edit (rename k name)))
+      rename-bad e q = sym (rename-is ∙ refusal-append slotted (row (badName name) 23 ∷ []) e ∙ pick-true _ 23 _ q)
+
+      pub rename-right : refusal slotted ≡ none → badName name ≡ false → none ≡ refusal (rowsOf disk512 n h t (edit (rename k name)))
+      rename-right e q = sym (rename-is ∙ refusal-append slotted (row (badName name) 23 ∷ []) e ∙ pick-false _ 23 _ q)
+
+    module _ (size : ℕ) where
+      abbrev own : List Row
+      own = row (eqb size 0) 20 ∷ row (not (fitsAt 34 (lastUsable disk512 n) (tableOf disk512 n h t) k size)) 25 ∷ []
+
+      pub resize-stops : (j : ℕ) → refusal slotted ≡ some j → some j ≡ refusal (rowsOf disk512 n h t (edit (resize k size)))
+      resize-stops j e = sym (refusal-first slotted own j e)
+
+      module _ (e : refusal slotted ≡ none) where
+        pub resize-zero : size ≡ 0 → some 20 ≡ refusal (rowsOf disk512 n h t (edit (resize k size)))
+        resize-zero q = sym (refusal-append slotted own e ∙ pick-true _ 20 _ (eq-eqb _ _ q))
+
+        -- the room is asked of a part tb of the head that holds the table, up to block last
+        module _ (a : size ≢ 0) (tb : List ℕ) (last : ℕ) (is : tb ≡ entriesIn disk512 primary h) (l : last ≡ lastUsable disk512 n) (b : Bool)
+            (f : b ≡ fitsAt 34 last tb k size) where
+          fits-is : fitsAt 34 (lastUsable disk512 n) (tableOf disk512 n h t) k size ≡ b
+          fits-is = sym (f ∙ rw (l, is ∙ table-is (delete-open e)))
+
+          pub resize-full : b ≡ false → some 25 ≡ refusal (rowsOf disk512 n h t (edit (resize k size)))
+          resize-full q = sym (refusal-append slotted own e ∙ pick-false _ 20 _ (ne-eqb _ _ a) ∙ pick-true _ 25 _ (ap not (fits-is ∙ q)))
+
+          pub resize-right : b ≡ true → none ≡ refusal (rowsOf disk512 n h t (edit (resize k size)))
+          resize-right q = sym (refusal-append slotted own e ∙ pick-false _ 20 _ (ne-eqb _ _ a) ∙ pick-false _ 25 _ (ap not (fits-is ∙ q)))
+
+-- ---- adding, from row 20 on, over the table es
+
+pub add-lengths : (type unique : List ℕ) (size attributes : ℕ) (name : List ℕ) → length type ≡ 16 → length unique ≡ 16 → length name ≡ 36
+    → lengthsOf (add type unique size attributes name) ≡ true
+add-lengths type unique size attributes name a b c = and-i _ _ (and-i _ _ (eq-eqb _ _ a) (eq-eqb _ _ b)) (eq-eqb _ _ c)
+
+module _ (n : ℕ) (es type unique : List ℕ) (size : ℕ) (name : List ℕ) where
+  abbrev before25 : List Row
+  before25 = addRows 0 0 es type unique size name
+
+  abbrev start : Option ℕ
+  start = place (slots es) 34 (lastUsable disk512 n) size
+
+  abbrev rows : ℕ → Option ℕ
+  rows attributes = refusal (tableRows 34 (lastUsable disk512 n) es (add type unique size attributes name))
+
+  pub add-size : refusal before25 ≡ none → 0 < size
+  add-size e = let w : size ≢ 0 = eqb-false size 0 (passes 20 before25 e) in omega arith
+
+  pub start-stops : (k : ℕ) → refusal before25 ≡ some k → ((attributes : ℕ) → some k ≡ rows attributes) × ((b : ℕ) → none ≡ some b → start ≡ some b)
+  start-stops k e = (λ attributes. sym (refusal-first before25 (row (isNone start) 25 ∷ []) k e), λ b q. absurd (some-none (sym q)))
+
+  -- what the search for a start answers, between the usable blocks f and l
+  module _ (e : refusal before25 ≡ none) (p : Place) (f l : ℕ) (ef : f ≡ 34) (el : l ≡ lastUsable disk512 n) (r : placed p ≡ place (slots es) f l size) where
+    placed-is : placed p ≡ start
+    placed-is = r ∙ rw (ef, el)
+
+    pub start-full : p ≡ found.None → ((attributes : ℕ) → some 25 ≡ rows attributes) × ((b : ℕ) → none ≡ some b → start ≡ some b)
+    start-full q =
+        (λ attributes. sym (refusal-append before25 (row (isNone start) 25 ∷ []) e ∙ pick-true _ 25 _ (ap isNone (sym placed-is ∙ ap placed q))), λ b z. absurd (some-none (sym z)))
+
+    pub start-at : (b : Block) → p ≡ found.At b → ((attributes : ℕ) → none ≡ rows attributes) × ((c : ℕ) → some (b .0) ≡ some c → start ≡ some c)
+    start-at b q =
+        let w : start ≡ some (b .0) = sym placed-is ∙ ap placed q in
+        (λ attributes. sym (refusal-append before25 (row (isNone start) 25 ∷ []) e ∙ pick-false _ 25 _ (ap isNone w)), λ c z. w ∙ z)

@@ -1,0 +1,54 @@
+use mathlib.Core.Path.{sym, _∙_}
+use denote.Ref.{now}
+use Rattle.gpt_checks.proofs.Judged.{passed, stopped, open-facts, open-stops, own-rows, placed-in, add-lengths}
+use Rattle.octets.proofs.Bools.{some-none}
+use Rattle.gpt_model.specs.Calls.{add}
+use borrow.Author.Needs.{needs}
+use Rattle.gpt_checks.proofs.add.Statement.{statement}
+use Rattle.gpt_checks.proofs.add.Tie as tie
+
+opened-requires : tie.Need-opened-requires
+opened-requires c κs = search needs
+
+enum-known-k : tie.Need-enum-known-k
+enum-known-k c = search needs
+
+enum-told : tie.Need-enum-told
+enum-told c = search needs
+
+entries-in-requires : tie.Need-entries-in-requires
+entries-in-requires c κs =
+    let a = c .before .before .before .before .before .before .before .before .args in
+    open-facts (a .n) (now (a .head)) (now (a .tail)) (passed _ (c .enum-told .given .1) (c .before .before .opened .ensures)) .head
+
+place-requires : tie.Need-place-requires
+place-requires c κs =
+    let a = c .before .before .before .before .before .before .before .before .before .args in
+    let f = open-facts (a .n) (now (a .head)) (now (a .tail)) (passed _ (c .before .enum-told .given .1) (c .before .before .before .opened .ensures)) in
+    (c .entries-in .ensures .1, f .least, f .most)
+
+returns : tie.Need-returns
+returns c =
+    let a = c .before .before .before .before .before .before .before .before .before .args in
+    let p = c .before .before .before .before .before .before .before .before .before .pre in
+    (λ x. open-stops (a .n) (now (a .head)) (now (a .tail)) (add (now (a .kind)) (now (a .unique)) (a .size) x (now (a .name))) (add-lengths (now (a .kind)) (now (a .unique)) (a .size) x (now (a .name)) (p .0) (p .1) (p .2)) _ (stopped _ _ (c .before .k .given .1) (c .before .before .before .opened .ensures)), λ b q. absurd (some-none (sym q)))
+
+returns-2 : tie.Need-returns-2
+returns-2 c =
+    let a = c .before .before .before .before .before .before .before .before .before .before .args in
+    let p = c .before .before .before .before .before .before .before .before .before .before .pre in
+    let o = passed _ (c .before .before .enum-told .given .1) (c .before .before .before .before .opened .ensures) in
+    let is = c .before .entries-in .ensures .0 in
+    (λ x. c .place .ensures .0 x ∙ own-rows (a .n) (now (a .head)) (now (a .tail)) o (add (now (a .kind)) (now (a .unique)) (a .size) x (now (a .name))) (add-lengths (now (a .kind)) (now (a .unique)) (a .size) x (now (a .name)) (p .0) (p .1) (p .2)) _ is, λ b q. placed-in (a .n) (now (a .head)) (now (a .tail)) o _ is (a .size) b (c .place .ensures .1 b q))
+
+pub add-spec : {M : Type 1} → statement M
+add-spec =
+    tie.close
+    (tie.spec
+    opened-requires
+    enum-known-k
+    enum-told
+    entries-in-requires
+    place-requires
+    returns
+    returns-2)

@@ -1,0 +1,65 @@
+use native.Mathlib.Omega.{arith}
+use denote.Ref.{now}
+use Rattle.gpt_checks.proofs.Judged.{passed, stopped, add-size, start-stops, start-full, start-at}
+use borrow.Author.Needs.{needs}
+use Rattle.gpt_checks.proofs.place.Statement.{statement}
+use Rattle.gpt_checks.proofs.place.Tie as tie
+
+new-requires : tie.Need-new-requires
+new-requires c κs = search needs
+
+enum-known-k : tie.Need-enum-known-k
+enum-known-k c = search needs
+
+enum-told : tie.Need-enum-told
+enum-told c = search needs
+
+first-usable-requires : tie.Need-first-usable-requires
+first-usable-requires c κs = search needs
+
+last-usable-requires : tie.Need-last-usable-requires
+last-usable-requires c κs = search needs
+
+lowest-requires : tie.Need-lowest-requires
+lowest-requires c κs =
+    let a = c .before .before .before .before .before .before .before .before .before .args in
+    let e = c .last-usable .ensures in
+    let m = c .before .before .before .before .before .before .before .before .before .pre .2 in
+    (c .before .before .before .before .before .before .before .before .before .pre .0, add-size (a .n) (now (a .table)) (now (a .kind)) (now (a .unique)) (a .size) (now (a .name)) (passed _ (c .before .before .enum-told .given .1) (c .before .before .before .before .new .ensures)), omega arith)
+
+enum-told-2 : tie.Need-enum-told-2
+enum-told-2 c = search needs
+
+enum-known-first : tie.Need-enum-known-first
+enum-known-first c = search needs
+
+returns : tie.Need-returns
+returns c =
+    let a = c .before .before .before .before .before .before .before .before .args in
+    start-stops (a .n) (now (a .table)) (now (a .kind)) (now (a .unique)) (a .size) (now (a .name)) _ (stopped _ _ (c .before .k .given .1) (c .before .before .before .new .ensures))
+
+returns-2 : tie.Need-returns-2
+returns-2 c =
+    let a = c .before .before .before .before .before .before .before .before .before .before .before .before .args in
+    start-full (a .n) (now (a .table)) (now (a .kind)) (now (a .unique)) (a .size) (now (a .name)) (passed _ (c .before .before .before .before .before .enum-told .given .1) (c .before .before .before .before .before .before .before .new .ensures)) _ _ _ (c .before .before .before .before .first-usable .ensures) (c .before .before .before .last-usable .ensures) (c .before .before .lowest .ensures) (c .enum-told2 .given .1)
+
+returns-3 : tie.Need-returns-3
+returns-3 c =
+    let a = c .before .before .before .before .before .before .before .before .before .before .before .before .before .args in
+    start-at (a .n) (now (a .table)) (now (a .kind)) (now (a .unique)) (a .size) (now (a .name)) (passed _ (c .before .before .before .before .before .before .enum-told .given .1) (c .before .before .before .before .before .before .before .before .new .ensures)) _ _ _ (c .before .before .before .before .before .first-usable .ensures) (c .before .before .before .before .last-usable .ensures) (c .before .before .before .lowest .ensures) _ (c .before .first .given .1)
+
+pub place-spec : {M : Type 1} → statement M
+place-spec =
+    tie.close
+    (tie.spec
+    new-requires
+    enum-known-k
+    enum-told
+    first-usable-requires
+    last-usable-requires
+    lowest-requires
+    enum-told-2
+    enum-known-first
+    returns
+    returns-2
+    returns-3)

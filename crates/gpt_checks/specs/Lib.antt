@@ -1,0 +1,2 @@
+-- What the judges answer.
+pub mod Checks

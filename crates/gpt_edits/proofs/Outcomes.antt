@@ -1,0 +1,171 @@
+-- The ways out of an edit whose rows do not hold: the one entry that it writes.
+use mathlib.Core.Path.{_≡_, sym, ap, _∙_}
+use mathlib.Core.Logic.{_≢_}
+use mathlib.Core.Bool.{true, false, not}
+use mathlib.Core.List.{List, [], _∷_}
+use mathlib.Core.Option.{none, some}
+use Prim.Native.Nat.{ℕ, _+_, _-_, _≤_, _<_}
+use native.Mathlib.Numerals.{add-one}
+use native.Mathlib.Omega.{arith}
+use lib.Dec.{leb}
+use lib.ListN.{length, getD}
+use borrow.Author.Tests.{eqb-true, eqb-false, leb-true}
+use Rattle.octets.specs.Tests.{_and_, findIx}
+use Rattle.octets.specs.Bytes.{le, put, putChunk}
+use Rattle.octets.specs.Rows.{refusal}
+use Rattle.octets.proofs.Bools.{and-l, and-r, not-f}
+use Rattle.octets.proofs.Chunks.{length-chunks}
+use Rattle.octets.proofs.Rows.{passes}
+use Rattle.octets.proofs.Tests.{findIx-get}
+use Rattle.gpt_model.specs.Ranges.{place}
+use Rattle.gpt_model.specs.Table.{firstOf, nameBytes, entryWith, unused, entries, slots}
+use Rattle.gpt_model.specs.Disk.{disk512, lastUsable, primary, backup, guidIn, entriesIn, tableOf, withTable}
+use Rattle.gpt_model.specs.Calls.{Edit, add, delete, resize, rename, edit, tableRows, valueOf, Change, change, edited, lengthsOf, rowsOf, accepted, out, step}
+use Rattle.gpt_model.proofs.Room.{room-get, place-some}
+use Rattle.gpt_model.proofs.States.{one-primary, one-backup}
+use Rattle.gpt_model.proofs.Ways.{step-made, edit-open, edit-table, open-read, row1, row2, row11}
+
+module _ (n : ℕ) (h t : List ℕ) (d : Edit) (e : refusal (rowsOf disk512 n h t (edit d)) ≡ none) where
+  abbrev last : ℕ
+  last = lastUsable disk512 n
+
+  -- the table that reading uses, as the code finds it in the head
+  abbrev tab : List ℕ
+  tab = entriesIn disk512 primary h
+
+  table-is : tableOf disk512 n h t ≡ tab
+  table-is = one-primary disk512 n h t (row11 disk512 n h t d (edit-open disk512 n h t d e))
+
+  pub own-rows : refusal (tableRows 34 last tab d) ≡ none
+  own-rows = sym (ap (λ (es : List ℕ). refusal (tableRows 34 last es d)) table-is) ∙ edit-table disk512 n h t d e
+
+  pub record Open : Type 0 where
+    pub head : length h ≡ 17408
+    pub tail : length t ≡ 16896
+    pub least : 68 ≤ n
+    pub most : n ≤ 4294967296
+    pub same : entriesIn disk512 primary h ≡ entriesIn disk512 backup t
+    pub lengths : lengthsOf d ≡ true
+
+  pub open-facts : Open
+  open-facts =
+      let o = edit-open disk512 n h t d e in
+      let r = open-read disk512 n h t d o in
+      let l = row1 disk512 n h t (lengthsOf d) r in
+      let b = row2 disk512 n h t (lengthsOf d) r in
+      let s = row11 disk512 n h t d o in
+      record {
+        head = l .0;
+        tail = l .1;
+        least = leb-true _ _ (and-l _ _ b);
+        most = leb-true _ _ (and-r _ _ b);
+        same = sym (one-primary disk512 n h t s) ∙ one-backup disk512 n h t s;
+        lengths = l .2;
+      }
+
+  -- the entry that the code writes is the edit's, at its index, and the answer its values
+  pub edit-made : (c : Change) (h′ t′ : List ℕ) → c ≡ change 34 last tab d
+      → h′ ≡ withTable disk512 n primary (guidIn disk512 primary h) (putChunk 128 (c .index) (c .entry) tab) h
+      → t′ ≡ withTable disk512 n backup (guidIn disk512 backup t) (putChunk 128 (c .index) (c .entry) tab) t
+      → out (accepted (c .values)) h′ t′ ≡ step disk512 n h t (edit d)
+  edit-made c h′ t′ q a b =
+      rw (a, b, q)
+      (ap (λ (es : List ℕ). out (accepted (change 34 last es d .values)) (withTable disk512 n primary (guidIn disk512 primary h) (edited 34 last es d) h) (withTable disk512 n backup (guidIn disk512 backup t) (edited 34 last es d) t)) (sym table-is)
+      ∙ sym (step-made disk512 n h t (edit d) e))
+
+-- ---- the edits of a slot
+
+numbered : (k : ℕ) → not (leb 1 k and leb k 128) ≡ false → (1 ≤ k) × (k ≤ 128)
+numbered k e = let w = not-f _ e in (leb-true _ _ (and-l _ _ w), leb-true _ _ (and-r _ _ w))
+
+module _ (n : ℕ) (h t : List ℕ) (k : ℕ) where
+  pub delete-slot : refusal (rowsOf disk512 n h t (edit (delete k))) ≡ none → (1 ≤ k) × (k ≤ 128)
+  delete-slot e = numbered k (passes 12 (rowsOf disk512 n h t (edit (delete k))) e)
+
+  -- entry k of the table, by a part tb of the head that holds the table
+  module _ (tb part : List ℕ) (p : tb ≡ entriesIn disk512 primary h) (q : part ≡ getD (entries tb) (k - 1) []) where
+    part-is : part ≡ getD (entries (entriesIn disk512 primary h)) (k - 1) []
+    part-is = q ∙ ap (λ (x : List ℕ). getD (entries x) (k - 1) []) p
+
+    pub renamed-is : (new name : List ℕ) → new ≡ put 56 (nameBytes name) part
+        → record { values = []; index = k - 1; entry = new } ≡ change 34 (lastUsable disk512 n) (entriesIn disk512 primary h) (rename k name)
+    renamed-is new name r = ap (λ (x : List ℕ). record { values = []; index = k - 1; entry = x }) (r ∙ ap (put 56 (nameBytes name)) part-is)
+
+    pub resized-is : (new : List ℕ) (size : ℕ) → new ≡ put 40 (le 8 (firstOf part + size - 1)) part
+        → record { values = []; index = k - 1; entry = new } ≡ change 34 (lastUsable disk512 n) (entriesIn disk512 primary h) (resize k size)
+    resized-is new size r =
+        ap (λ (x : List ℕ). record { values = []; index = k - 1; entry = x })
+        (r ∙ ap (λ (x : List ℕ). put 40 (le 8 (firstOf x + size - 1)) x) part-is)
+
+    -- the last block that a resize writes is a number of 64 bits
+    pub resize-bound : (size : ℕ) → refusal (rowsOf disk512 n h t (edit (resize k size))) ≡ none → firstOf part + size < 18446744073709551616
+    resize-bound size e =
+        let o = open-facts n h t (resize k size) e in
+        let f = not-f _ (passes 25 (tableRows 34 (lastUsable disk512 n) (entriesIn disk512 primary h) (resize k size)) (own-rows n h t (resize k size) e)) in
+        let w = room-get _ _ _ _ f .0 in
+        let m = o .most in
+        omega (arith, ap firstOf part-is)
+
+  pub rename-slot : (name : List ℕ) → refusal (rowsOf disk512 n h t (edit (rename k name))) ≡ none → (1 ≤ k) × (k ≤ 128) × (length name ≡ 36)
+  rename-slot name e =
+      let w = numbered k (passes 12 (rowsOf disk512 n h t (edit (rename k name))) e) in
+      (w .0, w .1, eqb-true _ _ (open-facts n h t (rename k name) e .lengths))
+
+  pub resize-slot : (size : ℕ) → refusal (rowsOf disk512 n h t (edit (resize k size))) ≡ none → (1 ≤ k) × (k ≤ 128) × (0 < size)
+  resize-slot size e =
+      let w = numbered k (passes 12 (rowsOf disk512 n h t (edit (resize k size))) e) in
+      let z : size ≢ 0 = eqb-false size 0 (passes 20 (rowsOf disk512 n h t (edit (resize k size))) e) in
+      (w .0, w .1, omega arith)
+
+-- ---- adding
+
+module _ (n : ℕ) (h t type unique : List ℕ) (size attributes : ℕ) (name : List ℕ)
+    (e : refusal (rowsOf disk512 n h t (edit (add type unique size attributes name))) ≡ none) where
+  abbrev d : Edit
+  d = add type unique size attributes name
+
+  abbrev es : List ℕ
+  es = entriesIn disk512 primary h
+
+  pub record Fields : Type 0 where
+    pub type16 : length type ≡ 16
+    pub unique16 : length unique ≡ 16
+    pub name36 : length name ≡ 36
+    pub some : 0 < size
+
+  pub add-fields : Fields
+  add-fields =
+      let l = open-facts n h t d e .lengths in
+      let z : size ≢ 0 = eqb-false size 0 (passes 20 (rowsOf disk512 n h t (edit d)) e) in
+      record {
+        type16 = eqb-true _ _ (and-l _ _ (and-l _ _ l));
+        unique16 = eqb-true _ _ (and-r _ _ (and-l _ _ l));
+        name36 = eqb-true _ _ (and-r _ _ l);
+        some = omega arith;
+      }
+
+  placed-in : (s : ℕ) → place (slots (tableOf disk512 n h t)) 34 (lastUsable disk512 n) size ≡ some s → place (slots es) 34 (lastUsable disk512 n) size ≡ some s
+  placed-in s r = sym (ap (λ (x : List ℕ). place (slots x) 34 (lastUsable disk512 n) size) (table-is n h t d e)) ∙ r
+
+  -- the slot that is taken, by a part tb of the head that holds the table
+  module _ (tb : List ℕ) (i : ℕ) (p : tb ≡ es) (q : i ≡ findIx unused (entries tb)) where
+    lowest-is : i ≡ findIx unused (entries es)
+    lowest-is = q ∙ ap (λ (x : List ℕ). findIx unused (entries x)) p
+
+    pub add-index : i < 128
+    add-index =
+        let w = findIx-get unused (entries es) [] (not-f _ (passes 24 (tableRows 34 (lastUsable disk512 n) es d) (own-rows n h t d e))) .0 in
+        omega (arith, length-chunks 128 128 es, lowest-is)
+
+    pub add-is : (new : List ℕ) (s : ℕ) → place (slots (tableOf disk512 n h t)) 34 (lastUsable disk512 n) size ≡ some s
+        → new ≡ entryWith type unique s (s + size - 1) attributes name → record { values = (i + 1) ∷ s ∷ []; index = i; entry = new } ≡ change 34 (lastUsable disk512 n) es d
+    add-is new s r w =
+        let z : s ≡ valueOf (place (slots es) 34 (lastUsable disk512 n) size) = sym (ap valueOf (placed-in s r)) in
+        rw (w, add-one, lowest-is, z)
+
+  -- the last block is a number of 64 bits
+  pub add-bound : (s : ℕ) → place (slots (tableOf disk512 n h t)) 34 (lastUsable disk512 n) size ≡ some s → s + size < 18446744073709551616
+  add-bound s r =
+      let w = place-some (slots (tableOf disk512 n h t)) 34 (lastUsable disk512 n) size s r .1 .0 in
+      let m = open-facts n h t d e .most in
+      omega arith

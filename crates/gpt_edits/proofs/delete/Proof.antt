@@ -1,0 +1,47 @@
+use mathlib.Core.Path.{refl}
+use native.Mathlib.Omega.{arith}
+use denote.Ref.{now}
+use Rattle.gpt_edits.proofs.Outcomes.{open-facts, edit-made, delete-slot}
+use Rattle.gpt_model.specs.Calls.{delete}
+use Rattle.octets.specs.Bytes.{zeros}
+use borrow.Author.Needs.{needs}
+use Rattle.gpt_edits.proofs.delete.Statement.{statement}
+use Rattle.gpt_edits.proofs.delete.Tie as tie
+
+sub-put-both : tie.Need-sub-put-both
+sub-put-both c =
+    let a = c .before .before .before .before .args in
+    omega (arith, delete-slot (a .n) (now (a .head)) (now (a .tail)) (a .slot) (c .before .before .before .before .pre) .0)
+
+slice-aggregate-put-both : tie.Need-slice-aggregate-put-both
+slice-aggregate-put-both c = search needs
+
+put-both-requires : tie.Need-put-both-requires
+put-both-requires c κs =
+    let a = c .before .before .before .before .before .args in
+    let o = open-facts (a .n) (now (a .head)) (now (a .tail)) (delete (a .slot)) (c .before .before .before .before .before .pre) in
+    let k = delete-slot (a .n) (now (a .head)) (now (a .tail)) (a .slot) (c .before .before .before .before .before .pre) in
+    (o .head, o .tail, o .least, omega arith, search needs, o .same)
+
+same-length : tie.Need-same-length
+same-length c = search needs
+
+same-length-2 : tie.Need-same-length-2
+same-length-2 c = search needs
+
+returns : tie.Need-returns
+unfolding zeros
+returns c =
+    let a = c .before .before .before .before .before .before .before .before .before .before .args in
+    edit-made (a .n) (now (a .head)) (now (a .tail)) (delete (a .slot)) (c .before .before .before .before .before .before .before .before .before .before .pre) _ _ _ refl (c .before .before .before .before .put-both .ensures .0) (c .before .before .before .before .put-both .ensures .1)
+
+pub delete-spec : {M : Type 1} → statement M
+delete-spec =
+    tie.close
+    (tie.spec
+    sub-put-both
+    slice-aggregate-put-both
+    put-both-requires
+    same-length
+    same-length-2
+    returns)

@@ -1,0 +1,65 @@
+use native.Mathlib.Omega.{arith}
+use denote.Ref.{now}
+use Rattle.gpt_edits.proofs.Outcomes.{open-facts, edit-made, rename-slot, renamed-is}
+use Rattle.gpt_model.specs.Calls.{rename}
+use borrow.Author.Needs.{needs}
+use Rattle.gpt_edits.proofs.rename.Statement.{statement}
+use Rattle.gpt_edits.proofs.rename.Tie as tie
+
+sub-i : tie.Need-sub-i
+sub-i c =
+    let a = c .before .before .before .args in
+    omega (arith, rename-slot (a .n) (now (a .head)) (now (a .tail)) (a .slot) (now (a .name)) (c .before .before .before .pre) .0)
+
+entries-in-requires : tie.Need-entries-in-requires
+entries-in-requires c κs =
+    let a = c .before .before .before .before .args in
+    open-facts (a .n) (now (a .head)) (now (a .tail)) (rename (a .slot) (now (a .name))) (c .before .before .before .before .pre) .head
+
+entry-requires : tie.Need-entry-requires
+entry-requires c κs =
+    let a = c .before .before .before .before .before .args in
+    let k = rename-slot (a .n) (now (a .head)) (now (a .tail)) (a .slot) (now (a .name)) (c .before .before .before .before .before .pre) in
+    (omega arith, c .entries-in .ensures .1)
+
+renamed-requires : tie.Need-renamed-requires
+renamed-requires c κs =
+    let a = c .before .before .before .before .before .before .args in
+    (c .entry .ensures .1, rename-slot (a .n) (now (a .head)) (now (a .tail)) (a .slot) (now (a .name)) (c .before .before .before .before .before .before .pre) .2)
+
+slice-aggregate-put-both : tie.Need-slice-aggregate-put-both
+slice-aggregate-put-both c = search needs
+
+put-both-requires : tie.Need-put-both-requires
+put-both-requires c κs =
+    let a = c .before .before .before .before .before .before .before .before .before .before .args in
+    let o = open-facts (a .n) (now (a .head)) (now (a .tail)) (rename (a .slot) (now (a .name))) (c .before .before .before .before .before .before .before .before .before .before .pre) in
+    let k = rename-slot (a .n) (now (a .head)) (now (a .tail)) (a .slot) (now (a .name)) (c .before .before .before .before .before .before .before .before .before .before .pre) in
+    (o .head, o .tail, o .least, omega arith, c .before .before .before .renamed .ensures .1, o .same)
+
+same-length : tie.Need-same-length
+same-length c = search needs
+
+same-length-2 : tie.Need-same-length-2
+same-length-2 c = search needs
+
+returns : tie.Need-returns
+returns c =
+    let a = c .before .before .before .before .before .before .before .before .before .before .before .before .before .before .before .args in
+    edit-made (a .n) (now (a .head)) (now (a .tail)) (rename (a .slot) (now (a .name))) (c .before .before .before .before .before .before .before .before .before .before .before .before .before .before .before .pre) _ _ _
+    (renamed-is (a .n) (now (a .head)) (now (a .tail)) (a .slot) _ _ (c .before .before .before .before .before .before .before .before .before .before .entries-in .ensures .0) (c .before .before .before .before .before .before .before .before .before .entry .ensures .0) _ (now (a .name)) (c .before .before .before .before .before .before .before .before .renamed .ensures .0))
+    (c .before .before .before .before .put-both .ensures .0) (c .before .before .before .before .put-both .ensures .1)
+
+pub rename-spec : {M : Type 1} → statement M
+rename-spec =
+    tie.close
+    (tie.spec
+    sub-i
+    entries-in-requires
+    entry-requires
+    renamed-requires
+    slice-aggregate-put-both
+    put-both-requires
+    same-length
+    same-length-2
+    returns)

@@ -1,0 +1,97 @@
+// The writers of the calls that change a disk, where none of the call's rows of refusals holds: one entry in both copies, or one copy from the other.
+// An inner crate: no user calls it, so its functions may have a `requires`, which each caller meets.
+use gpt_copies::ENTRY;
+use gpt_copies::Side;
+use gpt_table::Block;
+ghost use mathlib.Core.Path.{_≡_};
+ghost use mathlib.Core.List.{[], _∷_};
+ghost use mathlib.Core.Option.{none, some};
+ghost use Prim.Native.Nat.{_*_, _≤_};
+ghost use lib.ListN.{length};
+ghost use Rattle.octets.specs.Rows.{refusal};
+ghost use Rattle.gpt_model.specs.Ranges.{place};
+ghost use Rattle.gpt_model.specs.Table.{slots};
+ghost use Rattle.gpt_model.specs.Disk.{disk512, lastUsable, primary, backup, lentBytes, guidIn, entriesIn, tableOf, withCopy};
+ghost use Rattle.gpt_model.specs.Calls.{accepted, out, step, rowsOf, edit, add as addCall, delete as deleteCall, resize as resizeCall, rename as renameCall};
+
+pub fn delete(head: &mut [u8], tail: &mut [u8], n: u64, slot: u64)
+    requires { ⌜ refusal (rowsOf disk512 n (now head) (now tail) (edit (deleteCall slot))) ≡ none ⌝ }
+    ensures { λ _. ⌜ out (accepted []) (now (head .exit)) (now (tail .exit)) ≡ step disk512 n (now (head .entry)) (now (tail .entry)) (edit (deleteCall slot)) ⌝ }
+{
+    let none = [0u8; ENTRY];
+    gpt_copies::writing::put_both(head, tail, n, (slot - 1) as usize, &none);
+}
+
+pub fn rename(head: &mut [u8], tail: &mut [u8], n: u64, slot: u64, name: &[u16])
+    requires { ⌜ refusal (rowsOf disk512 n (now head) (now tail) (edit (renameCall slot (now name)))) ≡ none ⌝ }
+    ensures { λ _. ⌜ out (accepted []) (now (head .exit)) (now (tail .exit)) ≡ step disk512 n (now (head .entry)) (now (tail .entry)) (edit (renameCall slot (now (name .entry)))) ⌝ }
+{
+    let i = (slot - 1) as usize;
+    let new = gpt_entry::renamed(
+        gpt_table::entry(gpt_copies::entries_in(&head[..], Side::Primary), i),
+        name,
+    );
+    gpt_copies::writing::put_both(head, tail, n, i, &new);
+}
+
+pub fn resize(head: &mut [u8], tail: &mut [u8], n: u64, slot: u64, size: u64)
+    requires { ⌜ refusal (rowsOf disk512 n (now head) (now tail) (edit (resizeCall slot size))) ≡ none ⌝ }
+    ensures { λ _. ⌜ out (accepted []) (now (head .exit)) (now (tail .exit)) ≡ step disk512 n (now (head .entry)) (now (tail .entry)) (edit (resizeCall slot size)) ⌝ }
+{
+    let i = (slot - 1) as usize;
+    let new = gpt_entry::resized(
+        gpt_table::entry(gpt_copies::entries_in(&head[..], Side::Primary), i),
+        size,
+    );
+    gpt_copies::writing::put_both(head, tail, n, i, &new);
+}
+
+// From a start with room; answers the slot that is taken.
+pub fn add(
+    head: &mut [u8],
+    tail: &mut [u8],
+    n: u64,
+    kind: &[u8],
+    unique: &[u8],
+    size: u64,
+    attributes: u64,
+    name: &[u16],
+    first: Block,
+) -> u64
+    requires { ⌜ (refusal (rowsOf disk512 n (now head) (now tail) (edit (addCall (now kind) (now unique) size attributes (now name)))) ≡ none)
+        × (place (slots (tableOf disk512 n (now head) (now tail))) (disk512 .first) (lastUsable disk512 n) size ≡ some (first .0)) ⌝ }
+    ensures { λ r. ⌜ out (accepted (r ∷ first .0 ∷ [])) (now (head .exit)) (now (tail .exit))
+        ≡ step disk512 n (now (head .entry)) (now (tail .entry)) (edit (addCall (now (kind .entry)) (now (unique .entry)) size attributes (now (name .entry)))) ⌝ }
+{
+    let i = gpt_table::first_unused(gpt_copies::entries_in(&head[..], Side::Primary));
+    let new = gpt_entry::added(kind, unique, first.0, size, attributes, name);
+    gpt_copies::writing::put_both(head, tail, n, i, &new);
+    i as u64 + 1
+}
+
+// Repair writes the other copy from the good one.
+pub fn repair_tail(head: &[u8], tail: &mut [u8], n: u64)
+    requires { ⌜ (length (now head) ≡ lentBytes disk512 primary) × (length (now tail) ≡ lentBytes disk512 backup) × (2 * disk512 .first ≤ n) ⌝ }
+    ensures { λ _. ⌜ now (tail .exit) ≡ withCopy disk512 n backup (guidIn disk512 primary (now (head .entry))) (entriesIn disk512 primary (now (head .entry))) (now (tail .entry)) ⌝ }
+{
+    gpt_copies::writing::put_copy(
+        tail,
+        Side::Backup,
+        n,
+        gpt_copies::guid_in(head, Side::Primary),
+        gpt_copies::entries_in(head, Side::Primary),
+    );
+}
+
+pub fn repair_head(head: &mut [u8], tail: &[u8], n: u64)
+    requires { ⌜ (length (now head) ≡ lentBytes disk512 primary) × (length (now tail) ≡ lentBytes disk512 backup) × (2 * disk512 .first ≤ n) ⌝ }
+    ensures { λ _. ⌜ now (head .exit) ≡ withCopy disk512 n primary (guidIn disk512 backup (now (tail .entry))) (entriesIn disk512 backup (now (tail .entry))) (now (head .entry)) ⌝ }
+{
+    gpt_copies::writing::put_copy(
+        head,
+        Side::Primary,
+        n,
+        gpt_copies::guid_in(tail, Side::Backup),
+        gpt_copies::entries_in(tail, Side::Backup),
+    );
+}

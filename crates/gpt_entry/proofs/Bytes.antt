@@ -1,0 +1,66 @@
+-- The bytes of an entry: a name written unit by unit, an entry written field by field.
+use mathlib.Core.Path.{_≡_, refl, sym, ap, _∙_}
+use mathlib.Core.List.{List, [], _∷_, _++_, append-assoc, append-nil}
+use Prim.Native.Nat.{ℕ, _+_, _-_, _*_, _≤_, _<_}
+use native.Mathlib.Numerals.{add-one}
+use native.Mathlib.Omega.{arith}
+use lib.ListN.{length, getD, take, replicate, length-replicate}
+use lib.Seq.{take-suc, take-all, length-take-le}
+use Rattle.octets.specs.Bytes.{le, put, zeros}
+use Rattle.octets.proofs.Puts.{length-put, put-all, then}
+use Rattle.gpt_model.specs.Table.{firstOf, nameBytes, entryWith}
+use Rattle.gpt_model.proofs.Fields.{length-name, length-new}
+
+name-snoc : (us : List ℕ) (u : ℕ) → nameBytes (us ++ (u ∷ [])) ≡ nameBytes us ++ le 2 u
+name-snoc [] u = append-nil (le 2 u)
+name-snoc (v ∷ us) u = ap (λ (l : List ℕ). le 2 v ++ l) (name-snoc us u) ∙ sym (append-assoc (le 2 v) (nameBytes us) (le 2 u))
+
+-- the first i units of the name stand in e
+pub record Named (e₀ name e : List ℕ) (i : ℕ) : Type 0 where
+  pub below : i ≤ 36
+  pub width : length e ≡ length e₀
+  pub units : e ≡ put 56 (nameBytes (take i name)) e₀
+
+module _ {e₀ name : List ℕ} where
+  pub named-none : Named e₀ name e₀ 0
+  unfolding put
+  named-none = record { below = omega arith; width = refl; units = refl }
+
+  pub named-on : {e e′ : List ℕ} {i : ℕ} → length name ≡ 36 → i < 36 → e′ ≡ put (56 + 2 * i) (le 2 (getD name i 0)) e → Named e₀ name e i → Named e₀ name e′ (i + 1)
+  named-on {e} {e′} {i} l h q p =
+      let k : i < length name = omega arith in
+      let m : 56 + length (nameBytes (take i name)) ≡ 56 + 2 * i =
+      ap (λ (x : ℕ). 56 + x) (length-name (take i name) ∙ ap (λ (x : ℕ). 2 * x) (length-take-le i name (omega arith))) in
+      record {
+        below = omega arith;
+        width = ap length q ∙ length-put _ _ _ ∙ p .width;
+        units =
+            then e₀ (nameBytes (take i name)) e (le 2 (getD name i 0)) e′ 56 (56 + 2 * i) (p .units) q m
+            ∙ ap (λ (x : List ℕ). put 56 x e₀) (sym (ap nameBytes (ap (λ (j : ℕ). take j name) (add-one i) ∙ take-suc name i 0 k) ∙ name-snoc (take i name) (getD name i 0)));
+      }
+
+  pub named-all : {e : List ℕ} {i : ℕ} → length name ≡ 36 → 36 ≤ i → Named e₀ name e i → e ≡ put 56 (nameBytes name) e₀
+  named-all {e} {i} l h p = p .units ∙ ap (λ (x : List ℕ). put 56 (nameBytes x) e₀) (take-all i name (omega arith))
+
+-- ---- an entry by value: all of another one copied, then one write; or the six fields of a new one
+
+pub one-write : (at : ℕ) (xs vs a b : List ℕ) → length xs ≡ 128 → a ≡ put 0 xs (replicate 128 0) → b ≡ put at vs a → (b ≡ put at vs xs) × (length b ≡ 128)
+one-write at xs vs a b l p q =
+    let e : a ≡ xs = p ∙ put-all xs (replicate 128 0) (l ∙ sym (length-replicate {A = ℕ} 128 0)) in
+    (q ∙ ap (put at vs) e, ap length q ∙ length-put at vs a ∙ ap length e ∙ l)
+
+-- E1: the last block of that many blocks from f on
+last-of : (f size : ℕ) → 0 < size → f + (size - 1) ≡ f + size - 1
+last-of f size h = omega arith
+
+pub resized-is : (xs : List ℕ) (size : ℕ) (a b : List ℕ) (f : ℕ) → length xs ≡ 128 → 0 < size → a ≡ put 0 xs (replicate 128 0) → f ≡ firstOf xs
+    → b ≡ put 40 (le 8 (f + (size - 1))) a → (b ≡ put 40 (le 8 (firstOf xs + size - 1)) xs) × (length b ≡ 128)
+resized-is xs size a b f l h p e q = one-write 40 xs (le 8 (firstOf xs + size - 1)) a b l p (q ∙ rw (last-of, e))
+
+pub six-writes : (type unique : List ℕ) (f size attributes : ℕ) (name a b c d e r : List ℕ) → 0 < size → a ≡ put 0 type (replicate 128 0) → b ≡ put 16 unique a
+    → c ≡ put 32 (le 8 f) b → d ≡ put 40 (le 8 (f + (size - 1))) c → e ≡ put 48 (le 8 attributes) d → r ≡ put 56 (nameBytes name) e
+    → (r ≡ entryWith type unique f (f + size - 1) attributes name) × (length r ≡ 128)
+unfolding zeros
+six-writes type unique f size attributes name a b c d e r h p q s t u v =
+    let w : r ≡ entryWith type unique f (f + size - 1) attributes name = v ∙ rw (u, t, last-of, s, q, p) in
+    (w, ap length w ∙ length-new type unique f (f + size - 1) attributes name)

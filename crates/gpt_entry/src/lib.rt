@@ -1,0 +1,79 @@
+// The 128 bytes of the one entry that an edit writes: of a new partition, or of one with another size or name.
+// An inner crate: no user calls it, so its functions may have a `requires`, which each caller meets.
+use gpt_table::FIRST_AT;
+use gpt_table::LAST_AT;
+use gpt_table::UNIQUE_AT;
+ghost use mathlib.Core.Path.{_≡_};
+ghost use Prim.Native.Nat.{_+_, _-_, _<_};
+ghost use lib.ListN.{length};
+ghost use Rattle.octets.specs.Bytes.{le, put};
+ghost use Rattle.gpt_model.specs.Table.{entryBytes, firstOf, nameBytes, entryWith};
+
+// D1: entry size 128
+const ENTRY: usize = 128;
+
+// D5: attributes 48, name 56 as 36 16-bit units.
+const ATTRIBUTES_AT: usize = 48;
+
+const NAME_AT: usize = 56;
+
+const NAME_UNITS: usize = 36;
+
+fn put_name(e: &mut [u8], name: &[u16])
+    requires { ⌜ (length (now e) ≡ entryBytes) × (length (now name) ≡ 36) ⌝ }
+    ensures { λ _. ⌜ now (e .exit) ≡ put 56 (nameBytes (now (name .entry))) (now (e .entry)) ⌝ }
+{
+    let mut i = 0;
+    while i < NAME_UNITS {
+        octets::store16(e, NAME_AT + 2 * i, name[i]);
+        i += 1;
+    }
+}
+
+// A new partition of that size from block `first` on.
+pub fn added(
+    kind: &[u8],
+    unique: &[u8],
+    first: u64,
+    size: u64,
+    attributes: u64,
+    name: &[u16],
+) -> [u8; ENTRY]
+    requires { ⌜ (length (now kind) ≡ 16) × (length (now unique) ≡ 16) × (length (now name) ≡ 36) × (0 < size) × (first + size < 18446744073709551616) ⌝ }
+    ensures { λ r. ⌜ (r ≡ entryWith (now (kind .entry)) (now (unique .entry)) first (first + size - 1) attributes (now (name .entry))) × (length r ≡ entryBytes) ⌝ }
+{
+    let mut e = [0u8; ENTRY];
+    octets::copy(&mut e, 0, kind);
+    octets::copy(&mut e, UNIQUE_AT, unique);
+    octets::store64(&mut e, FIRST_AT, first);
+    octets::store64(&mut e, LAST_AT, first + (size - 1));
+    octets::store64(&mut e, ATTRIBUTES_AT, attributes);
+    put_name(&mut e, name);
+    e
+}
+
+// The entry with the last block that the size asks for.
+pub fn resized(entry: &[u8], size: u64) -> [u8; ENTRY]
+    requires { ⌜ (length (now entry) ≡ entryBytes) × (0 < size) × (firstOf (now entry) + size < 18446744073709551616) ⌝ }
+    ensures { λ r. ⌜ (r ≡ put 40 (le 8 (firstOf (now (entry .entry)) + size - 1)) (now (entry .entry))) × (length r ≡ entryBytes) ⌝ }
+{
+    let mut e = [0u8; ENTRY];
+    octets::copy(&mut e, 0, entry);
+    octets::store64(
+        &mut e,
+        LAST_AT,
+        octets::load64(entry, FIRST_AT) + (size - 1),
+    );
+    e
+}
+
+// The entry with another name.
+pub fn renamed(entry: &[u8], name: &[u16]) -> [u8; ENTRY]
+    requires { ⌜ (length (now entry) ≡ entryBytes) × (length (now name) ≡ 36) ⌝ }
+    ensures { λ r. ⌜ (r ≡ put 56 (nameBytes (now (name .entry))) (now (entry .entry))) × (length r ≡ entryBytes) ⌝ }
+{
+    let mut e = [0u8; ENTRY];
+    octets::copy(&mut e, 0, entry);
+    put_name(&mut e, name);
+    e
+}

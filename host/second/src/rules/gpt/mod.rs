@@ -1,0 +1,318 @@
+mod operands;
+
+pub use operands::*;
+
+use super::Row;
+
+/// How the sums over calls and replies go.
+#[derive(Clone, Copy, Debug)]
+pub struct LedgerRules {
+    /// D19: one claim about the whole list, not one for each call.
+    pub whole_list: bool,
+    /// D20: the list follows an accepted formatting.
+    pub starts_at_formatting: bool,
+    /// D22: an accepted add grants the size asked and this.
+    pub add_grants_besides: u64,
+    /// D22: a delete gives back the size last accepted, not the one granted first.
+    pub delete_gives_last_size: bool,
+    /// D22: a resize grants or gives back the difference, not the size asked.
+    pub resize_by_difference: bool,
+    /// D22: rename, repair and refused calls grant nothing.
+    pub rename_grants: u64,
+    pub repair_grants: u64,
+    pub refusal_grants: u64,
+}
+
+/// The disk: Q1 to Q3, R25 to R30, D1 to D24.
+#[derive(Clone, Copy, Debug)]
+pub struct GptRules {
+    /// Q1.
+    pub block_len: usize,
+    /// Q2.
+    pub n_min: u64,
+    pub n_max: u64,
+    /// Q3.
+    pub head_len: usize,
+    pub tail_len: usize,
+    pub tail_start: Place,
+    /// Q6.
+    pub little_endian: bool,
+    /// R4, D15: lengths of the other lent buffers.
+    pub disk_guid_len: usize,
+    pub kind_len: usize,
+    pub unique_len: usize,
+    pub name_units: usize,
+
+    /// R25 to R30.
+    pub format_order: &'static [Row],
+    pub read_order: &'static [Row],
+    pub table_order: &'static [Row],
+    pub free_order: &'static [Row],
+    pub repair_order: &'static [Row],
+    pub add_order: &'static [Row],
+    pub delete_order: &'static [Row],
+    pub rename_order: &'static [Row],
+    pub resize_order: &'static [Row],
+
+    /// R6: so many bytes decide whether the disk GUID is zero.
+    pub zero_disk_guid_len: usize,
+    /// R9.
+    pub slot_min: u64,
+    pub slot_max: u64,
+    /// R9: the number of the first slot.
+    pub slot_base: u64,
+    /// R10: sizes below this are refused.
+    pub size_min: u64,
+    /// R11.
+    pub zero_kind_len: usize,
+    pub zero_unique_refused: bool,
+    pub taken_unique_refused: bool,
+    /// R12: so many units are judged, each as a whole, not by its low byte.
+    pub name_judged_units: usize,
+    pub name_unit_mask: u16,
+    /// R13: what must be at least the size.
+    pub room: Longest,
+
+    /// D1.
+    pub header_len: usize,
+    pub header: [Field; 14],
+    pub count: usize,
+    pub entry_len: usize,
+    /// D1: "all 16,384 entry bytes".
+    pub entries_crc_len: usize,
+    /// D2.
+    pub primary: CopyPlace,
+    pub backup: CopyPlace,
+    /// D4.
+    pub header_crc_len: usize,
+    pub header_crc_own_byte: u8,
+    /// D5.
+    pub entry: EntryFields,
+    /// D5, E1: how far the stored last block lies past the last one of the partition.
+    pub last_past: u64,
+    /// D6.
+    pub unused_len: usize,
+    /// D7.
+    pub entry_first_min: Place,
+    pub entry_last_max: Place,
+    pub first_at_most_last: bool,
+    pub zero_kind_bad: bool,
+    pub zero_unique_bad: bool,
+    pub uniques_differ: bool,
+    pub ranges_disjoint: bool,
+    /// D8.
+    pub entry_rules_judged: bool,
+    /// D9.
+    pub also_judged: Option<Unjudged>,
+    /// D10.
+    pub states: [u64; 4],
+    pub same_disk_guid: bool,
+    pub same_entries_len: usize,
+    pub same_header_tails: bool,
+    pub different_uses: Which,
+    /// D11: the answers for head and tail; `None` stands for the copy that reading uses.
+    pub table_in: [u64; 2],
+    pub table_of: Option<Which>,
+    /// D12.
+    pub longest: Longest,
+    /// D13.
+    pub block_0: [Field; 7],
+    /// D14.
+    pub format_tail_byte: u8,
+    /// D15.
+    pub slot: Slot,
+    pub start: Start,
+    /// D16.
+    pub delete_zeroes: usize,
+    /// D17: units written, and whether a zero one ends them.
+    pub rename_units: usize,
+    pub rename_stops_at_zero: bool,
+    /// D18.
+    pub resize_last_less: u64,
+    pub resize_last_max: Place,
+    pub resize_judges_others: bool,
+    pub resize_zeroes_attributes: bool,
+    /// D21.
+    pub usable_first: Place,
+    pub usable_last: Place,
+    pub free_of: Option<Which>,
+    /// D23.
+    pub edit_slip: Option<EditSlip>,
+    /// D24: whether state 1 is written too.
+    pub repair_rewrites_same: bool,
+    pub repair_from: Which,
+    pub repair_tail: Tail,
+    pub repair_writes_block_0: bool,
+    pub repair_takes_disk_guid: bool,
+    /// R3: repair answers the state found, add the first block.
+    pub repair_answers_found: bool,
+    pub add_answers_first: bool,
+    /// E2.
+    pub backup_header_copied: bool,
+    pub ledger: LedgerRules,
+}
+
+const fn field(at: usize, len: usize, holds: Holds) -> Field {
+    Field { at, len, holds, judged: true }
+}
+
+const fn unjudged(at: usize, len: usize, holds: Holds) -> Field {
+    Field { at, len, holds, judged: false }
+}
+
+pub const GPT: GptRules = GptRules {
+    block_len: 512,
+    n_min: 68,
+    n_max: 4_294_967_296,
+    head_len: 17_408,
+    tail_len: 16_896,
+    tail_start: Place::FromEnd(33),
+    little_endian: true,
+    disk_guid_len: 16,
+    kind_len: 16,
+    unique_len: 16,
+    name_units: 36,
+
+    format_order: &[Row::WrongLength, Row::BadBlockCount, Row::ZeroDiskGuid],
+    read_order: &[Row::WrongLength, Row::BadBlockCount, Row::NoGoodCopy],
+    table_order: &[Row::WrongLength, Row::BadBlockCount, Row::NoGoodCopy],
+    free_order: &[Row::WrongLength, Row::BadBlockCount, Row::NoGoodCopy],
+    repair_order: &[Row::WrongLength, Row::BadBlockCount, Row::NoGoodCopy],
+    add_order: &[
+        Row::WrongLength,
+        Row::BadBlockCount,
+        Row::NoGoodCopy,
+        Row::NotSame,
+        Row::ZeroSize,
+        Row::ZeroType,
+        Row::UniqueTaken,
+        Row::BadName,
+        Row::NoSlot,
+        Row::NoRoom,
+    ],
+    delete_order: &[
+        Row::WrongLength,
+        Row::BadBlockCount,
+        Row::NoGoodCopy,
+        Row::NotSame,
+        Row::NoSuchSlot,
+        Row::UnusedSlot,
+    ],
+    rename_order: &[
+        Row::WrongLength,
+        Row::BadBlockCount,
+        Row::NoGoodCopy,
+        Row::NotSame,
+        Row::NoSuchSlot,
+        Row::UnusedSlot,
+        Row::BadName,
+    ],
+    resize_order: &[
+        Row::WrongLength,
+        Row::BadBlockCount,
+        Row::NoGoodCopy,
+        Row::NotSame,
+        Row::NoSuchSlot,
+        Row::UnusedSlot,
+        Row::ZeroSize,
+        Row::NoRoom,
+    ],
+
+    zero_disk_guid_len: 16,
+    slot_min: 1,
+    slot_max: 128,
+    slot_base: 1,
+    size_min: 1,
+    zero_kind_len: 16,
+    zero_unique_refused: true,
+    taken_unique_refused: true,
+    name_judged_units: 36,
+    name_unit_mask: 0xFFFF,
+    room: Longest::Run,
+
+    header_len: 92,
+    header: [
+        field(0, 8, Holds::Bytes(b"EFI PART")),
+        field(8, 4, Holds::Bytes(&[0, 0, 1, 0])),
+        field(12, 4, Holds::Number(92)),
+        field(16, 4, Holds::HeaderCrc),
+        field(20, 4, Holds::Number(0)),
+        field(24, 8, Holds::OwnBlock),
+        field(32, 8, Holds::OtherBlock),
+        field(40, 8, Holds::Block(Place::FromStart(34))),
+        field(48, 8, Holds::Block(Place::FromEnd(34))),
+        unjudged(56, 16, Holds::DiskGuid),
+        field(72, 8, Holds::EntriesBlock),
+        field(80, 4, Holds::Number(128)),
+        field(84, 4, Holds::Number(128)),
+        field(88, 4, Holds::EntriesCrc),
+    ],
+    count: 128,
+    entry_len: 128,
+    entries_crc_len: 16_384,
+    primary: CopyPlace { header: Place::FromStart(1), entries: Place::FromStart(2) },
+    backup: CopyPlace { header: Place::FromEnd(1), entries: Place::FromEnd(33) },
+    header_crc_len: 92,
+    header_crc_own_byte: 0,
+    entry: EntryFields { kind: 0, unique: 16, first: 32, last: 40, attributes: 48, name: 56 },
+    last_past: 0,
+    unused_len: 128,
+    entry_first_min: Place::FromStart(34),
+    entry_last_max: Place::FromEnd(34),
+    first_at_most_last: true,
+    zero_kind_bad: true,
+    zero_unique_bad: true,
+    uniques_differ: true,
+    ranges_disjoint: true,
+    entry_rules_judged: true,
+    also_judged: None,
+    states: [1, 2, 3, 4],
+    same_disk_guid: true,
+    same_entries_len: 16_384,
+    same_header_tails: false,
+    different_uses: Which::Primary,
+    table_in: [0, 1],
+    table_of: None,
+    longest: Longest::Run,
+    block_0: [
+        unjudged(446, 1, Holds::Number(0)),
+        unjudged(447, 3, Holds::Bytes(&[0x00, 0x02, 0x00])),
+        unjudged(450, 1, Holds::Number(0xEE)),
+        unjudged(451, 3, Holds::Bytes(&[0xFF, 0xFF, 0xFF])),
+        unjudged(454, 4, Holds::Number(1)),
+        unjudged(458, 4, Holds::Block(Place::FromEnd(1))),
+        unjudged(510, 2, Holds::Bytes(&[0x55, 0xAA])),
+    ],
+    format_tail_byte: 0,
+    slot: Slot::LowestUnused,
+    start: Start::Lowest,
+    delete_zeroes: 128,
+    rename_units: 36,
+    rename_stops_at_zero: false,
+    resize_last_less: 1,
+    resize_last_max: Place::FromEnd(34),
+    resize_judges_others: true,
+    resize_zeroes_attributes: false,
+    usable_first: Place::FromStart(34),
+    usable_last: Place::FromEnd(34),
+    free_of: None,
+    edit_slip: None,
+    repair_rewrites_same: false,
+    repair_from: Which::Primary,
+    repair_tail: Tail::Zero,
+    repair_writes_block_0: false,
+    repair_takes_disk_guid: true,
+    repair_answers_found: true,
+    add_answers_first: true,
+    backup_header_copied: false,
+    ledger: LedgerRules {
+        whole_list: true,
+        starts_at_formatting: true,
+        add_grants_besides: 0,
+        delete_gives_last_size: true,
+        resize_by_difference: true,
+        rename_grants: 0,
+        repair_grants: 0,
+        refusal_grants: 0,
+    },
+};

@@ -1,0 +1,183 @@
+//! What an implementation of the disk calls is held to: the fixtures, and other tools on the same disks.
+
+mod edits;
+mod peers;
+
+pub use edits::*;
+pub use peers::*;
+
+use crate::disk::{Disk, HEAD_LEN, TAIL_LEN};
+use crate::edit::Edit;
+use crate::fixture;
+use crate::listing::{Free, Partition};
+use crate::random::Random;
+
+/// The calls of an implementation; GUIDs are texts, and an error is the refusal's number.
+pub struct Calls {
+    pub crc32: fn(&[u8]) -> u32,
+    pub format: fn(&mut Disk, &str) -> Result<(), u32>,
+    pub state: fn(&Disk) -> Result<u64, u32>,
+    /// The used entries.
+    pub rows: fn(&Disk) -> Result<Vec<Partition>, u32>,
+    pub free: fn(&Disk) -> Result<Free, u32>,
+    /// Answers the slot.
+    pub add: fn(&mut Disk, &New) -> Result<u64, u32>,
+    pub delete: fn(&mut Disk, u64) -> Result<(), u32>,
+    pub rename: fn(&mut Disk, u64, &str) -> Result<(), u32>,
+    pub resize: fn(&mut Disk, u64, u64) -> Result<(), u32>,
+    /// Answers the state found.
+    pub repair: fn(&mut Disk) -> Result<u64, u32>,
+}
+
+/// A partition to add.
+pub struct New<'a> {
+    /// A short type name too.
+    pub kind: &'a str,
+    pub unique: &'a str,
+    pub size: u64,
+    pub attributes: u64,
+    pub name: &'a str,
+}
+
+/// The tests of an implementation's disk calls.
+#[macro_export]
+macro_rules! disk_tests {
+    ($calls:expr) => {
+        $crate::tests!(
+            disk_calls,
+            $calls,
+            [
+                fixtures_read_as_their_tool_said,
+                sgdisk_lists_the_same,
+                sfdisk_lists_the_same,
+                cgpt_lists_the_same,
+                cgpt_lists_the_same_at_a_glance,
+                sgdisk_finds_no_problem,
+                sfdisk_finds_no_error,
+                sfdisk_formats_to_the_same_bytes,
+                sgdisk_counts_the_same_free_blocks,
+                sfdisk_counts_the_same_free_blocks,
+                cgpt_repairs_to_the_same_bytes,
+                cgpt_repairs_without_the_rest_of_the_header_block,
+                sgdisk_makes_the_same_bytes,
+                sfdisk_makes_the_same_bytes,
+                cgpt_makes_the_same_bytes,
+                cgpt_differs_as_listed,
+                sgdisk_starts_at_the_longest_run,
+                sfdisk_starts_after_the_last_partition,
+                sgdisk_refuses_the_same,
+                sfdisk_refuses_the_same,
+                cgpt_refuses_the_same,
+            ]
+        );
+    };
+}
+
+const DISK_GUID: &str = "77777777-7777-7777-7777-777777777777";
+const NAMES: [&str; 7] =
+    ["", "boot", "Größe 3½", "a", "EFI System", "äöü€", "thirty-six units are in this name..."];
+const KINDS: [&str; 6] = ["system", "msft", "data", "linux", "swap", "FE3A2A5D-4F32-41A7-B725-ACCC3285A309"];
+
+impl Calls {
+    fn formatted(&self, n: u64, guid: &str) -> Disk {
+        let mut disk = Disk { head: vec![0x5A; HEAD_LEN], tail: vec![0x5A; TAIL_LEN], n };
+        (self.format)(&mut disk, guid).expect("an empty table");
+        disk
+    }
+
+    fn table(&self, disk: &Disk) -> Vec<Partition> {
+        (self.rows)(disk).expect("a table")
+    }
+
+    fn row_of(&self, disk: &Disk, slot: u64) -> Partition {
+        self.table(disk).into_iter().find(|row| row.slot == slot).expect("a used slot")
+    }
+
+    fn add_drawn(&self, disk: &mut Disk, size: u64, random: &mut Random) -> Option<Edit> {
+        let kind = random.pick(&KINDS);
+        let unique = guid_text(&random.bytes(16));
+        let attributes = random.number() & random.pick(&[0, 0xFFFF_0000_0000_0005, u64::MAX]);
+        let name = random.pick(&NAMES);
+        let slot = (self.add)(disk, &New { kind, unique: &unique, size, attributes, name }).ok()?;
+        Some(Edit::Add(self.row_of(disk, slot)))
+    }
+
+    fn delete_used(&self, disk: &mut Disk, slot: u64) -> Edit {
+        (self.delete)(disk, slot).expect("a used slot");
+        Edit::Delete(slot)
+    }
+
+    fn rename_used(&self, disk: &mut Disk, slot: u64, name: &str) -> Edit {
+        (self.rename)(disk, slot, name).expect("a used slot");
+        Edit::Rename(slot, name.to_string())
+    }
+
+    fn resize_used(&self, disk: &mut Disk, slot: u64, size: u64) -> Option<Edit> {
+        (self.resize)(disk, slot, size).ok()?;
+        Some(Edit::Resize(self.row_of(disk, slot)))
+    }
+
+    /// An edit that is accepted and that the tool makes likewise.
+    fn edit(&self, disk: &mut Disk, random: &mut Random, likewise: impl Fn(&Disk, &Edit) -> bool) -> Edit {
+        loop {
+            let mut after = disk.clone();
+            match self.drawn(&mut after, random) {
+                Some(edit) if likewise(disk, &edit) => {
+                    *disk = after;
+                    return edit;
+                }
+                _ => {}
+            }
+        }
+    }
+
+    fn drawn(&self, disk: &mut Disk, random: &mut Random) -> Option<Edit> {
+        let used = self.table(disk);
+        let bound = random.pick(&[3, 40, disk.n / 3]);
+        let size = 1 + random.number_below(bound);
+        let choice = if used.is_empty() { 0 } else { random.below(6) };
+        let slot = if choice == 0 { 0 } else { used[random.below(used.len())].slot };
+        match choice {
+            0..=2 => self.add_drawn(disk, size, random),
+            3 => Some(self.delete_used(disk, slot)),
+            4 => Some(self.rename_used(disk, slot, random.pick(&NAMES))),
+            _ => self.resize_used(disk, slot, size),
+        }
+    }
+
+    /// Changes a byte of a used entry, in both copies, and makes the CRCs right again.
+    fn change(&self, disk: &mut Disk, at: usize) {
+        disk.head[1024 + at] ^= 1;
+        disk.tail[at] ^= 1;
+        let entries = (self.crc32)(&disk.tail[..16_384]);
+        for header in [&mut disk.head[512..1024], &mut disk.tail[16_384..]] {
+            header[88..92].copy_from_slice(&entries.to_le_bytes());
+            header[16..20].fill(0);
+            let sum = (self.crc32)(&header[..92]);
+            header[16..20].copy_from_slice(&sum.to_le_bytes());
+        }
+    }
+}
+
+/// The text of some GUID.
+fn guid_text(bytes: &[u8]) -> String {
+    let hex: String = bytes.iter().map(|byte| format!("{byte:02X}")).collect();
+    [&hex[..8], &hex[8..12], &hex[12..16], &hex[16..20], &hex[20..]].join("-")
+}
+
+/// Disks that other tools made are read in the state and with the partitions that the tool told.
+pub fn fixtures_read_as_their_tool_said(calls: &Calls) {
+    let mut states = Vec::new();
+    for path in fixture::files("gpt", "disk") {
+        let fixture = fixture::disk(&path).expect("a fixture");
+        let name = path.display();
+        assert_eq!((calls.state)(&fixture.disk), fixture.reads_as, "{name}");
+        let told = fixture.reads_as.map(|_| fixture.partitions);
+        assert_eq!((calls.rows)(&fixture.disk), told, "{name}");
+        states.push(fixture.reads_as);
+    }
+    states.sort();
+    states.dedup();
+    // All states, and the refusal of another first usable block.
+    assert_eq!(states, [Ok(1), Ok(2), Ok(3), Ok(4), Err(10)]);
+}
