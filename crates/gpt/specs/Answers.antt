@@ -68,7 +68,7 @@ abbrev pub countedOf : Counted → Answer
 countedOf (counting.Free blocks longest) = accepted (blocks ∷ longest ∷ [])
 countedOf (counting.Refused r) = refused (numberOf r)
 
--- W9: the part of head or tail that reading hands back: its bytes, and where it begins
+-- (W9) the part of head or tail that reading hands back: its bytes, and where it begins
 pub record Part : Type 0 where
   pub bytes : List ℕ
   pub place : ℕ × ℕ

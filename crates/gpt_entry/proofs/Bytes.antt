@@ -49,7 +49,7 @@ one-write at xs vs a b l p q =
     let e : a ≡ xs = p ∙ put-all xs (replicate 128 0) (l ∙ sym (length-replicate {A = ℕ} 128 0)) in
     (q ∙ ap (put at vs) e, ap length q ∙ length-put at vs a ∙ ap length e ∙ l)
 
--- E1: the last block of that many blocks from f on
+-- (E1) the last block of that many blocks from f on
 last-of : (f size : ℕ) → 0 < size → f + (size - 1) ≡ f + size - 1
 last-of f size h = omega arith
 

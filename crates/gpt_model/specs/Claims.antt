@@ -105,7 +105,7 @@ EditTouches =
     → Outside (headerAt g side + 16) 4 k → Outside (headerAt g side + 88) 4 k
     → getD (lent side (o .head) (o .tail)) k 0 ≡ getD (lent side h t) k 0)
 
--- D18: a resize to the present size is accepted and changes no byte, where the head's list holds bytes; the copies are both good and the same, and the slot is used
+-- (D18) a resize to the present size is accepted and changes no byte, where the head's list holds bytes; the copies are both good and the same, and the slot is used
 abbrev pub ResizeToSame : Type 0
 ResizeToSame =
     (g : Shape) (n : ℕ) (h t : List ℕ) (k : ℕ) → headerBytes ≤ g .block → ((i : ℕ) → getD h i 0 < 256) → refusal (rowsOf g n h t (edit (delete k))) ≡ none
