@@ -1,22 +1,41 @@
 -- Laws of what C is told of a GPT call.
 use mathlib.Core.Path.{_≡_, refl, sym, ap, ap₂, _∙_}
-use mathlib.Core.List.{List, [], _∷_}
+use mathlib.Core.List.{List, []}
 use Prim.Native.Nat.{ℕ}
 use native.Mathlib.Omega.{arith}
 use Rattle.gpt_model.specs.Calls.{Answer, refused, accepted, Out, out}
-use Rattle.gpt.specs.Answers.{numberOf, doneOf, readingOf}
+use Rattle.gpt.specs.Answers.{doneOf, readingOf}
 use Rattle.gpt.specs.declared.Done.{Done}
 use Rattle.gpt.specs.declared.Done.the-variants as done
 use Rattle.gpt.specs.declared.Reading.{Reading}
-use Rattle.gpt.specs.declared.Reading.the-variants as reading
-use Rattle.gpt.specs.declared.Refusal.{Refusal}
 use Rattle.gpt.specs.declared.Refusal.the-variants.{WrongLength, BlockCount, NoDiskGuid, NeitherGood, NotTheSame, NoSuchSlot, SlotUnused, NoSize, NoType, NoUniqueGuid, BadName, NoUnusedSlot, NoRoom}
-use Rattle.c_disk.specs.Told.{GptTold, resultOf, valuesOf, gptTold, placeOf, placed, NoRefusalIsZero}
+use Rattle.c_disk.specs.Told.{GptTold, resultOf, valuesOf, gptTold, placeOf, NoRefusalIsZero}
 
 -- an answer a told by its number and values, with the buffers that the call left
 pub gpt-tells : (a : Answer) (r : ℕ) (old new h t : List ℕ) (o : Out) → out a h t ≡ o → r ≡ resultOf a → new ≡ valuesOf old a
     → _≡_ {A = GptTold} (record { result = r; head = h; tail = t; values = new }) (gptTold old o)
 gpt-tells a r old new h t o e p q = ap₂ (λ (k : ℕ) (vs : List ℕ). record { result = k; head = h; tail = t; values = vs }) p q ∙ ap (gptTold old) e
+
+-- the same for an answer without values
+pub gpt-tells-done : (d : Done) (r : ℕ) (h t : List ℕ) (o : Out) → out (doneOf d) h t ≡ o → r ≡ resultOf (doneOf d)
+    → _≡_ {A = GptTold} (record { result = r; head = h; tail = t; values = [] }) (gptTold [] o)
+gpt-tells-done d r h t o e q = gpt-tells (doneOf d) r [] [] h t o e q (none-told d)
+  where
+    none-told : (d : Done) → _≡_ {A = List ℕ} [] (valuesOf [] (doneOf d))
+    none-told done.Accepted = refl
+    none-told (done.Refused k) = refl
+
+-- a refused answer a, by its number k
+pub gpt-refused : (a : Answer) (k r : ℕ) (old : List ℕ) → a ≡ refused k → r ≡ k → (r ≡ resultOf a) × (old ≡ valuesOf old a)
+gpt-refused a k r old e q = (q ∙ ap resultOf (sym e), ap (valuesOf old) (sym e))
+
+-- an accepted answer a, by its values
+pub gpt-accepted : (a : Answer) (old vs : List ℕ) → a ≡ accepted vs → (0 ≡ resultOf a) × (vs ≡ valuesOf old a)
+gpt-accepted a old vs e = (ap resultOf (sym e), ap (valuesOf old) (sym e))
+
+-- where the entries begin, by a reading
+abbrev pub placeBy : Reading → Answer
+placeBy r = placeOf (readingOf r)
 
 pub no-refusal-is-zero : NoRefusalIsZero
 no-refusal-is-zero WrongLength e = omega arith
@@ -32,33 +51,3 @@ no-refusal-is-zero NoUniqueGuid e = omega arith
 no-refusal-is-zero BadName e = omega arith
 no-refusal-is-zero NoUnusedSlot e = omega arith
 no-refusal-is-zero NoRoom e = omega arith
-
--- a refused answer a, by its number k
-pub gpt-refused : (a : Answer) (k r : ℕ) (old : List ℕ) → a ≡ refused k → r ≡ k → (r ≡ resultOf a) × (old ≡ valuesOf old a)
-gpt-refused a k r old e q = (q ∙ ap resultOf (sym e), ap (valuesOf old) (sym e))
-
--- the same for an answer without values
-pub gpt-tells-done : (d : Done) (r : ℕ) (h t : List ℕ) (o : Out) → out (doneOf d) h t ≡ o → r ≡ resultOf (doneOf d)
-    → _≡_ {A = GptTold} (record { result = r; head = h; tail = t; values = [] }) (gptTold [] o)
-gpt-tells-done d r h t o e q = gpt-tells (doneOf d) r [] [] h t o e q (none-told d)
-  where
-    none-told : (d : Done) → _≡_ {A = List ℕ} [] (valuesOf [] (doneOf d))
-    none-told done.Accepted = refl
-    none-told (done.Refused k) = refl
-
--- an accepted answer a, by its values
-pub gpt-accepted : (a : Answer) (old vs : List ℕ) → a ≡ accepted vs → (0 ≡ resultOf a) × (vs ≡ valuesOf old a)
-gpt-accepted a old vs e = (ap resultOf (sym e), ap (valuesOf old) (sym e))
-
--- where the entries begin, by the reading r
-pub placed-refused : (r : Reading) (q : Refusal) (k : ℕ) (old : List ℕ) → r ≡ reading.Refused q → k ≡ numberOf q
-    → (k ≡ resultOf (placeOf (readingOf r))) × (old ≡ valuesOf old (placeOf (readingOf r)))
-placed-refused r q k old e f = gpt-refused _ (numberOf q) k old (ap (λ (x : Reading). placeOf (readingOf x)) e) f
-
-pub placed-head : (r s : Reading) (old : List ℕ) → r ≡ s → placeOf (readingOf s) ≡ accepted (0 ∷ 1024 ∷ [])
-    → (0 ≡ resultOf (placeOf (readingOf r))) × ((0 ∷ 1024 ∷ []) ≡ valuesOf old (placeOf (readingOf r)))
-placed-head r s old e f = gpt-accepted _ old (0 ∷ 1024 ∷ []) (ap (λ (x : Reading). placeOf (readingOf x)) e ∙ f)
-
-pub placed-tail : (r : Reading) (old : List ℕ) → r ≡ reading.BackupOnly
-    → (0 ≡ resultOf (placeOf (readingOf r))) × ((1 ∷ 0 ∷ []) ≡ valuesOf old (placeOf (readingOf r)))
-placed-tail r old e = gpt-accepted _ old (1 ∷ 0 ∷ []) (ap (λ (x : Reading). placeOf (readingOf x)) e)

@@ -1,6 +1,5 @@
-use Rattle.c_disk.proofs.Told.{placed-refused, placed-head, placed-tail}
-use Rattle.gpt.specs.declared.Reading.the-variants.{Same, Different, PrimaryOnly}
-use mathlib.Core.Path.{refl}
+use Rattle.c_disk.proofs.Told.{gpt-refused, gpt-accepted, placeBy}
+use mathlib.Core.Path.{ap}
 use borrow.Author.Needs.{needs}
 use Rattle.c_disk.proofs.place.Statement.{statement}
 use Rattle.c_disk.proofs.place.Tie as tie
@@ -24,19 +23,19 @@ number-requires : tie.Need-number-requires
 number-requires c κs = search needs
 
 returns : tie.Need-returns
-returns c = placed-head _ Same _ (c .enum-told .given .1) refl
+returns c = gpt-accepted _ _ _ (ap placeBy (c .enum-told .given .1))
 
 returns-2 : tie.Need-returns-2
-returns-2 c = placed-head _ Different _ (c .enum-told2 .given .1) refl
+returns-2 c = gpt-accepted _ _ _ (ap placeBy (c .enum-told2 .given .1))
 
 returns-3 : tie.Need-returns-3
-returns-3 c = placed-head _ PrimaryOnly _ (c .enum-told3 .given .1) refl
+returns-3 c = gpt-accepted _ _ _ (ap placeBy (c .enum-told3 .given .1))
 
 returns-4 : tie.Need-returns-4
-returns-4 c = placed-tail _ _ (c .enum-told4 .given .1)
+returns-4 c = gpt-accepted _ _ _ (ap placeBy (c .enum-told4 .given .1))
 
 returns-5 : tie.Need-returns-5
-returns-5 c = placed-refused _ _ _ _ (c .before .before .a .given .1) (c .number .ensures)
+returns-5 c = gpt-refused _ _ _ _ (ap placeBy (c .before .before .a .given .1)) (c .number .ensures)
 
 pub place-spec : {M : Type 1} → statement M
 place-spec =

@@ -1,4 +1,4 @@
-use Rattle.c_disk.proofs.Told.{gpt-refused}
+use Rattle.c_disk.proofs.Told.{gpt-refused, gpt-accepted}
 use Rattle.gpt.specs.Answers.{readingOf}
 use mathlib.Core.Path.{ap}
 use borrow.Author.Needs.{needs}
@@ -24,16 +24,16 @@ number-requires : tie.Need-number-requires
 number-requires c κs = search needs
 
 returns : tie.Need-returns
-returns c = search needs
+returns c = gpt-accepted _ _ _ (ap readingOf (c .enum-told .given .1))
 
 returns-2 : tie.Need-returns-2
-returns-2 c = search needs
+returns-2 c = gpt-accepted _ _ _ (ap readingOf (c .enum-told2 .given .1))
 
 returns-3 : tie.Need-returns-3
-returns-3 c = search needs
+returns-3 c = gpt-accepted _ _ _ (ap readingOf (c .enum-told3 .given .1))
 
 returns-4 : tie.Need-returns-4
-returns-4 c = search needs
+returns-4 c = gpt-accepted _ _ _ (ap readingOf (c .enum-told4 .given .1))
 
 returns-5 : tie.Need-returns-5
 returns-5 c = gpt-refused _ _ _ _ (ap readingOf (c .before .before .a .given .1)) (c .number .ensures)
