@@ -10,13 +10,17 @@ PREFIX = /usr/local
 SECONDS_PER_CALL = 30
 BENCH =
 C_CRATES = c_text c_disk c_flash c_layout
+ARCHIVE = target/staticlib/libusigrambal.a
+SOURCES = crates.txt $(shell find crates -name '*.rt' -o -name '*.antt')
 
 run:
 	rt check fmd_list
 	target/bin/fmd_list <examples/sample10.fmd
 
+archive: $(ARCHIVE)
+
 # The archive of each crate has its exported functions alone; `ar` joins them.
-archive:
+$(ARCHIVE): $(SOURCES)
 	for crate in $(C_CRATES); do rt staticlib $$crate >/dev/null || exit 1; done
 	cd target/staticlib && { echo create libusigrambal.a; printf 'addlib lib%s.a\n' $(C_CRATES); echo save; } | ar -M
 
@@ -24,7 +28,7 @@ install: archive
 	cd host && cargo build --release --quiet -p command
 	install -D -m 755 target/host/release/usigrambal $(PREFIX)/bin/usigrambal
 	install -D -m 644 include/usigrambal.h $(PREFIX)/include/usigrambal.h
-	install -D -m 644 target/staticlib/libusigrambal.a $(PREFIX)/lib/libusigrambal.a
+	install -D -m 644 $(ARCHIVE) $(PREFIX)/lib/libusigrambal.a
 
 test:
 	.ci/run
