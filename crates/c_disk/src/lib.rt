@@ -3,41 +3,20 @@ use gpt::Added;
 use gpt::Counted;
 use gpt::Done;
 use gpt::Reading;
-use gpt::Refusal;
 ghost use mathlib.Core.Path.{_≡_};
 ghost use mathlib.Core.List.{[], _∷_};
 ghost use lib.ListN.{length};
 ghost use Rattle.gpt_model.specs.Disk.{disk512};
 ghost use Rattle.gpt_model.specs.Calls.{step, format as formatOn, read as readCall, freeCounts, repair as repairCall, edit, delete as deleteCall, resize as resizeCall, rename as renameCall, add as addCall};
-ghost use Rattle.gpt.specs.Answers.{numberOf, doneOf, readingOf, countedOf, addedOf};
+ghost use Rattle.gpt.specs.Answers.{doneOf, readingOf, countedOf, addedOf};
 ghost use Rattle.c_disk.specs.Told.{resultOf, valuesOf, gptTold, placeOf, placed};
-
-fn number(a: Refusal) -> u32
-    ensures { λ r. ⌜ r ≡ numberOf a ⌝ }
-{
-    match a {
-        Refusal::WrongLength => 1,
-        Refusal::BlockCount => 2,
-        Refusal::NoDiskGuid => 3,
-        Refusal::NeitherGood => 10,
-        Refusal::NotTheSame => 11,
-        Refusal::NoSuchSlot => 12,
-        Refusal::SlotUnused => 13,
-        Refusal::NoSize => 20,
-        Refusal::NoType => 21,
-        Refusal::NoUniqueGuid => 22,
-        Refusal::BadName => 23,
-        Refusal::NoUnusedSlot => 24,
-        Refusal::NoRoom => 25,
-    }
-}
 
 fn done(a: Done) -> u32
     ensures { λ r. ⌜ r ≡ resultOf (doneOf a) ⌝ }
 {
     match a {
         Done::Accepted => 0,
-        Done::Refused(k) => number(k),
+        Done::Refused(k) => gpt::number(k),
     }
 }
 
@@ -61,7 +40,7 @@ fn reading(a: Reading, state: &mut u64) -> u32
             *state = 4;
             0
         }
-        Reading::Refused(k) => number(k),
+        Reading::Refused(k) => gpt::number(k),
     }
 }
 
@@ -77,7 +56,7 @@ fn counted(a: Counted, free: &mut u64, longest: &mut u64) -> u32
             *longest = l;
             0
         }
-        Counted::Refused(k) => number(k),
+        Counted::Refused(k) => gpt::number(k),
     }
 }
 
@@ -90,7 +69,7 @@ fn added(a: Added, slot: &mut u64, first: &mut u64) -> u32
             *first = f.0;
             0
         }
-        Added::Refused(k) => number(k),
+        Added::Refused(k) => gpt::number(k),
     }
 }
 
@@ -118,7 +97,7 @@ fn place(a: Reading, in_tail: &mut u64, offset: &mut u64) -> u32
             *offset = 0;
             0
         }
-        Reading::Refused(k) => number(k),
+        Reading::Refused(k) => gpt::number(k),
     }
 }
 

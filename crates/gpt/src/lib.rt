@@ -57,6 +57,27 @@ pub enum Counted {
     Refused(Refusal),
 }
 
+// The number of a refusal.
+pub fn number(a: Refusal) -> u32
+    ensures { λ r. ⌜ r ≡ numberOf a ⌝ }
+{
+    match a {
+        Refusal::WrongLength => 1,
+        Refusal::BlockCount => 2,
+        Refusal::NoDiskGuid => 3,
+        Refusal::NeitherGood => 10,
+        Refusal::NotTheSame => 11,
+        Refusal::NoSuchSlot => 12,
+        Refusal::SlotUnused => 13,
+        Refusal::NoSize => 20,
+        Refusal::NoType => 21,
+        Refusal::NoUniqueGuid => 22,
+        Refusal::BadName => 23,
+        Refusal::NoUnusedSlot => 24,
+        Refusal::NoRoom => 25,
+    }
+}
+
 // The refusal of that number.
 fn refusal_of(k: u64) -> Refusal
     requires { ⌜ Numbered k ⌝ }

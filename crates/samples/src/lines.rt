@@ -8,7 +8,6 @@ use gpt::Reading;
 use gpt::Refusal;
 ghost use mathlib.Core.Path.{_≡_};
 ghost use lib.ListN.{length};
-ghost use Rattle.gpt.specs.Answers.{numberOf};
 
 pub fn begin(n: u64, call: &[u8]) {
     print::bytes(b"disk ");
@@ -22,28 +21,8 @@ fn named(name: &[u8], x: u64) {
     print::decimal(x);
 }
 
-fn number(r: Refusal) -> u64
-    ensures { λ k. ⌜ k ≡ numberOf r ⌝ }
-{
-    match r {
-        Refusal::WrongLength => 1,
-        Refusal::BlockCount => 2,
-        Refusal::NoDiskGuid => 3,
-        Refusal::NeitherGood => 10,
-        Refusal::NotTheSame => 11,
-        Refusal::NoSuchSlot => 12,
-        Refusal::SlotUnused => 13,
-        Refusal::NoSize => 20,
-        Refusal::NoType => 21,
-        Refusal::NoUniqueGuid => 22,
-        Refusal::BadName => 23,
-        Refusal::NoUnusedSlot => 24,
-        Refusal::NoRoom => 25,
-    }
-}
-
 fn refused(r: Refusal) {
-    named(b" refused ", number(r));
+    named(b" refused ", gpt::number(r) as u64);
 }
 
 pub fn done(answer: Done) {

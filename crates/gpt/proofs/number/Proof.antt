@@ -1,6 +1,6 @@
 use borrow.Author.Needs.{needs}
-use Rattle.c_disk.proofs.number.Statement.{statement}
-use Rattle.c_disk.proofs.number.Tie as tie
+use Rattle.gpt.proofs.number.Statement.{statement}
+use Rattle.gpt.proofs.number.Tie as tie
 
 -- by case: which answer it is, and the number of each
 pub number-spec : {M : Type 1} → statement M
