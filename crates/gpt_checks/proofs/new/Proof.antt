@@ -32,29 +32,60 @@ carried-requires c κs = search needs
 
 returns-4 : tie.Need-returns-4
 returns-4 c =
-    let a = c .before .before .before .before .before .before .before .before .before .before .before .args in
-    unique-carried 0 0 (now (a .table)) (now (a .kind)) (now (a .unique)) (a .size) (now (a .name)) (c .before .before .before .before .before .before .if1 .left) (sym (c .before .before .before .before .before .is-zero .ensures) ∙ c .before .before .before .before .if2 .left) (sym (c .before .carried .ensures) ∙ c .if4 .taken)
+    let c4 = c .before .before .before .before in
+    let c8 = c4 .before .before .before .before in
+    let a = c8 .before .before .before .args in
+    unique-carried 0 0 (now (a .table)) (now (a .kind)) (now (a .unique)) (a .size) (now (a .name))
+    (c4 .before .before .if1 .left)
+    (sym (c4 .before .is-zero .ensures) ∙ c4 .if2 .left)
+    (sym (c .before .carried .ensures) ∙ c .if4 .taken)
 
 bad-name-requires : tie.Need-bad-name-requires
 bad-name-requires c κs = search needs
 
 returns-5 : tie.Need-returns-5
 returns-5 c =
-    let a = c .before .before .before .before .before .before .before .before .before .before .before .before .before .args in
-    name-bad 0 0 (now (a .table)) (now (a .kind)) (now (a .unique)) (a .size) (now (a .name)) (c .before .before .before .before .before .before .before .before .if1 .left) (sym (c .before .before .before .before .before .before .before .is-zero .ensures) ∙ c .before .before .before .before .before .before .if2 .left) (sym (c .before .before .before .before .before .is-zero2 .ensures) ∙ c .before .before .before .before .if3 .left) (sym (c .before .before .before .carried .ensures) ∙ c .before .before .if4 .left) (sym (c .before .bad-name .ensures) ∙ c .if5 .taken)
+    let c4 = c .before .before .before .before in
+    let c8 = c4 .before .before .before .before in
+    let c12 = c8 .before .before .before .before in
+    let a = c12 .before .args in
+    name-bad 0 0 (now (a .table)) (now (a .kind)) (now (a .unique)) (a .size) (now (a .name))
+    (c8 .if1 .left)
+    (sym (c4 .before .before .before .is-zero .ensures) ∙ c4 .before .before .if2 .left)
+    (sym (c4 .before .is-zero2 .ensures) ∙ c4 .if3 .left)
+    (sym (c .before .before .before .carried .ensures) ∙ c .before .before .if4 .left)
+    (sym (c .before .bad-name .ensures) ∙ c .if5 .taken)
 
 first-unused-requires : tie.Need-first-unused-requires
 first-unused-requires c κs = search needs
 
 returns-6 : tie.Need-returns-6
 returns-6 c =
-    let a = c .before .before .before .before .before .before .before .before .before .before .before .before .before .before .before .args in
-    slots-full 0 0 (now (a .table)) (now (a .kind)) (now (a .unique)) (a .size) (now (a .name)) (c .before .before .before .before .before .before .before .before .before .before .if1 .left) (sym (c .before .before .before .before .before .before .before .before .before .is-zero .ensures) ∙ c .before .before .before .before .before .before .before .before .if2 .left) (sym (c .before .before .before .before .before .before .before .is-zero2 .ensures) ∙ c .before .before .before .before .before .before .if3 .left) (sym (c .before .before .before .before .before .carried .ensures) ∙ c .before .before .before .before .if4 .left) (sym (c .before .before .before .bad-name .ensures) ∙ c .before .before .if5 .left) (none-unused (now (a .table)) _ (c .before .first-unused .ensures .0) (omega arith))
+    let c4 = c .before .before .before .before in
+    let c8 = c4 .before .before .before .before in
+    let c12 = c8 .before .before .before .before in
+    let a = c12 .before .before .before .args in
+    slots-full 0 0 (now (a .table)) (now (a .kind)) (now (a .unique)) (a .size) (now (a .name))
+    (c8 .before .before .if1 .left)
+    (sym (c8 .before .is-zero .ensures) ∙ c8 .if2 .left)
+    (sym (c4 .before .before .before .is-zero2 .ensures) ∙ c4 .before .before .if3 .left)
+    (sym (c4 .before .carried .ensures) ∙ c4 .if4 .left)
+    (sym (c .before .before .before .bad-name .ensures) ∙ c .before .before .if5 .left)
+    (none-unused (now (a .table)) _ (c .before .first-unused .ensures .0) (omega arith))
 
 returns-7 : tie.Need-returns-7
 returns-7 c =
-    let a = c .before .before .before .before .before .before .before .before .before .before .before .before .before .before .before .args in
-    add-passes 0 0 (now (a .table)) (now (a .kind)) (now (a .unique)) (a .size) (now (a .name)) (c .before .before .before .before .before .before .before .before .before .before .if1 .left) (sym (c .before .before .before .before .before .before .before .before .before .is-zero .ensures) ∙ c .before .before .before .before .before .before .before .before .if2 .left) (sym (c .before .before .before .before .before .before .before .is-zero2 .ensures) ∙ c .before .before .before .before .before .before .if3 .left) (sym (c .before .before .before .before .before .carried .ensures) ∙ c .before .before .before .before .if4 .left) (sym (c .before .before .before .bad-name .ensures) ∙ c .before .before .if5 .left) (one-unused (now (a .table)) _ (c .before .first-unused .ensures .0) (c .before .first-unused .ensures .1) (c .if6 .left))
+    let c4 = c .before .before .before .before in
+    let c8 = c4 .before .before .before .before in
+    let c12 = c8 .before .before .before .before in
+    let a = c12 .before .before .before .args in
+    add-passes 0 0 (now (a .table)) (now (a .kind)) (now (a .unique)) (a .size) (now (a .name))
+    (c8 .before .before .if1 .left)
+    (sym (c8 .before .is-zero .ensures) ∙ c8 .if2 .left)
+    (sym (c4 .before .before .before .is-zero2 .ensures) ∙ c4 .before .before .if3 .left)
+    (sym (c4 .before .carried .ensures) ∙ c4 .if4 .left)
+    (sym (c .before .before .before .bad-name .ensures) ∙ c .before .before .if5 .left)
+    (one-unused (now (a .table)) _ (c .before .first-unused .ensures .0) (c .before .first-unused .ensures .1) (c .if6 .left))
 
 pub new-spec : {M : Type 1} → statement M
 new-spec =

@@ -40,13 +40,29 @@ returns c =
 
 returns-2 : tie.Need-returns-2
 returns-2 c =
-    let a = c .before .before .before .before .before .before .before .before .before .before .before .before .args in
-    start-full (a .n) (now (a .table)) (now (a .kind)) (now (a .unique)) (a .size) (now (a .name)) (passed _ (c .before .before .before .before .before .enum-told .given .1) (c .before .before .before .before .before .before .before .new .ensures)) _ _ _ (c .before .before .before .before .first-usable .ensures) (c .before .before .before .last-usable .ensures) (c .before .before .lowest .ensures) (c .enum-told2 .given .1)
+    let c4 = c .before .before .before .before in
+    let c8 = c4 .before .before .before .before in
+    let c12 = c8 .before .before .before .before in
+    let a = c12 .args in
+    start-full (a .n) (now (a .table)) (now (a .kind)) (now (a .unique)) (a .size) (now (a .name))
+    (passed _ (c4 .before .enum-told .given .1) (c4 .before .before .before .new .ensures)) _ _ _
+    (c4 .first-usable .ensures)
+    (c .before .before .before .last-usable .ensures)
+    (c .before .before .lowest .ensures)
+    (c .enum-told2 .given .1)
 
 returns-3 : tie.Need-returns-3
 returns-3 c =
-    let a = c .before .before .before .before .before .before .before .before .before .before .before .before .before .args in
-    start-at (a .n) (now (a .table)) (now (a .kind)) (now (a .unique)) (a .size) (now (a .name)) (passed _ (c .before .before .before .before .before .before .enum-told .given .1) (c .before .before .before .before .before .before .before .before .new .ensures)) _ _ _ (c .before .before .before .before .before .first-usable .ensures) (c .before .before .before .before .last-usable .ensures) (c .before .before .before .lowest .ensures) _ (c .before .first .given .1)
+    let c4 = c .before .before .before .before in
+    let c8 = c4 .before .before .before .before in
+    let c12 = c8 .before .before .before .before in
+    let a = c12 .before .args in
+    start-at (a .n) (now (a .table)) (now (a .kind)) (now (a .unique)) (a .size) (now (a .name))
+    (passed _ (c4 .before .before .enum-told .given .1) (c8 .new .ensures)) _ _ _
+    (c4 .before .first-usable .ensures)
+    (c4 .last-usable .ensures)
+    (c .before .before .before .lowest .ensures) _
+    (c .before .first .given .1)
 
 pub place-spec : {M : Type 1} → statement M
 place-spec =
