@@ -20,13 +20,16 @@ mod work;
 use gpt::Disks;
 use table::{Row, Table, ROUNDS};
 
-const USAGE: &str = "bench [--markdown] [--peers]
+const USAGE: &str = "bench [--markdown] [--peers] [--quick]
   --markdown  the table in Markdown
-  --peers     only the rows beside other programs and libraries, not those of inner functions and of growing inputs";
+  --peers     only the rows beside other programs and libraries, not those of inner functions and of growing inputs
+  --quick     one round, which shows that every row can be measured and no more";
+
+const OPTIONS: [&str; 3] = ["--markdown", "--peers", "--quick"];
 
 fn main() {
     let words: Vec<String> = std::env::args().skip(1).collect();
-    if let Some(word) = words.iter().find(|word| !["--markdown", "--peers"].contains(&word.as_str())) {
+    if let Some(word) = words.iter().find(|word| !OPTIONS.contains(&word.as_str())) {
         eprintln!("{word}: no such option\n{USAGE}");
         std::process::exit(2);
     }
@@ -40,7 +43,9 @@ fn main() {
         bound_rows(&mut table, &disks);
     }
     let left_out = std::mem::take(&mut table.left_out);
-    report(&table.measured(), &left_out, if given("--markdown") { print::markdown } else { print::text });
+    let rounds = if given("--quick") { 1 } else { ROUNDS };
+    let print = if given("--markdown") { print::markdown } else { print::text };
+    report(&table.measured(rounds), rounds, &left_out, print);
 }
 
 /// What a user would take instead.
@@ -60,9 +65,9 @@ fn bound_rows<'a>(t: &mut Table<'a>, disks: &'a Disks) {
     bytes::octets_rows(t);
 }
 
-fn report(rows: &[Row], left_out: &[String], print: fn(&[Row]) -> String) {
+fn report(rows: &[Row], rounds: usize, left_out: &[String], print: fn(&[Row]) -> String) {
     println!("{}", machine::line());
-    println!("Processor time, best of {ROUNDS}. The ratio says how many times as fast as the peer ours is.");
+    println!("Processor time, best of {rounds}. The ratio says how many times as fast as the peer ours is.");
     let start = print::time(command::start_of_a_program());
     println!("A program's time has its start in it; that of `true`, which does nothing, takes {start}.\n");
     println!("{}", print(rows));

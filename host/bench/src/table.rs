@@ -77,8 +77,8 @@ impl<'a> Table<'a> {
     }
 
     /// Times all rows, round by round.
-    pub fn measured(mut self) -> Vec<Row> {
-        for round in 0..ROUNDS {
+    pub fn measured(mut self, rounds: usize) -> Vec<Row> {
+        for round in 0..rounds {
             for (_, ours, peer) in &mut self.rows {
                 // Neither side always has the caches that the other left.
                 let sides = if round % 2 == 0 { [ours, peer] } else { [peer, ours] };
@@ -145,7 +145,7 @@ mod tests {
         };
         let mut table = Table::default();
         table.row(Label::new("a", "b"), falling(1.0), falling(4.0));
-        let rows = table.measured();
+        let rows = table.measured(ROUNDS);
         let rounds = 0.5_f64.powi(ROUNDS as i32 + 1);
         assert_eq!((rows[0].ours, rows[0].peer), (rounds, 4.0 * rounds));
     }
