@@ -7,11 +7,10 @@ use mathlib.Core.Option.{Option, none, some}
 use Prim.Native.Nat.{ℕ, _-_}
 use native.Mathlib.Omega.{arith}
 use lib.Dec.{eqb}
-use borrow.Author.Tests.{eqb-true, leb-true, eq-eqb, ne-eqb}
+use borrow.Author.Tests.{eq-eqb, ne-eqb}
 use Rattle.octets.specs.Bytes.{zeros}
 use Rattle.octets.specs.Rows.{row, refusal}
-use Rattle.octets.proofs.Bools.{and-l, and-r, not-f}
-use Rattle.octets.proofs.Rows.{pick-true, pick-false, passes, refusal-append, refusal-first, refusal-before}
+use Rattle.octets.proofs.Rows.{pick-true, pick-false, refusal-append, refusal-first, refusal-before}
 use Rattle.gpt_model.specs.Ranges.{freeCount, longestFree}
 use Rattle.gpt_model.specs.Table.{slots}
 use Rattle.gpt_model.specs.Disk.{disk512, primary, backup, entriesIn, usedSide, state, tableOf, freshHead, freshTail}
@@ -114,17 +113,6 @@ handed-nothing n h t bs p hp tp k e a b = ap₂ part a b ∙ sym (ap (handedBy n
 -- ---- formatting
 
 module _ (n : ℕ) (guid h t : List ℕ) (e : refusal (formatRows disk512 n guid h t) ≡ none) where
-  pub format-facts : Lent n h t
-  format-facts =
-      let a = not-f _ (passes 1 (formatRows disk512 n guid h t) e) in
-      let b = not-f _ (passes 2 (formatRows disk512 n guid h t) e) in
-      record {
-        head = eqb-true _ _ (and-l _ _ (and-l _ _ a));
-        tail = eqb-true _ _ (and-r _ _ (and-l _ _ a));
-        least = leb-true _ _ (and-l _ _ b);
-        most = leb-true _ _ (and-r _ _ b);
-      }
-
   pub format-done : (h′ t′ : List ℕ) → h′ ≡ freshHead disk512 n guid (zeros 16384) → t′ ≡ freshTail disk512 n guid (zeros 16384)
       → out (accepted []) h′ t′ ≡ format disk512 n guid h t
   format-done h′ t′ p q = ap₂ (out (accepted [])) p q ∙ sym (format-made disk512 n guid h t e)

@@ -9,13 +9,14 @@ use native.Mathlib.Omega.{arith}
 use lib.Dec.{eqb}
 use lib.ListN.{length}
 use borrow.Author.Tests.{eqb-true, eqb-false, leb-true, eq-eqb, ne-eqb}
+use Rattle.octets.specs.Tests.{_and_}
 use Rattle.octets.specs.Rows.{Row, row, pickRow, refusal}
 use Rattle.octets.proofs.Bools.{and-l, and-r, and-i, not-f, some-none}
 use Rattle.octets.proofs.Rows.{passes, pick-true, pick-false, refusal-append, refusal-first, refusal-before}
 use Rattle.gpt_model.specs.Ranges.{place}
 use Rattle.gpt_model.specs.Table.{slots}
-use Rattle.gpt_model.specs.Disk.{disk512, lastUsable, primary, entriesIn, state, tableOf}
-use Rattle.gpt_model.specs.Calls.{Edit, add, delete, resize, rename, edit, badName, slotRows, addRows, fitsAt, tableRows, isNone, lengthsOf, readRows, openRows, rowsOf}
+use Rattle.gpt_model.specs.Disk.{disk512, lastUsable, inRange, primary, entriesIn, state, tableOf}
+use Rattle.gpt_model.specs.Calls.{Edit, add, delete, resize, rename, edit, badName, slotRows, addRows, fitsAt, tableRows, isNone, lengthsOf, lengthsOk, readRows, openRows, rowsOf, formatRows}
 use Rattle.gpt_model.proofs.Ways.{edit-decides, edit-stops}
 use Rattle.gpt_model.proofs.States.{one-primary}
 use Rattle.gpt_table.specs.Answers.{placed}
@@ -24,6 +25,7 @@ use Rattle.gpt_table.specs.declared.room.Place.{Place}
 use Rattle.gpt_table.specs.declared.room.Place.the-variants as found
 use Rattle.gpt_copies.specs.States.{stateNumber}
 use Rattle.gpt_copies.specs.declared.State.{State}
+use Rattle.gpt_checks.proofs.Rows.{slot-number}
 use Rattle.gpt_checks.specs.Checks.{stopOf, lentRows, openFor}
 use Rattle.gpt_checks.specs.declared.Check.{Check}
 use Rattle.gpt_checks.specs.declared.Check.the-variants.{Pass, Stop}
@@ -44,16 +46,20 @@ module _ (n : ℕ) (h t : List ℕ) where
     pub least : 68 ≤ n
     pub most : n ≤ 4294967296
 
+  lent-by : (b : Bool) → not (lengthsOk disk512 h t and b) ≡ false → not (inRange disk512 n) ≡ false → Lent
+  lent-by b p q =
+      let l = and-l _ _ (not-f _ p) in
+      let r = not-f _ q in
+      record { head = eqb-true _ _ (and-l _ _ l); tail = eqb-true _ _ (and-r _ _ l); least = leb-true _ _ (and-l _ _ r); most = leb-true _ _ (and-r _ _ r) }
+
   pub lent-facts : refusal (lentRows n h t) ≡ none → Lent
-  lent-facts e =
-      let a = not-f _ (passes 1 (lentRows n h t) e) in
-      let b = not-f _ (passes 2 (lentRows n h t) e) in
-      record {
-        head = eqb-true _ _ (and-l _ _ (and-l _ _ a));
-        tail = eqb-true _ _ (and-r _ _ (and-l _ _ a));
-        least = leb-true _ _ (and-l _ _ b);
-        most = leb-true _ _ (and-r _ _ b);
-      }
+  lent-facts e = lent-by true (passes 1 (lentRows n h t) e) (passes 2 (lentRows n h t) e)
+
+  pub format-facts : (guid : List ℕ) → refusal (formatRows disk512 n guid h t) ≡ none → Lent
+  format-facts guid e = lent-by (eqb (length guid) 16) (passes 1 (formatRows disk512 n guid h t) e) (passes 2 (formatRows disk512 n guid h t) e)
+
+  pub edit-facts : (d : Edit) → refusal (rowsOf disk512 n h t (edit d)) ≡ none → Lent
+  edit-facts d e = lent-by (lengthsOf d) (passes 1 (rowsOf disk512 n h t (edit d)) e) (passes 2 (rowsOf disk512 n h t (edit d)) e)
 
   -- ---- rows 1, 2, 10, 11
 
@@ -102,8 +108,8 @@ module _ (n : ℕ) (h t : List ℕ) where
     pub delete-open : refusal slotted ≡ none → refusal (openFor n h t) ≡ none
     delete-open e = refusal-before (openFor n h t) (slotRows 0 0 (tableOf disk512 n h t) k) e .0
 
-    pub delete-slot : refusal slotted ≡ none → refusal (slotRows 0 0 (tableOf disk512 n h t) k) ≡ none
-    delete-slot e = refusal-before (openFor n h t) (slotRows 0 0 (tableOf disk512 n h t) k) e .1
+    pub delete-slot : refusal slotted ≡ none → (1 ≤ k) × (k ≤ 128)
+    delete-slot e = slot-number k (passes 12 slotted e)
 
     module _ (name : List ℕ) (l : length name ≡ 36) where
       rename-is : refusal (rowsOf disk512 n h t (edit (rename k name))) ≡ refusal (slotted ++ (row (badName name) 23 ∷ []))

@@ -13,7 +13,7 @@ use Rattle.octets.specs.Tests.{_and_, _or_, any, findIx}
 use Rattle.octets.specs.Bytes.{isZero}
 use Rattle.octets.specs.Rows.{row, pickRow, refusal}
 use Rattle.octets.proofs.Bools.{and-l, and-r, and-i, or-il, or-ir, or-false-i, not-f}
-use Rattle.octets.proofs.Rows.{pick-true, pick-false, passes, refusal-append, refusal-first}
+use Rattle.octets.proofs.Rows.{pick-true, pick-false, refusal-append, refusal-first}
 use Rattle.gpt_model.specs.Disk.{disk512, inRange}
 use Rattle.gpt_model.specs.Table.{unused, entries}
 use Rattle.gpt_model.specs.Calls.{lengthsOk, formatRows, entryOf, carries, badName, slotRows, addRows}
@@ -64,6 +64,10 @@ module _ (n : ℕ) (guid h t : List ℕ) (l : length guid ≡ 16) where
 
 -- ---- rows 12, 13 of a slot
 
+-- row 12 does not hold
+pub slot-number : (k : ℕ) → not (leb 1 k and leb k 128) ≡ false → (1 ≤ k) × (k ≤ 128)
+slot-number k e = let w = not-f _ e in (leb-true _ _ (and-l _ _ w), leb-true _ _ (and-r _ _ w))
+
 module _ (first last : ℕ) (es : List ℕ) (k : ℕ) where
   pub slot-low : k < 1 → some 12 ≡ refusal (slotRows first last es k)
   unfolding _and_
@@ -82,11 +86,6 @@ module _ (first last : ℕ) (es : List ℕ) (k : ℕ) where
 
     pub slot-used : unused (entryOf es k) ≡ false → none ≡ refusal (slotRows first last es k)
     slot-used e = sym (pick-false _ 12 _ numbered ∙ pick-false _ 13 _ e)
-
-  pub slot-number : refusal (slotRows first last es k) ≡ none → (1 ≤ k) × (k ≤ 128)
-  slot-number e =
-      let w = not-f _ (passes 12 (slotRows first last es k) e) in
-      (leb-true _ _ (and-l _ _ w), leb-true _ _ (and-r _ _ w))
 
 -- ---- rows 20 to 24 of adding
 

@@ -1,16 +1,15 @@
 -- The ways out of an edit whose rows do not hold: the one entry that it writes.
 use mathlib.Core.Path.{_≡_, sym, ap, _∙_}
 use mathlib.Core.Logic.{_≢_}
-use mathlib.Core.Bool.{true, false, not}
+use mathlib.Core.Bool.{true}
 use mathlib.Core.List.{List, [], _∷_}
 use mathlib.Core.Option.{none, some}
 use Prim.Native.Nat.{ℕ, _+_, _-_, _≤_, _<_}
 use native.Mathlib.Numerals.{add-one}
 use native.Mathlib.Omega.{arith}
-use lib.Dec.{leb}
 use lib.ListN.{length, getD}
-use borrow.Author.Tests.{eqb-true, eqb-false, leb-true}
-use Rattle.octets.specs.Tests.{_and_, findIx}
+use borrow.Author.Tests.{eqb-true, eqb-false}
+use Rattle.octets.specs.Tests.{findIx}
 use Rattle.octets.specs.Bytes.{le, put, putChunk}
 use Rattle.octets.specs.Rows.{refusal}
 use Rattle.octets.proofs.Bools.{and-l, and-r, not-f}
@@ -23,7 +22,9 @@ use Rattle.gpt_model.specs.Disk.{disk512, lastUsable, primary, backup, guidIn, 
 use Rattle.gpt_model.specs.Calls.{Edit, add, delete, resize, rename, edit, tableRows, valueOf, Change, change, edited, lengthsOf, rowsOf, accepted, out, step}
 use Rattle.gpt_model.proofs.Room.{room-get, place-some}
 use Rattle.gpt_model.proofs.States.{one-primary, one-backup}
-use Rattle.gpt_model.proofs.Ways.{step-made, edit-open, edit-table, open-read, row1, row2, row11}
+use Rattle.gpt_model.proofs.Ways.{step-made, edit-open, edit-table, open-read, row1, row11}
+use Rattle.gpt_checks.proofs.Rows.{slot-number}
+use Rattle.gpt_checks.proofs.Judged.{edit-facts}
 
 module _ (n : ℕ) (h t : List ℕ) (d : Edit) (e : refusal (rowsOf disk512 n h t (edit d)) ≡ none) where
   abbrev last : ℕ
@@ -39,29 +40,11 @@ module _ (n : ℕ) (h t : List ℕ) (d : Edit) (e : refusal (rowsOf disk512 n h 
   pub own-rows : refusal (tableRows 34 last tab d) ≡ none
   own-rows = sym (ap (λ (es : List ℕ). refusal (tableRows 34 last es d)) table-is) ∙ edit-table disk512 n h t d e
 
-  pub record Open : Type 0 where
-    pub head : length h ≡ 17408
-    pub tail : length t ≡ 16896
-    pub least : 68 ≤ n
-    pub most : n ≤ 4294967296
-    pub same : entriesIn disk512 primary h ≡ entriesIn disk512 backup t
-    pub lengths : lengthsOf d ≡ true
+  pub same-tables : entriesIn disk512 primary h ≡ entriesIn disk512 backup t
+  same-tables = sym table-is ∙ one-backup disk512 n h t (row11 disk512 n h t d (edit-open disk512 n h t d e))
 
-  pub open-facts : Open
-  open-facts =
-      let o = edit-open disk512 n h t d e in
-      let r = open-read disk512 n h t d o in
-      let l = row1 disk512 n h t (lengthsOf d) r in
-      let b = row2 disk512 n h t (lengthsOf d) r in
-      let s = row11 disk512 n h t d o in
-      record {
-        head = l .0;
-        tail = l .1;
-        least = leb-true _ _ (and-l _ _ b);
-        most = leb-true _ _ (and-r _ _ b);
-        same = sym (one-primary disk512 n h t s) ∙ one-backup disk512 n h t s;
-        lengths = l .2;
-      }
+  pub right-lengths : lengthsOf d ≡ true
+  right-lengths = row1 disk512 n h t (lengthsOf d) (open-read disk512 n h t d (edit-open disk512 n h t d e)) .2
 
   -- the entry that the code writes is the edit's, at its index, and the answer its values
   pub edit-made : (c : Change) (h′ t′ : List ℕ) → c ≡ change 34 last tab d
@@ -75,12 +58,9 @@ module _ (n : ℕ) (h t : List ℕ) (d : Edit) (e : refusal (rowsOf disk512 n h 
 
 -- ---- the edits of a slot
 
-numbered : (k : ℕ) → not (leb 1 k and leb k 128) ≡ false → (1 ≤ k) × (k ≤ 128)
-numbered k e = let w = not-f _ e in (leb-true _ _ (and-l _ _ w), leb-true _ _ (and-r _ _ w))
-
 module _ (n : ℕ) (h t : List ℕ) (k : ℕ) where
   pub delete-slot : refusal (rowsOf disk512 n h t (edit (delete k))) ≡ none → (1 ≤ k) × (k ≤ 128)
-  delete-slot e = numbered k (passes 12 (rowsOf disk512 n h t (edit (delete k))) e)
+  delete-slot e = slot-number k (passes 12 (rowsOf disk512 n h t (edit (delete k))) e)
 
   -- entry k of the table, by a part tb of the head that holds the table
   module _ (tb part : List ℕ) (p : tb ≡ entriesIn disk512 primary h) (q : part ≡ getD (entries tb) (k - 1) []) where
@@ -100,20 +80,19 @@ module _ (n : ℕ) (h t : List ℕ) (k : ℕ) where
     -- the last block that a resize writes is a number of 64 bits
     pub resize-bound : (size : ℕ) → refusal (rowsOf disk512 n h t (edit (resize k size))) ≡ none → firstOf part + size < 18446744073709551616
     resize-bound size e =
-        let o = open-facts n h t (resize k size) e in
         let f = not-f _ (passes 25 (tableRows 34 (lastUsable disk512 n) (entriesIn disk512 primary h) (resize k size)) (own-rows n h t (resize k size) e)) in
         let w = room-get _ _ _ _ f .0 in
-        let m = o .most in
+        let m = edit-facts n h t (resize k size) e .most in
         omega (arith, ap firstOf part-is)
 
   pub rename-slot : (name : List ℕ) → refusal (rowsOf disk512 n h t (edit (rename k name))) ≡ none → (1 ≤ k) × (k ≤ 128) × (length name ≡ 36)
   rename-slot name e =
-      let w = numbered k (passes 12 (rowsOf disk512 n h t (edit (rename k name))) e) in
-      (w .0, w .1, eqb-true _ _ (open-facts n h t (rename k name) e .lengths))
+      let w = slot-number k (passes 12 (rowsOf disk512 n h t (edit (rename k name))) e) in
+      (w .0, w .1, eqb-true _ _ (right-lengths n h t (rename k name) e))
 
   pub resize-slot : (size : ℕ) → refusal (rowsOf disk512 n h t (edit (resize k size))) ≡ none → (1 ≤ k) × (k ≤ 128) × (0 < size)
   resize-slot size e =
-      let w = numbered k (passes 12 (rowsOf disk512 n h t (edit (resize k size))) e) in
+      let w = slot-number k (passes 12 (rowsOf disk512 n h t (edit (resize k size))) e) in
       let z : size ≢ 0 = eqb-false size 0 (passes 20 (rowsOf disk512 n h t (edit (resize k size))) e) in
       (w .0, w .1, omega arith)
 
@@ -135,7 +114,7 @@ module _ (n : ℕ) (h t type unique : List ℕ) (size attributes : ℕ) (name : 
 
   pub add-fields : Fields
   add-fields =
-      let l = open-facts n h t d e .lengths in
+      let l = right-lengths n h t d e in
       let z : size ≢ 0 = eqb-false size 0 (passes 20 (rowsOf disk512 n h t (edit d)) e) in
       record {
         type16 = eqb-true _ _ (and-l _ _ (and-l _ _ l));
@@ -167,5 +146,5 @@ module _ (n : ℕ) (h t type unique : List ℕ) (size attributes : ℕ) (name : 
   pub add-bound : (s : ℕ) → place (slots (tableOf disk512 n h t)) 34 (lastUsable disk512 n) size ≡ some s → s + size < 18446744073709551616
   add-bound s r =
       let w = place-some (slots (tableOf disk512 n h t)) 34 (lastUsable disk512 n) size s r .1 .0 in
-      let m = open-facts n h t d e .most in
+      let m = edit-facts n h t d e .most in
       omega arith

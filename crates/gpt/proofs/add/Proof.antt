@@ -24,7 +24,9 @@ enum-known-k c = search needs
 
 refusal-of-requires : tie.Need-refusal-of-requires
 refusal-of-requires c κs =
-    let a = c .before .before .before .before .before .before .before .before .before .before .before .args in
+    let c4 = c .before .before .before .before in
+    let c8 = c4 .before .before .before .before in
+    let a = c8 .before .before .before .args in
     stop-numbered (a .n) (now (a .head)) (now (a .tail)) (edit (add (a .t4) (a .t5) (a .size) (a .attributes) (a .t8))) _ (sym (c .before .before .before .add .ensures .0 (a .attributes)) ∙ ap stopBy (c .before .k .given .1))
 
 enum-known-first : tie.Need-enum-known-first
@@ -41,9 +43,13 @@ slice-aggregate-add-6 c = search needs
 
 add-requires-2 : tie.Need-add-requires-2
 add-requires-2 c κs =
-    let e = c .before .before .before .before .before .before .before .before .add .ensures in
-    let p = c .before .before .before .before .before .before .first .given .1 in
-    (sym (e .0 (c .before .before .before .before .before .before .before .before .before .before .before .before .before .before .before .before .args .attributes)) ∙ ap stopBy p, e .1 _ (ap startBy p))
+    let c4 = c .before .before .before .before in
+    let c8 = c4 .before .before .before .before in
+    let c12 = c8 .before .before .before .before in
+    let c16 = c12 .before .before .before .before in
+    let e = c8 .add .ensures in
+    let p = c4 .before .before .first .given .1 in
+    (sym (e .0 (c16 .args .attributes)) ∙ ap stopBy p, e .1 _ (ap startBy p))
 
 same-length : tie.Need-same-length
 same-length c = search needs
@@ -53,8 +59,11 @@ same-length-2 c = search needs
 
 returns : tie.Need-returns
 returns c =
-    let a = c .before .before .before .before .before .before .before .before .before .before .before .before .args in
-    stop-step (a .n) (now (a .head)) (now (a .tail)) (edit (add (a .t4) (a .t5) (a .size) (a .attributes) (a .t8))) _ (sym (c .before .before .before .before .add .ensures .0 (a .attributes)) ∙ ap stopBy (c .before .before .k .given .1)) _ (c .refusal-of .ensures)
+    let c4 = c .before .before .before .before in
+    let c8 = c4 .before .before .before .before in
+    let c12 = c8 .before .before .before .before in
+    let a = c12 .args in
+    stop-step (a .n) (now (a .head)) (now (a .tail)) (edit (add (a .t4) (a .t5) (a .size) (a .attributes) (a .t8))) _ (sym (c4 .add .ensures .0 (a .attributes)) ∙ ap stopBy (c .before .before .k .given .1)) _ (c .refusal-of .ensures)
 
 same-length-3 : tie.Need-same-length-3
 same-length-3 c = search needs

@@ -1,7 +1,7 @@
 use denote.Ref.{now}
-use Rattle.gpt.proofs.Found.{format-facts, format-done}
+use Rattle.gpt.proofs.Found.{format-done}
 use Rattle.gpt.proofs.Refusals.{format-numbered, format-stop}
-use Rattle.gpt_checks.proofs.Judged.{passed, stopped}
+use Rattle.gpt_checks.proofs.Judged.{format-facts, passed, stopped}
 use borrow.Author.Needs.{needs}
 use Rattle.gpt.proofs.format.Statement.{statement}
 use Rattle.gpt.proofs.format.Tie as tie
@@ -29,7 +29,7 @@ slice-aggregate-fresh-head c = search needs
 fresh-head-requires : tie.Need-fresh-head-requires
 fresh-head-requires c κs =
     let a = c .before .before .before .before .before .before .before .before .before .before .args in
-    let f = format-facts (a .n) (a .t4) (now (a .head)) (now (a .tail)) (passed _ (c .before .before .enum-told .given .1) (c .before .before .before .before .format .ensures)) in
+    let f = format-facts (a .n) (now (a .head)) (now (a .tail)) (a .t4) (passed _ (c .before .before .enum-told .given .1) (c .before .before .before .before .format .ensures)) in
     (f .head, f .least, f .most, search needs)
 
 slice-aggregate-fresh-tail : tie.Need-slice-aggregate-fresh-tail
@@ -38,7 +38,7 @@ slice-aggregate-fresh-tail c = search needs
 fresh-tail-requires : tie.Need-fresh-tail-requires
 fresh-tail-requires c κs =
     let a = c .before .before .before .before .before .before .before .before .before .before .before .before .before .before .before .args in
-    let f = format-facts (a .n) (a .t4) (now (a .head)) (now (a .tail)) (passed _ (c .before .before .before .before .before .before .before .enum-told .given .1) (c .before .before .before .before .before .before .before .before .before .format .ensures)) in
+    let f = format-facts (a .n) (now (a .head)) (now (a .tail)) (a .t4) (passed _ (c .before .before .before .before .before .before .before .enum-told .given .1) (c .before .before .before .before .before .before .before .before .before .format .ensures)) in
     (f .tail, f .least, search needs)
 
 same-length : tie.Need-same-length

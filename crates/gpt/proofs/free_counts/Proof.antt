@@ -87,38 +87,42 @@ enum-known-r c = search needs
 
 returns : tie.Need-returns
 returns c =
-    let a = c .before .before .before .before .before .before .before .args in
+    let c4 = c .before .before .before .before in
+    let a = c4 .before .before .before .args in
     let h = now (a .head) in
     let t = now (a .tail) in
-    counts-are (a .n) h t _ Same (c .before .before .before .before .read .ensures) (c .before .before .enum-told .given .1) 1 refl _ _
-    (c .before .entries-in .ensures .0 ∙ table-in-head (a .n) h t _ Same (c .before .before .before .before .read .ensures) (c .before .before .enum-told .given .1) 1 refl (λ z. omega (arith, z)))
+    counts-are (a .n) h t _ Same (c4 .read .ensures) (c .before .before .enum-told .given .1) 1 refl _ _
+    (c .before .entries-in .ensures .0 ∙ table-in-head (a .n) h t _ Same (c4 .read .ensures) (c .before .before .enum-told .given .1) 1 refl (λ z. omega (arith, z)))
     (c .count-in .ensures)
 
 returns-2 : tie.Need-returns-2
 returns-2 c =
-    let a = c .before .before .before .before .before .before .before .args in
+    let c4 = c .before .before .before .before in
+    let a = c4 .before .before .before .args in
     let h = now (a .head) in
     let t = now (a .tail) in
-    counts-are (a .n) h t _ Different (c .before .before .before .before .read .ensures) (c .before .before .enum-told2 .given .1) 2 refl _ _
-    (c .before .entries-in2 .ensures .0 ∙ table-in-head (a .n) h t _ Different (c .before .before .before .before .read .ensures) (c .before .before .enum-told2 .given .1) 2 refl (λ z. omega (arith, z)))
+    counts-are (a .n) h t _ Different (c4 .read .ensures) (c .before .before .enum-told2 .given .1) 2 refl _ _
+    (c .before .entries-in2 .ensures .0 ∙ table-in-head (a .n) h t _ Different (c4 .read .ensures) (c .before .before .enum-told2 .given .1) 2 refl (λ z. omega (arith, z)))
     (c .count-in2 .ensures)
 
 returns-3 : tie.Need-returns-3
 returns-3 c =
-    let a = c .before .before .before .before .before .before .before .args in
+    let c4 = c .before .before .before .before in
+    let a = c4 .before .before .before .args in
     let h = now (a .head) in
     let t = now (a .tail) in
-    counts-are (a .n) h t _ PrimaryOnly (c .before .before .before .before .read .ensures) (c .before .before .enum-told3 .given .1) 3 refl _ _
-    (c .before .entries-in3 .ensures .0 ∙ table-in-head (a .n) h t _ PrimaryOnly (c .before .before .before .before .read .ensures) (c .before .before .enum-told3 .given .1) 3 refl (λ z. omega (arith, z)))
+    counts-are (a .n) h t _ PrimaryOnly (c4 .read .ensures) (c .before .before .enum-told3 .given .1) 3 refl _ _
+    (c .before .entries-in3 .ensures .0 ∙ table-in-head (a .n) h t _ PrimaryOnly (c4 .read .ensures) (c .before .before .enum-told3 .given .1) 3 refl (λ z. omega (arith, z)))
     (c .count-in3 .ensures)
 
 returns-4 : tie.Need-returns-4
 returns-4 c =
-    let a = c .before .before .before .before .before .before .before .args in
+    let c4 = c .before .before .before .before in
+    let a = c4 .before .before .before .args in
     let h = now (a .head) in
     let t = now (a .tail) in
-    counts-are (a .n) h t _ BackupOnly (c .before .before .before .before .read .ensures) (c .before .before .enum-told4 .given .1) 4 refl _ _
-    (c .before .entries-in4 .ensures .0 ∙ table-in-tail (a .n) h t _ BackupOnly (c .before .before .before .before .read .ensures) (c .before .before .enum-told4 .given .1) 4 refl refl)
+    counts-are (a .n) h t _ BackupOnly (c4 .read .ensures) (c .before .before .enum-told4 .given .1) 4 refl _ _
+    (c .before .entries-in4 .ensures .0 ∙ table-in-tail (a .n) h t _ BackupOnly (c4 .read .ensures) (c .before .before .enum-told4 .given .1) 4 refl refl)
     (c .count-in4 .ensures)
 
 returns-5 : tie.Need-returns-5

@@ -52,28 +52,38 @@ returns c =
 
 returns-2 : tie.Need-returns-2
 returns-2 c =
-    let a = c .before .before .before .before .before .before .before .before .args in
-    found-state (a .n) (now (a .head)) (now (a .tail)) (passed _ (c .before .before .before .enum-told .given .1) (c .before .before .before .before .before .lent .ensures)) _ Both (c .enum-told2 .given .1) (c .before .before .state .ensures) (λ z. omega (arith, z))
+    let c4 = c .before .before .before .before in
+    let c8 = c4 .before .before .before .before in
+    let a = c8 .args in
+    found-state (a .n) (now (a .head)) (now (a .tail)) (passed _ (c .before .before .before .enum-told .given .1) (c4 .before .lent .ensures)) _ Both (c .enum-told2 .given .1) (c .before .before .state .ensures) (λ z. omega (arith, z))
 
 returns-3 : tie.Need-returns-3
 returns-3 c =
-    let a = c .before .before .before .before .before .before .before .before .args in
-    found-state (a .n) (now (a .head)) (now (a .tail)) (passed _ (c .before .before .before .enum-told .given .1) (c .before .before .before .before .before .lent .ensures)) _ Differ (c .enum-told3 .given .1) (c .before .before .state .ensures) (λ z. omega (arith, z))
+    let c4 = c .before .before .before .before in
+    let c8 = c4 .before .before .before .before in
+    let a = c8 .args in
+    found-state (a .n) (now (a .head)) (now (a .tail)) (passed _ (c .before .before .before .enum-told .given .1) (c4 .before .lent .ensures)) _ Differ (c .enum-told3 .given .1) (c .before .before .state .ensures) (λ z. omega (arith, z))
 
 returns-4 : tie.Need-returns-4
 returns-4 c =
-    let a = c .before .before .before .before .before .before .before .before .args in
-    found-state (a .n) (now (a .head)) (now (a .tail)) (passed _ (c .before .before .before .enum-told .given .1) (c .before .before .before .before .before .lent .ensures)) _ PrimaryOnly (c .enum-told4 .given .1) (c .before .before .state .ensures) (λ z. omega (arith, z))
+    let c4 = c .before .before .before .before in
+    let c8 = c4 .before .before .before .before in
+    let a = c8 .args in
+    found-state (a .n) (now (a .head)) (now (a .tail)) (passed _ (c .before .before .before .enum-told .given .1) (c4 .before .lent .ensures)) _ PrimaryOnly (c .enum-told4 .given .1) (c .before .before .state .ensures) (λ z. omega (arith, z))
 
 returns-5 : tie.Need-returns-5
 returns-5 c =
-    let a = c .before .before .before .before .before .before .before .before .args in
-    found-state (a .n) (now (a .head)) (now (a .tail)) (passed _ (c .before .before .before .enum-told .given .1) (c .before .before .before .before .before .lent .ensures)) _ BackupOnly (c .enum-told5 .given .1) (c .before .before .state .ensures) (λ z. omega (arith, z))
+    let c4 = c .before .before .before .before in
+    let c8 = c4 .before .before .before .before in
+    let a = c8 .args in
+    found-state (a .n) (now (a .head)) (now (a .tail)) (passed _ (c .before .before .before .enum-told .given .1) (c4 .before .lent .ensures)) _ BackupOnly (c .enum-told5 .given .1) (c .before .before .state .ensures) (λ z. omega (arith, z))
 
 returns-6 : tie.Need-returns-6
 returns-6 c =
-    let a = c .before .before .before .before .before .before .before .before .args in
-    found-neither (a .n) (now (a .head)) (now (a .tail)) (passed _ (c .before .before .before .enum-told .given .1) (c .before .before .before .before .before .lent .ensures)) _ Neither (c .enum-told6 .given .1) (c .before .before .state .ensures) refl
+    let c4 = c .before .before .before .before in
+    let c8 = c4 .before .before .before .before in
+    let a = c8 .args in
+    found-neither (a .n) (now (a .head)) (now (a .tail)) (passed _ (c .before .before .before .enum-told .given .1) (c4 .before .lent .ensures)) _ Neither (c .enum-told6 .given .1) (c .before .before .state .ensures) refl
 
 pub read-spec : {M : Type 1} → statement M
 read-spec =

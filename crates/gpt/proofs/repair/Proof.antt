@@ -20,10 +20,12 @@ enum-told-2 c = search needs
 
 repair-tail-requires : tie.Need-repair-tail-requires
 repair-tail-requires c κs =
-    let a = c .before .before .before .before .before .before .before .before .before .args in
+    let c4 = c .before .before .before .before in
+    let c8 = c4 .before .before .before .before in
+    let a = c8 .before .args in
     let h = now (a .head) in
     let t = now (a .tail) in
-    let f = found-lent (a .n) h t _ Different (c .before .before .before .before .read .ensures) (c .before .before .enum-told2 .given .1) 2 refl in
+    let f = found-lent (a .n) h t _ Different (c4 .read .ensures) (c .before .before .enum-told2 .given .1) 2 refl in
     (f .head, f .tail, f .least)
 
 enum-told-3 : tie.Need-enum-told-3
@@ -31,10 +33,12 @@ enum-told-3 c = search needs
 
 repair-tail-requires-2 : tie.Need-repair-tail-requires-2
 repair-tail-requires-2 c κs =
-    let a = c .before .before .before .before .before .before .before .before .before .args in
+    let c4 = c .before .before .before .before in
+    let c8 = c4 .before .before .before .before in
+    let a = c8 .before .args in
     let h = now (a .head) in
     let t = now (a .tail) in
-    let f = found-lent (a .n) h t _ PrimaryOnly (c .before .before .before .before .read .ensures) (c .before .before .enum-told3 .given .1) 3 refl in
+    let f = found-lent (a .n) h t _ PrimaryOnly (c4 .read .ensures) (c .before .before .enum-told3 .given .1) 3 refl in
     (f .head, f .tail, f .least)
 
 enum-told-4 : tie.Need-enum-told-4
@@ -42,10 +46,12 @@ enum-told-4 c = search needs
 
 repair-head-requires : tie.Need-repair-head-requires
 repair-head-requires c κs =
-    let a = c .before .before .before .before .before .before .before .before .before .args in
+    let c4 = c .before .before .before .before in
+    let c8 = c4 .before .before .before .before in
+    let a = c8 .before .args in
     let h = now (a .head) in
     let t = now (a .tail) in
-    let f = found-lent (a .n) h t _ BackupOnly (c .before .before .before .before .read .ensures) (c .before .before .enum-told4 .given .1) 4 refl in
+    let f = found-lent (a .n) h t _ BackupOnly (c4 .read .ensures) (c .before .before .enum-told4 .given .1) 4 refl in
     (f .head, f .tail, f .least)
 
 enum-known-r : tie.Need-enum-known-r
@@ -72,11 +78,14 @@ same-length-4 c = search needs
 
 returns-2 : tie.Need-returns-2
 returns-2 c =
-    let a = c .before .before .before .before .before .before .before .before .before .before .before .before .args in
+    let c4 = c .before .before .before .before in
+    let c8 = c4 .before .before .before .before in
+    let c12 = c8 .before .before .before .before in
+    let a = c12 .args in
     let h = now (a .head) in
     let t = now (a .tail) in
     ap (λ (x : List ℕ). out (accepted (2 ∷ [])) h x) (c .before .before .repair-tail .ensures) ∙ repaired-is (a .n) h t _ Different
-    (c .before .before .before .before .before .before .before .read .ensures) (c .before .before .before .before .before .enum-told2 .given .1) 2
+    (c4 .before .before .before .read .ensures) (c4 .before .enum-told2 .given .1) 2
     refl
 
 same-length-5 : tie.Need-same-length-5
@@ -87,11 +96,14 @@ same-length-6 c = search needs
 
 returns-3 : tie.Need-returns-3
 returns-3 c =
-    let a = c .before .before .before .before .before .before .before .before .before .before .before .before .args in
+    let c4 = c .before .before .before .before in
+    let c8 = c4 .before .before .before .before in
+    let c12 = c8 .before .before .before .before in
+    let a = c12 .args in
     let h = now (a .head) in
     let t = now (a .tail) in
     ap (λ (x : List ℕ). out (accepted (3 ∷ [])) h x) (c .before .before .repair-tail2 .ensures) ∙ repaired-is (a .n) h t _ PrimaryOnly
-    (c .before .before .before .before .before .before .before .read .ensures) (c .before .before .before .before .before .enum-told3 .given .1) 3
+    (c4 .before .before .before .read .ensures) (c4 .before .enum-told3 .given .1) 3
     refl
 
 same-length-7 : tie.Need-same-length-7
@@ -102,11 +114,14 @@ same-length-8 c = search needs
 
 returns-4 : tie.Need-returns-4
 returns-4 c =
-    let a = c .before .before .before .before .before .before .before .before .before .before .before .before .args in
+    let c4 = c .before .before .before .before in
+    let c8 = c4 .before .before .before .before in
+    let c12 = c8 .before .before .before .before in
+    let a = c12 .args in
     let h = now (a .head) in
     let t = now (a .tail) in
     ap (λ (x : List ℕ). out (accepted (4 ∷ [])) x t) (c .before .before .repair-head .ensures) ∙ repaired-is (a .n) h t _ BackupOnly
-    (c .before .before .before .before .before .before .before .read .ensures) (c .before .before .before .before .before .enum-told4 .given .1) 4
+    (c4 .before .before .before .read .ensures) (c4 .before .enum-told4 .given .1) 4
     refl
 
 same-length-9 : tie.Need-same-length-9

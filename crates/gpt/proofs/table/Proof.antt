@@ -66,7 +66,8 @@ part-result-end c = search needs
 
 returns : tie.Need-returns
 returns c =
-    let a = c .before .before .before .before .before .before .args in
+    let c4 = c .before .before .before .before in
+    let a = c4 .before .before .args in
     let h = now (a .head) in
     let t = now (a .tail) in
     handed-is (a .n) h t _ Same (c .before .before .before .read .ensures) (c .before .enum-told .given .1) 1 refl _ _ _ _
@@ -75,7 +76,8 @@ returns c =
 
 returns-2 : tie.Need-returns-2
 returns-2 c =
-    let a = c .before .before .before .before .before .before .args in
+    let c4 = c .before .before .before .before in
+    let a = c4 .before .before .args in
     let h = now (a .head) in
     let t = now (a .tail) in
     handed-is (a .n) h t _ Different (c .before .before .before .read .ensures) (c .before .enum-told2 .given .1) 2 refl _ _ _ _
@@ -84,7 +86,8 @@ returns-2 c =
 
 returns-3 : tie.Need-returns-3
 returns-3 c =
-    let a = c .before .before .before .before .before .before .args in
+    let c4 = c .before .before .before .before in
+    let a = c4 .before .before .args in
     let h = now (a .head) in
     let t = now (a .tail) in
     handed-is (a .n) h t _ PrimaryOnly (c .before .before .before .read .ensures) (c .before .enum-told3 .given .1) 3 refl _ _ _ _
@@ -93,7 +96,8 @@ returns-3 c =
 
 returns-4 : tie.Need-returns-4
 returns-4 c =
-    let a = c .before .before .before .before .before .before .args in
+    let c4 = c .before .before .before .before in
+    let a = c4 .before .before .args in
     let h = now (a .head) in
     let t = now (a .tail) in
     handed-is (a .n) h t _ BackupOnly (c .before .before .before .read .ensures) (c .before .enum-told4 .given .1) 4 refl _ _ _ _

@@ -30,8 +30,9 @@ returns c =
 
 returns-2 : tie.Need-returns-2
 returns-2 c =
-    let a = c .before .before .before .before .before .before .before .args in
-    c .slot .ensures ∙ own-rows (a .n) (now (a .head)) (now (a .tail)) (passed _ (c .before .before .enum-told .given .1) (c .before .before .before .before .opened .ensures)) (delete (a .number)) refl _ (c .before .entries-in .ensures .0)
+    let c4 = c .before .before .before .before in
+    let a = c4 .before .before .before .args in
+    c .slot .ensures ∙ own-rows (a .n) (now (a .head)) (now (a .tail)) (passed _ (c .before .before .enum-told .given .1) (c4 .opened .ensures)) (delete (a .number)) refl _ (c .before .entries-in .ensures .0)
 
 pub delete-spec : {M : Type 1} → statement M
 delete-spec =

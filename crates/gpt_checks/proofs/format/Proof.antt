@@ -20,9 +20,11 @@ is-zero-requires c κs = search needs
 
 returns : tie.Need-returns
 returns c =
-    let o = c .before .before .before .before .before .before .before .before in
+    let c4 = c .before .before .before .before in
+    let c8 = c4 .before .before .before .before in
+    let o = c8 in
     let a = o .args in
-    format-zero (a .n) (now (a .guid)) (now (a .head)) (now (a .tail)) (o .pre) (sym (passed _ (c .before .before .enum-told .given .1) (c .before .before .before .before .lent .ensures))) (sym (c .before .is-zero .ensures) ∙ c .if1 .taken)
+    format-zero (a .n) (now (a .guid)) (now (a .head)) (now (a .tail)) (o .pre) (sym (passed _ (c .before .before .enum-told .given .1) (c4 .lent .ensures))) (sym (c .before .is-zero .ensures) ∙ c .if1 .taken)
 
 returns-2 : tie.Need-returns-2
 returns-2 c =
@@ -32,9 +34,11 @@ returns-2 c =
 
 returns-3 : tie.Need-returns-3
 returns-3 c =
-    let o = c .before .before .before .before .before .before .before .before in
+    let c4 = c .before .before .before .before in
+    let c8 = c4 .before .before .before .before in
+    let o = c8 in
     let a = o .args in
-    format-right (a .n) (now (a .guid)) (now (a .head)) (now (a .tail)) (o .pre) (sym (passed _ (c .before .before .enum-told .given .1) (c .before .before .before .before .lent .ensures))) (sym (c .before .is-zero .ensures) ∙ c .if1 .left)
+    format-right (a .n) (now (a .guid)) (now (a .head)) (now (a .tail)) (o .pre) (sym (passed _ (c .before .before .enum-told .given .1) (c4 .lent .ensures))) (sym (c .before .is-zero .ensures) ∙ c .if1 .left)
 
 pub format-spec : {M : Type 1} → statement M
 format-spec =

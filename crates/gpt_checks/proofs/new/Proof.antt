@@ -24,8 +24,10 @@ is-zero-requires-2 c κs = search needs
 
 returns-3 : tie.Need-returns-3
 returns-3 c =
-    let a = c .before .before .before .before .before .before .before .before .before .args in
-    unique-zero 0 0 (now (a .table)) (now (a .kind)) (now (a .unique)) (a .size) (now (a .name)) (c .before .before .before .before .if1 .left) (sym (c .before .before .before .is-zero .ensures) ∙ c .before .before .if2 .left) (sym (c .before .is-zero2 .ensures) ∙ c .if3 .taken)
+    let c4 = c .before .before .before .before in
+    let c8 = c4 .before .before .before .before in
+    let a = c8 .before .args in
+    unique-zero 0 0 (now (a .table)) (now (a .kind)) (now (a .unique)) (a .size) (now (a .name)) (c4 .if1 .left) (sym (c .before .before .before .is-zero .ensures) ∙ c .before .before .if2 .left) (sym (c .before .is-zero2 .ensures) ∙ c .if3 .taken)
 
 carried-requires : tie.Need-carried-requires
 carried-requires c κs = search needs

@@ -22,10 +22,12 @@ last-usable-requires c κs = search needs
 
 lowest-requires : tie.Need-lowest-requires
 lowest-requires c κs =
-    let a = c .before .before .before .before .before .before .before .before .before .args in
+    let c4 = c .before .before .before .before in
+    let c8 = c4 .before .before .before .before in
+    let a = c8 .before .args in
     let e = c .last-usable .ensures in
-    let m = c .before .before .before .before .before .before .before .before .before .pre .2 in
-    (c .before .before .before .before .before .before .before .before .before .pre .0, add-size (a .n) (now (a .table)) (now (a .kind)) (now (a .unique)) (a .size) (now (a .name)) (passed _ (c .before .before .enum-told .given .1) (c .before .before .before .before .new .ensures)), omega arith)
+    let m = c8 .before .pre .2 in
+    (c8 .before .pre .0, add-size (a .n) (now (a .table)) (now (a .kind)) (now (a .unique)) (a .size) (now (a .name)) (passed _ (c .before .before .enum-told .given .1) (c4 .new .ensures)), omega arith)
 
 enum-told-2 : tie.Need-enum-told-2
 enum-told-2 c = search needs

@@ -19,18 +19,23 @@ bad-name-requires c κs = search needs
 
 returns : tie.Need-returns
 returns c =
-    let a = c .before .before .before .before .before .before .before .before .args in
-    rename-bad (a .n) (now (a .head)) (now (a .tail)) (a .number) (now (a .name)) (c .before .before .before .before .before .before .before .before .pre) (passed _ (c .before .before .enum-told .given .1) (c .before .before .before .before .delete .ensures)) (sym (c .before .bad-name .ensures) ∙ c .if1 .taken)
+    let c4 = c .before .before .before .before in
+    let c8 = c4 .before .before .before .before in
+    let a = c8 .args in
+    rename-bad (a .n) (now (a .head)) (now (a .tail)) (a .number) (now (a .name)) (c8 .pre) (passed _ (c .before .before .enum-told .given .1) (c4 .delete .ensures)) (sym (c .before .bad-name .ensures) ∙ c .if1 .taken)
 
 returns-2 : tie.Need-returns-2
 returns-2 c =
-    let a = c .before .before .before .before .before .before .before .args in
-    rename-stops (a .n) (now (a .head)) (now (a .tail)) (a .number) (now (a .name)) (c .before .before .before .before .before .before .before .pre) _ (stopped _ _ (c .before .k .given .1) (c .before .before .before .delete .ensures))
+    let c4 = c .before .before .before .before in
+    let a = c4 .before .before .before .args in
+    rename-stops (a .n) (now (a .head)) (now (a .tail)) (a .number) (now (a .name)) (c4 .before .before .before .pre) _ (stopped _ _ (c .before .k .given .1) (c .before .before .before .delete .ensures))
 
 returns-3 : tie.Need-returns-3
 returns-3 c =
-    let a = c .before .before .before .before .before .before .before .before .args in
-    rename-right (a .n) (now (a .head)) (now (a .tail)) (a .number) (now (a .name)) (c .before .before .before .before .before .before .before .before .pre) (passed _ (c .before .before .enum-told .given .1) (c .before .before .before .before .delete .ensures)) (sym (c .before .bad-name .ensures) ∙ c .if1 .left)
+    let c4 = c .before .before .before .before in
+    let c8 = c4 .before .before .before .before in
+    let a = c8 .args in
+    rename-right (a .n) (now (a .head)) (now (a .tail)) (a .number) (now (a .name)) (c8 .pre) (passed _ (c .before .before .enum-told .given .1) (c4 .delete .ensures)) (sym (c .before .bad-name .ensures) ∙ c .if1 .left)
 
 pub rename-spec : {M : Type 1} → statement M
 rename-spec =

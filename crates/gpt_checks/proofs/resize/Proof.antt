@@ -1,7 +1,6 @@
 use native.Mathlib.Omega.{arith}
 use denote.Ref.{now}
 use Rattle.gpt_checks.proofs.Judged.{passed, stopped, open-facts, delete-open, delete-slot, resize-stops, resize-zero, resize-full, resize-right}
-use Rattle.gpt_checks.proofs.Rows.{slot-number}
 use borrow.Author.Needs.{needs}
 use Rattle.gpt_checks.proofs.resize.Statement.{statement}
 use Rattle.gpt_checks.proofs.resize.Tie as tie
@@ -32,17 +31,21 @@ last-usable-requires c κs =
 
 fits-at-requires : tie.Need-fits-at-requires
 fits-at-requires c κs =
-    let a = c .before .before .before .before .before .before .before .before .args in
-    let d = passed _ (c .before .before .before .enum-told .given .1) (c .before .before .before .before .before .delete .ensures) in
+    let c4 = c .before .before .before .before in
+    let c8 = c4 .before .before .before .before in
+    let a = c8 .args in
+    let d = passed _ (c .before .before .before .enum-told .given .1) (c4 .before .delete .ensures) in
     let o = open-facts (a .n) (now (a .head)) (now (a .tail)) (delete-open (a .n) (now (a .head)) (now (a .tail)) (a .number) d) in
-    let k = slot-number 0 0 _ (a .number) (delete-slot (a .n) (now (a .head)) (now (a .tail)) (a .number) d) in
+    let k = delete-slot (a .n) (now (a .head)) (now (a .tail)) (a .number) d in
     let e = c .last-usable .ensures in
     (k .0, k .1, c .before .entries-in .ensures .1, omega arith, omega arith)
 
 returns-2 : tie.Need-returns-2
 returns-2 c =
-    let a = c .before .before .before .before .before .before .before .before .before .before .args in
-    resize-right (a .n) (now (a .head)) (now (a .tail)) (a .number) (a .size) (passed _ (c .before .before .before .before .before .enum-told .given .1) (c .before .before .before .before .before .before .before .delete .ensures)) (c .before .before .before .before .if1 .left) _ _ (c .before .before .before .entries-in .ensures .0) (c .before .before .last-usable .ensures) _ (c .before .fits-at .ensures 34) (c .if2 .taken)
+    let c4 = c .before .before .before .before in
+    let c8 = c4 .before .before .before .before in
+    let a = c8 .before .before .args in
+    resize-right (a .n) (now (a .head)) (now (a .tail)) (a .number) (a .size) (passed _ (c4 .before .enum-told .given .1) (c4 .before .before .before .delete .ensures)) (c4 .if1 .left) _ _ (c .before .before .before .entries-in .ensures .0) (c .before .before .last-usable .ensures) _ (c .before .fits-at .ensures 34) (c .if2 .taken)
 
 returns-3 : tie.Need-returns-3
 returns-3 c =
@@ -51,8 +54,10 @@ returns-3 c =
 
 returns-4 : tie.Need-returns-4
 returns-4 c =
-    let a = c .before .before .before .before .before .before .before .before .before .before .args in
-    resize-full (a .n) (now (a .head)) (now (a .tail)) (a .number) (a .size) (passed _ (c .before .before .before .before .before .enum-told .given .1) (c .before .before .before .before .before .before .before .delete .ensures)) (c .before .before .before .before .if1 .left) _ _ (c .before .before .before .entries-in .ensures .0) (c .before .before .last-usable .ensures) _ (c .before .fits-at .ensures 34) (c .if2 .left)
+    let c4 = c .before .before .before .before in
+    let c8 = c4 .before .before .before .before in
+    let a = c8 .before .before .args in
+    resize-full (a .n) (now (a .head)) (now (a .tail)) (a .number) (a .size) (passed _ (c4 .before .enum-told .given .1) (c4 .before .before .before .delete .ensures)) (c4 .if1 .left) _ _ (c .before .before .before .entries-in .ensures .0) (c .before .before .last-usable .ensures) _ (c .before .fits-at .ensures 34) (c .if2 .left)
 
 pub resize-spec : {M : Type 1} → statement M
 resize-spec =

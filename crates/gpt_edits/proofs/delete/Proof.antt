@@ -1,7 +1,8 @@
 use mathlib.Core.Path.{refl}
 use native.Mathlib.Omega.{arith}
 use denote.Ref.{now}
-use Rattle.gpt_edits.proofs.Outcomes.{open-facts, edit-made, delete-slot}
+use Rattle.gpt_checks.proofs.Judged.{edit-facts}
+use Rattle.gpt_edits.proofs.Outcomes.{same-tables, edit-made, delete-slot}
 use Rattle.gpt_model.specs.Calls.{delete}
 use Rattle.octets.specs.Bytes.{zeros}
 use borrow.Author.Needs.{needs}
@@ -19,9 +20,9 @@ slice-aggregate-put-both c = search needs
 put-both-requires : tie.Need-put-both-requires
 put-both-requires c κs =
     let a = c .before .before .before .before .before .args in
-    let o = open-facts (a .n) (now (a .head)) (now (a .tail)) (delete (a .slot)) (c .before .before .before .before .before .pre) in
+    let o = edit-facts (a .n) (now (a .head)) (now (a .tail)) (delete (a .slot)) (c .before .before .before .before .before .pre) in
     let k = delete-slot (a .n) (now (a .head)) (now (a .tail)) (a .slot) (c .before .before .before .before .before .pre) in
-    (o .head, o .tail, o .least, omega arith, search needs, o .same)
+    (o .head, o .tail, o .least, omega arith, search needs, same-tables (a .n) (now (a .head)) (now (a .tail)) (delete (a .slot)) (c .before .before .before .before .before .pre))
 
 same-length : tie.Need-same-length
 same-length c = search needs

@@ -1,6 +1,7 @@
 use native.Mathlib.Omega.{arith}
 use denote.Ref.{now}
-use Rattle.gpt_edits.proofs.Outcomes.{open-facts, edit-made, resize-slot, resized-is, resize-bound}
+use Rattle.gpt_checks.proofs.Judged.{edit-facts}
+use Rattle.gpt_edits.proofs.Outcomes.{same-tables, edit-made, resize-slot, resized-is, resize-bound}
 use Rattle.gpt_model.specs.Calls.{resize}
 use borrow.Author.Needs.{needs}
 use Rattle.gpt_edits.proofs.resize.Statement.{statement}
@@ -14,7 +15,7 @@ sub-i c =
 entries-in-requires : tie.Need-entries-in-requires
 entries-in-requires c κs =
     let a = c .before .before .before .args in
-    open-facts (a .n) (now (a .head)) (now (a .tail)) (resize (a .slot) (a .size)) (c .before .before .before .pre) .head
+    edit-facts (a .n) (now (a .head)) (now (a .tail)) (resize (a .slot) (a .size)) (c .before .before .before .pre) .head
 
 entry-requires : tie.Need-entry-requires
 entry-requires c κs =
@@ -32,10 +33,12 @@ slice-aggregate-put-both c = search needs
 
 put-both-requires : tie.Need-put-both-requires
 put-both-requires c κs =
-    let a = c .before .before .before .before .before .before .before .before .before .args in
-    let o = open-facts (a .n) (now (a .head)) (now (a .tail)) (resize (a .slot) (a .size)) (c .before .before .before .before .before .before .before .before .before .pre) in
-    let k = resize-slot (a .n) (now (a .head)) (now (a .tail)) (a .slot) (a .size) (c .before .before .before .before .before .before .before .before .before .pre) in
-    (o .head, o .tail, o .least, omega arith, c .before .before .before .resized .ensures .1, o .same)
+    let c4 = c .before .before .before .before in
+    let c8 = c4 .before .before .before .before in
+    let a = c8 .before .args in
+    let o = edit-facts (a .n) (now (a .head)) (now (a .tail)) (resize (a .slot) (a .size)) (c8 .before .pre) in
+    let k = resize-slot (a .n) (now (a .head)) (now (a .tail)) (a .slot) (a .size) (c8 .before .pre) in
+    (o .head, o .tail, o .least, omega arith, c .before .before .before .resized .ensures .1, same-tables (a .n) (now (a .head)) (now (a .tail)) (resize (a .slot) (a .size)) (c8 .before .pre))
 
 same-length : tie.Need-same-length
 same-length c = search needs
@@ -45,10 +48,13 @@ same-length-2 c = search needs
 
 returns : tie.Need-returns
 returns c =
-    let a = c .before .before .before .before .before .before .before .before .before .before .before .before .before .before .args in
-    edit-made (a .n) (now (a .head)) (now (a .tail)) (resize (a .slot) (a .size)) (c .before .before .before .before .before .before .before .before .before .before .before .before .before .before .pre) _ _ _
-    (resized-is (a .n) (now (a .head)) (now (a .tail)) (a .slot) _ _ (c .before .before .before .before .before .before .before .before .before .before .entries-in .ensures .0) (c .before .before .before .before .before .before .before .before .before .entry .ensures .0) _ (a .size) (c .before .before .before .before .before .before .before .before .resized .ensures .0))
-    (c .before .before .before .before .put-both .ensures .0) (c .before .before .before .before .put-both .ensures .1)
+    let c4 = c .before .before .before .before in
+    let c8 = c4 .before .before .before .before in
+    let c12 = c8 .before .before .before .before in
+    let a = c12 .before .before .args in
+    edit-made (a .n) (now (a .head)) (now (a .tail)) (resize (a .slot) (a .size)) (c12 .before .before .pre) _ _ _
+    (resized-is (a .n) (now (a .head)) (now (a .tail)) (a .slot) _ _ (c8 .before .before .entries-in .ensures .0) (c8 .before .entry .ensures .0) _ (a .size) (c8 .resized .ensures .0))
+    (c4 .put-both .ensures .0) (c4 .put-both .ensures .1)
 
 pub resize-spec : {M : Type 1} → statement M
 resize-spec =

@@ -30,8 +30,9 @@ carries-requires c κs = search needs
 
 returns : tie.Need-returns Inv-loop μ-loop
 returns c =
-    let a = c .before .before .before .before .before .before .before .args in
-    let l = c .before .before .before .before .loop in
+    let c4 = c .before .before .before .before in
+    let a = c4 .before .before .before .args in
+    let l = c4 .loop in
     let p = carries (now (a .unique)) in
     let k = length-entries (now (a .t)) in
     sym (sym (l .inv .1) ∙ any-stop p (entries (now (a .t))) [] (l .i) (omega arith) (sym (ap p (c .before .before .entry .ensures .0)) ∙ sym (c .before .carries .ensures) ∙ c .if1 .taken))
@@ -44,8 +45,9 @@ loop-less c = search needs
 
 loop-again : tie.Need-loop-again Inv-loop μ-loop
 loop-again c =
-    let a = c .before .before .before .before .before .before .before .args in
-    let l = c .before .before .before .before .loop in
+    let c4 = c .before .before .before .before in
+    let a = c4 .before .before .before .args in
+    let l = c4 .loop in
     let p = carries (now (a .unique)) in
     let k = length-entries (now (a .t)) in
     (omega arith, sym (any-on p (entries (now (a .t))) [] (l .i) (omega arith) (sym (ap p (c .before .before .entry .ensures .0)) ∙ sym (c .before .carries .ensures) ∙ c .if1 .left)) ∙ l .inv .1)
