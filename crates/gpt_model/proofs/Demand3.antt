@@ -8,26 +8,27 @@ use Prim.Native.Nat.{ℕ, _+_, _-_, _≤_, _<_}
 use native.Mathlib.Decide.{decLt}
 use native.Mathlib.Omega.{arith}
 use lib.ListN.{getD}
-use borrow.Author.Tests.{eqb-false, eq-eqb, leb-true}
+use borrow.Author.Tests.{eqb-false, eq-eqb, leb-true, le-leb}
 use Rattle.octets.specs.Rows.{Row, row, pickRow, refusal}
 use Rattle.octets.specs.Bytes.{zeros}
-use Rattle.octets.proofs.Bools.{and-i, and-l, bool-cases, clash, option-cases}
+use Rattle.octets.proofs.Bools.{and-l, and-i, option-cases}
 use Rattle.octets.proofs.Tests.{pairs-get}
 use Rattle.octets.proofs.Parts.{length-zeros}
-use Rattle.octets.proofs.Rows.{passes, pick-false, refusal-append}
+use Rattle.octets.proofs.Rows.{pick-false, passes, refusal-append}
 use Rattle.gpt_model.specs.Table.{vacant, apart, slots, goodTable}
 use Rattle.gpt_model.specs.Disk.{Shape, disk512, lastUsable, usable, inRange, state, tableOf, freshHead, freshTail}
-use Rattle.gpt_model.specs.Ranges.{inside, roomAt, place, longestFree}
-use Rattle.gpt_model.specs.Calls.{add, Call, repair, edit, refused, accepted, edited, Out, out, decided, isNone, addRows, change, openRows, rowsOf, step, formatRows, format}
+use Rattle.gpt_model.specs.Ranges.{inside, place, longestFree}
+use Rattle.gpt_model.specs.Calls.{Edit, add, delete, resize, rename, Call, repair, edit, refused, accepted, Out, out, decided, isNone, addRows, tableRows, change, edited, lengthsOf, openRows, rowsOf, step, formatRows, format}
 use Rattle.gpt_model.specs.Lists.{Run, run, answers, applied, begun, total, StartsAfresh}
-use Rattle.gpt_model.specs.Claims.{Passes, Sound, Formats, Demand3From, Demand3, Serves, NotEmpty, EditReadsBack, RepairReadsBack}
-use Rattle.gpt_model.proofs.Room.{room-get, room-make, place-some, place-none, place-is-none}
-use Rattle.gpt_model.proofs.Counts.{taken-total, apart-get, taken-free, total-zeros}
+use Rattle.gpt_model.specs.Claims.{FreeFrom, Passes, Sound, Formats, Demand3From, Demand3, Demand3At512, Serves, NotEmpty, EditReadsBack, RepairReadsBack}
+use Rattle.gpt_model.proofs.Room.{place-none, place-some, place-is-none}
+use Rattle.gpt_model.proofs.Counts.{apart-get, taken-total, total-zeros, taken-free}
 use Rattle.gpt_model.proofs.Longest.{room-fits, fits-room}
 use Rattle.gpt_model.proofs.Entries.{length-slots, good-bounded, good-apart, empty-sizes, empty-good}
 use Rattle.gpt_model.proofs.States.{Holds, readable-good, fresh-holds, repair-holds}
-use Rattle.gpt_model.proofs.Ways.{step-refused, step-made, repair-answer, not-ten, not-eleven, row1, row10}
-use Rattle.gpt_model.proofs.Steps.{edit-held, Agrees, Kept, keeps-all}
+use Rattle.gpt_model.proofs.Ways.{step-refused, step-made, repair-answer, not-ten, not-eleven, row1, row10, open-none}
+use Rattle.gpt_model.proofs.Accepts.{edit-accepted, slot-rows, rename-rows, resize-rows}
+use Rattle.gpt_model.proofs.Steps.{Agrees, Kept, edit-held, keeps-all}
 
 -- ---- formatting
 
@@ -117,19 +118,14 @@ module _ (g : Shape) (n : ℕ) (r : Run) (v : Kept g n r) where
     unfolding pickRow
     add-yes s q = ap (λ (o : Out). o .answer) (step-made g n (r .head) (r .tail) c (add-row false (ap isNone q)))
 
-    no-room : start ≡ none → (s : ℕ) → g .first ≤ s → roomAt (slots tab) (lastUsable g n) size s ≡ false
-    no-room q s h = go (bool-cases (roomAt (slots tab) (lastUsable g n) size s))
-      where
-        go : (roomAt (slots tab) (lastUsable g n) size s ≡ true) ⊎ (roomAt (slots tab) (lastUsable g n) size s ≡ false) → roomAt (slots tab) (lastUsable g n) size s ≡ false
-        go (inr x) = x
-        go (inl x) = absurd (place-none (slots tab) (g .first) (lastUsable g n) size add-size q s h (room-get _ _ _ _ x))
+    abbrev NoRun : Type 0
+    NoRun = (s : ℕ) → ¬ FreeFrom g n (slots tab) size s
 
-    room-iff : (step g n (r .head) (r .tail) c .answer ≡ refused 25) ↔ ((s : ℕ) → g .first ≤ s → roomAt (slots tab) (lastUsable g n) size s ≡ false)
-    room-iff = (to (option-cases start), λ f. add-no (place-is-none _ _ _ _ (λ s h w. clash (room-make _ _ _ _ w) (f s h))))
+    room-iff : (step g n (r .head) (r .tail) c .answer ≡ refused 25) ↔ NoRun
+    room-iff = (to (option-cases start), λ f. add-no (place-is-none _ _ _ _ (λ s h w. f s (h, w .0, w .1))))
       where
-        to : (start ≡ none) ⊎ ((s : ℕ) × (start ≡ some s)) → step g n (r .head) (r .tail) c .answer ≡ refused 25
-            → (s : ℕ) → g .first ≤ s → roomAt (slots tab) (lastUsable g n) size s ≡ false
-        to (inl q) a = no-room q
+        to : (start ≡ none) ⊎ ((s : ℕ) × (start ≡ some s)) → step g n (r .head) (r .tail) c .answer ≡ refused 25 → NoRun
+        to (inl q) a = λ s w. place-none (slots tab) (g .first) (lastUsable g n) size add-size q s (w .0) (w .1, w .2)
         to (inr w) a = let b = add-yes (w .0) (w .1) in let z : _≡_ {A = ℕ} 0 1 = cc in absurd (omega arith)
 
     fits-iff : (step g n (r .head) (r .tail) c .answer ≡ accepted (change (g .first) (lastUsable g n) tab (add type unique size attributes name) .values))
@@ -175,7 +171,14 @@ module _ (g : Shape) (n : ℕ) (r : Run) (v : Kept g n r) where
     not11 = not-eleven g n (r .head) (r .tail) (v .reads);
     free = omega (arith, taken-free (slots tab) (g .first) (lastUsable g n));
     fits = fits-iff;
+    deletes = λ k. accepts (delete k) refl (slot-rows (g .first) (lastUsable g n) tab k);
+    renames = λ k name l. accepts (rename k name) (eq-eqb _ _ l) (rename-rows (g .first) (lastUsable g n) tab k name);
+    resizes = λ k size. accepts (resize k size) refl (resize-rows (g .first) (lastUsable g n) tab k size);
   }
+    where
+      accepts : (d : Edit) → lengthsOf d ≡ true → {P : Type 0} → (refusal (tableRows (g .first) (lastUsable g n) tab d) ≡ none) ↔ P
+          → (step g n (r .head) (r .tail) (edit d) .answer ≡ accepted (change (g .first) (lastUsable g n) tab d .values)) ↔ P
+      accepts d l w = edit-accepted g n (r .head) (r .tail) d (open-none g n (r .head) (r .tail) d (v .len-head) (v .len-tail) l range (v .reads)) w
 
 -- ---- the theorems
 
@@ -187,6 +190,10 @@ demand3 g n guid h t f cs = (
   ap (λ (o : Out). o .answer) (formatted g n guid h t f),
   demand3From g (f .wide) n (zeros 16384) (begun (format g n guid h t)) (format-starts g n guid h t f) cs,
 )
+
+pub demand3At512 : Demand3At512
+demand3At512 n guid h t lo hi lg z lh lt =
+    demand3 disk512 n guid h t (record { wide = omega arith; range = and-i _ _ (le-leb _ _ lo) (le-leb _ _ hi); len-guid = lg; nonzero = z; len-head = lh; len-tail = lt })
 
 pub notEmpty : NotEmpty
 notEmpty g n guid h t f cs =

@@ -10,6 +10,7 @@ pub mod Copies
 pub mod States
 pub mod Writes
 pub mod Ways
+pub mod Accepts
 pub mod Steps
 pub mod Demand3
 pub mod Touches

@@ -8,9 +8,9 @@ use Prim.Native.Nat.{ℕ, zero, suc, _+_, _-_, _≤_, _<_}
 use native.Mathlib.Decide.{decLt, ℕ-discrete}
 use native.Mathlib.Omega.{arith}
 use borrow.Author.Tests.{leb-true, le-leb}
-use Rattle.octets.proofs.Bools.{and-l, and-r, and-i, bool-cases, clash, not-t, some-none, option-cases}
+use Rattle.octets.proofs.Bools.{and-l, and-r, and-i, bool-cases, not-t, clash, some-none, option-cases}
 use Rattle.gpt_model.specs.Table.{Slot, vacant, spans}
-use Rattle.gpt_model.specs.Ranges.{inside, lies, free, allFrom, firstFrom, roomAt, place}
+use Rattle.gpt_model.specs.Ranges.{inside, lies, free, allFrom, roomAt, firstFrom, place}
 
 -- ---- a block in a range
 
@@ -25,6 +25,10 @@ inside-get b f l e = (leb-true _ _ (and-l _ _ e), leb-true _ _ (and-r _ _ e))
 pub inside-vacant : (b : ℕ) → inside b vacant ≡ true → ⊥
 unfolding inside
 inside-vacant b e = false≢true e
+
+pub not-in-vacant : (b : ℕ) → inside b vacant ≡ false
+unfolding inside
+not-in-vacant b = refl
 
 -- ---- allFrom and firstFrom
 

@@ -12,24 +12,24 @@ use lib.ListN.{length, getD, set, length-set, List·getD-eq-default}
 use lib.Seq.{getD-set-same, getD-set-other}
 use borrow.Author.Tests.{leb-true, ltb-true, ne-eqb}
 use Rattle.octets.specs.Tests.{_and_}
-use Rattle.octets.specs.Bytes.{le, unle, part, put, putChunk}
 use Rattle.octets.specs.Rows.{row, refusal}
-use Rattle.octets.proofs.Bools.{and-l, and-r, not-f, or-cases, bool-cases}
-use Rattle.octets.proofs.Rows.{passes, pick-false, refusal-append}
+use Rattle.octets.specs.Bytes.{le, unle, part, put, putChunk}
+use Rattle.octets.proofs.Bools.{and-l, and-r, or-cases, bool-cases, not-f}
+use Rattle.octets.proofs.Rows.{pick-false, passes, refusal-append}
 use Rattle.octets.proofs.Tests.{any-false}
 use Rattle.octets.proofs.Parts.{length-part, getD-part}
 use Rattle.octets.proofs.Puts.{put-self}
 use Rattle.octets.proofs.Chunks.{chunk-part, putChunk-put}
-use Rattle.gpt_model.specs.Table.{Slot, vacant, spans, slotOf, apart, firstOf, lastOf, unused, slots, goodTable}
-use Rattle.gpt_model.specs.Ranges.{inside}
+use Rattle.gpt_model.specs.Table.{firstOf, lastOf, unused, Slot, vacant, spans, slotOf, apart, slots, goodTable}
 use Rattle.gpt_model.specs.Disk.{Shape, lastUsable, Side, primary, backup, lentBytes, headerAt, entriesAt, guidIn, entriesIn, goodCopy, tableOf, withTable}
-use Rattle.gpt_model.specs.Calls.{delete, resize, edit, fitsAt, rowsOf, edited, accepted, out}
+use Rattle.gpt_model.specs.Ranges.{inside}
+use Rattle.gpt_model.specs.Calls.{delete, resize, edit, accepted, out, fitsAt, edited, rowsOf}
 use Rattle.gpt_model.specs.Claims.{ResizeToSame}
+use Rattle.gpt_model.proofs.Room.{inside-get, not-in-vacant, room-make}
+use Rattle.gpt_model.proofs.Entries.{slot-unused, slot-used, Used, ok-used, getD-slot, length-slots, entryAt, good-at, good-beside}
 use Rattle.gpt_model.proofs.Copies.{header-inside, entries-inside, length-entries}
-use Rattle.gpt_model.proofs.Entries.{Used, ok-used, slot-unused, slot-used, getD-slot, length-slots, entryAt, good-at, good-beside}
-use Rattle.gpt_model.proofs.Room.{inside-get, inside-vacant, room-make}
 use Rattle.gpt_model.proofs.States.{good-header, one-good, one-primary, one-backup, readable-good}
-use Rattle.gpt_model.proofs.Ways.{step-made, edit-open, open-read, row1, row11}
+use Rattle.gpt_model.proofs.Ways.{step-made, row1, open-read, row11, edit-open}
 
 -- bytes are those of the number that they stand for
 le-unle : (xs : List ℕ) → ((i : ℕ) → getD xs i 0 < 256) → le (length xs) (unle xs) ≡ xs
@@ -48,13 +48,6 @@ part-bytes xs at k h f i = go (decLt i k)
     go : Dec (i < k) → getD (part at k xs) i 0 < 256
     go (yes l) = subst (λ (x : ℕ). x < 256) (sym (getD-part xs at k i l)) (f (at + i))
     go (no l) = subst (λ (x : ℕ). x < 256) (sym (List·getD-eq-default (part at k xs) 0 (omega (arith, length-part xs at k h)))) (omega arith)
-
-not-in-vacant : (b : ℕ) → inside b vacant ≡ false
-not-in-vacant b = go (bool-cases (inside b vacant))
-  where
-    go : (inside b vacant ≡ true) ⊎ (inside b vacant ≡ false) → inside b vacant ≡ false
-    go (inl w) = absurd (inside-vacant b w)
-    go (inr w) = w
 
 -- a block of one range lies in no range apart from it
 outside : (f l b : ℕ) (u : Slot) → apart (spans f l) u ≡ true → f ≤ b → b ≤ l → inside b u ≡ false

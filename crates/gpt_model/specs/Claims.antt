@@ -1,20 +1,24 @@
 -- What is claimed of the definitions: the statements of the theorems, proved under the same names in lower case. A reader relies on these.
 use mathlib.Core.Path.{_≡_}
-use mathlib.Core.Logic.{_↔_, _⊎_, _≢_}
+use mathlib.Core.Logic.{_⊎_, _≢_, _↔_}
 use mathlib.Core.Bool.{true, false}
 use mathlib.Core.List.{List, [], _∷_, _++_}
 use mathlib.Core.Option.{none}
 use Prim.Native.Nat.{ℕ, suc, _+_, _-_, _*_, _≤_, _<_}
 use lib.ListN.{length, getD}
 use Rattle.octets.specs.Rows.{refusal}
-use Rattle.octets.specs.Bytes.{isZero, zeros}
-use Rattle.gpt_model.specs.Table.{vacant, slotCount, tableBytes, entryBytes, firstOf, lastOf}
-use Rattle.gpt_model.specs.Disk.{Shape, lastUsable, usable, inRange, Side, primary, backup, headerBytes, lentBytes, headerAt, entriesAt, lent, state, tableOf}
-use Rattle.gpt_model.specs.Ranges.{inside, roomAt, taken, freeCount, longestFree}
-use Rattle.gpt_model.specs.Calls.{Edit, add, delete, resize, Call, repair, edit, refused, accepted, out, entryOf, addRows, change, edited, openRows, rowsOf, step, format}
+use Rattle.octets.specs.Bytes.{zeros, isZero}
+use Rattle.gpt_model.specs.Table.{entryBytes, firstOf, lastOf, unused, Slot, vacant, slotCount, tableBytes, slots}
+use Rattle.gpt_model.specs.Disk.{Shape, disk512, lastUsable, usable, inRange, Side, primary, backup, lentBytes, headerAt, entriesAt, headerBytes, state, lent, tableOf}
+use Rattle.gpt_model.specs.Ranges.{inside, lies, taken, freeCount, longestFree}
+use Rattle.gpt_model.specs.Calls.{Edit, add, delete, resize, rename, Call, repair, edit, refused, accepted, out, entryOf, addRows, change, edited, openRows, rowsOf, step, format}
 use Rattle.gpt_model.specs.Lists.{Run, run, answers, applied, begun, slotsOf, StartsAfresh}
 
 -- ---- demand 3
+
+-- (D21) a run of free blocks: the size blocks from s on are usable, and each lies in no partition
+abbrev pub FreeFrom : Shape → ℕ → List Slot → ℕ → ℕ → Type 0
+FreeFrom g n t size s = (g .first ≤ s) × (s + size ≤ suc (lastUsable g n)) × ((b : ℕ) → s ≤ b → b < s + size → lies t b ≡ false)
 
 -- an add that comes next passes its checks before the one for room
 abbrev pub Passes : Shape → ℕ → Run → List ℕ → List ℕ → ℕ → ℕ → List ℕ → Type 0
@@ -31,7 +35,7 @@ pub record Sound (g : Shape) (n : ℕ) (r : Run) : Type 0 where
   -- An add that comes next, once its earlier checks pass, is refused for room exactly when no run of as many free blocks as it asks exists, freed ones included.
   pub room : (type unique : List ℕ) (size attributes : ℕ) (name : List ℕ) → Passes g n r type unique size attributes name
       → (step g n (r .head) (r .tail) (edit (add type unique size attributes name)) .answer ≡ refused 25)
-      ↔ ((s : ℕ) → g .first ≤ s → roomAt (slotsOf g n r) (lastUsable g n) size s ≡ false)
+      ↔ ((s : ℕ) → ¬ FreeFrom g n (slotsOf g n r) size s)
 
 -- a formatting with any N in its range and any nonzero disk GUID, whatever head and tail held, on any shape whose blocks have room for a header
 pub record Formats (g : Shape) (n : ℕ) (guid h t : List ℕ) : Type 0 where
@@ -53,7 +57,32 @@ Demand3 =
     (g : Shape) (n : ℕ) (guid h t : List ℕ) → Formats g n guid h t
     → (cs : List Call) → (format g n guid h t .answer ≡ accepted []) × Sound g n (run g n cs (begun (format g n guid h t)))
 
+-- The same on a disk of 512-byte blocks, in the numbers of the rules.
+abbrev pub Demand3At512 : Type 0
+Demand3At512 =
+    (n : ℕ) (guid h t : List ℕ) → 68 ≤ n → n ≤ 4294967296 → length guid ≡ 16 → isZero guid ≡ false → length h ≡ 17408 → length t ≡ 16896
+    → (cs : List Call)
+    → (format disk512 n guid h t .answer ≡ accepted []) × Sound disk512 n (run disk512 n cs (begun (format disk512 n guid h t)))
+
 -- ---- demand 3 is not empty. P2: These imposters are shut out: refusing all calls, a constant reply or no writes, doing only the first add, made-up free counts.
+
+-- slot k can be edited: its number is one of 1 to 128, and it is used
+abbrev pub UsedSlot : List ℕ → ℕ → Type 0
+UsedSlot es k = (1 ≤ k) × (k ≤ slotCount) × (unused (entryOf es k) ≡ false)
+
+-- (R12) no nonzero unit comes after a zero one
+abbrev pub NameOk : List ℕ → Type 0
+NameOk name = (i j : ℕ) → i < j → getD name i 0 ≡ 0 → getD name j 0 ≡ 0
+
+-- (D18) with size blocks from its first on, slot k ends at the last usable block or before, and no block of it lies in another slot
+abbrev pub FitsAlone : ℕ → List ℕ → ℕ → ℕ → Type 0
+FitsAlone last es k size =
+    let f = firstOf (entryOf es k) in
+    (f + size ≤ suc last) × ((b i : ℕ) → f ≤ b → b < f + size → i < slotCount → i ≢ k - 1 → inside b (getD (slots es) i vacant) ≡ false)
+
+-- an edit that answers nothing else is accepted when it comes next
+abbrev pub Accepts : Shape → ℕ → Run → Edit → Type 0
+Accepts g n r d = step g n (r .head) (r .tail) (edit d) .answer ≡ accepted []
 
 pub record Serves (g : Shape) (n : ℕ) (es : List ℕ) (r : Run) : Type 0 where
   -- the disk reads as state 1, with the table es, and rows 10 and 11 do not hold
@@ -68,6 +97,12 @@ pub record Serves (g : Shape) (n : ℕ) (es : List ℕ) (r : Run) : Type 0 where
       → (step g n (r .head) (r .tail) (edit (add type unique size attributes name)) .answer
       ≡ accepted (change (g .first) (lastUsable g n) es (add type unique size attributes name) .values))
       ↔ (size ≤ longestFree (slotsOf g n r) (g .first) (lastUsable g n))
+  -- a delete is accepted exactly when its slot is used
+  pub deletes : (k : ℕ) → Accepts g n r (delete k) ↔ UsedSlot es k
+  -- a rename to 36 units, exactly when its slot is used and no nonzero unit comes after a zero one
+  pub renames : (k : ℕ) (name : List ℕ) → length name ≡ 36 → Accepts g n r (rename k name) ↔ (UsedSlot es k × NameOk name)
+  -- a resize, exactly when its slot is used, its size is not zero, and no block of the new range lies past N−34 or in another partition
+  pub resizes : (k size : ℕ) → Accepts g n r (resize k size) ↔ (UsedSlot es k × ((0 < size) × FitsAlone (lastUsable g n) es k size))
 
 -- after every list the table is that which the accepted calls, applied in order to the empty table, make
 abbrev pub NotEmpty : Type 0

@@ -1,0 +1,120 @@
+-- Delete, rename and resize: none of their own rows holds exactly when what `Serves` says in plain words does.
+use mathlib.Core.Path.{_≡_, refl, sym, ap, _∙_}
+use mathlib.Core.Logic.{_⊎_, inl, inr, _≢_, _↔_}
+use mathlib.Core.Bool.{true, false, not}
+use mathlib.Core.List.{List, [], _∷_, _++_}
+use mathlib.Core.Option.{none, some}
+use Prim.Native.Nat.{ℕ, zero, suc, _+_, _-_, _≤_, _<_}
+use native.Mathlib.Decide.{ℕ-discrete}
+use native.Mathlib.Omega.{arith}
+use lib.Dec.{eqb}
+use lib.ListN.{length, getD, set, length-set}
+use lib.Seq.{getD-set-same, getD-set-other}
+use borrow.Author.Tests.{leb-true, le-leb, eqb-true, eqb-false, eq-eqb, ne-eqb}
+use Rattle.octets.specs.Tests.{_and_}
+use Rattle.octets.specs.Rows.{Row, row, refusal}
+use Rattle.octets.specs.Bytes.{isZero}
+use Rattle.octets.proofs.Bools.{and-l, and-r, and-i, bool-cases, not-f, option-cases}
+use Rattle.octets.proofs.Tests.{all-make, any-none, any-false}
+use Rattle.octets.proofs.Rows.{pick-false, passes, refusal-append, refusal-before}
+use Rattle.gpt_model.specs.Table.{firstOf, Slot, vacant, slots}
+use Rattle.gpt_model.specs.Disk.{Shape, lastUsable, tableOf}
+use Rattle.gpt_model.specs.Ranges.{inside}
+use Rattle.gpt_model.specs.Calls.{Edit, resize, rename, edit, accepted, Out, badName, entryOf, slotRows, fitsAt, tableRows, change, openRows, rowsOf, step}
+use Rattle.gpt_model.specs.Claims.{UsedSlot, NameOk, FitsAlone}
+use Rattle.gpt_model.proofs.Room.{not-in-vacant, room-get, room-make}
+use Rattle.gpt_model.proofs.Entries.{length-slots}
+use Rattle.gpt_model.proofs.Ways.{step-refused, step-made, edit-decides}
+
+-- where the rows before an edit's own do not hold, its own decide
+pub edit-accepted : (g : Shape) (n : ℕ) (h t : List ℕ) (d : Edit) → refusal (openRows g n h t d) ≡ none
+    → {P : Type 0} → (refusal (tableRows (g .first) (lastUsable g n) (tableOf g n h t) d) ≡ none) ↔ P
+    → (step g n h t (edit d) .answer ≡ accepted (change (g .first) (lastUsable g n) (tableOf g n h t) d .values)) ↔ P
+edit-accepted g n h t d e {P} w = (to (option-cases (refusal (rowsOf g n h t (edit d)))), λ p. ap (λ (o : Out). o .answer) (step-made g n h t (edit d) (edit-decides g n h t d e ∙ w .1 p)))
+  where
+    to : (refusal (rowsOf g n h t (edit d)) ≡ none) ⊎ ((k : ℕ) × (refusal (rowsOf g n h t (edit d)) ≡ some k))
+        → step g n h t (edit d) .answer ≡ accepted (change (g .first) (lastUsable g n) (tableOf g n h t) d .values) → P
+    to (inl q) a = w .0 (sym (edit-decides g n h t d e) ∙ q)
+    to (inr q) a =
+        let b = ap (λ (o : Out). o .answer) (step-refused g n h t (edit d) (q .0) (q .1)) in
+        let z : _≡_ {A = ℕ} 0 1 = cc in
+        absurd (omega arith)
+
+-- ---- a name
+
+zero-name : (us : List ℕ) → isZero us ≡ true → (j : ℕ) → getD us j 0 ≡ 0
+zero-name [] e j = refl
+zero-name (u ∷ us) e zero = sym (eqb-true 0 u (and-l _ _ e))
+zero-name (u ∷ us) e (suc j) = zero-name us (and-r _ _ e) j
+
+name-zero : (us : List ℕ) → ((j : ℕ) → getD us j 0 ≡ 0) → isZero us ≡ true
+name-zero us f = all-make (eqb 0) us 0 (λ i h. eq-eqb 0 _ (sym (f i)))
+
+name-get : (name : List ℕ) → badName name ≡ false → NameOk name
+name-get [] e i j h z = refl
+name-get (u ∷ us) e i zero h z = absurd (omega arith)
+name-get (u ∷ us) e zero (suc j) h z = zero-name us (not-f _ (rw (eq-eqb u 0 z) at e)) j
+name-get (u ∷ us) e (suc i) (suc j) h z = go (bool-cases (eqb u 0)) (name-get us)
+  where
+    go : (eqb u 0 ≡ true) ⊎ (eqb u 0 ≡ false) → (badName us ≡ false → NameOk us) → getD us j 0 ≡ 0
+    go (inl q) ih = zero-name us (not-f _ (rw q at e)) j
+    go (inr q) ih = ih (rw q at e) i j (omega arith) z
+
+name-make : (name : List ℕ) → NameOk name → badName name ≡ false
+name-make [] f = refl
+name-make (u ∷ us) f = go (bool-cases (eqb u 0)) (name-make us)
+  where
+    go : (eqb u 0 ≡ true) ⊎ (eqb u 0 ≡ false) → (NameOk us → badName us ≡ false) → badName (u ∷ us) ≡ false
+    go (inl q) ih = rw q (ap not (name-zero us (λ j. f 0 (suc j) (omega arith) (eqb-true u 0 q))))
+    go (inr q) ih = rw q (ih (λ i j h z. f (suc i) (suc j) (omega arith) z))
+
+-- ---- the rows
+
+module _ (first last : ℕ) (es : List ℕ) (k : ℕ) where
+  pub slot-rows : (refusal (slotRows first last es k) ≡ none) ↔ UsedSlot es k
+  slot-rows = (to, λ w. pick-false _ 12 _ (ap not (and-i _ _ (le-leb _ _ (w .0)) (le-leb _ _ (w .1)))) ∙ pick-false _ 13 _ (w .2))
+    where
+      to : refusal (slotRows first last es k) ≡ none → UsedSlot es k
+      to e =
+          let c = not-f _ (passes 12 (slotRows first last es k) e) in
+          (leb-true _ _ (and-l _ _ c), leb-true _ _ (and-r _ _ c), passes 13 (slotRows first last es k) e)
+
+  -- slot rows, then others
+  then-rows : (qs : List Row) {P : Type 0} → (refusal qs ≡ none) ↔ P → (refusal (slotRows first last es k ++ qs) ≡ none) ↔ (UsedSlot es k × P)
+  then-rows qs w = (
+    λ e. let v = refusal-before (slotRows first last es k) qs e in (slot-rows .0 (v .0), w .0 (v .1)),
+    λ v. refusal-append (slotRows first last es k) qs (slot-rows .1 (v .0)) ∙ w .1 (v .1),
+  )
+
+  pub rename-rows : (name : List ℕ) → (refusal (tableRows first last es (rename k name)) ≡ none) ↔ (UsedSlot es k × NameOk name)
+  rename-rows name = then-rows (row (badName name) 23 ∷ []) (λ e. name-get name (passes 23 (row (badName name) 23 ∷ []) e), λ f. pick-false _ 23 _ (name-make name f))
+
+  fits-alone : (size : ℕ) → (fitsAt first last es k size ≡ true) ↔ FitsAlone last es k size
+  fits-alone size = (
+    λ e. let r = room-get _ _ _ _ e in (r .0, λ b i p q h ne. ap (inside b) (sym (other i ne)) ∙ any-none (inside b) rest vacant (r .1 b p q) i (omega (arith, long))),
+    λ w. room-make _ _ _ _ (w .0, λ b p q. any-false (inside b) rest vacant (λ i h. each b i (omega (arith, long)) p q (w .1 b i p q) (ℕ-discrete i (k - 1)))),
+  )
+    where
+      rest : List Slot
+      rest = set (slots es) (k - 1) vacant
+
+      long : length (set (slots es) (k - 1) vacant) ≡ 128
+      long = length-set (slots es) (k - 1) vacant ∙ length-slots es
+
+      other : (i : ℕ) → i ≢ k - 1 → getD (set (slots es) (k - 1) vacant) i vacant ≡ getD (slots es) i vacant
+      other i ne = getD-set-other (slots es) (k - 1) i vacant vacant ne
+
+      each : (b i : ℕ) → i < 128 → firstOf (entryOf es k) ≤ b → b < firstOf (entryOf es k) + size
+          → (i < 128 → i ≢ k - 1 → inside b (getD (slots es) i vacant) ≡ false) → Dec (i ≡ k - 1) → inside b (getD (set (slots es) (k - 1) vacant) i vacant) ≡ false
+      each b i h p q f (yes z) =
+          ap (inside b) (ap (λ (x : ℕ). getD (set (slots es) (k - 1) vacant) x vacant) z ∙ getD-set-same (slots es) (k - 1) vacant vacant (omega (arith, length-slots es)))
+          ∙ not-in-vacant b
+      each b i h p q f (no z) = ap (inside b) (other i z) ∙ f h z
+
+  pub resize-rows : (size : ℕ) → (refusal (tableRows first last es (resize k size)) ≡ none) ↔ (UsedSlot es k × ((0 < size) × FitsAlone last es k size))
+  resize-rows size =
+      let rows : List Row = row (eqb size 0) 20 ∷ row (not (fitsAt first last es k size)) 25 ∷ [] in
+      then-rows rows (
+        λ e. (let w : size ≢ 0 = eqb-false size 0 (passes 20 rows e) in omega arith, fits-alone size .0 (not-f _ (passes 25 rows e))),
+        λ w. pick-false _ 20 _ (let p = w .0 in ne-eqb size 0 (λ z. omega arith)) ∙ pick-false _ 25 _ (ap not (fits-alone size .1 (w .1))),
+      )
