@@ -5,20 +5,14 @@ use Prim.Native.Nat.{ℕ, _+_, _*_, _≤_, _<_}
 use native.Mathlib.Nat.{mul-zero, add-zero}
 use native.Mathlib.Omega.{arith}
 use native.Mathlib.Numerals.{add-one}
-use lib.ListN.{length, getD, drop, length-map, length-append, drop-of-length-le}
-use lib.Seq.{drop-cons, getD-take, length-take-le}
+use lib.ListN.{length, getD, drop, length-append, drop-of-length-le}
+use lib.Seq.{drop-cons}
 use Rattle.octets.specs.Bytes.{le, part, put, flat}
 use Rattle.octets.proofs.Numbers.{length-le}
 use Rattle.octets.proofs.Parts.{part-here}
 use Rattle.octets.proofs.Puts.{then, length-put}
 use Rattle.fmap_rules.specs.declared.Area.{Area}
 use Rattle.fmap_rules.specs.Written.{areaBytes, mapBytes}
-use Rattle.fmap_write.specs.declared.Areas.{Areas}
-use Rattle.fmap_write.specs.Areas.{listOf}
-
--- of an array of structs, the length is known for a `map` over it
-pub length-unmap : (X Y : Type 0) (f : X → Y) (l : List X) (n : ℕ) → length (map f l) ≡ n → length l ≡ n
-length-unmap X Y f l n e = sym (length-map l f) ∙ e
 
 -- ---- an area
 
@@ -38,48 +32,32 @@ area-written a at s0 s1 s2 s3 s4 wide p1 p2 p3 p4 =
 abbrev bytesOf : List Area → List ℕ
 bytesOf areas = flat (map areaBytes areas)
 
-pub length-list : (m : Areas) → m .count ≤ length (m .items) → length (listOf m) ≡ m .count
-length-list m h = length-take-le (m .count) (m .items) h
-
 -- areas are written up to i: with the others written behind them the whole is
-pub record WrittenTo (m : Areas) (at : ℕ) (old new : List ℕ) (i : ℕ) : Type 0 where
-  pub room : m .count ≤ length (m .items)
-  pub below : i ≤ m .count
+pub record WrittenTo (l : List Area) (at : ℕ) (old new : List ℕ) (i : ℕ) : Type 0 where
+  pub below : i ≤ length l
   pub same-length : length new ≡ length old
-  pub whole : put (at + 42 * i) (bytesOf (drop i (listOf m))) new ≡ put at (bytesOf (listOf m)) old
+  pub whole : put (at + 42 * i) (bytesOf (drop i l)) new ≡ put at (bytesOf l) old
 
-pub written-none : (m : Areas) (at : ℕ) (old : List ℕ) → m .count ≤ length (m .items) → WrittenTo m at old old 0
-written-none m at old h = record {
-  room = h;
-  below = omega arith;
-  same-length = refl;
-  whole = rw (mul-zero, add-zero);
-}
+pub written-none : (l : List Area) (at : ℕ) (old : List ℕ) → WrittenTo l at old old 0
+written-none l at old = record { below = omega arith; same-length = refl; whole = rw (mul-zero, add-zero) }
 
-pub written-on : {m : Areas} {at : ℕ} {old new next : List ℕ} {i : ℕ} (d : Area) → i < m .count
-    → next ≡ put (at + 42 * i) (areaBytes (getD (m .items) i d)) new → length (areaBytes (getD (m .items) i d)) ≡ 42
-    → WrittenTo m at old new i → WrittenTo m at old next (i + 1)
-written-on {m} {at} {old} {new} {next} {i} d h p k q =
-    let a = getD (m .items) i d in
-    let l = length-list m (q .room) in
-    let in-list : i < length (listOf m) = omega arith in
-    let cut : drop i (listOf m) ≡ a ∷ drop (i + 1) (listOf m) =
-    rw add-one (drop-cons (listOf m) i d in-list) ∙ ap (λ (x : Area). x ∷ drop (i + 1) (listOf m)) (getD-take (m .count) (m .items) i d h) in
+pub written-on : {l : List Area} {at : ℕ} {old new next : List ℕ} {i : ℕ} (d a : Area) → i < length l → a ≡ getD l i d
+    → next ≡ put (at + 42 * i) (areaBytes a) new → length (areaBytes a) ≡ 42 → WrittenTo l at old new i → WrittenTo l at old next (i + 1)
+written-on {l} {at} {old} {new} {next} {i} d a h e p k q =
+    let cut : drop i l ≡ a ∷ drop (i + 1) l = rw (e, add-one) (drop-cons l i d h) in
     record {
-      room = q .room;
       below = omega arith;
       same-length = ap length p ∙ length-put _ _ new ∙ q .same-length;
       whole =
-          then new (areaBytes a) next (bytesOf (drop (i + 1) (listOf m))) _ (at + 42 * i) (at + 42 * (i + 1)) p refl (omega arith)
+          then new (areaBytes a) next (bytesOf (drop (i + 1) l)) _ (at + 42 * i) (at + 42 * (i + 1)) p refl (omega arith)
           ∙ ap (λ (l : List Area). put (at + 42 * i) (bytesOf l) new) (sym cut)
           ∙ q .whole;
     }
 
-pub written-all : {m : Areas} {at : ℕ} {old new : List ℕ} {i : ℕ} → m .count ≤ i → WrittenTo m at old new i → new ≡ put at (bytesOf (listOf m)) old
+pub written-all : {l : List Area} {at : ℕ} {old new : List ℕ} {i : ℕ} → length l ≤ i → WrittenTo l at old new i → new ≡ put at (bytesOf l) old
 unfolding put
-written-all {m} {at} {old} {new} {i} h q =
-    let l = length-list m (q .room) in
-    ap (λ (l : List Area). put (at + 42 * i) (bytesOf l) new) (sym (drop-of-length-le (listOf m) {i = i} (omega arith))) ∙ q .whole
+written-all {l} {at} {old} {new} {i} h q =
+    ap (λ (l : List Area). put (at + 42 * i) (bytesOf l) new) (sym (drop-of-length-le l {i = i} h)) ∙ q .whole
 
 -- ---- the header, then the areas
 

@@ -1,64 +1,103 @@
 -- The layout of a text that is accepted: its areas by value, and room for its map.
 use mathlib.Core.Path.{_≡_, sym, ap, _∙_}
-use mathlib.Core.List.{List, []}
-use mathlib.Core.Option.{none}
-use Prim.Native.Nat.{ℕ, _+_, _≤_, _<_}
+use mathlib.Core.List.{List, [], map}
+use mathlib.Core.Option.{Option, none}
+use Prim.Native.Nat.{ℕ, _+_, _*_, _≤_, _<_}
 use native.Mathlib.Omega.{arith}
-use lib.ListN.{length, getD}
-use lib.Seq.{getD-take, length-take-le}
-use Rattle.fmap_rules.specs.Map.{blank as blankArea, mapSize}
+use lib.ListN.{length}
+use lib.Seq.{length-take-le}
+use borrow.Author.Tests.{eq-eqb}
+use Rattle.octets.specs.Bytes.{part, put, flat}
+use Rattle.fmap_rules.specs.Written.{areaBytes, mapBytes}
 use Rattle.fmap_rules.specs.declared.Area.{Area}
-use Rattle.fmap_rules.specs.declared.ImagePosition.{ImagePosition}
 use Rattle.fmap_write.specs.Areas.{listOf, Sound}
 use Rattle.fmap_write.specs.declared.Areas.{Areas}
-use Rattle.fmd_parse.specs.declared.Section.{Section}
+use Rattle.fmap_write.proofs.Fields.{map-written}
+use Rattle.fmd_table.specs.Table.{sectionsIn}
+use Rattle.fmd_table.proofs.Table.{length-sections}
 use Rattle.fmd_parse.specs.declared.Image.{Image}
-use Rattle.fmd_plan.specs.declared.Placed.{Placed}
-use Rattle.fmd_check.specs.Check.{good}
-use Rattle.fmd_check.specs.Facts.{Accepted}
-use Rattle.fmd_areas.specs.Areas.{areaFrom, areaAt, areasOf}
+use Rattle.fmd_plan.specs.Plans.{placedIn}
+use Rattle.fmd_plan.proofs.Plans.{length-placed}
+use Rattle.fmd_check.specs.Check.{fault, good, checkText}
+use Rattle.fmd_check.specs.Facts.{Numbered}
+use Rattle.fmd_check.proofs.Facts.{check-facts}
+use Rattle.fmd_areas.specs.Areas.{areaFrom, areaAt, areasOf, Laid}
+use Rattle.fmd_areas.proofs.Names.{name-short, length-stored}
 use Rattle.fmd_areas.proofs.Places.{ends}
-use Rattle.fmd_areas.proofs.Shape.{length-areas, area-at}
-use Rattle.fmd.specs.Calls.{Said, imageOf, saidBy, said}
+use Rattle.fmd_areas.proofs.Shape.{length-areas}
+use Rattle.fmd.specs.Calls.{Held, imageOf, saidBy, Read, Written, writeBy}
 use Rattle.fmd.specs.declared.Image.{Image as SaidImage}
-use Rattle.fmd.specs.declared.Layout.{Layout}
-use Rattle.fmd.proofs.Filled.{getD-within}
 
 -- no areas, by value
 pub no-areas : (r : Areas) → Sound r → listOf r ≡ [] → r .count ≡ 0
 no-areas r w e = sym (length-take-le (r .count) (r .items) (omega (arith, w .room, w .full))) ∙ ap length e
 
-module _ (s : List ℕ) (i : Image) (l : List Section) (ps : List Placed) (m : ℕ) (a : Accepted s i l ps m) where
-  planned : m < length ps
-  planned = omega (arith, a .there, a .fitted .count)
+-- ---- the tables of a text that is accepted
+
+-- what a check of the text answers, with the tables afterwards
+pub held : (s : List ℕ) (i : Image) (rows spots : List ℕ) (n m : ℕ) → length rows ≡ 1280 → length spots ≡ 512
+    → good i (sectionsIn n rows) (placedIn n spots) m ≡ checkText s → Held s i rows spots n m
+held s i rows spots n m p q e = record { rows-full = p; spots-full = q; accepted = rw (sym e) at (check-facts s) }
+
+pub numbered : (s : List ℕ) (n p : ℕ) → fault n p ≡ checkText s → Numbered n
+numbered s n p e = (rw (sym e) at (check-facts s)) .0
+
+module _ {s : List ℕ} {i : Image} {rows spots : List ℕ} {n m : ℕ} (g : Held s i rows spots n m) where
+  pub few : n ≤ 128
+  few = omega (arith, g .accepted .tree .room, length-sections n rows)
+
+  pub laid : Laid s rows spots n
+  laid = record {
+    rows-room = omega (arith, few, g .rows-full);
+    spots-room = omega (arith, few, g .spots-full);
+    tree = g .accepted .tree;
+    size = i .size;
+    small = omega (arith, g .accepted .image .high);
+    fitted = g .accepted .fitted;
+  }
+
+  pub there : m < n
+  there = omega (arith, g .accepted .there, length-sections n rows)
+
+  pub named : (i .place + i .length ≤ length s) × (i .length ≤ 32) × (n ≤ 128)
+  named = let w = name-short (g .accepted .image .named) in (w .0, w .1, few)
+
+  pub small : i .size ≤ 16777216
+  small = g .accepted .image .high
 
   -- the map fits between the start of section FMAP and the image's end
-  pub map-room : areaAt s l ps m .place .start .0 + mapSize (length l) ≤ i .size
+  pub map-room : {a : Area} → a ≡ areaAt s (sectionsIn n rows) (placedIn n spots) m → a .place .start .0 + 56 + 42 * n ≤ i .size
   unfolding areaAt areaFrom
-  map-room = omega (arith, a .room, ends s (i .size) l ps (a .tree) (a .fitted) m planned)
+  map-room {a} e =
+      let start : a .place .start .0 ≡ areaAt s (sectionsIn n rows) (placedIn n spots) m .place .start .0 = ap (λ (x : Area). x .place .start .0) e in
+      let w = ends s (i .size) (sectionsIn n rows) (placedIn n spots) (g .accepted .tree) (g .accepted .fitted) m (omega (arith, length-placed n spots, there)) in
+      omega (arith, g .accepted .room, length-sections n rows)
 
-  module _ (r : Areas) (w : Sound r) (e : listOf r ≡ areasOf s l ps) where
-    pub area-count : r .count ≡ length l
-    area-count = sym (length-take-le (r .count) (r .items) (omega (arith, w .room, w .full))) ∙ ap length e ∙ length-areas s l ps ∙ a .fitted .count
+  -- ---- what the calls answer
 
-    -- area m, whatever stands past the end
-    pub map-area : (d : Area) → getD (r .items) m d ≡ areaAt s l ps m
-    map-area d =
-        getD-within (r .items) m d blankArea (omega (arith, a .there, area-count, w .room, w .full))
-        ∙ sym (getD-take (r .count) (r .items) m blankArea (omega (arith, a .there, area-count)))
-        ∙ ap (λ (xs : List Area). getD xs m blankArea) e
-        ∙ area-at s l ps m planned
+  module _ {x : SaidImage} (e : x ≡ imageOf s i n) where
+    image-is : x ≡ imageOf s i (length (sectionsIn n rows))
+    image-is = rw (length-sections n rows) e
 
-  -- what a layout by value says
-  pub said-is : (x : SaidImage) (xs : List Area) (p : ImagePosition) → x ≡ imageOf s i (length l) → xs ≡ areasOf s l ps
-      → p ≡ areaAt s l ps m .place .start → record { answer = none; image = x; areas = xs; at = p } ≡ saidBy s (good i l ps m)
-  said-is x xs p e f g = rw (e, f, g)
+    pub said-is : (xs : List Area) (a : Area) → xs ≡ areasOf s (sectionsIn n rows) (placedIn n spots) → a ≡ areaAt s (sectionsIn n rows) (placedIn n spots) m
+        → record { answer = none; image = x; areas = xs; at = a .place .start } ≡ saidBy s (good i (sectionsIn n rows) (placedIn n spots) m)
+    said-is xs a p q = rw (image-is, p, q)
 
-  pub put-room : (r : Layout) → Sound (r .areas) → said r ≡ saidBy s (good i l ps m)
-      → (r .areas .count ≤ 128) × (r .at .0 + mapSize (r .areas .count) ≤ r .reading .image .size) × (r .reading .image .size ≤ 16777216)
-  unfolding imageOf
-  put-room r w e =
-      let at : r .at .0 ≡ areaAt s l ps m .place .start .0 = ap (λ (x : Said). x .at .0) e in
-      let size : r .reading .image .size ≡ i .size = ap (λ (x : Said). x .image .size) e in
-      let count : r .areas .count ≡ length l = area-count (r .areas) w (ap (λ (x : Said). x .areas) e) in
-      (w .room, omega (arith, map-room), omega (arith, a .image .high))
+    pub read-is :
+        _≡_ {A = Read} (record { answer = none; image = x })
+        (record { answer = saidBy s (good i (sectionsIn n rows) (placedIn n spots) m) .answer; image = saidBy s (good i (sectionsIn n rows) (placedIn n spots) m) .image })
+    read-is = rw image-is
+
+    module _ (image : List ℕ) (h : length image ≡ i .size) where
+      pub map-is : (a : Area) (one two : List ℕ) → a ≡ areaAt s (sectionsIn n rows) (placedIn n spots) m
+          → ((areas : List Area) → n ≡ length areas → one ≡ put (a .place .start .0) (part 0 56 (mapBytes (x .size) (x .name) (x .address) 1 areas)) image)
+          → two ≡ put (a .place .start .0 + 56) (flat (map areaBytes (areasOf s (sectionsIn n rows) (placedIn n spots)))) one
+          → record { answer = none; image = two } ≡ writeBy (saidBy s (good i (sectionsIn n rows) (placedIn n spots) m)) image none
+      unfolding imageOf
+      map-is a one two d p q =
+          let areas = areasOf s (sectionsIn n rows) (placedIn n spots) in
+          let wide : length (x .name) ≡ 32 = rw e (length-stored (g .accepted .image .named)) in
+          let w =
+          map-written (x .size) (x .name) (x .address) 1 wide (a .place .start .0) areas image one two
+          (p areas (sym (length-areas s (sectionsIn n rows) (placedIn n spots) ∙ length-placed n spots))) q in
+          rw (eq-eqb (length image) (i .size) h) (ap {B = Written} (λ (y : List ℕ). record { answer = none; image = y }) (w ∙ rw (e, d, h)))

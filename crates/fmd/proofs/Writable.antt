@@ -15,7 +15,7 @@ use Rattle.fmap_rules.specs.Map.{blank as blankArea, legalName, fmapName, named
 use Rattle.fmap_rules.specs.Written.{Stored, Writable}
 use Rattle.fmap_rules.specs.declared.Area.{Area}
 use Rattle.fmd_parse.specs.Trees.{blank as blankSection}
-use Rattle.fmd_parse.specs.declared.Section.{Section}
+use Rattle.fmd_table.specs.declared.Section.{Section}
 use Rattle.fmd_parse.specs.declared.Image.{Image}
 use Rattle.fmd_plan.specs.declared.Placed.{Placed}
 use Rattle.fmd_check.specs.Facts.{Accepted}

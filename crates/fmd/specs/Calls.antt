@@ -2,6 +2,7 @@
 use mathlib.Core.Bool.{cond}
 use mathlib.Core.List.{List, [], _++_, map}
 use mathlib.Core.Option.{Option, none, some}
+use mathlib.Core.Path.{_≡_}
 use Prim.Native.Nat.{ℕ}
 use lib.Dec.{eqb}
 use lib.ListN.{length, drop}
@@ -15,6 +16,9 @@ use Rattle.fmd_parse.specs.declared.Address.{Address}
 use Rattle.fmd_parse.specs.declared.Address.the-variants.{Given, Omitted}
 use Rattle.fmd_parse.specs.declared.Image.{Image as TextImage}
 use Rattle.fmd_check.specs.Check.{Judged, fault, good, checkText}
+use Rattle.fmd_check.specs.Facts as Text
+use Rattle.fmd_plan.specs.Plans.{placedIn}
+use Rattle.fmd_table.specs.Table.{sectionsIn}
 use Rattle.fmd_areas.specs.Areas.{storedName, areaAt, areasOf}
 use Rattle.fmd.specs.declared.Answer.{Answer}
 use Rattle.fmd.specs.declared.Answer.the-variants.{Accepted, WrongLength, TooLong, OutOfGrammar, BadNumber, BadName, NameTwice, TooMany, BadFlag, Undecided, Unfit, NoMapSection}
@@ -141,6 +145,12 @@ unfoldable pub writeText : List ℕ → List ℕ → Written
 writeText s image = writeBy (layoutIn s) image (layoutIn s .answer)
 
 -- ---- what the values of the code say
+
+-- a text that is accepted, with the tables of its n sections; section m is FMAP
+pub record Held (s : List ℕ) (i : TextImage) (rows spots : List ℕ) (n m : ℕ) : Type 0 where
+  pub rows-full : length rows ≡ 1280
+  pub spots-full : length spots ≡ 512
+  pub accepted : Text.Accepted s i (sectionsIn n rows) (placedIn n spots) m
 
 abbrev pub said : Layout → Said
 said r = record { answer = numberOf (r .reading .answer); image = r .reading .image; areas = listOf (r .areas); at = r .at }

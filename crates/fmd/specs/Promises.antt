@@ -11,7 +11,7 @@ use Rattle.octets.specs.Rows.{codeOf}
 use Rattle.fmap_rules.specs.Map.{blank, mapSize, areasOf, goodMap}
 use Rattle.fmap_rules.specs.Written.{Writable, Headed}
 use Rattle.fmap.specs.Find.{accepted, findMap}
-use Rattle.fmd_parse.specs.declared.Section.{Section}
+use Rattle.fmd_table.specs.declared.Section.{Section}
 use Rattle.fmd_parse.specs.declared.Image.{Image as TextImage}
 use Rattle.fmd_plan.specs.declared.Placed.{Placed}
 use Rattle.fmd_check.specs.Check.{good, checkText}

@@ -5,22 +5,21 @@ ghost use mathlib.Core.Path.{_≡_};
 ghost use Prim.Native.Nat.{_+_, _≤_, _<_};
 ghost use lib.ListN.{length, getD};
 ghost use Rattle.octets.specs.Rows.{codeOf};
-ghost use Rattle.fmap_rules.specs.Map.{blank, mapSize};
+ghost use Rattle.fmap_rules.specs.Map.{blank};
 ghost use Rattle.fmap_write.specs.Areas.{listOf, Sound};
-ghost use Rattle.fmd_parse.specs.Layouts.{listOf as sectionsOf, Sound as SoundList};
-ghost use Rattle.fmd_plan.specs.Plans.{planOf, Sound as SoundPlan};
+ghost use Rattle.fmd_table.specs.Table.{sectionsIn};
+ghost use Rattle.fmd_plan.specs.Plans.{placedIn};
 ghost use Rattle.fmd_check.specs.Check.{good};
-ghost use Rattle.fmd_check.specs.Facts.{Numbered, Accepted};
-ghost use Rattle.fmd.specs.Calls.{numberOf, said, refusedWith, baseOf, imageOf, saidBy, layoutIn, layoutFor, reading, readText, sectionOf, filled, listed, listText, recorded, recordText, written, writeBy, writeText};
+ghost use Rattle.fmd_check.specs.Facts.{Numbered};
+ghost use Rattle.fmd.specs.Calls.{numberOf, Held, said, refusedWith, blank as blankImage, baseOf, imageOf, saidBy, layoutIn, layoutFor, reading, readText, sectionOf, filled, listed, listText, recorded, recordText, written, writeBy, writeText};
 use fmap_rules::Area;
 use fmap_rules::Extent;
 use fmap_rules::ImagePosition;
 use fmap_write::Areas;
+use fmd_areas::area_at;
 use fmd_check::Verdict;
 use fmd_parse::Address;
 use fmd_parse::Image as TextImage;
-use fmd_parse::Sections;
-use fmd_plan::Plan;
 
 // What a call answers.
 pub enum Answer {
@@ -87,9 +86,9 @@ pub fn number(a: Answer) -> u32
     }
 }
 
-// No layout.
-fn refused(answer: Answer) -> Layout
-    ensures { λ r. ⌜ Sound (r .areas) × (said r ≡ refusedWith (numberOf answer)) ⌝ }
+// No image.
+fn unread(answer: Answer) -> Reading
+    ensures { λ r. ⌜ reading r ≡ record { answer = numberOf answer; image = blankImage } ⌝ }
 {
     let image = Image {
         name: [0u8; 32],
@@ -97,6 +96,17 @@ fn refused(answer: Answer) -> Layout
         address: 0,
         count: 0,
     };
+    Reading {
+        answer: answer,
+        image: image,
+    }
+}
+
+// No layout.
+fn refused(answer: Answer) -> Layout
+    ensures { λ r. ⌜ Sound (r .areas) × (said r ≡ refusedWith (numberOf answer)) ⌝ }
+{
+    let reading = unread(answer);
     let a = Area {
         place: Extent {
             start: ImagePosition(0),
@@ -106,10 +116,7 @@ fn refused(answer: Answer) -> Layout
         flags: 0,
     };
     Layout {
-        reading: Reading {
-            answer: answer,
-            image: image,
-        },
+        reading: reading,
         areas: Areas {
             items: [a; 128],
             count: 0,
@@ -151,7 +158,7 @@ fn image_of(text: &[u8], i: TextImage, count: usize) -> Image
     ensures { λ r. ⌜ r ≡ imageOf (now (text .entry)) i count ⌝ }
 {
     let address = i.address;
-    let name = fmd_areas::stored_name(text, i.place, i.length);
+    let name = fmd_areas::stored_name(text, i.place as u32, i.length as u32);
     Image {
         name: name,
         size: i.size,
@@ -161,15 +168,15 @@ fn image_of(text: &[u8], i: TextImage, count: usize) -> Image
 }
 
 // The layout of a text that is accepted; section m is FMAP.
-fn accepted(text: &[u8], i: TextImage, m: usize, l: Sections, p: Plan) -> Layout
-    requires { ⌜ SoundList l × SoundPlan p × Accepted (now text) i (sectionsOf l) (planOf p) m ⌝ }
-    ensures { λ r. ⌜ Sound (r .areas) × (said r ≡ saidBy (now (text .entry)) (good i (sectionsOf l) (planOf p) m)) ⌝ }
+fn accepted(text: &[u8], i: TextImage, rows: &[u32], spots: &[u32], n: usize, m: usize) -> Layout
+    requires { ⌜ Held (now text) i (now rows) (now spots) n m ⌝ }
+    ensures { λ r. ⌜ Sound (r .areas) × (said r ≡ saidBy (now (text .entry)) (good i (sectionsIn n (now (rows .entry))) (placedIn n (now (spots .entry))) m)) ⌝ }
 {
-    let areas = fmd_areas::areas_of(text, l, p);
-    let image = image_of(text, i, l.count);
-    let a = areas.items[m];
+    let a = area_at(text, rows, spots, n, m);
     let place = a.place;
     let start = place.start;
+    let image = image_of(text, i, n);
+    let areas = fmd_areas::areas_of(text, rows, spots, n);
     Layout {
         reading: Reading {
             answer: Answer::Accepted,
@@ -184,11 +191,11 @@ fn accepted(text: &[u8], i: TextImage, m: usize, l: Sections, p: Plan) -> Layout
 fn layout_in(text: &[u8]) -> Layout
     ensures { λ r. ⌜ Sound (r .areas) × (said r ≡ layoutIn (now (text .entry))) ⌝ }
 {
-    let c = fmd_check::check(text);
-    let verdict = c.verdict;
-    match verdict {
-        Verdict::Good(i, m) => accepted(text, i, m, c.list, c.plan),
-        Verdict::Fault(n, _) => refused(answer_of(n)),
+    let mut rows = [0u32; 1280];
+    let mut spots = [0u32; 512];
+    match fmd_check::check(text, &mut rows, &mut spots) {
+        Verdict::Good(i, n, m) => accepted(text, i, &rows, &spots, n, m),
+        Verdict::Fault(k, _) => refused(answer_of(k)),
     }
 }
 
@@ -196,8 +203,18 @@ fn layout_in(text: &[u8]) -> Layout
 pub fn read(text: &[u8]) -> Reading
     ensures { λ r. ⌜ reading r ≡ readText (now (text .entry)) ⌝ }
 {
-    let l = layout_in(text);
-    l.reading
+    let mut rows = [0u32; 1280];
+    let mut spots = [0u32; 512];
+    match fmd_check::check(text, &mut rows, &mut spots) {
+        Verdict::Good(i, n, _) => {
+            let image = image_of(text, i, n);
+            Reading {
+                answer: Answer::Accepted,
+                image: image,
+            }
+        }
+        Verdict::Fault(k, _) => unread(answer_of(k)),
+    }
 }
 
 // Reads a layout text, for a list of so many places.
@@ -255,29 +272,46 @@ pub fn put_records(text: &[u8], records: &mut [u8]) -> Reading
     ensures { λ r. ⌜ recorded r (now (records .exit)) ≡ recordText (now (text .entry)) (now (records .entry)) ⌝ }
 {
     if records.len() != 5376 {
-        let l = refused(Answer::WrongLength);
-        return l.reading;
+        return unread(Answer::WrongLength);
     }
-    let l = layout_in(text);
-    let areas = l.areas;
-    fmap_write::put_areas(records, 0, areas);
-    l.reading
+    let mut rows = [0u32; 1280];
+    let mut spots = [0u32; 512];
+    match fmd_check::check(text, &mut rows, &mut spots) {
+        Verdict::Good(i, n, _) => {
+            fmd_areas::put_areas(text, &rows, &spots, n, records, 0);
+            let image = image_of(text, i, n);
+            Reading {
+                answer: Answer::Accepted,
+                image: image,
+            }
+        }
+        Verdict::Fault(k, _) => unread(answer_of(k)),
+    }
 }
 
-// Writes the map of a layout into an image.
-fn put_layout(image: &mut [u8], l: Layout) -> Answer
-    requires { ⌜ (l .areas .count ≤ 128) × (l .at .0 + mapSize (l .areas .count) ≤ l .reading .image .size) × (l .reading .image .size ≤ 16777216) ⌝ }
-    ensures { λ r. ⌜ written r (now (image .exit)) ≡ writeBy (said l) (now (image .entry)) none ⌝ }
+// Writes the map of a layout into an image; section m is FMAP.
+fn put_layout(
+    text: &[u8],
+    i: TextImage,
+    rows: &[u32],
+    spots: &[u32],
+    n: usize,
+    m: usize,
+    image: &mut [u8],
+) -> Answer
+    requires { ⌜ Held (now text) i (now rows) (now spots) n m ⌝ }
+    ensures { λ r. ⌜ written r (now (image .exit))
+        ≡ writeBy (saidBy (now (text .entry)) (good i (sectionsIn n (now (rows .entry))) (placedIn n (now (spots .entry))) m)) (now (image .entry)) none ⌝ }
 {
-    let reading = l.reading;
-    let i = reading.image;
     if image.len() != i.size as usize {
         return Answer::WrongLength;
     }
-    let at = l.at;
-    let name = i.name;
-    let areas = l.areas;
-    fmap_write::put_map(image, at, name, i.address as u64, 1, areas);
+    let a = area_at(text, rows, spots, n, m);
+    let start = a.place.start.0 as usize;
+    let x = image_of(text, i, n);
+    let name = x.name;
+    fmap_write::put_header(image, start, x.size, name, x.address as u64, 1, n as u16);
+    fmd_areas::put_areas(text, rows, spots, n, image, start + 56);
     Answer::Accepted
 }
 
@@ -285,13 +319,10 @@ fn put_layout(image: &mut [u8], l: Layout) -> Answer
 pub fn write_map(text: &[u8], image: &mut [u8]) -> Answer
     ensures { λ r. ⌜ written r (now (image .exit)) ≡ writeText (now (text .entry)) (now (image .entry)) ⌝ }
 {
-    let c = fmd_check::check(text);
-    let verdict = c.verdict;
-    match verdict {
-        Verdict::Good(i, m) => {
-            let l = accepted(text, i, m, c.list, c.plan);
-            put_layout(image, l)
-        }
-        Verdict::Fault(n, _) => answer_of(n),
+    let mut rows = [0u32; 1280];
+    let mut spots = [0u32; 512];
+    match fmd_check::check(text, &mut rows, &mut spots) {
+        Verdict::Good(i, n, m) => put_layout(text, i, &rows, &spots, n, m, image),
+        Verdict::Fault(k, _) => answer_of(k),
     }
 }

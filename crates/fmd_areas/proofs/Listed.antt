@@ -1,31 +1,27 @@
 -- Laws of the functions over the places of a plan, and of the loop over all sections.
 use mathlib.Core.Path.{_≡_, refl, sym, ap, _∙_}
-use mathlib.Core.List.{List, [], _∷_, _++_, append-assoc, append-nil}
+use mathlib.Core.List.{List}
 use Prim.Native.Nat.{ℕ, zero, suc, _+_, _-_, _≤_, _<_}
-use native.Mathlib.Nat.{sub-zero}
 use native.Mathlib.Numerals.{add-one, sub-one}
 use native.Mathlib.Omega.{arith}
-use lib.ListN.{length, getD, take, drop, length-drop}
-use lib.Seq.{take-all}
+use lib.ListN.{length, getD, set, take, drop, length-drop}
+use lib.Seq.{take-all, take-suc, take-suc-set}
 use Rattle.octets.specs.Bytes.{part, put, zeros}
 use Rattle.octets.proofs.Parts.{length-part, length-zeros, part-zeros}
 use Rattle.octets.proofs.Puts.{put-eq}
+use Rattle.fmap_rules.specs.Map.{blank as blankArea}
 use Rattle.fmap_rules.specs.declared.Area.{Area}
-use Rattle.fmap_write.specs.Areas.{listOf}
-use Rattle.fmap_write.specs.declared.Areas.{Areas}
-use Rattle.fmd_parse.specs.Layouts.{listOf as sectionsOf, Sound as SoundList}
-use Rattle.fmd_parse.specs.Trees.{Tree, blank as blankSection}
-use Rattle.fmd_parse.specs.declared.Sections.{Sections}
-use Rattle.fmd_parse.proofs.Layouts.{counted as countedList}
-use Rattle.fmd_rows.proofs.Rows.{item as itemOf}
-use Rattle.fmd_plan.specs.Fitted.{Fitted}
-use Rattle.fmd_plan.specs.Plans.{blank, planOf, Sound}
+use Rattle.fmd_table.specs.Table.{sectionAt, sectionsIn}
+use Rattle.fmd_table.specs.declared.Section.{Section}
+use Rattle.fmd_table.proofs.Table.{length-sections, section-in}
+use Rattle.fmd_parse.specs.Trees.{blank as blankSection}
+use Rattle.fmd_plan.specs.Plans.{blank, placedAt, placedIn}
 use Rattle.fmd_plan.specs.declared.Placed.{Placed}
-use Rattle.fmd_plan.specs.declared.Plan.{Plan}
-use Rattle.fmd_plan.proofs.Plans.{counted, item}
-use Rattle.fmd_areas.specs.Areas.{positionIn, Climbs, storedName, areaFrom, areaAt, areasFrom, areasOf}
+use Rattle.fmd_plan.proofs.Plans.{length-placed, placed-in}
+use Rattle.fmd_areas.specs.Areas.{positionIn, Climbs, storedName, areaFrom, areaAt, areasOf, Laid}
 use Rattle.fmd_areas.proofs.Places.{climbs, ends}
 use Rattle.fmd_areas.proofs.Names.{name-short}
+use Rattle.fmd_areas.proofs.Shape.{length-areas, area-at as area-is-at}
 
 -- ---- names
 
@@ -62,64 +58,59 @@ unfolding positionIn
 below zero ps k n = absurd (n refl)
 below (suc lv) ps k n = rw sub-one
 
-module _ (p : Plan) (g : Sound p) (lv k : ℕ) (n : lv ≡ 0 → ⊥) (c : Climbs lv (planOf p) k) where
-  pub listed : k < p .count
-  listed = omega (arith, climb lv (planOf p) k n c .0, counted p g)
+module _ (n : ℕ) (spots : List ℕ) (lv k : ℕ) (d : lv ≡ 0 → ⊥) (c : Climbs lv (placedIn n spots) k) where
+  pub listed : k < n
+  listed = omega (arith, climb lv (placedIn n spots) k d c .0, length-placed n spots)
 
-  pub up-climbs : Climbs (lv - 1) (planOf p) (getD (p .items) k blank .parent)
-  up-climbs = rw (item p g k listed) at (climb lv (planOf p) k n c .1)
+  module _ {q : Placed} (e : q ≡ placedAt spots k) where
+    pub up-climbs : Climbs (lv - 1) (placedIn n spots) (q .parent)
+    up-climbs = rw (placed-in n spots k listed, sym e) at (climb lv (placedIn n spots) k d c .1)
 
-  pub up-position : getD (p .items) k blank .offset .0 + positionIn (lv - 1) (planOf p) (getD (p .items) k blank .parent) ≡ positionIn lv (planOf p) k
-  up-position = rw (item p g k listed) at (below lv (planOf p) k n)
+    pub up-position : q .offset .0 + positionIn (lv - 1) (placedIn n spots) (q .parent) ≡ positionIn lv (placedIn n spots) k
+    up-position = rw (placed-in n spots k listed, sym e) at (below lv (placedIn n spots) k d)
 
--- ---- section k, and the loop over all
+-- ---- section k, and the loops over all
 
--- what areas_of requires
-abbrev Ready : List ℕ → Sections → Plan → Type 0
-Ready s l p =
-    SoundList l × Sound p × Tree s (sectionsOf l) × ((z : ℕ) × (z ≤ 4294967295) × Fitted z (sectionsOf l) (planOf p))
+module _ {s rows spots : List ℕ} {n : ℕ} (g : Laid s rows spots n) where
+  pub many : length (areasOf s (sectionsIn n rows) (placedIn n spots)) ≡ n
+  many = length-areas s (sectionsIn n rows) (placedIn n spots) ∙ length-placed n spots
 
-module _ (s : List ℕ) (l : Sections) (p : Plan) (g : Ready s l p) where
-  counts : l .count ≡ p .count
-  counts = omega (arith, counted p (g .1), countedList l (g .0), g .3 .2 .count)
+  pub few : n ≤ 128
+  few = omega (arith, g .tree .room, length-sections n rows)
 
-  module _ (k : ℕ) (h : k < p .count) where
-    in-plan : k < length (planOf p)
-    in-plan = omega (arith, counted p (g .1))
+  module _ (k : ℕ) (h : k < n) where
+    in-plan : k < length (placedIn n spots)
+    in-plan = omega (arith, length-placed n spots)
 
-    in-list : k < l .count
-    in-list = omega (arith, counts)
+    pub area-in : getD (areasOf s (sectionsIn n rows) (placedIn n spots)) k blankArea ≡ areaAt s (sectionsIn n rows) (placedIn n spots) k
+    area-in = area-is-at s (sectionsIn n rows) (placedIn n spots) k in-plan
 
-    pub section-climbs : Climbs (getD (p .items) k blank .level) (planOf p) k
-    section-climbs = rw (item p (g .1) k h) at (climbs s (g .3 .0) (sectionsOf l) (planOf p) (g .2) (g .3 .2) k in-plan)
+    module _ {q : Placed} (e : q ≡ placedAt spots k) where
+      pub section-climbs : Climbs (q .level) (placedIn n spots) k
+      section-climbs = rw (placed-in n spots k h, sym e) at (climbs s (g .size) (sectionsIn n rows) (placedIn n spots) (g .tree) (g .fitted) k in-plan)
 
-    pub position-fits : positionIn (getD (p .items) k blank .level) (planOf p) k ≤ 4294967295
-    position-fits =
-        let e = rw (item p (g .1) k h) at (ends s (g .3 .0) (sectionsOf l) (planOf p) (g .2) (g .3 .2) k in-plan) in
-        let b = g .3 .1 in
-        omega arith
+      pub position-fits : positionIn (q .level) (placedIn n spots) k ≤ 4294967295
+      position-fits =
+          let w = rw (placed-in n spots k h, sym e) at (ends s (g .size) (sectionsIn n rows) (placedIn n spots) (g .tree) (g .fitted) k in-plan) in
+          omega (arith, g .small)
 
-    pub name-fits : (getD (l .items) k blankSection .place + getD (l .items) k blankSection .length ≤ length s) × (getD (l .items) k blankSection .length ≤ 32)
-    name-fits =
-        rw (itemOf l (g .0) k in-list) at (name-short (g .2 .each k (omega (arith, countedList l (g .0), in-list)) .named))
+      module _ {x : Section} (d : x ≡ sectionAt rows k) where
+        pub name-fits : (x .place + x .length ≤ length s) × (x .length ≤ 32)
+        name-fits = rw (section-in n rows k blankSection h, sym d) at (name-short (g .tree .each k (omega (arith, length-sections n rows)) .named))
 
-    module _ (a : Area) (at : ℕ) (e : a ≡ areaFrom s (getD (l .items) k blankSection) (getD (p .items) k blank) at) where
-      area-is : at ≡ positionIn (getD (p .items) k blank .level) (planOf p) k → a ≡ areaAt s (sectionsOf l) (planOf p) k
-      unfolding areaAt
-      area-is q = rw (e, q, itemOf l (g .0) k in-list, item p (g .1) k h)
+        pub area-made : {a : Area} (at : ℕ) → a ≡ areaFrom s x q at → at ≡ positionIn (q .level) (placedIn n spots) k → a ≡ areaAt s (sectionsIn n rows) (placedIn n spots) k
+        unfolding areaAt
+        area-made at p r = rw (p, r, section-in n rows k blankSection h, placed-in n spots k h, d, e)
 
-      pub areas-on : at ≡ positionIn (getD (p .items) k blank .level) (planOf p) k → (m r : List Area) → r ≡ m ++ (a ∷ [])
-          → r ++ areasFrom s (sectionsOf l) (planOf p) (p .count - (k + 1)) (k + 1) ≡ m ++ areasFrom s (sectionsOf l) (planOf p) (p .count - k) k
-      unfolding areasFrom
-      areas-on q m r u =
-          let c : p .count - k ≡ suc (p .count - (k + 1)) = omega arith in
-          rw (u, area-is q, c, add-one k) (append-assoc m _ _)
+  -- areas by value, up to k
+  pub taken-on : (items : List Area) (k : ℕ) → k < n → length items ≡ 128 → {a : Area} → a ≡ areaAt s (sectionsIn n rows) (placedIn n spots) k
+      → take k items ≡ take k (areasOf s (sectionsIn n rows) (placedIn n spots))
+      → take (k + 1) (set items k a) ≡ take (k + 1) (areasOf s (sectionsIn n rows) (placedIn n spots))
+  taken-on items k h w {a} e q =
+      let l = g .tree .room in
+      let m = length-sections n rows in
+      rw (add-one k, take-suc-set items k a (omega arith), q, take-suc (areasOf s (sectionsIn n rows) (placedIn n spots)) k blankArea (omega (arith, many)), area-in k h, e)
 
-  pub areas-done : (m : List Area) (k : ℕ) → p .count ≤ k → m ≡ m ++ areasFrom s (sectionsOf l) (planOf p) (p .count - k) k
-  unfolding areasFrom
-  areas-done m k h = let c : p .count - k ≡ 0 = omega arith in rw c (sym (append-nil m))
-
-  pub areas-start : (m : Areas) → m .count ≡ 0
-      → listOf m ++ areasFrom s (sectionsOf l) (planOf p) (p .count - 0) 0 ≡ areasOf s (sectionsOf l) (planOf p)
-  unfolding areasOf
-  areas-start m e = rw (e, counted p (g .1), sub-zero)
+  pub taken-all : (items : List Area) (k : ℕ) → k ≡ n → take k items ≡ take k (areasOf s (sectionsIn n rows) (placedIn n spots))
+      → take n items ≡ areasOf s (sectionsIn n rows) (placedIn n spots)
+  taken-all items k e q = rw e at q ∙ take-all n (areasOf s (sectionsIn n rows) (placedIn n spots)) (omega (arith, many))

@@ -18,7 +18,7 @@ use Rattle.fmap_rules.proofs.Names.{below}
 use Rattle.fmd_lex.specs.Chars.{isWord}
 use Rattle.fmd_lex.specs.Names.{goodName}
 use Rattle.fmd_parse.specs.Trees.{Named, Tree, blank as blankSection}
-use Rattle.fmd_parse.specs.declared.Section.{Section}
+use Rattle.fmd_table.specs.declared.Section.{Section}
 use Rattle.fmd_rows.specs.Rows.{repeats, fmap, isFmap}
 use Rattle.fmd_plan.specs.declared.Placed.{Placed}
 use Rattle.fmd_areas.specs.Areas.{storedName, areaFrom, areaAt}

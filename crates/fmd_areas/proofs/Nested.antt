@@ -15,7 +15,7 @@ use Rattle.fmap_rules.specs.Map.{position, blank as blankArea, endOf, disjoint,
 use Rattle.fmap_rules.specs.declared.Extent.{Extent}
 use Rattle.fmap_rules.specs.declared.Area.{Area}
 use Rattle.fmd_parse.specs.Trees.{Tree}
-use Rattle.fmd_parse.specs.declared.Section.{Section}
+use Rattle.fmd_table.specs.declared.Section.{Section}
 use Rattle.fmd_plan.specs.Plans.{blank}
 use Rattle.fmd_plan.specs.Fitted.{Fitted}
 use Rattle.fmd_plan.specs.declared.Placed.{Placed}

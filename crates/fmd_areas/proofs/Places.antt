@@ -8,7 +8,7 @@ use lib.ListN.{length, getD, take}
 use lib.Seq.{getD-take, length-take-le}
 use borrow.Author.Tests.{lt-ltb, le-ltb}
 use Rattle.fmd_parse.specs.Trees.{Tree, Under, blank as blankSection}
-use Rattle.fmd_parse.specs.declared.Section.{Section}
+use Rattle.fmd_table.specs.declared.Section.{Section}
 use Rattle.fmd_plan.specs.Plans.{blank, endOf, roomOf}
 use Rattle.fmd_plan.specs.Fitted.{Fitted}
 use Rattle.fmd_plan.specs.declared.Placed.{Placed}

@@ -5,7 +5,7 @@ use Prim.Native.Nat.{ℕ, zero, suc, _+_, _<_}
 use native.Mathlib.Nat.{not-suc-le-zero, le-of-suc-le-suc, add-zero, add-suc, suc-add, zero-add}
 use lib.ListN.{length, getD}
 use Rattle.fmap_rules.specs.Map.{blank as blankArea}
-use Rattle.fmd_parse.specs.declared.Section.{Section}
+use Rattle.fmd_table.specs.declared.Section.{Section}
 use Rattle.fmd_plan.specs.declared.Placed.{Placed}
 use Rattle.fmd_areas.specs.Areas.{areaAt, areasFrom, areasOf}
 

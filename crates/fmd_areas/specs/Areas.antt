@@ -1,14 +1,16 @@
 -- The sections of a layout as areas of a map, in the text's order.
 use mathlib.Core.Bool.{Bool, cond}
 use mathlib.Core.List.{List, [], _∷_, _++_}
-use Prim.Native.Nat.{ℕ, zero, suc, _+_, _-_, _<_}
+use Prim.Native.Nat.{ℕ, zero, suc, _+_, _*_, _-_, _≤_, _<_}
 use lib.ListN.{length, getD}
 use Rattle.octets.specs.Bytes.{part, zeros}
 use Rattle.fmap_rules.specs.Map.{position}
 use Rattle.fmap_rules.specs.declared.Area.{Area}
-use Rattle.fmd_parse.specs.Trees.{blank as blankSection}
-use Rattle.fmd_parse.specs.declared.Section.{Section}
-use Rattle.fmd_plan.specs.Plans.{blank}
+use Rattle.fmd_table.specs.Table.{sectionsIn}
+use Rattle.fmd_parse.specs.Trees.{blank as blankSection, Tree}
+use Rattle.fmd_table.specs.declared.Section.{Section}
+use Rattle.fmd_plan.specs.Fitted.{Fitted}
+use Rattle.fmd_plan.specs.Plans.{blank, placedIn}
 use Rattle.fmd_plan.specs.declared.Placed.{Placed}
 
 -- L15: A section's position in the image is its offset plus its parent's position. Section k, of a level; level 0 is the image.
@@ -45,3 +47,14 @@ areasFrom s l ps (suc n) k = areaAt s l ps k ∷ areasFrom s l ps n (suc k)
 
 unfoldable pub areasOf : List ℕ → List Section → List Placed → List Area
 areasOf s l ps = areasFrom s l ps (length ps) 0
+
+-- ---- the tables that are lent
+
+-- n sections of the text s and their places, in an image whose size fits 32 bits
+pub record Laid (s rows spots : List ℕ) (n : ℕ) : Type 0 where
+  pub rows-room : 10 * n ≤ length rows
+  pub spots-room : 4 * n ≤ length spots
+  pub tree : Tree s (sectionsIn n rows)
+  pub size : ℕ
+  pub small : size ≤ 4294967295
+  pub fitted : Fitted size (sectionsIn n rows) (placedIn n spots)

@@ -7,7 +7,7 @@ use lib.ListN.{length, getD}
 use Rattle.fmap_rules.specs.Map.{blank as blankArea, endOf, inside, disjointOrNested}
 use Rattle.fmap_rules.specs.declared.Area.{Area}
 use Rattle.fmd_parse.specs.Trees.{Tree, blank as blankSection}
-use Rattle.fmd_parse.specs.declared.Section.{Section}
+use Rattle.fmd_table.specs.declared.Section.{Section}
 use Rattle.fmd_plan.specs.Fitted.{Fitted}
 use Rattle.fmd_plan.specs.declared.Placed.{Placed}
 use Rattle.fmd_areas.specs.Areas.{areasOf}

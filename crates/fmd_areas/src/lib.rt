@@ -1,40 +1,41 @@
 // The sections of a layout as areas of a map: position in the image, size, flags, name.
 // An inner crate: no user calls it, so its functions may have a `requires`, which each caller meets.
-ghost use mathlib.Core.List.{_++_, _∷_, []};
+ghost use mathlib.Core.List.{map};
 ghost use mathlib.Core.Path.{_≡_};
-ghost use Prim.Native.Nat.{ℕ, _+_, _≤_, _<_};
+ghost use Prim.Native.Nat.{ℕ, _+_, _*_, _≤_, _<_};
 ghost use lib.ListN.{length};
+ghost use Rattle.octets.specs.Bytes.{put, flat};
+ghost use Rattle.fmap_rules.specs.Written.{areaBytes};
 ghost use Rattle.fmap_write.specs.Areas.{listOf, Sound};
-ghost use Rattle.fmd_parse.specs.Layouts.{listOf as sectionsOf, Sound as SoundList};
-ghost use Rattle.fmd_parse.specs.Trees.{Tree};
-ghost use Rattle.fmd_plan.specs.Plans.{planOf, Sound as SoundPlan};
-ghost use Rattle.fmd_plan.specs.Fitted.{Fitted};
-ghost use Rattle.fmd_areas.specs.Areas.{positionIn, Climbs, storedName, areaFrom, areasOf};
+ghost use Rattle.fmd_table.specs.Table.{sectionsIn};
+ghost use Rattle.fmd_plan.specs.Plans.{placedIn};
+ghost use Rattle.fmd_areas.specs.Areas.{positionIn, Climbs, storedName, areaFrom, areaAt, areasOf, Laid};
 use fmap_rules::Area;
 use fmap_rules::Extent;
 use fmap_rules::ImagePosition;
 use fmap_write::Areas;
-use fmd_parse::Section;
-use fmd_parse::Sections;
+use fmap_write::put_area;
 use fmd_plan::Placed;
-use fmd_plan::Plan;
+use fmd_plan::placed_at;
+use fmd_table::Section;
+use fmd_table::row_at;
 
-// The position of section k, of a level: its offset plus its parent's position. Level 0 is the image.
-fn position(p: Plan, k: usize, level: u8) -> ImagePosition
-    requires { ⌜ SoundPlan p × Climbs level (planOf p) k × (positionIn level (planOf p) k ≤ 4294967295) ⌝ }
-    ensures { λ r. ⌜ r .0 ≡ positionIn level (planOf p) k ⌝ }
+// The position of section k of n, of a level: its offset plus its parent's position. Level 0 is the image.
+fn position(spots: &[u32], n: usize, k: usize, level: u32) -> ImagePosition
+    requires { ⌜ (4 * n ≤ length (now spots)) × Climbs level (placedIn n (now spots)) k × (positionIn level (placedIn n (now spots)) k ≤ 4294967295) ⌝ }
+    ensures { λ r. ⌜ r .0 ≡ positionIn level (placedIn n (now (spots .entry))) k ⌝ }
 {
     if level == 0 {
         return ImagePosition(0);
     }
-    let q = p.items[k];
+    let q = placed_at(spots, k);
     let o = q.offset;
-    let up = position(p, q.parent as usize, level - 1);
+    let up = position(spots, n, q.parent as usize, level - 1);
     ImagePosition(o.0 + up.0)
 }
 
 // A name of the text as a map holds it.
-pub fn stored_name(text: &[u8], place: u16, size: u8) -> [u8; 32]
+pub fn stored_name(text: &[u8], place: u32, size: u32) -> [u8; 32]
     requires { ⌜ (place + size ≤ length (now text)) × (size ≤ 32) ⌝ }
     ensures { λ r. ⌜ r ≡ storedName (now (text .entry)) place size ⌝ }
 {
@@ -61,9 +62,34 @@ fn area_from(text: &[u8], h: Section, q: Placed, at: ImagePosition) -> Area
     }
 }
 
-// No areas.
-fn nothing() -> Areas
-    ensures { λ r. ⌜ Sound r × (r .count ≡ 0) ⌝ }
+// The area of section k of n.
+pub fn area_at(text: &[u8], rows: &[u32], spots: &[u32], n: usize, k: usize) -> Area
+    requires { ⌜ Laid (now text) (now rows) (now spots) n × (k < n) ⌝ }
+    ensures { λ r. ⌜ r ≡ areaAt (now (text .entry)) (sectionsIn n (now (rows .entry))) (placedIn n (now (spots .entry))) k ⌝ }
+{
+    let h = row_at(rows, k);
+    let q = placed_at(spots, k);
+    let at = position(spots, n, k, q.level);
+    area_from(text, h, q, at)
+}
+
+// The bytes of all areas, one after the other.
+pub fn put_areas(text: &[u8], rows: &[u32], spots: &[u32], n: usize, to: &mut [u8], at: usize)
+    requires { ⌜ Laid (now text) (now rows) (now spots) n × (at + 42 * n ≤ length (now to)) ⌝ }
+    ensures { λ _. ⌜ now (to .exit) ≡ put at (flat (map areaBytes (areasOf (now (text .entry)) (sectionsIn n (now (rows .entry))) (placedIn n (now (spots .entry)))))) (now (to .entry)) ⌝ }
+{
+    let mut k: usize = 0;
+    while k < n {
+        let a = area_at(text, rows, spots, n, k);
+        put_area(to, at + 42 * k, a);
+        k += 1;
+    }
+}
+
+// All areas by value.
+pub fn areas_of(text: &[u8], rows: &[u32], spots: &[u32], n: usize) -> Areas
+    requires { ⌜ Laid (now text) (now rows) (now spots) n ⌝ }
+    ensures { λ r. ⌜ Sound r × (listOf r ≡ areasOf (now (text .entry)) (sectionsIn n (now (rows .entry))) (placedIn n (now (spots .entry)))) ⌝ }
 {
     let a = Area {
         place: Extent {
@@ -73,40 +99,14 @@ fn nothing() -> Areas
         name: [0u8; 32],
         flags: 0,
     };
-    let items = [a; 128];
-    Areas {
-        items: items,
-        count: 0,
-    }
-}
-
-// The list with one area more.
-fn pushed(m: Areas, a: Area) -> Areas
-    requires { ⌜ Sound m × (m .count < 128) ⌝ }
-    ensures { λ r. ⌜ Sound r × (r .count ≡ m .count + 1) × (listOf r ≡ listOf m ++ (a ∷ [])) ⌝ }
-{
-    let mut t = m;
-    let n = m.count;
-    t.items[n] = a;
-    t.count = n + 1;
-    t
-}
-
-// The areas of all sections, in an image whose size fits 32 bits.
-pub fn areas_of(text: &[u8], l: Sections, p: Plan) -> Areas
-    requires { ⌜ SoundList l × SoundPlan p × Tree (now text) (sectionsOf l) × ((z : ℕ) × (z ≤ 4294967295) × Fitted z (sectionsOf l) (planOf p)) ⌝ }
-    ensures { λ r. ⌜ Sound r × (listOf r ≡ areasOf (now (text .entry)) (sectionsOf l) (planOf p)) ⌝ }
-{
-    let mut m = nothing();
-    let n = p.count;
+    let mut items = [a; 128];
     let mut k: usize = 0;
     while k < n {
-        let q = p.items[k];
-        let h = l.items[k];
-        let at = position(p, k, q.level);
-        let a = area_from(text, h, q, at);
-        m = pushed(m, a);
+        items[k] = area_at(text, rows, spots, n, k);
         k += 1;
     }
-    m
+    Areas {
+        items: items,
+        count: n,
+    }
 }

@@ -13,7 +13,7 @@ use Rattle.octets.proofs.Bools.{choice, and-l, and-r, or-cases, or-false-l, or-
 use Rattle.fmap_rules.specs.Map.{mapSize}
 use Rattle.fmd_parse.specs.Trees.{blank as blankSection, Tree, Imaged, LayoutFacts}
 use Rattle.fmd_parse.specs.Layouts.{Layout, layout, refused, layoutOf}
-use Rattle.fmd_parse.specs.declared.Section.{Section}
+use Rattle.fmd_table.specs.declared.Section.{Section}
 use Rattle.fmd_parse.specs.declared.Image.{Image}
 use Rattle.fmd_parse.proofs.Trees.{layout-facts}
 use Rattle.fmd_rows.specs.Rows.{foundFrom, repeats, firstRepeat, holdsCbfs, firstCbfs, undecided, firstUndecided, isFmap, fmapIn, hasChild}

@@ -2,24 +2,23 @@
 -- Row 1 stands where a list is lent.
 use mathlib.Core.Bool.{cond}
 use mathlib.Core.List.{List, []}
-use mathlib.Core.Path.{_≡_}
 use Prim.Native.Nat.{ℕ}
 use lib.Dec.{ltb}
 use lib.ListN.{length, getD}
 use Rattle.octets.specs.Tests.{_or_}
 use Rattle.fmap_rules.specs.Map.{mapSize}
+use Rattle.fmd_table.specs.Table.{sectionsIn}
 use Rattle.fmd_parse.specs.Trees.{blank as blankSection}
-use Rattle.fmd_parse.specs.Layouts.{Layout, layout, refused, layoutOf, listOf, Sound as SoundList}
-use Rattle.fmd_parse.specs.declared.Section.{Section}
+use Rattle.fmd_parse.specs.Layouts.{Layout, layout, refused, layoutOf}
+use Rattle.fmd_table.specs.declared.Section.{Section}
 use Rattle.fmd_parse.specs.declared.Image.{Image}
 use Rattle.fmd_rows.specs.Rows.{firstRepeat, firstCbfs, firstUndecided, fmapIn, hasChild}
 use Rattle.fmd_rows.specs.declared.Found.{Found}
 use Rattle.fmd_rows.specs.declared.Found.the-variants.{At, Nowhere}
-use Rattle.fmd_plan.specs.Plans.{Resolved, unfit, plan, blank, resolveFrom, planOf, Sound as SoundPlan}
+use Rattle.fmd_plan.specs.Plans.{Resolved, unfit, plan, blank, resolveFrom, placedIn}
 use Rattle.fmd_plan.specs.declared.Placed.{Placed}
 use Rattle.fmd_check.specs.declared.Verdict.{Verdict}
 use Rattle.fmd_check.specs.declared.Verdict.the-variants.{Good, Fault}
-use Rattle.fmd_check.specs.declared.Checked.{Checked}
 
 -- a fault's number and place; or image, sections, their places, and the index of section FMAP
 pub data Judged : Type 0 where
@@ -71,17 +70,8 @@ checkLayout s (layout i l) = checkList s i l
 unfoldable pub checkText : List ℕ → Judged
 checkText s = cond (ltb 32768 (length s)) (fault 50 32768) (checkLayout s (layoutOf s))
 
--- ---- what the values of the code say
+-- ---- what the values of the code say, with the tables that were lent
 
-abbrev pub verdictOf : Verdict → List Section → List Placed → Judged
-verdictOf (Good i k) l ps = good i l ps k
-verdictOf (Fault n p) l ps = fault n p
-
-abbrev pub checkedOf : Checked → Judged
-checkedOf r = verdictOf (r .verdict) (listOf (r .list)) (planOf (r .plan))
-
--- sound lists that say this
-pub record Says (r : Checked) (j : Judged) : Type 0 where
-  pub list : SoundList (r .list)
-  pub plan : SoundPlan (r .plan)
-  pub same : checkedOf r ≡ j
+abbrev pub verdictOf : Verdict → List ℕ → List ℕ → Judged
+verdictOf (Good i n k) rows spots = good i (sectionsIn n rows) (placedIn n spots) k
+verdictOf (Fault n p) rows spots = fault n p

@@ -25,7 +25,7 @@ use Rattle.fmd_lex.proofs.Tokens.{earlier}
 use Rattle.fmd_lex.proofs.Places.{token-within, word-bytes}
 use Rattle.fmd_parse.specs.Heads.{next, isKind, counted, amountAt, onward, judged, namedAt, marked, markAt, lastAt, otherAt, flagsAt, withOffset, offsetAt, withSize, sizeAt, headAt}
 use Rattle.fmd_parse.specs.Trees.{Numbered, Named}
-use Rattle.fmd_parse.specs.declared.Section.{Section}
+use Rattle.fmd_table.specs.declared.Section.{Section}
 use Rattle.fmd_parse.specs.declared.Amount.{Amount}
 use Rattle.fmd_parse.specs.declared.Amount.the-variants.{Counted, Uncounted}
 use Rattle.fmd_parse.specs.declared.Part.{Part}

@@ -4,90 +4,81 @@ use mathlib.Core.List.{List, [], _∷_, _++_}
 use Prim.Native.Nat.{ℕ, zero, suc, _+_, _*_, _-_, _≤_, _<_}
 use native.Mathlib.Omega.{arith}
 use lib.ListN.{length}
-use lib.Seq.{length-take-le}
 use borrow.Author.Tests.{eq-eqb, ne-eqb}
 use Rattle.fmd_lex.specs.Tokens.{tokenAt, Within}
 use Rattle.fmd_lex.specs.declared.Token.{Token}
 use Rattle.fmd_lex.proofs.Tokens.{earlier}
+use Rattle.fmd_table.specs.Table.{sectionsIn}
+use Rattle.fmd_table.specs.declared.Section.{Section}
+use Rattle.fmd_table.proofs.Table.{length-sections}
 use Rattle.fmd_parse.specs.Heads.{headAt}
-use Rattle.fmd_parse.specs.Layouts.{sectionFrom, listFrom, listOf, Sound, reachedOf, StepIn, SectionRead, ListRead}
-use Rattle.fmd_parse.specs.declared.Section.{Section}
-use Rattle.fmd_parse.specs.declared.Sections.{Sections}
+use Rattle.fmd_parse.specs.Layouts.{sectionFrom, listFrom, stepOf, StepIn, SectionRead, ListRead}
 use Rattle.fmd_parse.specs.declared.Part.the-variants.{Read, Fault}
 use Rattle.fmd_parse.specs.declared.Step.{Step}
 use Rattle.fmd_parse.specs.declared.Step.the-variants.{Onward, Stopped}
-use Rattle.fmd_parse.specs.declared.Reached.{Reached}
 
--- as many sections as the count says
-pub counted : (l : Sections) → Sound l → length (listOf l) ≡ l .count
-counted l g = length-take-le (l .count) (l .items) (omega arith)
-
-pub step-earlier : (n a b : ℕ) (p : Step) → StepIn n a p → b ≤ a → StepIn n b p
-step-earlier n a b (Onward u) w l = earlier w l
+step-earlier : (n a b : ℕ) (p : Step) → StepIn n a p → b ≤ a → StepIn n b p
+step-earlier n a b (Onward u k) w l = (earlier (w .0) l, w .1)
 step-earlier n a b (Stopped k p) w l = tt
 
-module _ {s : List ℕ} {t : Token} {lv par : ℕ} {l : Sections} (g : Sound l) where
-  pub section-stopped : {k p : ℕ} → headAt s t lv par (l .count) ≡ Fault k p
-      → SectionRead s t lv par l (record { step = Stopped k p; list = l })
+-- n rows of the table old before
+module _ {s : List ℕ} {t : Token} {lv par : ℕ} (n : ℕ) (old : List ℕ) where
+  pub section-stopped : {k p : ℕ} {rows : List ℕ} → headAt s t lv par n ≡ Fault k p → SectionRead s t lv par (sectionsIn n old) rows (Stopped k p)
   unfolding sectionFrom
-  section-stopped {k} {p} e = record { sound = g; within = tt; same = same }
+  section-stopped {k} {p} {rows} e = record { within = tt; same = same }
     where
-      same : (f : ℕ) → 2 * (length s - t .start) < f
-          → reachedOf (record { step = Stopped k p; list = l }) ≡ sectionFrom f s t lv par (listOf l)
+      same : (f : ℕ) → 2 * (length s - t .start) < f → stepOf (Stopped k p) rows ≡ sectionFrom f s t lv par (sectionsIn n old)
       same zero m = absurd (omega arith)
-      same (suc f) m = rw (counted l g, e)
+      same (suc f) m = rw (length-sections n old, e)
 
-  -- the head h with the token u after it, and the list with h at its end
-  module _ {h : Section} {u : Token} {n : Sections} (e : headAt s t lv par (l .count) ≡ Read h u) (w : Within (length s) (t .start + 1) u)
-      (q : listOf n ≡ listOf l ++ (h ∷ [])) where
-    pub section-shut : Sound n → (u .kind ≡ 123 → ⊥) → SectionRead s t lv par l (record { step = Onward u; list = n })
+  -- the head h with the token u after it, and the table with h in row n
+  module _ {h : Section} {u : Token} (new : List ℕ) (e : headAt s t lv par n ≡ Read h u) (w : Within (length s) (t .start + 1) u)
+      (q : sectionsIn (n + 1) new ≡ sectionsIn n old ++ (h ∷ [])) where
+    pub section-shut : n < 128 → (u .kind ≡ 123 → ⊥) → SectionRead s t lv par (sectionsIn n old) new (Onward u (n + 1))
     unfolding sectionFrom
-    section-shut o k = record { sound = o; within = w; same = same }
+    section-shut o k = record { within = (w, omega arith); same = same }
       where
-        same : (f : ℕ) → 2 * (length s - t .start) < f
-            → reachedOf (record { step = Onward u; list = n }) ≡ sectionFrom f s t lv par (listOf l)
+        same : (f : ℕ) → 2 * (length s - t .start) < f → stepOf (Onward u (n + 1)) new ≡ sectionFrom f s t lv par (sectionsIn n old)
         same zero m = absurd (omega arith)
-        same (suc f) m = rw (counted l g, e, ne-eqb (u .kind) 123 k, q)
+        same (suc f) m = rw (length-sections n old, e, ne-eqb (u .kind) 123 k, q)
 
-    pub section-open : {v : Token} {r : Reached} → u .kind ≡ 123 → v ≡ tokenAt s (u .end) → Within (length s) (u .end) v
-        → ListRead s v (lv + 1) (l .count) n r → SectionRead s t lv par l r
+    pub section-open : {v : Token} {rows : List ℕ} {r : Step} → u .kind ≡ 123 → v ≡ tokenAt s (u .end) → Within (length s) (u .end) v
+        → ListRead s v (lv + 1) n (sectionsIn (n + 1) new) rows r → SectionRead s t lv par (sectionsIn n old) rows r
     unfolding sectionFrom
-    section-open {v} {r} k z x o =
-        record { sound = o .sound; within = step-earlier (length s) (v .start + 1) (t .start + 1) (r .step) (o .within) (omega arith); same = same }
+    section-open {v} {rows} {r} k z x o =
+        record { within = step-earlier (length s) (v .start + 1) (t .start + 1) r (o .within) (omega arith); same = same }
       where
-        same : (f : ℕ) → 2 * (length s - t .start) < f → reachedOf r ≡ sectionFrom f s t lv par (listOf l)
+        same : (f : ℕ) → 2 * (length s - t .start) < f → stepOf r rows ≡ sectionFrom f s t lv par (sectionsIn n old)
         same zero m = absurd (omega arith)
-        same (suc f) m = rw (counted l g, e, eq-eqb (u .kind) 123 k, sym z, sym q) (o .same f (omega arith))
+        same (suc f) m = rw (length-sections n old, e, eq-eqb (u .kind) 123 k, sym z, sym q) (o .same f (omega arith))
 
-module _ {s : List ℕ} {t : Token} {lv par : ℕ} {l : Sections} {o : Reached} (h : SectionRead s t lv par l o) where
-  pub list-stopped : {k p : ℕ} → o .step ≡ Stopped k p → ListRead s t lv par l o
+module _ {s : List ℕ} {t : Token} {lv par : ℕ} {l : List Section} {new : List ℕ} {o : Step} (h : SectionRead s t lv par l new o) where
+  pub list-stopped : {k p : ℕ} → o ≡ Stopped k p → ListRead s t lv par l new (Stopped k p)
   unfolding listFrom
-  list-stopped {k} {p} e = record { sound = h .sound; within = h .within; same = same }
+  list-stopped {k} {p} e = record { within = tt; same = same }
     where
-      same : (f : ℕ) → 2 * (length s - t .start) + 1 < f → reachedOf o ≡ listFrom f s t lv par (listOf l)
+      same : (f : ℕ) → 2 * (length s - t .start) + 1 < f → stepOf (Stopped k p) new ≡ listFrom f s t lv par l
       same zero m = absurd (omega arith)
       same (suc f) m = rw (sym (h .same f (omega arith)), e)
 
   -- the token u after a section of the list
-  module _ {u : Token} (e : o .step ≡ Onward u) where
-    here : Within (length s) (t .start + 1) u
+  module _ {u : Token} {n : ℕ} (e : o ≡ Onward u n) where
+    pub here : Within (length s) (t .start + 1) u × (n ≤ 128)
     here = rw e at (h .within)
 
-    pub list-closed : {v : Token} → u .kind ≡ 125 → v ≡ tokenAt s (u .end) → Within (length s) (u .end) v
-        → ListRead s t lv par l (record { step = Onward v; list = o .list })
+    pub list-closed : {v : Token} → u .kind ≡ 125 → v ≡ tokenAt s (u .end) → Within (length s) (u .end) v → ListRead s t lv par l new (Onward v n)
     unfolding listFrom
-    list-closed {v} k z x = record { sound = h .sound; within = earlier x (let w = here in omega arith); same = same }
+    list-closed {v} k z x = record { within = (earlier x (let w = here in omega arith), here .1); same = same }
       where
-        same : (f : ℕ) → 2 * (length s - t .start) + 1 < f
-            → reachedOf (record { step = Onward v; list = o .list }) ≡ listFrom f s t lv par (listOf l)
+        same : (f : ℕ) → 2 * (length s - t .start) + 1 < f → stepOf (Onward v n) new ≡ listFrom f s t lv par l
         same zero m = absurd (omega arith)
         same (suc f) m = rw (sym (h .same f (omega arith)), e, eq-eqb (u .kind) 125 k, z)
 
-    pub list-more : {r : Reached} → (u .kind ≡ 125 → ⊥) → ListRead s u lv par (o .list) r → ListRead s t lv par l r
+    pub list-more : {rows : List ℕ} {r : Step} → (u .kind ≡ 125 → ⊥) → ListRead s u lv par (sectionsIn n new) rows r → ListRead s t lv par l rows r
     unfolding listFrom
-    list-more {r} k q =
-        record { sound = q .sound; within = step-earlier (length s) (u .start + 1) (t .start + 1) (r .step) (q .within) (let w = here in omega arith); same = same }
+    list-more {rows} {r} k q =
+        record { within = step-earlier (length s) (u .start + 1) (t .start + 1) r (q .within) (let w = here in omega arith); same = same }
       where
-        same : (f : ℕ) → 2 * (length s - t .start) + 1 < f → reachedOf r ≡ listFrom f s t lv par (listOf l)
+        same : (f : ℕ) → 2 * (length s - t .start) + 1 < f → stepOf r rows ≡ listFrom f s t lv par l
         same zero m = absurd (omega arith)
         same (suc f) m = let w = here in rw (sym (h .same f (omega arith)), e, ne-eqb (u .kind) 125 k) (q .same f (omega arith))

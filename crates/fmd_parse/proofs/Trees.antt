@@ -20,7 +20,7 @@ use Rattle.fmd_parse.specs.Heads.{next, isKind, amountAt, headAt}
 use Rattle.fmd_parse.specs.Images.{onward, titleAt, withAddress, addressAt, withLength, lengthAt, openAt, imageAt}
 use Rattle.fmd_parse.specs.Layouts.{Parsed, fault, parsed, afterHead, afterSection, sectionFrom, listFrom, afterImage, afterList, endedBy, layoutOf}
 use Rattle.fmd_parse.specs.Trees.{Named, blank, Under, Standing, Tree, AddressFits, Imaged, LayoutFacts}
-use Rattle.fmd_parse.specs.declared.Section.{Section}
+use Rattle.fmd_table.specs.declared.Section.{Section}
 use Rattle.fmd_parse.specs.declared.Part.{Part}
 use Rattle.fmd_parse.specs.declared.Part.the-variants.{Read, Fault}
 use Rattle.fmd_parse.specs.declared.Amount.{Amount}

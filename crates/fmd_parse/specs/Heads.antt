@@ -16,9 +16,9 @@ use Rattle.fmd_lex.specs.declared.Number.{Number}
 use Rattle.fmd_lex.specs.declared.Number.the-variants.{Value, Wrong}
 use Rattle.fmd_lex.specs.declared.Flag.{Flag}
 use Rattle.fmd_lex.specs.declared.Flag.the-variants.{Cbfs, Preserve, Unknown}
-use Rattle.fmd_parse.specs.declared.Offset.the-variants.{Given as GivenOffset, Omitted as OmittedOffset}
-use Rattle.fmd_parse.specs.declared.Size.the-variants.{Given as GivenSize, Omitted as OmittedSize}
-use Rattle.fmd_parse.specs.declared.Section.{Section}
+use Rattle.fmd_table.specs.declared.Offset.the-variants.{Given as GivenOffset, Omitted as OmittedOffset}
+use Rattle.fmd_table.specs.declared.Size.the-variants.{Given as GivenSize, Omitted as OmittedSize}
+use Rattle.fmd_table.specs.declared.Section.{Section}
 use Rattle.fmd_parse.specs.declared.Amount.{Amount}
 use Rattle.fmd_parse.specs.declared.Amount.the-variants.{Counted, Uncounted}
 use Rattle.fmd_parse.specs.declared.Part.{Part}

@@ -3,24 +3,22 @@ use mathlib.Core.Bool.{cond}
 use mathlib.Core.List.{List, [], _∷_, _++_}
 use mathlib.Core.Path.{_≡_}
 use Prim.Native.Nat.{ℕ, zero, suc, _+_, _*_, _-_, _≤_, _<_}
-use lib.ListN.{length, take}
+use lib.ListN.{length}
 use Rattle.fmd_lex.specs.Tokens.{endKind, tokenAt, Within}
 use Rattle.fmd_lex.specs.declared.Token.{Token}
+use Rattle.fmd_table.specs.Table.{sectionsIn}
 use Rattle.fmd_parse.specs.Heads.{next, isKind, headAt}
 use Rattle.fmd_parse.specs.Images.{imageAt}
-use Rattle.fmd_parse.specs.declared.Section.{Section}
+use Rattle.fmd_table.specs.declared.Section.{Section}
 use Rattle.fmd_parse.specs.declared.Part.{Part}
 use Rattle.fmd_parse.specs.declared.Part.the-variants.{Read, Fault}
-use Rattle.fmd_parse.specs.declared.Sections.{Sections}
 use Rattle.fmd_parse.specs.declared.Step.{Step}
 use Rattle.fmd_parse.specs.declared.Step.the-variants.{Onward, Stopped}
-use Rattle.fmd_parse.specs.declared.Reached.{Reached}
 use Rattle.fmd_parse.specs.declared.Image.{Image}
 use Rattle.fmd_parse.specs.declared.Heading.{Heading}
 use Rattle.fmd_parse.specs.declared.Heading.the-variants.{Read as ReadImage, Fault as FaultImage}
 use Rattle.fmd_parse.specs.declared.Answer.{Answer}
 use Rattle.fmd_parse.specs.declared.Answer.the-variants.{Accepted, Refused}
-use Rattle.fmd_parse.specs.declared.Outcome.{Outcome}
 
 -- ---- sections
 
@@ -80,42 +78,26 @@ layoutOf s =
     afterImage (imageAt s (tokenAt s 0))
     (λ i t. afterList (listFrom (2 * length s + 2) s t 1 128 []) (endedBy i))
 
--- ---- what the values of the code say
+-- ---- what the values of the code say, with the table that was lent
 
-abbrev pub listOf : Sections → List Section
-listOf l = take (l .count) (l .items)
+abbrev pub stepOf : Step → List ℕ → Parsed
+stepOf (Onward u n) rows = parsed (sectionsIn n rows) u
+stepOf (Stopped n p) rows = fault n p
 
--- at most 128 sections stand in the 128 places
-pub record Sound (l : Sections) : Type 0 where
-  pub room : l .count ≤ 128
-  pub full : length (l .items) ≡ 128
+abbrev pub answerOf : Answer → List ℕ → Layout
+answerOf (Accepted i n) rows = layout i (sectionsIn n rows)
+answerOf (Refused n p) rows = refused n p
 
-abbrev pub stepOf : Step → List Section → Parsed
-stepOf (Onward u) l = parsed l u
-stepOf (Stopped n p) l = fault n p
-
-abbrev pub reachedOf : Reached → Parsed
-reachedOf r = stepOf (r .step) (listOf (r .list))
-
-abbrev pub answerOf : Answer → List Section → Layout
-answerOf (Accepted i) l = layout i l
-answerOf (Refused n p) l = refused n p
-
-abbrev pub outcomeOf : Outcome → Layout
-outcomeOf o = answerOf (o .answer) (listOf (o .list))
-
--- ---- the contracts of the two readers
+-- ---- the contracts of the two readers: the sections l before, the table rows after
 
 abbrev pub StepIn : ℕ → ℕ → Step → Type 0
-StepIn n at (Onward u) = Within n at u
+StepIn n at (Onward u k) = Within n at u × (k ≤ 128)
 StepIn n at (Stopped k p) = Unit {0}
 
-pub record SectionRead (s : List ℕ) (t : Token) (lv par : ℕ) (l : Sections) (r : Reached) : Type 0 where
-  pub sound : Sound (r .list)
-  pub within : StepIn (length s) (t .start + 1) (r .step)
-  pub same : (f : ℕ) → 2 * (length s - t .start) < f → reachedOf r ≡ sectionFrom f s t lv par (listOf l)
+pub record SectionRead (s : List ℕ) (t : Token) (lv par : ℕ) (l : List Section) (rows : List ℕ) (r : Step) : Type 0 where
+  pub within : StepIn (length s) (t .start + 1) r
+  pub same : (f : ℕ) → 2 * (length s - t .start) < f → stepOf r rows ≡ sectionFrom f s t lv par l
 
-pub record ListRead (s : List ℕ) (t : Token) (lv par : ℕ) (l : Sections) (r : Reached) : Type 0 where
-  pub sound : Sound (r .list)
-  pub within : StepIn (length s) (t .start + 1) (r .step)
-  pub same : (f : ℕ) → 2 * (length s - t .start) + 1 < f → reachedOf r ≡ listFrom f s t lv par (listOf l)
+pub record ListRead (s : List ℕ) (t : Token) (lv par : ℕ) (l : List Section) (rows : List ℕ) (r : Step) : Type 0 where
+  pub within : StepIn (length s) (t .start + 1) r
+  pub same : (f : ℕ) → 2 * (length s - t .start) + 1 < f → stepOf r rows ≡ listFrom f s t lv par l

@@ -1,14 +1,11 @@
 // Sections in braces.
-ghost use mathlib.Core.List.{_++_, _∷_, []};
 ghost use mathlib.Core.Path.{_≡_};
-ghost use Prim.Native.Nat.{_≤_, _<_};
+ghost use Prim.Native.Nat.{_≤_};
 ghost use lib.ListN.{length};
 ghost use Rattle.fmd_lex.specs.Tokens.{Within};
-ghost use Rattle.fmd_parse.specs.Layouts.{listOf, Sound, SectionRead, ListRead};
+ghost use Rattle.fmd_table.specs.Table.{sectionsIn};
+ghost use Rattle.fmd_parse.specs.Layouts.{SectionRead, ListRead};
 use super::Part;
-use super::Reached;
-use super::Section;
-use super::Sections;
 use super::Step;
 use super::head::head_at;
 use fmd_lex::CLOSE;
@@ -16,66 +13,42 @@ use fmd_lex::OPEN;
 use fmd_lex::Token;
 use fmd_lex::next_token;
 
-// The list with one section more.
-fn pushed(l: Sections, h: Section) -> Sections
-    requires { ⌜ Sound l × (l .count < 128) ⌝ }
-    ensures { λ r. ⌜ Sound r × (listOf r ≡ listOf l ++ (h ∷ [])) ⌝ }
+// A section, put into row n, with the sections in its braces.
+fn read_section(text: &[u8], t: Token, level: u32, parent: u32, rows: &mut [u32], n: usize) -> Step
+    requires { ⌜ (length (now text) ≤ 32768) × Within (length (now text)) 0 t × (length (now rows) ≡ 1280) × (n ≤ 128) ⌝ }
+    ensures { λ r. ⌜ SectionRead (now (text .entry)) t level parent (sectionsIn n (now (rows .entry))) (now (rows .exit)) r ⌝ }
 {
-    let mut m = l;
-    let n = l.count;
-    m.items[n] = h;
-    m.count = n + 1;
-    m
-}
-
-// A section with the sections in its braces.
-fn read_section(text: &[u8], t: Token, level: u8, parent: u8, l: Sections) -> Reached
-    requires { ⌜ (length (now text) ≤ 32768) × Within (length (now text)) 0 t × Sound l ⌝ }
-    ensures { λ r. ⌜ SectionRead (now (text .entry)) t level parent l r ⌝ }
-{
-    let n = l.count;
     match head_at(text, t, level, parent, n) {
         Part::Read(h, u) => {
-            let m = pushed(l, h);
+            fmd_table::put_row(rows, n, h);
+            let more = n + 1;
             if u.kind != OPEN {
-                return Reached {
-                    step: Step::Onward(u),
-                    list: m,
-                };
+                return Step::Onward(u, more);
             }
-            let own = n as u8;
+            let own = n as u32;
             let v = next_token(text, u.end);
-            read_list(text, v, level + 1, own, m)
+            read_list(text, v, level + 1, own, rows, more)
         }
-        Part::Fault(k, p) => Reached {
-            step: Step::Stopped(k, p),
-            list: l,
-        },
+        Part::Fault(k, p) => Step::Stopped(k, p),
     }
 }
 
-// The sections up to the closing brace.
-pub fn read_list(text: &[u8], t: Token, level: u8, parent: u8, l: Sections) -> Reached
-    requires { ⌜ (length (now text) ≤ 32768) × Within (length (now text)) 0 t × Sound l ⌝ }
-    ensures { λ r. ⌜ ListRead (now (text .entry)) t level parent l r ⌝ }
+// The sections up to the closing brace, from row n on.
+pub fn read_list(text: &[u8], t: Token, level: u32, parent: u32, rows: &mut [u32], n: usize) -> Step
+    requires { ⌜ (length (now text) ≤ 32768) × Within (length (now text)) 0 t × (length (now rows) ≡ 1280) × (n ≤ 128) ⌝ }
+    ensures { λ r. ⌜ ListRead (now (text .entry)) t level parent (sectionsIn n (now (rows .entry))) (now (rows .exit)) r ⌝ }
 {
     let mut now = t;
-    let mut m = l;
+    let mut m = n;
     loop {
-        let o = read_section(text, now, level, parent, m);
-        let step = o.step;
-        let k = o.list;
-        match step {
-            Step::Stopped(_, _) => {
-                return o;
+        match read_section(text, now, level, parent, rows, m) {
+            Step::Stopped(k, p) => {
+                return Step::Stopped(k, p);
             }
-            Step::Onward(u) => {
+            Step::Onward(u, k) => {
                 if u.kind == CLOSE {
                     let v = next_token(text, u.end);
-                    return Reached {
-                        step: Step::Onward(v),
-                        list: k,
-                    };
+                    return Step::Onward(v, k);
                 }
                 now = u;
                 m = k;

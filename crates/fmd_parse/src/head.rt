@@ -5,11 +5,7 @@ ghost use lib.ListN.{length};
 ghost use Rattle.fmd_lex.specs.Tokens.{Within};
 ghost use Rattle.fmd_parse.specs.Heads.{amountAt, namedAt, markAt, lastAt, otherAt, flagsAt, offsetAt, sizeAt, headAt, setOffset, setSize, AmountIn, PartIn, HeadIn};
 use super::Amount;
-use super::Offset;
-use super::ParentOffset;
 use super::Part;
-use super::Section;
-use super::Size;
 use fmd_lex::AT;
 use fmd_lex::Flag;
 use fmd_lex::LEFT;
@@ -18,6 +14,10 @@ use fmd_lex::RIGHT;
 use fmd_lex::Token;
 use fmd_lex::WORD;
 use fmd_lex::next_token;
+use fmd_table::Offset;
+use fmd_table::ParentOffset;
+use fmd_table::Section;
+use fmd_table::Size;
 
 // The number that must stand at t.
 pub fn amount_at(text: &[u8], t: Token) -> Amount
@@ -38,7 +38,7 @@ pub fn amount_at(text: &[u8], t: Token) -> Amount
 }
 
 // The section's name.
-fn named_at(text: &[u8], t: Token, level: u8, parent: u8, count: usize) -> Part
+fn named_at(text: &[u8], t: Token, level: u32, parent: u32, count: usize) -> Part
     requires { ⌜ (length (now text) ≤ 32768) × Within (length (now text)) 0 t ⌝ }
     ensures { λ r. ⌜ r ≡ namedAt (now (text .entry)) t level parent count ⌝ }
     ensures within { λ r. ⌜ HeadIn (length (now (text .entry))) (t .start + 1) level count r ⌝ }
@@ -57,8 +57,8 @@ fn named_at(text: &[u8], t: Token, level: u8, parent: u8, count: usize) -> Part
         let h = Section {
             offset: Offset::Omitted,
             size: Size::Omitted,
-            place: t.start as u16,
-            length: (t.end - t.start) as u8,
+            place: t.start as u32,
+            length: (t.end - t.start) as u32,
             cbfs: false,
             preserve: false,
             parent: parent,
@@ -213,7 +213,7 @@ fn size_at(text: &[u8], t: Token, h: Section) -> Part
 }
 
 // A section up to its braces.
-pub fn head_at(text: &[u8], t: Token, level: u8, parent: u8, count: usize) -> Part
+pub fn head_at(text: &[u8], t: Token, level: u32, parent: u32, count: usize) -> Part
     requires { ⌜ (length (now text) ≤ 32768) × Within (length (now text)) 0 t ⌝ }
     ensures { λ r. ⌜ r ≡ headAt (now (text .entry)) t level parent count ⌝ }
     ensures within { λ r. ⌜ HeadIn (length (now (text .entry))) (t .start + 1) level count r ⌝ }

@@ -1,52 +1,108 @@
--- Laws of the resolution's loops over the places of a plan and of a section list.
-use mathlib.Core.Path.{_≡_, sym, ap, _∙_}
-use mathlib.Core.List.{[], _∷_, _++_}
-use Prim.Native.Nat.{ℕ, _+_, _≤_, _<_}
+-- Laws of the table of placed sections, and of the resolution's loops over it.
+use mathlib.Core.Path.{_≡_, refl, sym, ap, _∙_}
+use mathlib.Core.List.{List, [], _∷_, _++_}
+use Prim.Native.Nat.{ℕ, suc, _+_, _*_, _≤_, _<_}
+use native.Mathlib.Nat.{add-zero}
 use native.Mathlib.Numerals.{add-one}
 use native.Mathlib.Omega.{arith}
-use lib.ListN.{length, getD, drop, drop-of-length-le}
-use lib.Seq.{drop-cons, getD-take, length-take-le}
-use Rattle.fmd_parse.specs.Layouts.{listOf, Sound as SoundList}
+use lib.ListN.{length, getD, set, drop, drop-of-length-le}
+use lib.Seq.{drop-cons}
+use borrow.Author.Tests.{eq-eqb, ne-eqb}
+use Rattle.octets.specs.Bytes.{part, put}
+use Rattle.octets.proofs.Parts.{getD-part}
+use Rattle.fmd_table.specs.Table.{listed, sectionsIn}
+use Rattle.fmd_table.proofs.Listed.{length-listed, nothing-listed, listed-more, getD-listed, rows-put}
+use Rattle.fmd_table.proofs.Table.{length-sections}
 use Rattle.fmd_parse.specs.Trees.{blank as blankSection}
-use Rattle.fmd_parse.specs.declared.Sections.{Sections}
-use Rattle.fmd_parse.proofs.Layouts.{counted as countedList}
-use Rattle.fmd_plan.specs.Plans.{blank, endWith, endIn, placeOf, unfit, plan, resolveFrom, planOf, Sound}
+use Rattle.fmd_plan.specs.Plans.{blank, endWith, endIn, placeOf, unfit, plan, resolveFrom, wordsOf, placedOf, placedAt, placedIn}
 use Rattle.fmd_plan.specs.declared.Placed.{Placed}
-use Rattle.fmd_plan.specs.declared.Plan.{Plan}
 use Rattle.fmd_plan.specs.declared.Spot.the-variants.{Fits, Unfit}
 
-module _ (p : Plan) (g : Sound p) where
-  pub counted : length (planOf p) ≡ p .count
-  counted = length-take-le (p .count) (p .items) (omega arith)
+-- ---- the table
 
-  pub item : (i : ℕ) → i < p .count → getD (planOf p) i blank ≡ getD (p .items) i blank
-  item i h = getD-take (p .count) (p .items) i blank h
+stored : (xs : List ℕ) (at a b c d : ℕ) → set (set (set (set xs at a) (at + 1) b) (at + 2) c) (at + 3) d ≡ put at (a ∷ b ∷ c ∷ d ∷ []) xs
+unfolding put
+stored xs at a b c d =
+    let e1 : at + 1 ≡ suc at = omega arith in
+    let e2 : at + 2 ≡ suc (suc at) = omega arith in
+    let e3 : at + 3 ≡ suc (suc (suc at)) = omega arith in
+    rw (e1, e2, e3)
 
-  pub end-on : (par e j : ℕ) → j < p .count → endIn par (endWith par e (getD (p .items) j blank)) (drop (j + 1) (planOf p)) ≡ endIn par e (drop j (planOf p))
-  unfolding endIn
-  end-on par e j h = rw (add-one, drop-cons (planOf p) j blank (omega (arith, counted)), item j h)
+words-back : (q : Placed) → placedOf (wordsOf q) ≡ q
+unfolding placedOf
+words-back q = refl
 
-  pub end-done : (par e j : ℕ) → p .count ≤ j → e ≡ endIn par e (drop j (planOf p))
-  unfolding endIn
-  end-done par e j h = rw (drop-of-length-le (planOf p) {i = j} (omega (arith, counted)))
+pub placed-stored : (spots : List ℕ) (k : ℕ) (q : Placed) → 4 * k + 4 ≤ length spots
+    → placedIn (k + 1) (set (set (set (set spots (4 * k) (q .offset .0)) (4 * k + 1) (q .size)) (4 * k + 2) (q .parent)) (4 * k + 3) (q .level))
+    ≡ placedIn k spots ++ (q ∷ [])
+unfolding placedIn placedAt
+placed-stored spots k q room =
+    rw (stored spots (4 * k) (q .offset .0) (q .size) (q .parent) (q .level)) (rows-put 4 placedOf spots (wordsOf q) k refl room ∙ rw (words-back q))
 
-  -- ---- section k of the list l, with the plan p of those before it
+pub placed-read : (spots : List ℕ) (k : ℕ)
+    → record { offset = record { 0 = getD spots (4 * k) 0 }; size = getD spots (4 * k + 1) 0; parent = getD spots (4 * k + 2) 0; level = getD spots (4 * k + 3) 0 }
+    ≡ placedAt spots k
+unfolding placedAt placedOf
+placed-read spots k =
+    let w = getD-part spots (4 * k) 4 in
+    rw (w 0 (omega arith), add-zero, w 1 (omega arith), w 2 (omega arith), w 3 (omega arith))
 
-  module _ (l : Sections) (d : SoundList l) (z k : ℕ) (e : p .count ≡ k) where
-    here : k < l .count → drop k (listOf l) ≡ getD (listOf l) k blankSection ∷ drop (k + 1) (listOf l)
-    here h =
-        drop-cons (listOf l) k blankSection (omega (arith, countedList l d)) ∙ ap (λ (n : ℕ). getD (listOf l) k blankSection ∷ drop n (listOf l)) (sym (add-one k))
+pub length-placed : (n : ℕ) (spots : List ℕ) → length (placedIn n spots) ≡ n
+unfolding placedIn
+length-placed n spots = length-listed (placedAt spots) n
 
-    pub resolve-stop : k < l .count → placeOf z (planOf p) (getD (listOf l) k blankSection) (drop (k + 1) (listOf l)) ≡ Unfit
-        → unfit k ≡ resolveFrom z (planOf p) (drop k (listOf l))
-    unfolding resolveFrom
-    resolve-stop h q = rw (here h, q, counted, e)
+pub placed-in : (n : ℕ) (spots : List ℕ) (k : ℕ) → k < n → getD (placedIn n spots) k blank ≡ placedAt spots k
+unfolding placedIn
+placed-in n spots k h = getD-listed (placedAt spots) n k blank h
 
-    pub resolve-on : (r : Plan) (x : Placed) → k < l .count → placeOf z (planOf p) (getD (listOf l) k blankSection) (drop (k + 1) (listOf l)) ≡ Fits x
-        → planOf r ≡ planOf p ++ (x ∷ []) → resolveFrom z (planOf r) (drop (k + 1) (listOf l)) ≡ resolveFrom z (planOf p) (drop k (listOf l))
-    unfolding resolveFrom
-    resolve-on r x h q t = rw (here h, q, t)
+pub none-placed : (spots : List ℕ) → placedIn 0 spots ≡ []
+unfolding placedIn
+none-placed spots = nothing-listed (placedAt spots)
 
-    pub resolve-done : l .count ≤ k → plan (planOf p) ≡ resolveFrom z (planOf p) (drop k (listOf l))
-    unfolding resolveFrom
-    resolve-done h = rw (drop-of-length-le (listOf l) {i = k} (omega (arith, countedList l d)))
+-- ---- the end of the last section with a parent, sought from the last row back
+
+end-snoc : (par e : ℕ) (ps : List Placed) (p : Placed) → endIn par e (ps ++ (p ∷ [])) ≡ endWith par (endIn par e ps) p
+unfolding endIn
+end-snoc par e [] p = refl
+end-snoc par e (q ∷ ps) p = end-snoc par (endWith par e q) ps p
+
+module _ (spots : List ℕ) (par j : ℕ) {q : Placed} (p : q ≡ placedAt spots j) where
+  -- row j, and those below it
+  last : endIn par 0 (placedIn (suc j) spots) ≡ endWith par (endIn par 0 (placedIn j spots)) q
+  unfolding placedIn
+  last = rw (listed-more (placedAt spots) j, sym p) (end-snoc par 0 (listed (placedAt spots) j) q)
+
+  pub end-stop : (i : ℕ) → i ≡ suc j → q .parent ≡ par → q .offset .0 + q .size ≡ endIn par 0 (placedIn i spots)
+  unfolding endWith
+  end-stop i w e = rw (w, last, eq-eqb (q .parent) par e)
+
+  pub end-on : (i : ℕ) → i ≡ suc j → (q .parent ≡ par → ⊥) → endIn par 0 (placedIn j spots) ≡ endIn par 0 (placedIn i spots)
+  unfolding endWith
+  end-on i w e = rw (w, last, ne-eqb (q .parent) par e)
+
+pub end-done : (spots : List ℕ) (par j : ℕ) → j ≡ 0 → 0 ≡ endIn par 0 (placedIn j spots)
+unfolding endIn
+end-done spots par j e = rw (e, none-placed spots)
+
+-- ---- section k of the first n rows, with the plan of those before it
+
+module _ (n : ℕ) (rows : List ℕ) (k : ℕ) (spots : List ℕ) (z : ℕ) where
+  here : k < n → drop k (sectionsIn n rows) ≡ getD (sectionsIn n rows) k blankSection ∷ drop (k + 1) (sectionsIn n rows)
+  here h =
+      drop-cons (sectionsIn n rows) k blankSection (omega (arith, length-sections n rows))
+      ∙ ap (λ (i : ℕ). getD (sectionsIn n rows) k blankSection ∷ drop i (sectionsIn n rows)) (sym (add-one k))
+
+  pub resolve-stop : k < n → placeOf z (placedIn k spots) (getD (sectionsIn n rows) k blankSection) (drop (k + 1) (sectionsIn n rows)) ≡ Unfit
+      → unfit k ≡ resolveFrom z (placedIn k spots) (drop k (sectionsIn n rows))
+  unfolding resolveFrom
+  resolve-stop h q = rw (here h, q, length-placed k spots)
+
+  pub resolve-on : (new : List ℕ) (x : Placed) → k < n → placeOf z (placedIn k spots) (getD (sectionsIn n rows) k blankSection) (drop (k + 1) (sectionsIn n rows)) ≡ Fits x
+      → placedIn (k + 1) new ≡ placedIn k spots ++ (x ∷ [])
+      → resolveFrom z (placedIn (k + 1) new) (drop (k + 1) (sectionsIn n rows)) ≡ resolveFrom z (placedIn k spots) (drop k (sectionsIn n rows))
+  unfolding resolveFrom
+  resolve-on new x h q t = rw (here h, q, t)
+
+  pub resolve-done : k ≡ n → plan (placedIn n spots) ≡ resolveFrom z (placedIn k spots) (drop k (sectionsIn n rows))
+  unfolding resolveFrom
+  resolve-done h = rw (h, drop-of-length-le (sectionsIn n rows) {i = n} (omega (arith, length-sections n rows)))

@@ -4,7 +4,7 @@ use mathlib.Core.Path.{_≡_}
 use Prim.Native.Nat.{ℕ, _≤_, _<_}
 use lib.ListN.{length, getD, take}
 use Rattle.fmd_parse.specs.Trees.{blank as blankSection}
-use Rattle.fmd_parse.specs.declared.Section.{Section}
+use Rattle.fmd_table.specs.declared.Section.{Section}
 use Rattle.fmd_plan.specs.Plans.{blank, endOf, roomOf, Resolved, unfit, plan}
 use Rattle.fmd_plan.specs.declared.Placed.{Placed}
 

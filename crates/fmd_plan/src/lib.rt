@@ -2,30 +2,26 @@
 // An inner crate: no user calls it, so its functions may have a `requires`, which each caller meets.
 ghost use mathlib.Core.List.{_++_, _∷_, []};
 ghost use mathlib.Core.Path.{_≡_};
-ghost use Prim.Native.Nat.{_+_, _-_, _≤_, _<_};
-ghost use lib.ListN.{drop, getD};
-ghost use Rattle.fmd_parse.specs.Layouts.{listOf, Sound as SoundList};
+ghost use Prim.Native.Nat.{ℕ, _+_, _*_, _-_, _≤_, _<_};
+ghost use lib.ListN.{length, drop, getD};
+ghost use Rattle.fmd_table.specs.Table.{sectionsIn};
 ghost use Rattle.fmd_parse.specs.Trees.{blank as blankSection};
-ghost use Rattle.fmd_plan.specs.Plans.{endWith, endIn, roomOf, startOf, sizeOf, spotOf, spotIn, placeOf, resolveFrom, planOf, resolutionOf, Sound};
-use fmd_parse::Offset;
-use fmd_parse::ParentOffset;
-use fmd_parse::Section;
-use fmd_parse::Sections;
-use fmd_parse::Size;
+ghost use Rattle.fmd_rows.specs.Rows.{siblingIn};
+ghost use Rattle.fmd_plan.specs.Plans.{placedAt, placedIn, endIn, roomOf, startOf, sizeOf, spotOf, spotIn, placeOf, resolveFrom, foundOf};
 use fmd_rows::Found;
 use fmd_rows::Sibling;
+use fmd_table::Offset;
+use fmd_table::ParentOffset;
+use fmd_table::Section;
+use fmd_table::Size;
+use fmd_table::row_at;
 
 // A section with its offset and its size.
 pub struct Placed {
     pub offset: ParentOffset,
     pub size: u32,
-    pub parent: u8,
-    pub level: u8,
-}
-
-pub struct Plan {
-    pub items: [Placed; 128],
-    pub count: usize,
+    pub parent: u32,
+    pub level: u32,
 }
 
 pub enum Spot {
@@ -33,48 +29,60 @@ pub enum Spot {
     Unfit,
 }
 
-// The index of the first section that does not fit, and the sections before it.
-pub struct Resolution {
-    pub unfit: Found,
-    pub plan: Plan,
+// ---- placed sections in a table that is lent, four words a row
+
+// Writes row k, after those below it.
+fn put_placed(spots: &mut [u32], k: usize, q: Placed)
+    requires { ⌜ 4 * k + 4 ≤ length (now spots) ⌝ }
+    ensures { λ _. ⌜ placedIn (k + 1) (now (spots .exit)) ≡ placedIn k (now (spots .entry)) ++ (q ∷ []) ⌝ }
+{
+    let at = 4 * k;
+    spots[at] = q.offset.0;
+    spots[at + 1] = q.size;
+    spots[at + 2] = q.parent;
+    spots[at + 3] = q.level;
 }
 
-// The end of q where it has the parent, else e.
-fn end_with(q: Placed, parent: u8, e: u64) -> u64
-    requires { ⌜ e ≤ 8589934590 ⌝ }
-    ensures { λ r. ⌜ (r ≡ endWith parent e q) × (r ≤ 8589934590) ⌝ }
+pub fn placed_at(spots: &[u32], k: usize) -> Placed
+    requires { ⌜ 4 * k + 4 ≤ length (now spots) ⌝ }
+    ensures { λ r. ⌜ r ≡ placedAt (now (spots .entry)) k ⌝ }
 {
-    if q.parent == parent {
-        let o = q.offset;
-        return o.0 as u64 + q.size as u64;
+    let at = 4 * k;
+    Placed {
+        offset: ParentOffset(spots[at]),
+        size: spots[at + 1],
+        parent: spots[at + 2],
+        level: spots[at + 3],
     }
-    e
 }
 
-// The end of the last section with the parent.
-fn end_in(p: Plan, parent: u8) -> u64
-    requires { ⌜ Sound p ⌝ }
-    ensures { λ r. ⌜ (r ≡ endIn parent 0 (planOf p)) × (r ≤ 8589934590) ⌝ }
+// ---- one section, after those of the first k rows
+
+// The end of the last section with the parent, sought from the last row back.
+fn end_in(spots: &[u32], k: usize, parent: u32) -> u64
+    requires { ⌜ 4 * k ≤ length (now spots) ⌝ }
+    ensures { λ r. ⌜ (r ≡ endIn parent 0 (placedIn k (now (spots .entry)))) × (r ≤ 8589934590) ⌝ }
 {
-    let n = p.count;
-    let mut e: u64 = 0;
-    let mut j: usize = 0;
-    while j < n {
-        let q = p.items[j];
-        e = end_with(q, parent, e);
-        j += 1;
+    let mut j = k;
+    while 0 < j {
+        j -= 1;
+        let q = placed_at(spots, j);
+        if q.parent == parent {
+            let o = q.offset;
+            return o.0 as u64 + q.size as u64;
+        }
     }
-    e
+    0
 }
 
 // The parent's size.
-fn room_of(p: Plan, parent: u8, size: u32) -> u32
-    requires { ⌜ Sound p ⌝ }
-    ensures { λ r. ⌜ r ≡ roomOf size parent (planOf p) ⌝ }
+fn room_of(spots: &[u32], k: usize, parent: u32, size: u32) -> u32
+    requires { ⌜ 4 * k ≤ length (now spots) ⌝ }
+    ensures { λ r. ⌜ r ≡ roomOf size parent (placedIn k (now (spots .entry))) ⌝ }
 {
     let i = parent as usize;
-    if i < p.count {
-        let q = p.items[i];
+    if i < k {
+        let q = placed_at(spots, i);
         return q.size;
     }
     size
@@ -146,71 +154,46 @@ fn spot_in(h: Section, e: u64, room: u32, next: Sibling) -> Spot
     spot_of(h, e, start, size, room)
 }
 
-// Section k, after those of the plan.
-fn place_at(l: Sections, k: usize, p: Plan, size: u32) -> Spot
-    requires { ⌜ SoundList l × (k < l .count) × Sound p ⌝ }
-    ensures { λ r. ⌜ r ≡ placeOf size (planOf p) (getD (listOf l) k blankSection) (drop (k + 1) (listOf l)) ⌝ }
+// The next sibling of section k, where the size of k depends on it.
+fn next_of(rows: &[u32], n: usize, k: usize, h: Section) -> Sibling
+    requires { ⌜ (10 * n ≤ length (now rows)) × (k < n) ⌝ }
+    ensures { λ r. ⌜ ((start room : ℕ) → sizeOf (h .size) r start room ≡ sizeOf (h .size) (siblingIn (h .parent) (drop (k + 1) (sectionsIn n (now (rows .entry))))) start room) ⌝ }
 {
-    let h = l.items[k];
-    let e = end_in(p, h.parent);
-    let room = room_of(p, h.parent, size);
-    let next = fmd_rows::next_sibling(l, k + 1, h.parent);
-    spot_in(h, e, room, next)
-}
-
-// A plan of no sections.
-pub fn nothing() -> Plan
-    ensures { λ r. ⌜ Sound r × (r .count ≡ 0) ⌝ }
-{
-    let q = Placed {
-        offset: ParentOffset(0),
-        size: 0,
-        parent: 0,
-        level: 0,
-    };
-    let items = [q; 128];
-    Plan {
-        items: items,
-        count: 0,
+    let size = h.size;
+    match size {
+        Size::Given(_) => Sibling::Last,
+        Size::Omitted => fmd_rows::next_sibling(rows, n, k + 1, h.parent),
     }
 }
 
-// The plan with one section more.
-fn pushed(p: Plan, q: Placed) -> Plan
-    requires { ⌜ Sound p × (p .count < 128) ⌝ }
-    ensures { λ r. ⌜ Sound r × (r .count ≡ p .count + 1) × (planOf r ≡ planOf p ++ (q ∷ [])) ⌝ }
+// Section k.
+fn place_at(rows: &[u32], n: usize, k: usize, spots: &[u32], size: u32) -> Spot
+    requires { ⌜ (10 * n ≤ length (now rows)) × (4 * n ≤ length (now spots)) × (k < n) ⌝ }
+    ensures { λ r. ⌜ r ≡ placeOf size (placedIn k (now (spots .entry))) (getD (sectionsIn n (now (rows .entry))) k blankSection) (drop (k + 1) (sectionsIn n (now (rows .entry)))) ⌝ }
 {
-    let mut m = p;
-    let n = p.count;
-    m.items[n] = q;
-    m.count = n + 1;
-    m
+    let h = row_at(rows, k);
+    let e = end_in(spots, k, h.parent);
+    let room = room_of(spots, k, h.parent, size);
+    let next = next_of(rows, n, k, h);
+    spot_in(h, e, room, next)
 }
 
 // Offsets and sizes of the sections of an image of size bytes, or the first section that does not fit.
-pub fn resolve(l: Sections, size: u32) -> Resolution
-    requires { ⌜ SoundList l ⌝ }
-    ensures { λ r. ⌜ Sound (r .plan) × (resolutionOf r ≡ resolveFrom size [] (listOf l)) ⌝ }
+pub fn resolve(rows: &[u32], n: usize, size: u32, spots: &mut [u32]) -> Found
+    requires { ⌜ (10 * n ≤ length (now rows)) × (4 * n ≤ length (now spots)) ⌝ }
+    ensures { λ r. ⌜ foundOf r (placedIn n (now (spots .exit))) ≡ resolveFrom size [] (sectionsIn n (now (rows .entry))) ⌝ }
 {
-    let n = l.count;
-    let mut p = nothing();
     let mut k: usize = 0;
     while k < n {
-        match place_at(l, k, p, size) {
+        match place_at(rows, n, k, spots, size) {
             Spot::Unfit => {
-                return Resolution {
-                    unfit: Found::At(k),
-                    plan: p,
-                };
+                return Found::At(k);
             }
             Spot::Fits(q) => {
-                p = pushed(p, q);
+                put_placed(spots, k, q);
                 k += 1;
             }
         }
     }
-    Resolution {
-        unfit: Found::Nowhere,
-        plan: p,
-    }
+    Found::Nowhere
 }

@@ -2,7 +2,7 @@
 use mathlib.Core.Path.{_≡_, sym, _∙_}
 use mathlib.Core.Bool.{Bool, true, false}
 use mathlib.Core.Logic.{_⊎_, inl, inr}
-use mathlib.Core.List.{List}
+use mathlib.Core.List.{List, _∷_}
 use Prim.Native.Nat.{ℕ, zero, suc, _+_, _-_, _≤_, _<_}
 use native.Mathlib.Nat.{sub-zero}
 use native.Mathlib.Numerals.{add-one}
@@ -15,19 +15,18 @@ use Rattle.octets.specs.Tests.{any}
 use Rattle.octets.specs.Bytes.{part, same}
 use Rattle.octets.proofs.Bools.{choice, bool-cases}
 use Rattle.octets.proofs.Tests.{any-on, any-stop, any-done}
-use Rattle.fmd_parse.specs.Layouts.{listOf, Sound}
 use Rattle.fmd_parse.specs.Trees.{blank, Tree}
-use Rattle.fmd_parse.specs.declared.Section.{Section}
-use Rattle.fmd_parse.specs.declared.Sections.{Sections}
-use Rattle.fmd_parse.proofs.Layouts.{counted}
+use Rattle.fmd_table.specs.declared.Section.{Section}
+use Rattle.fmd_table.specs.Table.{sectionAt, sectionsIn}
+use Rattle.fmd_table.proofs.Table.{length-sections, section-in}
 use Rattle.fmd_rows.specs.Rows.{foundFrom, nameOf, repeats, siblingIn, Inside}
 use Rattle.fmd_rows.specs.declared.Found.{Found}
 use Rattle.fmd_rows.specs.declared.Found.the-variants.{At, Nowhere}
 use Rattle.fmd_rows.specs.declared.Sibling.the-variants.{Next, Last}
 
--- one of the sections from j on, before the index k, has the name of section k
-abbrev pub among : List ℕ → Sections → ℕ → ℕ → Bool
-among s l k j = any (λ e. same (nameOf s e) (nameOf s (getD (l .items) k blank))) (drop j (take k (listOf l)))
+-- one of the sections from j on, before the index k, has the name of the section h
+abbrev pub among : List ℕ → Section → ℕ → List Section → ℕ → Bool
+among s h k l j = any (λ e. same (nameOf s e) (nameOf s h)) (drop j (take k l))
 
 -- ---- the first index that passes
 
@@ -63,70 +62,76 @@ first-facts p zero k = λ j a b. absurd (omega arith)
 first-facts p (suc n) k =
     choice (FirstFacts p (suc n) k) (p k) (At k) (foundFrom p n (suc k)) (λ e. (omega arith, e)) (λ e. later p n k e (foundFrom p n (suc k)) (first-facts p n (suc k)))
 
-module _ (l : Sections) (g : Sound l) where
-  pub first-start : (p : ℕ → Bool) → foundFrom p (l .count - 0) 0 ≡ foundFrom p (length (listOf l)) 0
-  first-start p = rw (counted l g, sub-zero)
+-- ---- the first n rows of a table: the section e of row j
 
-  -- a place below the count holds the section of that index
-  pub item : (i : ℕ) → i < l .count → getD (listOf l) i blank ≡ getD (l .items) i blank
-  item i h = getD-take (l .count) (l .items) i blank h
+module _ (n : ℕ) (rows : List ℕ) where
+  pub first-start : (p : ℕ → Bool) → foundFrom p (n - 0) 0 ≡ foundFrom p (length (sectionsIn n rows)) 0
+  first-start p = rw (length-sections n rows, sub-zero)
 
-  -- ---- children
+  pub item : (i : ℕ) → i < n → getD (sectionsIn n rows) i blank ≡ sectionAt rows i
+  item i h = section-in n rows i blank h
 
-  module _ (k j : ℕ) where
-    pub child-on : j < l .count → (getD (l .items) j blank .parent ≡ k → ⊥)
-        → any (λ e. eqb (e .parent) k) (drop (j + 1) (listOf l)) ≡ any (λ e. eqb (e .parent) k) (drop j (listOf l))
-    child-on h e =
-        sym (any-on (λ e. eqb (e .parent) k) (listOf l) blank j (omega (arith, counted l g)) (rw (item j h) (ne-eqb _ _ e)))
+  module _ (j : ℕ) {e : Section} (q : e ≡ sectionAt rows j) where
+    here : j < n → drop j (sectionsIn n rows) ≡ e ∷ drop (j + 1) (sectionsIn n rows)
+    here h =
+        rw (add-one, drop-cons (sectionsIn n rows) j blank (omega (arith, length-sections n rows)), item j h, sym q)
 
-    pub child-stop : j < l .count → getD (l .items) j blank .parent ≡ k → true ≡ any (λ e. eqb (e .parent) k) (drop j (listOf l))
-    child-stop h e =
-        sym (any-stop (λ e. eqb (e .parent) k) (listOf l) blank j (omega (arith, counted l g)) (rw (item j h) (eq-eqb _ _ e)))
+    -- ---- children
 
-    pub child-done : l .count ≤ j → false ≡ any (λ e. eqb (e .parent) k) (drop j (listOf l))
-    child-done h = sym (any-done (λ e. eqb (e .parent) k) (listOf l) j (omega (arith, counted l g)))
+    pub child-on : (k : ℕ) → j < n → (e .parent ≡ k → ⊥)
+        → any (λ x. eqb (x .parent) k) (drop (j + 1) (sectionsIn n rows)) ≡ any (λ x. eqb (x .parent) k) (drop j (sectionsIn n rows))
+    child-on k h d =
+        sym (any-on (λ x. eqb (x .parent) k) (sectionsIn n rows) blank j (omega (arith, length-sections n rows)) (rw (item j h, sym q) (ne-eqb (e .parent) k d)))
+
+    pub child-stop : (k : ℕ) → j < n → e .parent ≡ k → true ≡ any (λ x. eqb (x .parent) k) (drop j (sectionsIn n rows))
+    child-stop k h d =
+        sym (any-stop (λ x. eqb (x .parent) k) (sectionsIn n rows) blank j (omega (arith, length-sections n rows)) (rw (item j h, sym q) (eq-eqb (e .parent) k d)))
 
     -- ---- the next sibling with the parent k
 
-    pub sibling-stop : j < l .count → getD (l .items) j blank .parent ≡ k → Next (getD (l .items) j blank .offset) ≡ siblingIn k (drop j (listOf l))
+    pub sibling-stop : (k : ℕ) → j < n → e .parent ≡ k → Next (e .offset) ≡ siblingIn k (drop j (sectionsIn n rows))
     unfolding siblingIn
-    sibling-stop h e =
-        rw (drop-cons (listOf l) j blank (omega (arith, counted l g)), item j h, eq-eqb (getD (l .items) j blank .parent) k e)
+    sibling-stop k h d = rw (here h, eq-eqb (e .parent) k d)
 
-    pub sibling-on : j < l .count → (getD (l .items) j blank .parent ≡ k → ⊥) → siblingIn k (drop (j + 1) (listOf l)) ≡ siblingIn k (drop j (listOf l))
+    pub sibling-on : (k : ℕ) → j < n → (e .parent ≡ k → ⊥) → siblingIn k (drop (j + 1) (sectionsIn n rows)) ≡ siblingIn k (drop j (sectionsIn n rows))
     unfolding siblingIn
-    sibling-on h e =
-        rw (add-one, drop-cons (listOf l) j blank (omega (arith, counted l g)), item j h, ne-eqb (getD (l .items) j blank .parent) k e)
+    sibling-on k h d = rw (here h, ne-eqb (e .parent) k d)
 
-    pub sibling-done : l .count ≤ j → Last ≡ siblingIn k (drop j (listOf l))
-    unfolding siblingIn
-    sibling-done h = rw (drop-of-length-le (listOf l) {i = j} (omega (arith, counted l g)))
+  pub child-done : (k j : ℕ) → n ≤ j → false ≡ any (λ x. eqb (x .parent) k) (drop j (sectionsIn n rows))
+  child-done k j h = sym (any-done (λ x. eqb (x .parent) k) (sectionsIn n rows) j (omega (arith, length-sections n rows)))
 
-  -- ---- names of the sections before the index k
+  pub sibling-done : (k j : ℕ) → n ≤ j → Last ≡ siblingIn k (drop j (sectionsIn n rows))
+  unfolding siblingIn
+  sibling-done k j h = rw (drop-of-length-le (sectionsIn n rows) {i = j} (omega (arith, length-sections n rows)))
 
-  module _ (s : List ℕ) (k : ℕ) (q : k < l .count) where
-    pub among-start : among s l k 0 ≡ repeats s (listOf l) k
+  -- ---- names of the sections before the section h of row k
+
+  module _ (s : List ℕ) (k : ℕ) {h : Section} (q : h ≡ sectionAt rows k) (b : k < n) where
+    pub among-start : among s h k (sectionsIn n rows) 0 ≡ repeats s (sectionsIn n rows) k
     unfolding repeats
-    among-start = rw (item k q)
+    among-start = rw (item k b, sym q)
 
-    before : (j : ℕ) → j < k → getD (take k (listOf l)) j blank ≡ getD (l .items) j blank
-    before j h = getD-take k (listOf l) j blank h ∙ item j (omega arith)
+    length-before : length (take k (sectionsIn n rows)) ≡ k
+    length-before = length-take-le k (sectionsIn n rows) (omega (arith, length-sections n rows))
 
-    length-before : length (take k (listOf l)) ≡ k
-    length-before = length-take-le k (listOf l) (omega (arith, counted l g))
+    module _ (j : ℕ) {e : Section} (p : e ≡ sectionAt rows j) (a : j < k) where
+      before : getD (take k (sectionsIn n rows)) j blank ≡ e
+      before = getD-take k (sectionsIn n rows) j blank a ∙ item j (omega arith) ∙ sym p
 
-    module _ (j : ℕ) (h : j < k) where
-      pub among-on : same (nameOf s (getD (l .items) j blank)) (nameOf s (getD (l .items) k blank)) ≡ false → among s l k (j + 1) ≡ among s l k j
-      among-on e =
-          sym (any-on (λ e. same (nameOf s e) (nameOf s (getD (l .items) k blank))) (take k (listOf l)) blank j (omega (arith, length-before)) (rw (before j h) e))
+      pub among-on : same (nameOf s e) (nameOf s h) ≡ false → among s h k (sectionsIn n rows) (j + 1) ≡ among s h k (sectionsIn n rows) j
+      among-on d =
+          sym (any-on (λ x. same (nameOf s x) (nameOf s h)) (take k (sectionsIn n rows)) blank j (omega (arith, length-before)) (rw before d))
 
-      pub among-stop : same (nameOf s (getD (l .items) j blank)) (nameOf s (getD (l .items) k blank)) ≡ true → true ≡ among s l k j
-      among-stop e =
-          sym (any-stop (λ e. same (nameOf s e) (nameOf s (getD (l .items) k blank))) (take k (listOf l)) blank j (omega (arith, length-before)) (rw (before j h) e))
+      pub among-stop : same (nameOf s e) (nameOf s h) ≡ true → true ≡ among s h k (sectionsIn n rows) j
+      among-stop d =
+          sym (any-stop (λ x. same (nameOf s x) (nameOf s h)) (take k (sectionsIn n rows)) blank j (omega (arith, length-before)) (rw before d))
 
-    pub among-done : (j : ℕ) → k ≤ j → false ≡ among s l k j
-    among-done j h =
-        sym (any-done (λ e. same (nameOf s e) (nameOf s (getD (l .items) k blank))) (take k (listOf l)) j (omega (arith, length-before)))
+    pub among-done : (j : ℕ) → k ≤ j → false ≡ among s h k (sectionsIn n rows) j
+    among-done j c = sym (any-done (λ x. same (nameOf s x) (nameOf s h)) (take k (sectionsIn n rows)) j (omega (arith, length-before)))
+
+  -- where all names lie in the text, that of row k does
+  pub name-inside : (s : List ℕ) → Inside s (sectionsIn n rows) → (k : ℕ) {h : Section} → h ≡ sectionAt rows k → k < n → h .place + h .length ≤ length s
+  name-inside s i k q b = rw (q, sym (item k b)) (i k (omega (arith, length-sections n rows)))
 
 -- the bytes from p up to p + n
 pub slice : (p n : ℕ) (s : List ℕ) → take (p + n - p) (drop p s) ≡ part p n s

@@ -7,10 +7,10 @@ use lib.ListN.{length, getD, take, drop}
 use Rattle.octets.specs.Tests.{_and_, any}
 use Rattle.octets.specs.Bytes.{part, same}
 use Rattle.fmd_parse.specs.Trees.{blank}
-use Rattle.fmd_parse.specs.declared.Offset.the-variants.{Given as GivenOffset, Omitted as OmittedOffset}
-use Rattle.fmd_parse.specs.declared.Size.{Size}
-use Rattle.fmd_parse.specs.declared.Size.the-variants.{Given as GivenSize, Omitted as OmittedSize}
-use Rattle.fmd_parse.specs.declared.Section.{Section}
+use Rattle.fmd_table.specs.declared.Offset.the-variants.{Given as GivenOffset, Omitted as OmittedOffset}
+use Rattle.fmd_table.specs.declared.Size.{Size}
+use Rattle.fmd_table.specs.declared.Size.the-variants.{Given as GivenSize, Omitted as OmittedSize}
+use Rattle.fmd_table.specs.declared.Section.{Section}
 use Rattle.fmd_rows.specs.declared.Found.{Found}
 use Rattle.fmd_rows.specs.declared.Found.the-variants.{At, Nowhere}
 use Rattle.fmd_rows.specs.declared.Sibling.{Sibling}

@@ -1,15 +1,16 @@
 // The rows of the whole section list that the text alone decides: 54, 56 and 57, each by the index of the first section at fault.
+// The list is the first n rows of a lent table.
 // An inner crate: no user calls it, so its functions may have a `requires`, which each caller meets.
 ghost use mathlib.Core.Path.{_≡_};
-ghost use Prim.Native.Nat.{_+_, _≤_, _<_};
+ghost use Prim.Native.Nat.{_+_, _*_, _≤_, _<_};
 ghost use lib.ListN.{length, drop};
 ghost use Rattle.octets.specs.Bytes.{same as sameBytes};
-ghost use Rattle.fmd_parse.specs.Layouts.{listOf, Sound};
+ghost use Rattle.fmd_table.specs.Table.{sectionsIn};
 ghost use Rattle.fmd_rows.specs.Rows.{nameOf, repeats, firstRepeat, isFmap, fmapIn, hasChild, holdsCbfs, firstCbfs, siblingIn, isUndecided, undecided, firstUndecided, Inside};
-use fmd_parse::Offset;
-use fmd_parse::Section;
-use fmd_parse::Sections;
-use fmd_parse::Size;
+use fmd_table::Offset;
+use fmd_table::Section;
+use fmd_table::Size;
+use fmd_table::row_at;
 
 // The index of a section, or that there is none.
 pub enum Found {
@@ -35,14 +36,14 @@ fn same_name(text: &[u8], a: Section, b: Section) -> bool
 }
 
 // Section k has the name of an earlier one.
-fn is_repeat(text: &[u8], l: Sections, k: usize) -> bool
-    requires { ⌜ Sound l × (k < l .count) × Inside (now text) (listOf l) ⌝ }
-    ensures { λ r. ⌜ r ≡ repeats (now (text .entry)) (listOf l) k ⌝ }
+fn is_repeat(text: &[u8], rows: &[u32], n: usize, k: usize) -> bool
+    requires { ⌜ (10 * n ≤ length (now rows)) × Inside (now text) (sectionsIn n (now rows)) × (k < n) ⌝ }
+    ensures { λ r. ⌜ r ≡ repeats (now (text .entry)) (sectionsIn n (now (rows .entry))) k ⌝ }
 {
-    let h = l.items[k];
+    let h = row_at(rows, k);
     let mut j: usize = 0;
     while j < k {
-        let e = l.items[j];
+        let e = row_at(rows, j);
         if same_name(text, e, h) {
             return true;
         }
@@ -52,14 +53,13 @@ fn is_repeat(text: &[u8], l: Sections, k: usize) -> bool
 }
 
 // Row 54.
-pub fn first_repeat(text: &[u8], l: Sections) -> Found
-    requires { ⌜ Sound l × Inside (now text) (listOf l) ⌝ }
-    ensures { λ r. ⌜ r ≡ firstRepeat (now (text .entry)) (listOf l) ⌝ }
+pub fn first_repeat(text: &[u8], rows: &[u32], n: usize) -> Found
+    requires { ⌜ (10 * n ≤ length (now rows)) × Inside (now text) (sectionsIn n (now rows)) ⌝ }
+    ensures { λ r. ⌜ r ≡ firstRepeat (now (text .entry)) (sectionsIn n (now (rows .entry))) ⌝ }
 {
-    let n = l.count;
     let mut k: usize = 0;
     while k < n {
-        if is_repeat(text, l, k) {
+        if is_repeat(text, rows, n, k) {
             return Found::At(k);
         }
         k += 1;
@@ -68,25 +68,24 @@ pub fn first_repeat(text: &[u8], l: Sections) -> Found
 }
 
 // Section k is named FMAP.
-fn is_fmap(text: &[u8], l: Sections, k: usize) -> bool
-    requires { ⌜ Sound l × (k < l .count) × Inside (now text) (listOf l) ⌝ }
-    ensures { λ r. ⌜ r ≡ isFmap (now (text .entry)) (listOf l) k ⌝ }
+fn is_fmap(text: &[u8], rows: &[u32], n: usize, k: usize) -> bool
+    requires { ⌜ (10 * n ≤ length (now rows)) × Inside (now text) (sectionsIn n (now rows)) × (k < n) ⌝ }
+    ensures { λ r. ⌜ r ≡ isFmap (now (text .entry)) (sectionsIn n (now (rows .entry))) k ⌝ }
 {
-    let h = l.items[k];
+    let h = row_at(rows, k);
     let p = h.place as usize;
     let e = p + h.length as usize;
     octets::same(&text[p..e], b"FMAP")
 }
 
 // The section FMAP.
-pub fn find_fmap(text: &[u8], l: Sections) -> Found
-    requires { ⌜ Sound l × Inside (now text) (listOf l) ⌝ }
-    ensures { λ r. ⌜ r ≡ fmapIn (now (text .entry)) (listOf l) ⌝ }
+pub fn find_fmap(text: &[u8], rows: &[u32], n: usize) -> Found
+    requires { ⌜ (10 * n ≤ length (now rows)) × Inside (now text) (sectionsIn n (now rows)) ⌝ }
+    ensures { λ r. ⌜ r ≡ fmapIn (now (text .entry)) (sectionsIn n (now (rows .entry))) ⌝ }
 {
-    let n = l.count;
     let mut k: usize = 0;
     while k < n {
-        if is_fmap(text, l, k) {
+        if is_fmap(text, rows, n, k) {
             return Found::At(k);
         }
         k += 1;
@@ -94,14 +93,13 @@ pub fn find_fmap(text: &[u8], l: Sections) -> Found
     Found::Nowhere
 }
 
-pub fn has_child(l: Sections, k: usize) -> bool
-    requires { ⌜ Sound l ⌝ }
-    ensures { λ r. ⌜ r ≡ hasChild (listOf l) k ⌝ }
+pub fn has_child(rows: &[u32], n: usize, k: usize) -> bool
+    requires { ⌜ 10 * n ≤ length (now rows) ⌝ }
+    ensures { λ r. ⌜ r ≡ hasChild (sectionsIn n (now (rows .entry))) k ⌝ }
 {
-    let n = l.count;
     let mut j: usize = 0;
     while j < n {
-        let e = l.items[j];
+        let e = row_at(rows, j);
         if e.parent as usize == k {
             return true;
         }
@@ -111,26 +109,25 @@ pub fn has_child(l: Sections, k: usize) -> bool
 }
 
 // Section k is marked CBFS and has children.
-fn holds_cbfs(l: Sections, k: usize) -> bool
-    requires { ⌜ Sound l × (k < l .count) ⌝ }
-    ensures { λ r. ⌜ r ≡ holdsCbfs (listOf l) k ⌝ }
+fn holds_cbfs(rows: &[u32], n: usize, k: usize) -> bool
+    requires { ⌜ (10 * n ≤ length (now rows)) × (k < n) ⌝ }
+    ensures { λ r. ⌜ r ≡ holdsCbfs (sectionsIn n (now (rows .entry))) k ⌝ }
 {
-    let h = l.items[k];
+    let h = row_at(rows, k);
     if h.cbfs {
-        return has_child(l, k);
+        return has_child(rows, n, k);
     }
     false
 }
 
 // Row 56 of the whole list.
-pub fn first_cbfs(l: Sections) -> Found
-    requires { ⌜ Sound l ⌝ }
-    ensures { λ r. ⌜ r ≡ firstCbfs (listOf l) ⌝ }
+pub fn first_cbfs(rows: &[u32], n: usize) -> Found
+    requires { ⌜ 10 * n ≤ length (now rows) ⌝ }
+    ensures { λ r. ⌜ r ≡ firstCbfs (sectionsIn n (now (rows .entry))) ⌝ }
 {
-    let n = l.count;
     let mut k: usize = 0;
     while k < n {
-        if holds_cbfs(l, k) {
+        if holds_cbfs(rows, n, k) {
             return Found::At(k);
         }
         k += 1;
@@ -139,14 +136,13 @@ pub fn first_cbfs(l: Sections) -> Found
 }
 
 // The next section with the parent, from the index at on.
-pub fn next_sibling(l: Sections, at: usize, parent: u8) -> Sibling
-    requires { ⌜ Sound l × (at ≤ l .count) ⌝ }
-    ensures { λ r. ⌜ r ≡ siblingIn parent (drop at (listOf l)) ⌝ }
+pub fn next_sibling(rows: &[u32], n: usize, at: usize, parent: u32) -> Sibling
+    requires { ⌜ (10 * n ≤ length (now rows)) × (at ≤ n) ⌝ }
+    ensures { λ r. ⌜ r ≡ siblingIn parent (drop at (sectionsIn n (now (rows .entry)))) ⌝ }
 {
-    let n = l.count;
     let mut j = at;
     while j < n {
-        let e = l.items[j];
+        let e = row_at(rows, j);
         if e.parent == parent {
             let o = e.offset;
             return Sibling::Next(o);
@@ -156,41 +152,39 @@ pub fn next_sibling(l: Sections, at: usize, parent: u8) -> Sibling
     Sibling::Last
 }
 
-fn is_undecided(z: Size, next: Sibling) -> bool
-    ensures { λ r. ⌜ r ≡ isUndecided z next ⌝ }
+fn is_open(next: Sibling) -> bool
+    ensures { λ r. ⌜ r ≡ isUndecided Size.Omitted next ⌝ }
 {
-    match z {
-        Size::Given(_) => false,
-        Size::Omitted => match next {
-            Sibling::Last => false,
-            Sibling::Next(o) => match o {
-                Offset::Given(_) => false,
-                Offset::Omitted => true,
-            },
+    match next {
+        Sibling::Last => false,
+        Sibling::Next(o) => match o {
+            Offset::Given(_) => false,
+            Offset::Omitted => true,
         },
     }
 }
 
 // Section k has no size, and a next sibling without an offset.
-fn undecided_at(l: Sections, k: usize) -> bool
-    requires { ⌜ Sound l × (k < l .count) ⌝ }
-    ensures { λ r. ⌜ r ≡ undecided (listOf l) k ⌝ }
+fn undecided_at(rows: &[u32], n: usize, k: usize) -> bool
+    requires { ⌜ (10 * n ≤ length (now rows)) × (k < n) ⌝ }
+    ensures { λ r. ⌜ r ≡ undecided (sectionsIn n (now (rows .entry))) k ⌝ }
 {
-    let h = l.items[k];
+    let h = row_at(rows, k);
     let size = h.size;
-    let next = next_sibling(l, k + 1, h.parent);
-    is_undecided(size, next)
+    match size {
+        Size::Given(_) => false,
+        Size::Omitted => is_open(next_sibling(rows, n, k + 1, h.parent)),
+    }
 }
 
 // Row 57.
-pub fn first_undecided(l: Sections) -> Found
-    requires { ⌜ Sound l ⌝ }
-    ensures { λ r. ⌜ r ≡ firstUndecided (listOf l) ⌝ }
+pub fn first_undecided(rows: &[u32], n: usize) -> Found
+    requires { ⌜ 10 * n ≤ length (now rows) ⌝ }
+    ensures { λ r. ⌜ r ≡ firstUndecided (sectionsIn n (now (rows .entry))) ⌝ }
 {
-    let n = l.count;
     let mut k: usize = 0;
     while k < n {
-        if undecided_at(l, k) {
+        if undecided_at(rows, n, k) {
             return Found::At(k);
         }
         k += 1;

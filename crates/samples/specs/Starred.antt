@@ -18,10 +18,10 @@ use Rattle.guid.specs.Calls.{readTypeOf}
 use Rattle.fmd_parse.specs.Layouts.{layout, refused as refusedText, layoutOf}
 use Rattle.fmd_parse.specs.declared.Address.the-variants.{Omitted}
 use Rattle.fmd_parse.specs.declared.Image.{Image}
-use Rattle.fmd_parse.specs.declared.Offset.the-variants.{Omitted as OmittedOffset}
-use Rattle.fmd_parse.specs.declared.Size.{Size}
-use Rattle.fmd_parse.specs.declared.Size.the-variants.{Given as GivenSize, Omitted as OmittedSize}
-use Rattle.fmd_parse.specs.declared.Section.{Section}
+use Rattle.fmd_table.specs.declared.Offset.the-variants.{Omitted as OmittedOffset}
+use Rattle.fmd_table.specs.declared.Size.{Size}
+use Rattle.fmd_table.specs.declared.Size.the-variants.{Given as GivenSize, Omitted as OmittedSize}
+use Rattle.fmd_table.specs.declared.Section.{Section}
 
 -- what holds of the answers to a list of edits, and of what it leaves, on every freshly formatted disk of n blocks
 abbrev pub After : ℕ → List Edit → (List Answer → Run → Type 0) → Type 0

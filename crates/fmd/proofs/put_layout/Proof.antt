@@ -1,10 +1,7 @@
-use Rattle.fmd.specs.Calls.{Written}
-use Prim.Native.Nat.{ℕ}
-use mathlib.Core.Option.{none}
-use mathlib.Core.List.{List}
-use borrow.Author.Tests.{eq-eqb, ne-eqb}
+use Rattle.fmd.proofs.Layouts.{few, laid, there, named, small, map-room, map-is}
+use Rattle.fmd.specs.Calls.{imageOf}
+use borrow.Author.Tests.{ne-eqb}
 use native.Mathlib.Omega.{arith}
-use mathlib.Core.Path.{ap}
 use borrow.Author.Needs.{needs}
 use Rattle.fmd.proofs.put_layout.Statement.{statement}
 use Rattle.fmd.proofs.put_layout.Tie as tie
@@ -13,25 +10,52 @@ cast-if1 : tie.Need-cast-if1
 cast-if1 c = search needs
 
 returns : tie.Need-returns
+unfolding imageOf
 returns c = rw (ne-eqb _ _ (c .if1 .taken))
 
-cast-put-map : tie.Need-cast-put-map
-cast-put-map c = search needs
+area-at-requires : tie.Need-area-at-requires
+area-at-requires c κs = (laid (c .before .before .before .before .before .before .pre), there (c .before .before .before .before .before .before .pre))
 
-put-map-requires : tie.Need-put-map-requires
-put-map-requires c κs =
-    let same = c .before .before .before .before .before .if1 .left in
-    let start = c .before .before .before .before .before .before .before .before .before .before in
-    (start .pre .0, omega (arith, start .pre .1, same), omega (arith, start .pre .2, same))
+cast-start : tie.Need-cast-start
+cast-start c = search needs
+
+image-of-requires : tie.Need-image-of-requires
+image-of-requires c κs = named (c .before .before .before .before .before .before .before .before .pre)
+
+cast-put-header : tie.Need-cast-put-header
+cast-put-header c = search needs
+
+cast-put-header-2 : tie.Need-cast-put-header-2
+cast-put-header-2 c = omega (arith, few (c .before .before .before .before .before .before .before .before .before .before .before .before .pre))
+
+put-header-requires : tie.Need-put-header-requires
+put-header-requires c κs = omega (arith, map-room (c .before .before .before .before .before .before .before .before .before .before .before .before .pre) (c .before .before .before .before .before .area-at .ensures), c .before .before .before .before .before .before .if1 .left)
+
+add-put-areas : tie.Need-add-put-areas
+add-put-areas c = search needs
+
+put-areas-requires : tie.Need-put-areas-requires
+put-areas-requires c κs = (laid (c .before .before .before .before .before .before .before .before .before .before .before .before .before .before .before .before .pre), omega (arith, map-room (c .before .before .before .before .before .before .before .before .before .before .before .before .before .before .before .before .pre) (c .before .before .before .before .before .before .before .before .before .area-at .ensures), c .before .before .before .before .before .before .before .before .before .before .if1 .left))
 
 same-length : tie.Need-same-length
 same-length c = search needs
 
 returns-2 : tie.Need-returns-2
-returns-2 c = rw (eq-eqb _ _ (c .before .before .before .before .before .before .before .before .if1 .left))
-    (ap {B = Written} (λ (x : List ℕ). record { answer = none; image = x }) (c .before .before .put-map .ensures))
+returns-2 c = map-is (c .before .before .before .before .before .before .before .before .before .before .before .before .before .before .before .before .before .before .before .pre) (c .before .before .before .before .before .before .before .before .before .before .image-of .ensures) _ (c .before .before .before .before .before .before .before .before .before .before .before .before .before .if1 .left) _ _ _ (c .before .before .before .before .before .before .before .before .before .before .before .before .area-at .ensures) (c .before .before .before .before .before .before .put-header .ensures) (c .before .before .put-areas .ensures)
 
 pub put-layout-spec : {M : Type 1} → statement M
 put-layout-spec =
     tie.close
-    (tie.spec cast-if1 returns cast-put-map put-map-requires same-length returns-2)
+    (tie.spec
+    cast-if1
+    returns
+    area-at-requires
+    cast-start
+    image-of-requires
+    cast-put-header
+    cast-put-header-2
+    put-header-requires
+    add-put-areas
+    put-areas-requires
+    same-length
+    returns-2)

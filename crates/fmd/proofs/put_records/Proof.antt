@@ -1,27 +1,81 @@
+use Rattle.fmd.proofs.Records.{records-wrong, records-good, records-fault}
+use Rattle.fmd.proofs.Layouts.{held, numbered, laid, named, read-is}
+use Rattle.fmd.specs.Calls.{Read, blank}
+use Rattle.fmd_areas.proofs.Listed.{few}
+use native.Mathlib.Omega.{arith}
+use Prim.Native.Nat.{ℕ}
+use mathlib.Core.Option.{Option}
+use mathlib.Core.Path.{sym, ap, _∙_}
 use borrow.Author.Needs.{needs}
-use Rattle.fmd.proofs.Records.{records-wrong, records-right}
 use Rattle.fmd.proofs.put_records.Statement.{statement}
 use Rattle.fmd.proofs.put_records.Tie as tie
 
-refused-requires : tie.Need-refused-requires
-refused-requires c κs = search needs
+unread-requires : tie.Need-unread-requires
+unread-requires c κs = search needs
 
 returns : tie.Need-returns
-returns c = records-wrong _ _ _ (c .before .before .if1 .taken) (c .before .refused .ensures .1)
+returns c = records-wrong _ _ _ (c .before .if1 .taken) (c .unread .ensures)
 
-layout-in-requires : tie.Need-layout-in-requires
-layout-in-requires c κs = search needs
+slice-aggregate-check : tie.Need-slice-aggregate-check
+slice-aggregate-check c = search needs
+
+slice-aggregate-check-2 : tie.Need-slice-aggregate-check-2
+slice-aggregate-check-2 c = search needs
+
+check-requires : tie.Need-check-requires
+check-requires c κs = search needs
+
+enum-known-i : tie.Need-enum-known-i
+enum-known-i c = search needs
+
+slice-aggregate-put-areas : tie.Need-slice-aggregate-put-areas
+slice-aggregate-put-areas c = search needs
+
+slice-aggregate-put-areas-2 : tie.Need-slice-aggregate-put-areas-2
+slice-aggregate-put-areas-2 c = search needs
 
 put-areas-requires : tie.Need-put-areas-requires
-put-areas-requires c κs = search needs
+put-areas-requires c κs = let w = laid (held _ _ _ _ _ _ (search needs) (search needs) (rw (c .before .before .before .before .i .given .1) at (c .before .before .before .before .before .before .before .before .check .ensures))) in
+    (w, omega (arith, few w, c .before .before .before .before .before .before .before .before .before .before .before .if1 .left))
+
+image-of-requires : tie.Need-image-of-requires
+image-of-requires c κs = named (held _ _ _ _ _ _ (search needs) (search needs) (rw (c .before .before .before .before .before .before .before .i .given .1) at (c .before .before .before .before .before .before .before .before .before .before .before .check .ensures)))
+
+enum-known-k : tie.Need-enum-known-k
+enum-known-k c = search needs
+
+answer-of-requires : tie.Need-answer-of-requires
+answer-of-requires c κs = numbered _ _ _ (rw (c .before .k .given .1) at (c .before .before .before .before .before .check .ensures))
+
+unread-requires-2 : tie.Need-unread-requires-2
+unread-requires-2 c κs = search needs
 
 same-length : tie.Need-same-length
 same-length c = search needs
 
 returns-2 : tie.Need-returns-2
-returns-2 c = records-right _ _ _ _ (search needs) (c .before .before .before .before .before .before .layout-in .ensures .1) (c .before .before .before .put-areas .ensures)
+returns-2 c = records-good _ _ (c .before .before .before .before .before .before .before .before .before .before .before .before .before .before .before .if1 .left) _ (rw (c .before .before .before .before .before .before .before .before .i .given .1) at (c .before .before .before .before .before .before .before .before .before .before .before .before .check .ensures)) _ _ (read-is (held _ _ _ _ _ _ (search needs) (search needs) (rw (c .before .before .before .before .before .before .before .before .i .given .1) at (c .before .before .before .before .before .before .before .before .before .before .before .before .check .ensures))) (c .image-of .ensures)) (c .before .before .before .put-areas .ensures)
+
+returns-3 : tie.Need-returns-3
+returns-3 c = records-fault _ _ (c .before .before .before .before .before .before .before .before .before .before .if1 .left) _ _ (rw (c .before .before .before .k .given .1) at (c .before .before .before .before .before .before .before .check .ensures)) _ (c .unread2 .ensures ∙ ap {B = Read} (λ (a : Option ℕ). record { answer = a; image = blank }) (c .before .answer-of .ensures))
 
 pub put-records-spec : {M : Type 1} → statement M
 put-records-spec =
     tie.close
-    (tie.spec refused-requires returns layout-in-requires put-areas-requires same-length returns-2)
+    (tie.spec
+    unread-requires
+    returns
+    slice-aggregate-check
+    slice-aggregate-check-2
+    check-requires
+    enum-known-i
+    slice-aggregate-put-areas
+    slice-aggregate-put-areas-2
+    put-areas-requires
+    image-of-requires
+    enum-known-k
+    answer-of-requires
+    unread-requires-2
+    same-length
+    returns-2
+    returns-3)

@@ -1,55 +1,57 @@
+use Rattle.fmd_check.proofs.Found.{ready}
 use Rattle.fmd_check.specs.Check.{checkText}
-use Rattle.fmd_parse.proofs.Trees.{layout-facts}
-use Rattle.fmd_rows.proofs.Rows.{inside}
 use borrow.Author.Tests.{lt-ltb, le-ltb}
-use mathlib.Core.Path.{sym}
+use native.Mathlib.Omega.{arith}
+use mathlib.Core.Path.{sym, _∙_}
 use borrow.Author.Needs.{needs}
 use Rattle.fmd_check.proofs.check.Statement.{statement}
 use Rattle.fmd_check.proofs.check.Tie as tie
 
-fault-requires : tie.Need-fault-requires
-fault-requires c κs = search needs
-
 returns : tie.Need-returns
 unfolding checkText
-returns c = rw (lt-ltb 32768 _ (c .before .if1 .taken)) (c .fault .ensures)
+returns c = rw (lt-ltb 32768 _ (c .if1 .taken))
 
 read-layout-requires : tie.Need-read-layout-requires
 read-layout-requires c κs = search needs
 
-enum-known-answer : tie.Need-enum-known-answer
-enum-known-answer c = search needs
+enum-known-i : tie.Need-enum-known-i
+enum-known-i c = search needs
 
 check-list-requires : tie.Need-check-list-requires
-check-list-requires c κs =
-    let s1 = c .before .before .before in
-    let start = s1 .before .before .before in
-    (s1 .read-layout .ensures .0, inside ((rw (sym (rw (c .before .answer .given .1) at (s1 .read-layout .ensures .1))) at (layout-facts (start .args .text .now))) .1))
+check-list-requires c κs = let w = ready _ _ _ _ (rw (c .before .before .before .i .given .1) at (c .before .before .before .before .before .before .before .read-layout .ensures)) in
+    (omega arith, omega arith, w .0, w .1)
 
-enum-known-answer-2 : tie.Need-enum-known-answer-2
-enum-known-answer-2 c = search needs
+enum-known-n : tie.Need-enum-known-n
+enum-known-n c = search needs
 
-fault-requires-2 : tie.Need-fault-requires-2
-fault-requires-2 c κs = search needs
+same-length : tie.Need-same-length
+same-length c = search needs
+
+same-length-2 : tie.Need-same-length-2
+same-length-2 c = search needs
 
 returns-2 : tie.Need-returns-2
 unfolding checkText
-returns-2 c = rw (le-ltb _ _ (c .before .before .before .before .before .if1 .left), sym (rw (c .before .before .answer .given .1) at (c .before .before .before .before .read-layout .ensures .1))) (c .check-list .ensures)
+returns-2 c = rw (le-ltb _ _ (c .before .before .before .before .before .before .before .before .before .before .before .before .if1 .left), sym (rw (c .before .before .before .before .before .before .i .given .1) at (c .before .before .before .before .before .before .before .before .before .before .read-layout .ensures))) (c .before .before .check-list .ensures)
+
+same-length-3 : tie.Need-same-length-3
+same-length-3 c = search needs
 
 returns-3 : tie.Need-returns-3
 unfolding checkText
-returns-3 c = rw (le-ltb _ _ (c .before .before .before .before .before .if1 .left), sym (rw (c .before .before .answer2 .given .1) at (c .before .before .before .before .read-layout .ensures .1))) (c .fault2 .ensures)
+returns-3 c = rw (le-ltb _ _ (c .before .before .before .before .before .before .before .if1 .left), sym (rw (c .before .n .given .1) at (c .before .before .before .before .before .read-layout .ensures)))
 
 pub check-spec : {M : Type 1} → statement M
 check-spec =
     tie.close
     (tie.spec
-    fault-requires
     returns
     read-layout-requires
-    enum-known-answer
+    enum-known-i
     check-list-requires
-    enum-known-answer-2
-    fault-requires-2
+    enum-known-n
+    same-length
+    same-length-2
     returns-2
+    same-length-3
     returns-3)

@@ -1,12 +1,9 @@
-use Rattle.fmap_rules.specs.Map.{mapSize}
-use lib.ListN.{getD}
-use Rattle.fmd_plan.specs.Plans.{blank}
 use Rattle.fmd_check.specs.Check.{checkLeaf}
-use Rattle.fmd_plan.proofs.Plans.{item}
-use Rattle.fmd_parse.proofs.Layouts.{counted}
+use Rattle.fmd_plan.proofs.Plans.{placed-in}
+use Rattle.fmd_table.proofs.Table.{length-sections}
+use Rattle.fmap_rules.specs.Map.{mapSize}
 use Rattle.octets.specs.Tests.{_or_}
 use borrow.Author.Tests.{lt-ltb, le-ltb}
-use native.Mathlib.Omega.{arith}
 use mathlib.Core.Path.{sym, _∙_}
 use borrow.Author.Needs.{needs}
 use Rattle.fmd_check.proofs.check_leaf.Statement.{statement}
@@ -20,13 +17,10 @@ fault-at-requires c κs = search needs
 
 returns : tie.Need-returns
 unfolding checkLeaf _or_
-returns c = rw (sym (c .before .before .has-child .ensures) ∙ c .before .if1 .taken) (c .fault-at .ensures)
+returns c = rw (c .fault-at .ensures, sym (c .before .before .has-child .ensures) ∙ c .before .if1 .taken)
 
-mul-q : tie.Need-mul-q
-mul-q c = search needs
-
-element-copy-out-q : tie.Need-element-copy-out-q
-element-copy-out-q c = search needs
+placed-at-requires : tie.Need-placed-at-requires
+placed-at-requires c κs = search needs
 
 cast-if2 : tie.Need-cast-if2
 cast-if2 c = search needs
@@ -42,15 +36,11 @@ fault-at-requires-2 c κs = search needs
 
 returns-2 : tie.Need-returns-2
 unfolding checkLeaf _or_
-returns-2 c =
-    let start = c .before .before .before .before .before .before .before in
-    rw (sym (c .before .before .before .before .before .before .has-child .ensures) ∙ c .before .before .before .before .before .if1 .left, item (start .args .t3) (start .pre .1) (start .args .k) (omega (arith, start .pre .2, start .pre .3)), counted (start .args .l) (start .pre .0), lt-ltb (getD (start .args .t3 .items) (start .args .k) blank .size) (mapSize (start .args .l .count)) (c .before .if2 .taken)) (c .fault-at2 .ensures)
+returns-2 c = rw (c .fault-at2 .ensures, sym (c .before .before .before .before .before .has-child .ensures) ∙ c .before .before .before .before .if1 .left, placed-in (c .before .before .before .before .before .before .before .before .args .n) (c .before .before .before .before .before .before .before .before .args .spots .now) (c .before .before .before .before .before .before .before .before .args .k) (c .before .before .before .before .before .before .before .before .pre .3), sym (c .before .before .before .placed-at .ensures), length-sections, lt-ltb (c .before .before .before .placed-at .result .size) (mapSize (c .before .before .before .before .before .before .before .before .args .n)) (c .before .if2 .taken))
 
 returns-3 : tie.Need-returns-3
 unfolding checkLeaf _or_
-returns-3 c =
-    let start = c .before .before .before .before .before .before in
-    record { list = start .pre .0; plan = start .pre .1; same = rw (sym (c .before .before .before .before .before .has-child .ensures) ∙ c .before .before .before .before .if1 .left, item (start .args .t3) (start .pre .1) (start .args .k) (omega (arith, start .pre .2, start .pre .3)), counted (start .args .l) (start .pre .0), le-ltb (getD (start .args .t3 .items) (start .args .k) blank .size) (mapSize (start .args .l .count)) (c .if2 .left)) }
+returns-3 c = rw (sym (c .before .before .before .before .has-child .ensures) ∙ c .before .before .before .if1 .left, placed-in (c .before .before .before .before .before .before .before .args .n) (c .before .before .before .before .before .before .before .args .spots .now) (c .before .before .before .before .before .before .before .args .k) (c .before .before .before .before .before .before .before .pre .3), sym (c .before .before .placed-at .ensures), length-sections (c .before .before .before .before .before .before .before .args .n) (c .before .before .before .before .before .before .before .args .rows .now), le-ltb (c .before .before .placed-at .result .size) (mapSize (c .before .before .before .before .before .before .before .args .n)) (c .if2 .left))
 
 pub check-leaf-spec : {M : Type 1} → statement M
 check-leaf-spec =
@@ -59,8 +49,7 @@ check-leaf-spec =
     has-child-requires
     fault-at-requires
     returns
-    mul-q
-    element-copy-out-q
+    placed-at-requires
     cast-if2
     mul-if2
     add-if2

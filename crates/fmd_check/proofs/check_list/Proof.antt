@@ -1,7 +1,6 @@
 use Rattle.fmd_check.proofs.Found.{found-below}
 use Rattle.fmd_check.specs.Check.{checkList}
-use Rattle.fmd_parse.specs.Layouts.{listOf}
-use Rattle.fmd_rows.specs.Rows.{firstRepeat, repeats}
+use Rattle.fmd_rows.specs.Rows.{firstRepeat}
 use mathlib.Core.Path.{sym, _∙_}
 use borrow.Author.Needs.{needs}
 use Rattle.fmd_check.proofs.check_list.Statement.{statement}
@@ -15,9 +14,7 @@ enum-known-k c = search needs
 
 fault-at-requires : tie.Need-fault-at-requires
 unfolding firstRepeat
-fault-at-requires c κs =
-    let start = c .before .before .before .before .before in
-    (start .pre .0, found-below (start .args .l) (start .pre .0) (repeats (start .args .text .now) (listOf (start .args .l))) (c .before .k .given .0 .0) (sym (c .before .before .before .first-repeat .ensures) ∙ c .before .k .given .1))
+fault-at-requires c κs = (c .before .before .before .before .before .before .before .pre .0, found-below _ _ _ _ (sym (c .before .before .before .first-repeat .ensures) ∙ c .before .k .given .1))
 
 enum-told : tie.Need-enum-told
 enum-told c = search needs
@@ -27,11 +24,14 @@ check-marks-requires c κs = search needs
 
 returns : tie.Need-returns
 unfolding checkList
-returns c = rw (sym (c .before .before .before .before .first-repeat .ensures) ∙ c .before .before .k .given .1) (c .fault-at .ensures)
+returns c = rw (c .fault-at .ensures, sym (c .before .before .before .before .first-repeat .ensures) ∙ c .before .before .k .given .1)
+
+same-length : tie.Need-same-length
+same-length c = search needs
 
 returns-2 : tie.Need-returns-2
 unfolding checkList
-returns-2 c = rw (sym (c .before .before .before .first-repeat .ensures) ∙ c .before .enum-told .given .1) (c .check-marks .ensures)
+returns-2 c = rw (sym (c .before .before .before .before .before .before .first-repeat .ensures) ∙ c .before .before .before .before .enum-told .given .1) (c .before .before .check-marks .ensures)
 
 pub check-list-spec : {M : Type 1} → statement M
 check-list-spec =
@@ -43,4 +43,5 @@ check-list-spec =
     enum-told
     check-marks-requires
     returns
+    same-length
     returns-2)

@@ -1,7 +1,6 @@
 use Rattle.fmd_check.proofs.Found.{found-below}
 use Rattle.fmd_check.specs.Check.{checkMap}
-use Rattle.fmd_parse.specs.Layouts.{listOf}
-use Rattle.fmd_rows.specs.Rows.{fmapIn, isFmap}
+use Rattle.fmd_rows.specs.Rows.{fmapIn}
 use mathlib.Core.Path.{sym, _∙_}
 use borrow.Author.Needs.{needs}
 use Rattle.fmd_check.proofs.check_map.Statement.{statement}
@@ -15,15 +14,10 @@ enum-known-k c = search needs
 
 check-leaf-requires : tie.Need-check-leaf-requires
 unfolding fmapIn
-check-leaf-requires c κs =
-    let start = c .before .before .before .before .before in
-    (start .pre .0, start .pre .1, found-below (start .args .l) (start .pre .0) (isFmap (start .args .text .now) (listOf (start .args .l))) (c .before .k .given .0 .0) (sym (c .before .before .before .find-fmap .ensures) ∙ c .before .k .given .1), start .pre .3)
+check-leaf-requires c κs = (c .before .before .before .before .before .before .before .pre .0, c .before .before .before .before .before .before .before .pre .1, c .before .before .before .before .before .before .before .pre .2, found-below _ _ _ _ (sym (c .before .before .before .find-fmap .ensures) ∙ c .before .k .given .1))
 
 enum-told : tie.Need-enum-told
 enum-told c = search needs
-
-fault-requires : tie.Need-fault-requires
-fault-requires c κs = search needs
 
 returns : tie.Need-returns
 unfolding checkMap
@@ -31,16 +25,9 @@ returns c = rw (sym (c .before .before .before .before .find-fmap .ensures) ∙ 
 
 returns-2 : tie.Need-returns-2
 unfolding checkMap
-returns-2 c = rw (sym (c .before .before .before .find-fmap .ensures) ∙ c .before .enum-told .given .1) (c .fault .ensures)
+returns-2 c = rw (sym (c .before .before .find-fmap .ensures) ∙ c .enum-told .given .1)
 
 pub check-map-spec : {M : Type 1} → statement M
 check-map-spec =
     tie.close
-    (tie.spec
-    find-fmap-requires
-    enum-known-k
-    check-leaf-requires
-    enum-told
-    fault-requires
-    returns
-    returns-2)
+    (tie.spec find-fmap-requires enum-known-k check-leaf-requires enum-told returns returns-2)

@@ -1,6 +1,6 @@
-use Rattle.fmd_check.proofs.Found.{unfit-below, plan-count}
+use Rattle.fmd_check.proofs.Found.{unfit-below}
 use Rattle.fmd_check.specs.Check.{checkPlaces}
-use mathlib.Core.Path.{sym}
+use mathlib.Core.Path.{sym, _∙_}
 use borrow.Author.Needs.{needs}
 use Rattle.fmd_check.proofs.check_places.Statement.{statement}
 use Rattle.fmd_check.proofs.check_places.Tie as tie
@@ -8,39 +8,42 @@ use Rattle.fmd_check.proofs.check_places.Tie as tie
 resolve-requires : tie.Need-resolve-requires
 resolve-requires c κs = search needs
 
-enum-known-unfit : tie.Need-enum-known-unfit
-enum-known-unfit c = search needs
+enum-known-k : tie.Need-enum-known-k
+enum-known-k c = search needs
 
 fault-at-requires : tie.Need-fault-at-requires
-fault-at-requires c κs =
-    let start = c .before .before .before .before .before in
-    (start .pre .0, unfit-below (start .args .l) (start .pre .0) (start .args .i .size) (c .before .unfit .given .0 .0) (rw (c .before .unfit .given .1) at (c .before .before .before .resolve .ensures .1)))
+fault-at-requires c κs = (c .before .before .before .before .before .before .before .before .before .before .pre .0, unfit-below _ _ _ _ (rw (c .before .k .given .1) at (c .before .before .before .before .before .resolve .ensures)))
 
 enum-told : tie.Need-enum-told
 enum-told c = search needs
 
 check-map-requires : tie.Need-check-map-requires
-check-map-requires c κs =
-    let s1 = c .before .before in
-    let start = s1 .before .before in
-    (start .pre .0, s1 .resolve .ensures .0, start .pre .1, plan-count (start .args .l) (start .pre .0) (start .args .i .size) (s1 .resolve .result .plan) (s1 .resolve .ensures .0) (rw (c .enum-told .given .1) at (s1 .resolve .ensures .1)))
+check-map-requires c κs = search needs
+
+same-length : tie.Need-same-length
+same-length c = search needs
 
 returns : tie.Need-returns
 unfolding checkPlaces
-returns c = rw (sym (rw (c .before .before .unfit .given .1) at (c .before .before .before .before .resolve .ensures .1))) (c .fault-at .ensures)
+returns c = rw (c .fault-at .ensures, sym (rw (c .before .before .k .given .1) at (c .before .before .before .before .before .before .resolve .ensures)))
+
+same-length-2 : tie.Need-same-length-2
+same-length-2 c = search needs
 
 returns-2 : tie.Need-returns-2
 unfolding checkPlaces
-returns-2 c = rw (sym (rw (c .before .enum-told .given .1) at (c .before .before .before .resolve .ensures .1))) (c .check-map .ensures)
+returns-2 c = rw (sym (rw (c .before .before .enum-told .given .1) at (c .before .before .before .before .before .before .resolve .ensures))) (c .check-map .ensures)
 
 pub check-places-spec : {M : Type 1} → statement M
 check-places-spec =
     tie.close
     (tie.spec
     resolve-requires
-    enum-known-unfit
+    enum-known-k
     fault-at-requires
     enum-told
     check-map-requires
+    same-length
     returns
+    same-length-2
     returns-2)

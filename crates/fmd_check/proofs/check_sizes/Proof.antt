@@ -1,7 +1,6 @@
 use Rattle.fmd_check.proofs.Found.{found-below}
 use Rattle.fmd_check.specs.Check.{checkSizes}
-use Rattle.fmd_parse.specs.Layouts.{listOf}
-use Rattle.fmd_rows.specs.Rows.{firstUndecided, undecided}
+use Rattle.fmd_rows.specs.Rows.{firstUndecided}
 use mathlib.Core.Path.{sym, _∙_}
 use borrow.Author.Needs.{needs}
 use Rattle.fmd_check.proofs.check_sizes.Statement.{statement}
@@ -15,9 +14,7 @@ enum-known-k c = search needs
 
 fault-at-requires : tie.Need-fault-at-requires
 unfolding firstUndecided
-fault-at-requires c κs =
-    let start = c .before .before .before .before .before in
-    (start .pre .0, found-below (start .args .l) (start .pre .0) (undecided (listOf (start .args .l))) (c .before .k .given .0 .0) (sym (c .before .before .before .first-undecided .ensures) ∙ c .before .k .given .1))
+fault-at-requires c κs = (c .before .before .before .before .before .before .before .pre .0, found-below _ _ _ _ (sym (c .before .before .before .first-undecided .ensures) ∙ c .before .k .given .1))
 
 enum-told : tie.Need-enum-told
 enum-told c = search needs
@@ -27,11 +24,14 @@ check-places-requires c κs = search needs
 
 returns : tie.Need-returns
 unfolding checkSizes
-returns c = rw (sym (c .before .before .before .before .first-undecided .ensures) ∙ c .before .before .k .given .1) (c .fault-at .ensures)
+returns c = rw (c .fault-at .ensures, sym (c .before .before .before .before .first-undecided .ensures) ∙ c .before .before .k .given .1)
+
+same-length : tie.Need-same-length
+same-length c = search needs
 
 returns-2 : tie.Need-returns-2
 unfolding checkSizes
-returns-2 c = rw (sym (c .before .before .before .first-undecided .ensures) ∙ c .before .enum-told .given .1) (c .check-places .ensures)
+returns-2 c = rw (sym (c .before .before .before .before .before .before .first-undecided .ensures) ∙ c .before .before .before .before .enum-told .given .1) (c .before .before .check-places .ensures)
 
 pub check-sizes-spec : {M : Type 1} → statement M
 check-sizes-spec =
@@ -43,4 +43,5 @@ check-sizes-spec =
     enum-told
     check-places-requires
     returns
+    same-length
     returns-2)

@@ -1,24 +1,17 @@
 use Rattle.fmd_rows.proofs.Rows.{item}
+use mathlib.Core.Path.{sym, ap, _∙_}
 use borrow.Author.Needs.{needs}
 use Rattle.fmd_check.proofs.fault_at.Statement.{statement}
 use Rattle.fmd_check.proofs.fault_at.Tie as tie
 
-mul-h : tie.Need-mul-h
-mul-h c = search needs
+row-at-requires : tie.Need-row-at-requires
+row-at-requires c κs = search needs
 
-element-copy-out-h : tie.Need-element-copy-out-h
-element-copy-out-h c = search needs
-
-cast-fault : tie.Need-cast-fault
-cast-fault c = search needs
-
-fault-requires : tie.Need-fault-requires
-fault-requires c κs = search needs
+cast-t6 : tie.Need-cast-t6
+cast-t6 c = search needs
 
 returns : tie.Need-returns
-returns c =
-    let s1 = c .before .before .before in
-    rw (item (s1 .args .t2) (s1 .pre .0) (s1 .args .k) (s1 .pre .1)) (c .fault .ensures)
+returns c = rw (item (c .before .before .before .args .n) (c .before .before .before .args .rows .now) (c .before .before .before .args .k) (c .before .before .before .pre .1), sym (c .before .row-at .ensures))
 
 pub fault-at-spec : {M : Type 1} → statement M
-fault-at-spec = tie.close (tie.spec mul-h element-copy-out-h cast-fault fault-requires returns)
+fault-at-spec = tie.close (tie.spec row-at-requires cast-t6 returns)

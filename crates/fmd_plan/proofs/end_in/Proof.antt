@@ -1,47 +1,47 @@
-use mathlib.Core.Path.{_≡_, _∙_}
-use Prim.Native.Nat.{_≤_, _-_}
-use native.Mathlib.Omega.{arith}
-use lib.ListN.{drop}
 use borrow.Author.Needs.{needs}
-use Rattle.fmd_plan.specs.Plans.{endIn, planOf}
-use Rattle.fmd_plan.proofs.Plans.{end-on, end-done}
+use Rattle.fmd_plan.proofs.Plans.{end-on, end-stop, end-done}
+use Rattle.fmd_plan.specs.Plans.{endIn, placedIn}
+use native.Mathlib.Omega.{arith}
+use Prim.Native.Nat.{_≤_}
+use mathlib.Core.Path.{_≡_, _∙_}
 use Rattle.fmd_plan.proofs.end_in.Statement.{statement}
 use Rattle.fmd_plan.proofs.end_in.Tie as tie
 
 abbrev Inv-loop : tie.InvT-loop
-Inv-loop parent p n e₀ j₀ e j = (j ≤ n) × (e ≤ 8589934590) × (endIn parent e (drop j (planOf p)) ≡ endIn parent 0 (planOf p))
+Inv-loop spots k parent j₀ j = (j ≤ k) × (endIn parent 0 (placedIn j spots) ≡ endIn parent 0 (placedIn k spots))
 
 abbrev μ-loop : tie.MeasureT-loop
-μ-loop parent p n e₀ j₀ e j = n - j
+μ-loop spots k parent j₀ j = j
 
 loop-holds : tie.Need-loop-holds Inv-loop μ-loop
 loop-holds c = search needs
 
-mul-q : tie.Need-mul-q Inv-loop μ-loop
-mul-q c = search needs
+sub-j : tie.Need-sub-j Inv-loop μ-loop
+sub-j c = search needs
 
-element-copy-out-q : tie.Need-element-copy-out-q Inv-loop μ-loop
-element-copy-out-q c = search needs
+placed-at-requires : tie.Need-placed-at-requires Inv-loop μ-loop
+placed-at-requires c κs = search needs
 
-end-with-requires : tie.Need-end-with-requires Inv-loop μ-loop
-end-with-requires c κs = search needs
+cast-result : tie.Need-cast-result Inv-loop μ-loop
+cast-result c = search needs
 
-add-j : tie.Need-add-j Inv-loop μ-loop
-add-j c = search needs
+cast-result-2 : tie.Need-cast-result-2 Inv-loop μ-loop
+cast-result-2 c = search needs
+
+add-result : tie.Need-add-result Inv-loop μ-loop
+add-result c = search needs
+
+returns : tie.Need-returns Inv-loop μ-loop
+returns c = (end-stop _ _ _ (c .before .before .before .before .before .placed-at .ensures) (c .before .before .before .before .before .before .before .loop .j) (omega arith) (c .before .before .before .if1 .taken) ∙ c .before .before .before .before .before .before .before .loop .inv .1, omega arith)
 
 loop-less : tie.Need-loop-less Inv-loop μ-loop
 loop-less c = search needs
 
 loop-again : tie.Need-loop-again Inv-loop μ-loop
-loop-again c =
-    let turn = c .before .before .before in
-    let start = c .before .before .before .before in
-    (search needs, c .end-with .ensures .1, rw (c .end-with .ensures .0) (end-on (start .args .t1) (start .pre) (start .args .parent) (turn .loop .e) (turn .loop .j) (c .before .before .loop-test .taken)) ∙ turn .loop .inv .2)
+loop-again c = (search needs, end-on _ _ _ (c .before .before .placed-at .ensures) (c .before .before .before .before .loop .j) (omega arith) (c .if1 .left) ∙ c .before .before .before .before .loop .inv .1)
 
-returns : tie.Need-returns Inv-loop μ-loop
-returns c =
-    let s1 = c .before .before in
-    (end-done (s1 .args .t1) (s1 .pre) (s1 .args .parent) (c .before .loop .e) (c .before .loop .j) (omega arith) ∙ c .before .loop .inv .2, c .before .loop .inv .1)
+returns-2 : tie.Need-returns-2 Inv-loop μ-loop
+returns-2 c = (end-done _ _ (c .before .loop .j) (omega arith) ∙ c .before .loop .inv .1, omega arith)
 
 pub end-in-spec : {M : Type 1} → statement M
 end-in-spec =
@@ -50,10 +50,12 @@ end-in-spec =
     Inv-loop
     μ-loop
     loop-holds
-    mul-q
-    element-copy-out-q
-    end-with-requires
-    add-j
+    sub-j
+    placed-at-requires
+    cast-result
+    cast-result-2
+    add-result
+    returns
     loop-less
     loop-again
-    returns)
+    returns-2)

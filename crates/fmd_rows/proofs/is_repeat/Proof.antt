@@ -1,51 +1,33 @@
-use mathlib.Core.Path.{_≡_, sym, _∙_}
-use Prim.Native.Nat.{_≤_, _-_}
-use native.Mathlib.Omega.{arith}
 use borrow.Author.Needs.{needs}
+use Rattle.fmd_rows.proofs.Rows.{among, among-start, among-on, among-stop, among-done, name-inside}
 use Rattle.fmd_rows.specs.Rows.{repeats}
-use Rattle.fmd_parse.proofs.Layouts.{counted}
-use Rattle.fmd_parse.specs.Layouts.{listOf}
-use Rattle.fmd_rows.proofs.Rows.{among, among-start, among-on, among-stop, among-done, item}
+use Rattle.fmd_table.specs.Table.{sectionsIn}
+use native.Mathlib.Omega.{arith}
+use Prim.Native.Nat.{_≤_, _-_}
+use mathlib.Core.Path.{_≡_, sym, _∙_}
 use Rattle.fmd_rows.proofs.is_repeat.Statement.{statement}
 use Rattle.fmd_rows.proofs.is_repeat.Tie as tie
 
 abbrev Inv-loop : tie.InvT-loop
-Inv-loop text k l h j₀ j = (j ≤ k) × (among text l k j ≡ repeats text (listOf l) k)
+Inv-loop text rows n k h j₀ j = (j ≤ k) × (among text h k (sectionsIn n rows) j ≡ repeats text (sectionsIn n rows) k)
 
 abbrev μ-loop : tie.MeasureT-loop
-μ-loop text k l h j₀ j = k - j
+μ-loop text rows n k h j₀ j = k - j
 
-mul-h : tie.Need-mul-h Inv-loop μ-loop
-mul-h c = search needs
-
-element-copy-out-h : tie.Need-element-copy-out-h Inv-loop μ-loop
-element-copy-out-h c = search needs
+row-at-requires : tie.Need-row-at-requires Inv-loop μ-loop
+row-at-requires c κs = search needs
 
 loop-holds : tie.Need-loop-holds Inv-loop μ-loop
-loop-holds c =
-    let s1 = c .before .before in
-    (search needs, among-start (s1 .args .t2) (s1 .pre .0) (s1 .args .text .now) (s1 .args .k) (s1 .pre .1))
+loop-holds c = (search needs, among-start _ _ _ _ (c .row-at .ensures) (c .before .before .before .pre .2))
 
-mul-e : tie.Need-mul-e Inv-loop μ-loop
-mul-e c = search needs
-
-element-copy-out-e : tie.Need-element-copy-out-e Inv-loop μ-loop
-element-copy-out-e c = search needs
+row-at-requires-2 : tie.Need-row-at-requires-2 Inv-loop μ-loop
+row-at-requires-2 c κs = search needs
 
 same-name-requires : tie.Need-same-name-requires Inv-loop μ-loop
-same-name-requires c κs =
-    let s1 = c .before .before in
-    let start = s1 .before .before .before in
-    let n = counted (start .args .t2) (start .pre .0) in (
-      rw (item (start .args .t2) (start .pre .0) (s1 .loop .j) (omega arith)) at (start .pre .2 (s1 .loop .j) (omega arith)),
-      rw (item (start .args .t2) (start .pre .0) (start .args .k) (start .pre .1)) at (start .pre .2 (start .args .k) (omega arith)),
-    )
+same-name-requires c κs = (name-inside _ _ (c .before .before .before .before .before .before .args .text .now) (c .before .before .before .before .before .before .pre .1) _ (c .row-at2 .ensures) (omega arith), name-inside _ _ (c .before .before .before .before .before .before .args .text .now) (c .before .before .before .before .before .before .pre .1) _ (c .before .before .before .row-at .ensures) (c .before .before .before .before .before .before .pre .2))
 
 returns : tie.Need-returns Inv-loop μ-loop
-returns c =
-    let turn = c .before .before .before .before in
-    let start = c .before .before .before .before .before .before .before in
-    among-stop (start .args .t2) (start .pre .0) (start .args .text .now) (start .args .k) (start .pre .1) (turn .loop .j) (c .before .before .before .loop-test .taken) (sym (c .before .same-name .ensures) ∙ c .if1 .taken) ∙ turn .loop .inv .1
+returns c = among-stop _ _ _ _ (c .before .before .before .before .before .row-at .ensures) (c .before .before .before .before .before .before .before .before .pre .2) _ (c .before .before .row-at2 .ensures) (c .before .before .before .loop-test .taken) (sym (c .before .same-name .ensures) ∙ c .if1 .taken) ∙ c .before .before .before .before .loop .inv .1
 
 add-j : tie.Need-add-j Inv-loop μ-loop
 add-j c = search needs
@@ -54,15 +36,10 @@ loop-less : tie.Need-loop-less Inv-loop μ-loop
 loop-less c = search needs
 
 loop-again : tie.Need-loop-again Inv-loop μ-loop
-loop-again c =
-    let turn = c .before .before .before .before in
-    let start = c .before .before .before .before .before .before .before in
-    (search needs, among-on (start .args .t2) (start .pre .0) (start .args .text .now) (start .args .k) (start .pre .1) (turn .loop .j) (c .before .before .before .loop-test .taken) (sym (c .before .same-name .ensures) ∙ c .if1 .left) ∙ turn .loop .inv .1)
+loop-again c = (search needs, among-on _ _ _ _ (c .before .before .before .before .before .row-at .ensures) (c .before .before .before .before .before .before .before .before .pre .2) _ (c .before .before .row-at2 .ensures) (c .before .before .before .loop-test .taken) (sym (c .before .same-name .ensures) ∙ c .if1 .left) ∙ c .before .before .before .before .loop .inv .1)
 
 returns-2 : tie.Need-returns-2 Inv-loop μ-loop
-returns-2 c =
-    let start = c .before .before .before .before in
-    among-done (start .args .t2) (start .pre .0) (start .args .text .now) (start .args .k) (start .pre .1) (c .before .loop .j) (omega arith) ∙ c .before .loop .inv .1
+returns-2 c = among-done _ _ _ _ (c .before .before .row-at .ensures) (c .before .before .before .before .before .pre .2) _ (c .loop-test .left) ∙ c .before .loop .inv .1
 
 pub is-repeat-spec : {M : Type 1} → statement M
 is-repeat-spec =
@@ -70,11 +47,9 @@ is-repeat-spec =
     (tie.spec
     Inv-loop
     μ-loop
-    mul-h
-    element-copy-out-h
+    row-at-requires
     loop-holds
-    mul-e
-    element-copy-out-e
+    row-at-requires-2
     same-name-requires
     returns
     add-j

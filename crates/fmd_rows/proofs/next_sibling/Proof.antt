@@ -1,34 +1,28 @@
-use mathlib.Core.Path.{_≡_, _∙_}
-use Prim.Native.Nat.{_≤_, _-_}
-use native.Mathlib.Omega.{arith}
-use lib.ListN.{drop}
 use borrow.Author.Needs.{needs}
-use Rattle.fmd_rows.specs.Rows.{siblingIn}
-use Rattle.fmd_parse.specs.Layouts.{listOf}
 use Rattle.fmd_rows.proofs.Rows.{sibling-on, sibling-stop, sibling-done}
+use Rattle.fmd_rows.specs.Rows.{siblingIn}
+use Rattle.fmd_table.specs.Table.{sectionsIn}
+use lib.ListN.{drop}
+use native.Mathlib.Omega.{arith}
+use Prim.Native.Nat.{_≤_, _-_}
+use mathlib.Core.Path.{_≡_, _∙_}
 use Rattle.fmd_rows.proofs.next_sibling.Statement.{statement}
 use Rattle.fmd_rows.proofs.next_sibling.Tie as tie
 
 abbrev Inv-loop : tie.InvT-loop
-Inv-loop at parent l n j₀ j = (j ≤ n) × (siblingIn parent (drop j (listOf l)) ≡ siblingIn parent (drop at (listOf l)))
+Inv-loop rows n at parent j₀ j = (j ≤ n) × (siblingIn parent (drop j (sectionsIn n rows)) ≡ siblingIn parent (drop at (sectionsIn n rows)))
 
 abbrev μ-loop : tie.MeasureT-loop
-μ-loop at parent l n j₀ j = n - j
+μ-loop rows n at parent j₀ j = n - j
 
 loop-holds : tie.Need-loop-holds Inv-loop μ-loop
 loop-holds c = search needs
 
-mul-e : tie.Need-mul-e Inv-loop μ-loop
-mul-e c = search needs
-
-element-copy-out-e : tie.Need-element-copy-out-e Inv-loop μ-loop
-element-copy-out-e c = search needs
+row-at-requires : tie.Need-row-at-requires Inv-loop μ-loop
+row-at-requires c κs = search needs
 
 returns : tie.Need-returns Inv-loop μ-loop
-returns c =
-    let turn = c .before .before .before .before in
-    let start = c .before .before .before .before .before in
-    sibling-stop (start .args .t1) (start .pre .0) (start .args .parent) (turn .loop .j) (c .before .before .before .loop-test .taken) (c .if1 .taken) ∙ turn .loop .inv .1
+returns c = sibling-stop _ _ _ (c .before .before .row-at .ensures) _ (c .before .before .before .loop-test .taken) (c .if1 .taken) ∙ c .before .before .before .before .loop .inv .1
 
 add-j : tie.Need-add-j Inv-loop μ-loop
 add-j c = search needs
@@ -37,15 +31,10 @@ loop-less : tie.Need-loop-less Inv-loop μ-loop
 loop-less c = search needs
 
 loop-again : tie.Need-loop-again Inv-loop μ-loop
-loop-again c =
-    let turn = c .before .before .before .before in
-    let start = c .before .before .before .before .before in
-    (search needs, sibling-on (start .args .t1) (start .pre .0) (start .args .parent) (turn .loop .j) (c .before .before .before .loop-test .taken) (c .if1 .left) ∙ turn .loop .inv .1)
+loop-again c = (search needs, sibling-on _ _ _ (c .before .before .row-at .ensures) _ (c .before .before .before .loop-test .taken) (c .if1 .left) ∙ c .before .before .before .before .loop .inv .1)
 
 returns-2 : tie.Need-returns-2 Inv-loop μ-loop
-returns-2 c =
-    let s1 = c .before .before in
-    sibling-done (s1 .args .t1) (s1 .pre .0) (s1 .args .parent) (c .before .loop .j) (omega arith) ∙ c .before .loop .inv .1
+returns-2 c = sibling-done _ _ _ _ (c .loop-test .left) ∙ c .before .loop .inv .1
 
 pub next-sibling-spec : {M : Type 1} → statement M
 next-sibling-spec =
@@ -54,8 +43,7 @@ next-sibling-spec =
     Inv-loop
     μ-loop
     loop-holds
-    mul-e
-    element-copy-out-e
+    row-at-requires
     returns
     add-j
     loop-less

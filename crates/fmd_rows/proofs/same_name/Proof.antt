@@ -1,7 +1,7 @@
+use Rattle.fmd_rows.proofs.Rows.{slice}
+use Rattle.octets.specs.Bytes.{same}
 use mathlib.Core.Path.{_∙_, ap₂}
 use borrow.Author.Needs.{needs}
-use Rattle.octets.specs.Bytes.{same}
-use Rattle.fmd_rows.proofs.Rows.{slice}
 use Rattle.fmd_rows.proofs.same_name.Statement.{statement}
 use Rattle.fmd_rows.proofs.same_name.Tie as tie
 
@@ -45,9 +45,7 @@ same-requires : tie.Need-same-requires
 same-requires c κs = search needs
 
 returns : tie.Need-returns
-returns c =
-    let start = c .before .before .before .before .before .before .before .before in
-    c .same .ensures ∙ ap₂ same (slice (start .args .a .place) (start .args .a .length) (start .args .text .now)) (slice (start .args .b .place) (start .args .b .length) (start .args .text .now))
+returns c = c .same .ensures ∙ ap₂ same (slice (c .before .before .before .before .before .before .before .before .args .a .place) (c .before .before .before .before .before .before .before .before .args .a .length) (c .before .before .before .before .before .before .before .before .args .text .now)) (slice (c .before .before .before .before .before .before .before .before .args .b .place) (c .before .before .before .before .before .before .before .before .args .b .length) (c .before .before .before .before .before .before .before .before .args .text .now))
 
 pub same-name-spec : {M : Type 1} → statement M
 same-name-spec =

@@ -1,0 +1,163 @@
+use lib.ListN.{length-set}
+use native.Mathlib.Omega.{arith}
+use Rattle.fmd_table.proofs.Table.{row-stored}
+use borrow.Author.Needs.{needs}
+use Rattle.fmd_table.proofs.put_row.Statement.{statement}
+use Rattle.fmd_table.proofs.put_row.Tie as tie
+
+mul-at : tie.Need-mul-at
+mul-at c = search needs
+
+offset-tag-requires : tie.Need-offset-tag-requires
+offset-tag-requires c κs = search needs
+
+mul-rows : tie.Need-mul-rows
+mul-rows c = search needs
+
+slice-write-rows : tie.Need-slice-write-rows
+slice-write-rows c = search needs
+
+offset-word-requires : tie.Need-offset-word-requires
+offset-word-requires c κs = search needs
+
+add-rows : tie.Need-add-rows
+add-rows c = search needs
+
+mul-rows-2 : tie.Need-mul-rows-2
+mul-rows-2 c = search needs
+
+slice-write-rows-2 : tie.Need-slice-write-rows-2
+slice-write-rows-2 c = simp length-set (omega arith)
+
+size-tag-requires : tie.Need-size-tag-requires
+size-tag-requires c κs = search needs
+
+add-rows-2 : tie.Need-add-rows-2
+add-rows-2 c = search needs
+
+mul-rows-3 : tie.Need-mul-rows-3
+mul-rows-3 c = search needs
+
+slice-write-rows-3 : tie.Need-slice-write-rows-3
+slice-write-rows-3 c = simp length-set (omega arith)
+
+size-word-requires : tie.Need-size-word-requires
+size-word-requires c κs = search needs
+
+add-rows-3 : tie.Need-add-rows-3
+add-rows-3 c = search needs
+
+mul-rows-4 : tie.Need-mul-rows-4
+mul-rows-4 c = search needs
+
+slice-write-rows-4 : tie.Need-slice-write-rows-4
+slice-write-rows-4 c = simp length-set (omega arith)
+
+add-rows-4 : tie.Need-add-rows-4
+add-rows-4 c = search needs
+
+mul-rows-5 : tie.Need-mul-rows-5
+mul-rows-5 c = search needs
+
+slice-write-rows-5 : tie.Need-slice-write-rows-5
+slice-write-rows-5 c = simp length-set (omega arith)
+
+add-rows-5 : tie.Need-add-rows-5
+add-rows-5 c = search needs
+
+mul-rows-6 : tie.Need-mul-rows-6
+mul-rows-6 c = search needs
+
+slice-write-rows-6 : tie.Need-slice-write-rows-6
+slice-write-rows-6 c = simp length-set (omega arith)
+
+mark-word-requires : tie.Need-mark-word-requires
+mark-word-requires c κs = search needs
+
+add-rows-6 : tie.Need-add-rows-6
+add-rows-6 c = search needs
+
+mul-rows-7 : tie.Need-mul-rows-7
+mul-rows-7 c = search needs
+
+slice-write-rows-7 : tie.Need-slice-write-rows-7
+slice-write-rows-7 c = simp length-set (omega arith)
+
+mark-word-requires-2 : tie.Need-mark-word-requires-2
+mark-word-requires-2 c κs = search needs
+
+add-rows-7 : tie.Need-add-rows-7
+add-rows-7 c = search needs
+
+mul-rows-8 : tie.Need-mul-rows-8
+mul-rows-8 c = search needs
+
+slice-write-rows-8 : tie.Need-slice-write-rows-8
+slice-write-rows-8 c = simp length-set (omega arith)
+
+add-rows-8 : tie.Need-add-rows-8
+add-rows-8 c = search needs
+
+mul-rows-9 : tie.Need-mul-rows-9
+mul-rows-9 c = search needs
+
+slice-write-rows-9 : tie.Need-slice-write-rows-9
+slice-write-rows-9 c = simp length-set (omega arith)
+
+add-rows-9 : tie.Need-add-rows-9
+add-rows-9 c = search needs
+
+mul-rows-10 : tie.Need-mul-rows-10
+mul-rows-10 c = search needs
+
+slice-write-rows-10 : tie.Need-slice-write-rows-10
+slice-write-rows-10 c = simp length-set (omega arith)
+
+same-length : tie.Need-same-length
+same-length c = simp length-set
+
+returns : tie.Need-returns
+returns c = row-stored _ _ _ (c .before .before .before .before .before .before .before .pre) _ _ _ _ _ _ (c .before .before .before .before .before .offset-tag .ensures) (c .before .before .before .before .offset-word .ensures) (c .before .before .before .size-tag .ensures) (c .before .before .size-word .ensures) (c .before .mark-word .ensures) (c .mark-word2 .ensures)
+
+pub put-row-spec : {M : Type 1} → statement M
+put-row-spec =
+    tie.close
+    (tie.spec
+    mul-at
+    offset-tag-requires
+    mul-rows
+    slice-write-rows
+    offset-word-requires
+    add-rows
+    mul-rows-2
+    slice-write-rows-2
+    size-tag-requires
+    add-rows-2
+    mul-rows-3
+    slice-write-rows-3
+    size-word-requires
+    add-rows-3
+    mul-rows-4
+    slice-write-rows-4
+    add-rows-4
+    mul-rows-5
+    slice-write-rows-5
+    add-rows-5
+    mul-rows-6
+    slice-write-rows-6
+    mark-word-requires
+    add-rows-6
+    mul-rows-7
+    slice-write-rows-7
+    mark-word-requires-2
+    add-rows-7
+    mul-rows-8
+    slice-write-rows-8
+    add-rows-8
+    mul-rows-9
+    slice-write-rows-9
+    add-rows-9
+    mul-rows-10
+    slice-write-rows-10
+    same-length
+    returns)

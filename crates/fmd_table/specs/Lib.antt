@@ -1,0 +1,2 @@
+-- Sections in a table of words.
+pub mod Table

@@ -1,0 +1,131 @@
+// Sections in a table that is lent: ten words a row. Only put_row and row_at know what the words mean.
+// An inner crate: no user calls it, so its functions may have a `requires`, which each caller meets.
+ghost use mathlib.Core.List.{_++_, _∷_, []};
+ghost use mathlib.Core.Path.{_≡_};
+ghost use Prim.Native.Nat.{_+_, _*_, _≤_};
+ghost use lib.ListN.{length};
+ghost use Rattle.fmd_table.specs.Table.{offsetTag, offsetWord, sizeTag, sizeWord, markWord, offsetFrom, sizeFrom, sectionAt, sectionsIn};
+
+// A number of bytes from the parent's start.
+pub struct ParentOffset(pub u32);
+
+pub enum Offset {
+    Given(ParentOffset),
+    Omitted,
+}
+
+pub enum Size {
+    Given(u32),
+    Omitted,
+}
+
+// A section as it stands in the text: its name by place and length; parent is the parent's row, 128 for the image.
+pub struct Section {
+    pub offset: Offset,
+    pub size: Size,
+    pub place: u32,
+    pub length: u32,
+    pub cbfs: bool,
+    pub preserve: bool,
+    pub parent: u32,
+    pub level: u32,
+}
+
+fn offset_tag(o: Offset) -> u32
+    ensures { λ r. ⌜ r ≡ offsetTag o ⌝ }
+{
+    match o {
+        Offset::Given(_) => 1,
+        Offset::Omitted => 0,
+    }
+}
+
+fn offset_word(o: Offset) -> u32
+    ensures { λ r. ⌜ r ≡ offsetWord o ⌝ }
+{
+    match o {
+        Offset::Given(n) => n.0,
+        Offset::Omitted => 0,
+    }
+}
+
+fn size_tag(z: Size) -> u32
+    ensures { λ r. ⌜ r ≡ sizeTag z ⌝ }
+{
+    match z {
+        Size::Given(_) => 1,
+        Size::Omitted => 0,
+    }
+}
+
+fn size_word(z: Size) -> u32
+    ensures { λ r. ⌜ r ≡ sizeWord z ⌝ }
+{
+    match z {
+        Size::Given(n) => n,
+        Size::Omitted => 0,
+    }
+}
+
+fn mark_word(b: bool) -> u32
+    ensures { λ r. ⌜ r ≡ markWord b ⌝ }
+{
+    if b { 1 } else { 0 }
+}
+
+fn offset_from(tag: u32, n: u32) -> Offset
+    ensures { λ r. ⌜ r ≡ offsetFrom tag n ⌝ }
+{
+    if tag == 1 {
+        return Offset::Given(ParentOffset(n));
+    }
+    Offset::Omitted
+}
+
+fn size_from(tag: u32, n: u32) -> Size
+    ensures { λ r. ⌜ r ≡ sizeFrom tag n ⌝ }
+{
+    if tag == 1 {
+        return Size::Given(n);
+    }
+    Size::Omitted
+}
+
+// Writes row k, after those below it.
+pub fn put_row(rows: &mut [u32], k: usize, h: Section)
+    requires { ⌜ 10 * k + 10 ≤ length (now rows) ⌝ }
+    ensures { λ _. ⌜ sectionsIn (k + 1) (now (rows .exit)) ≡ sectionsIn k (now (rows .entry)) ++ (h ∷ []) ⌝ }
+{
+    let at = 10 * k;
+    let offset = h.offset;
+    let size = h.size;
+    rows[at] = offset_tag(offset);
+    rows[at + 1] = offset_word(offset);
+    rows[at + 2] = size_tag(size);
+    rows[at + 3] = size_word(size);
+    rows[at + 4] = h.place;
+    rows[at + 5] = h.length;
+    rows[at + 6] = mark_word(h.cbfs);
+    rows[at + 7] = mark_word(h.preserve);
+    rows[at + 8] = h.parent;
+    rows[at + 9] = h.level;
+}
+
+pub fn row_at(rows: &[u32], k: usize) -> Section
+    requires { ⌜ 10 * k + 10 ≤ length (now rows) ⌝ }
+    ensures { λ r. ⌜ r ≡ sectionAt (now (rows .entry)) k ⌝ }
+{
+    let at = 10 * k;
+    let offset = offset_from(rows[at], rows[at + 1]);
+    let size = size_from(rows[at + 2], rows[at + 3]);
+    Section {
+        offset: offset,
+        size: size,
+        place: rows[at + 4],
+        length: rows[at + 5],
+        cbfs: rows[at + 6] == 1,
+        preserve: rows[at + 7] == 1,
+        parent: rows[at + 8],
+        level: rows[at + 9],
+    }
+}
