@@ -1,144 +1,105 @@
-// Runs samples of the rules and the published CRC-32 vectors (values and sources: host/vectors/crc32.txt), and prints a line for each:
+// Samples S1 to S5 and S9 on a head and a tail, one line a call:
 //
-//     crc32 LABEL CRC     the CRC-32 of the input of that label
-//     guid TEXT BYTES     a GUID text and its stored bytes, or "refused" and the number
-//     type TEXT BYTES     the same of a type
-//     text BYTES TEXT     stored bytes and the text written for them
-//
-// The lines of `disk` follow. A second program that shares no code with this one prints the same lines (host/second).
+//     disk N format                           accepted; "refused" and the number instead, here and below
+//     disk N state STATE
+//     disk N header BLOCK other BLOCK usable FIRST LAST entries BLOCK
+//     disk N add SIZE slot SLOT first BLOCK
+//     disk N delete SLOT
+//     disk N resize SLOT SIZE
+//     disk N free COUNT longest COUNT
+//     disk N granted COUNT back COUNT         sums over the calls since formatting
+//     disk N crc32 HEAD TAIL                  of all bytes of head and tail
 mod calls;
-mod disk;
 mod lines;
 mod print;
 
-use guid::Answer;
+use calls::Sums;
+ghost use mathlib.Core.Path.{_≡_};
+ghost use lib.ListN.{length};
 
-fn crc(label: &[u8], input: &[u8]) {
-    print::bytes(b"crc32 ");
-    print::bytes(label);
-    print::bytes(b" ");
-    print::hex32(crc32::crc32(input));
-    print::bytes(b"\n");
+const HEAD: usize = 17408;
+
+const TAIL: usize = 16896;
+
+// S1.
+fn too_small(head: &mut [u8], tail: &mut [u8]) {
+    calls::format(head, tail, 67);
 }
 
-fn crc_samples() {
-    crc(b"check", b"123456789");
-    crc(b"empty", b"");
-    crc(b"a", b"a");
-    crc(b"abc", b"abc");
-    crc(b"digest", b"message digest");
-    crc(b"lower", b"abcdefghijklmnopqrstuvwxyz");
+// S2.
+fn smallest(head: &mut [u8], tail: &mut [u8])
+    requires { ⌜ (length (now head) ≡ 17408) × (length (now tail) ≡ 16896) ⌝ }
+{
+    let formatted = calls::format(head, tail, 68);
+    lines::headers(&head[..], &tail[..], 68);
+    let filled = calls::add(head, tail, 68, formatted, 1, 1);
+    let sums = calls::add(head, tail, 68, filled, 2, 1);
+    lines::close(&head[..], &tail[..], 68, sums);
 }
 
-fn more_crc_samples() {
-    crc(
-        b"alnum",
-        b"ABCDEFGHIJKLMNOPQRSTUVWXYZabcdefghijklmnopqrstuvwxyz0123456789",
-    );
-    crc(
-        b"digits",
-        b"12345678901234567890123456789012345678901234567890123456789012345678901234567890",
-    );
-    crc(b"fox", b"The quick brown fox jumps over the lazy dog");
-    crc(b"zeros32", &[0u8; 32]);
-    crc(b"ones32", &[255u8; 32]);
-    crc(
-        b"count32",
-        b"\x00\x01\x02\x03\x04\x05\x06\x07\x08\x09\x0a\x0b\x0c\x0d\x0e\x0f\x10\x11\x12\x13\x14\x15\x16\x17\x18\x19\x1a\x1b\x1c\x1d\x1e\x1f",
-    );
+// S3.
+fn hundred(head: &mut [u8], tail: &mut [u8]) -> Sums
+    requires { ⌜ (length (now head) ≡ 17408) × (length (now tail) ≡ 16896) ⌝ }
+{
+    let formatted = calls::format(head, tail, 100);
+    lines::headers(&head[..], &tail[..], 100);
+    formatted
 }
 
-// The stored bytes, or the refusal.
-fn print_read(answer: Answer, guid: &[u8]) {
-    match answer {
-        Answer::Done => print::hex(guid),
-        Answer::WrongLength => print::bytes(b"refused 1"),
-        Answer::NotGuidText => print::bytes(b"refused 30"),
-    }
-    print::bytes(b"\n");
+// S4, to the deletion.
+fn adds_and_delete(head: &mut [u8], tail: &mut [u8], formatted: Sums) -> Sums {
+    let one = calls::add(head, tail, 100, formatted, 1, 10);
+    let two = calls::add(head, tail, 100, one, 2, 5);
+    calls::delete(head, tail, 100, two, 1)
 }
 
-fn guid_line(text: &[u8]) {
-    print::bytes(b"guid ");
-    print::bytes(text);
-    print::bytes(b" ");
-    let mut stored = [0u8; 16];
-    let answer = guid::read(text, &mut stored);
-    print_read(answer, &stored);
+// S4, after it.
+fn adds_again(head: &mut [u8], tail: &mut [u8], deleted: Sums) -> Sums {
+    let three = calls::add(head, tail, 100, deleted, 3, 11);
+    calls::add(head, tail, 100, three, 4, 10)
 }
 
-fn type_line(text: &[u8]) {
-    print::bytes(b"type ");
-    print::bytes(text);
-    print::bytes(b" ");
-    let mut stored = [0u8; 16];
-    let answer = guid::read_type(text, &mut stored);
-    print_read(answer, &stored);
+// S5.
+fn resizes(head: &mut [u8], tail: &mut [u8], sums: Sums) -> Sums {
+    let same = calls::resize(head, tail, 100, sums, 1, 19);
+    calls::resize(head, tail, 100, same, 1, 18)
 }
 
-fn text_line(stored: &[u8]) {
-    print::bytes(b"text ");
-    print::hex(stored);
-    print::bytes(b" ");
-    let mut text = [0u8; 36];
-    guid::write(stored, &mut text);
-    print::bytes(&text);
-    print::bytes(b"\n");
+// S9, and that the whole disk can be taken afterwards.
+fn largest_size(head: &mut [u8], tail: &mut [u8], n: u64, usable: u64) {
+    let formatted = calls::format(head, tail, n);
+    let same = calls::add(head, tail, n, formatted, 1, 18446744073709551615);
+    let sums = calls::add(head, tail, n, same, 2, usable);
+    lines::close(&head[..], &tail[..], n, sums);
 }
 
-fn guid_samples() {
-    guid_line(b"C12A7328-F81F-11D2-BA4B-00A0C93EC93B");
-    guid_line(b"E3C9E316-0B5C-4DB8-817D-F92DF00215AE");
-    guid_line(b"EBD0A0A2-B9E5-4433-87C0-68B6B72699C7");
-    guid_line(b"0FC63DAF-8483-4772-8E79-3D69D8477DE4");
-    guid_line(b"0657FD6D-A4AB-43C4-84E5-0933C84B4F4F");
-    guid_line(b"ebd0a0a2-b9e5-4433-87c0-68b6b72699c7");
-    guid_line(b"0fC63dAf-8483-4772-8e79-3D69d8477dE4");
+fn on_68_blocks() {
+    let mut head = [0u8; HEAD];
+    let mut tail = [0u8; TAIL];
+    too_small(&mut head, &mut tail);
+    smallest(&mut head, &mut tail);
 }
 
-// Of 35 and 37 bytes, with a dash misplaced, with a G, and a short name where a GUID text is due: refused.
-fn more_guid_samples() {
-    guid_line(b"00000000-0000-0000-0000-000000000000");
-    guid_line(b"EBD0A0A2-B9E5-4433-87C0-68B6B72699C");
-    guid_line(b"EBD0A0A2-B9E5-4433-87C0-68B6B72699C70");
-    guid_line(b"EBD0A0A-2B9E5-4433-87C0-68B6B72699C7");
-    guid_line(b"EBD0A0A2-B9E5-4433-87C0-68B6B72699CG");
-    guid_line(b"system");
+fn on_100_blocks() {
+    let mut head = [0u8; HEAD];
+    let mut tail = [0u8; TAIL];
+    let formatted = hundred(&mut head, &mut tail);
+    let deleted = adds_and_delete(&mut head, &mut tail, formatted);
+    let edited = adds_again(&mut head, &mut tail, deleted);
+    lines::close(&head, &tail, 100, edited);
+    let resized = resizes(&mut head, &mut tail, edited);
+    lines::close(&head, &tail, 100, resized);
 }
 
-fn type_samples() {
-    type_line(b"system");
-    type_line(b"msft");
-    type_line(b"data");
-    type_line(b"linux");
-    type_line(b"swap");
-}
-
-fn more_type_samples() {
-    type_line(b"EBD0A0A2-B9E5-4433-87C0-68B6B72699C7");
-    type_line(b"Data");
-    type_line(b"esp");
-    type_line(b"linu");
-    type_line(b"linuxx");
-}
-
-fn text_samples() {
-    text_line(b"\x28\x73\x2a\xc1\x1f\xf8\xd2\x11\xba\x4b\x00\xa0\xc9\x3e\xc9\x3b");
-    text_line(b"\x16\xe3\xc9\xe3\x5c\x0b\xb8\x4d\x81\x7d\xf9\x2d\xf0\x02\x15\xae");
-    text_line(b"\xa2\xa0\xd0\xeb\xe5\xb9\x33\x44\x87\xc0\x68\xb6\xb7\x26\x99\xc7");
-    text_line(b"\xaf\x3d\xc6\x0f\x83\x84\x72\x47\x8e\x79\x3d\x69\xd8\x47\x7d\xe4");
-    text_line(b"\x6d\xfd\x57\x06\xab\xa4\xc4\x43\x84\xe5\x09\x33\xc8\x4b\x4f\x4f");
-    text_line(b"\x00\x01\x02\x03\x04\x05\x06\x07\x08\x09\x0a\x0b\x0c\x0d\x0e\x0f");
-    text_line(&[255u8; 16]);
+fn with_largest_size(n: u64, usable: u64) {
+    let mut head = [0u8; HEAD];
+    let mut tail = [0u8; TAIL];
+    largest_size(&mut head, &mut tail, n, usable);
 }
 
 fn main() {
-    crc_samples();
-    more_crc_samples();
-    guid_samples();
-    more_guid_samples();
-    type_samples();
-    more_type_samples();
-    text_samples();
-    disk::samples();
+    on_68_blocks();
+    on_100_blocks();
+    with_largest_size(100, 33);
+    with_largest_size(4294967296, 4294967229);
 }

@@ -21,14 +21,6 @@ pub fn hex32(x: u32) {
     hex8((x % 256) as u8);
 }
 
-pub fn hex(s: &[u8]) {
-    let mut i = 0;
-    while i < s.len() {
-        hex8(s[i]);
-        i += 1;
-    }
-}
-
 pub fn decimal(x: u64) {
     io::print_decimal(STDOUT_FILENO, x);
 }

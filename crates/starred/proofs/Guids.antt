@@ -7,7 +7,7 @@ use Rattle.guid.specs.Hex.{valueOf, bytesOf}
 use Rattle.guid.specs.Text.{digitsIn, dashesIn, isGuidText, reordered, storedOf}
 use Rattle.guid.specs.Types.{shortAt, expand}
 use Rattle.guid.specs.Calls.{outcome, readOf}
-use Rattle.samples.specs.Starred.{Sample6}
+use Rattle.starred.specs.Starred.{Sample6}
 
 pub sample6 : Sample6
 unfolding zeros part rest same _and_ pickRow valueOf bytesOf digitsIn dashesIn isGuidText reordered storedOf shortAt expand outcome readOf
