@@ -1,6 +1,6 @@
 //! Whole files: a new one beside the old takes its place, so that at every moment one of the two is there.
 
-use super::{about, unusable};
+use super::{about, needed, unusable};
 use crate::failure::{words, Failure};
 use std::ffi::OsString;
 use std::fs::{self, File, Metadata, OpenOptions};
@@ -24,7 +24,7 @@ pub fn replace(path: &Path, old: &Metadata, bytes: &[u8]) -> Result<(), Failure>
 pub fn create(path: &Path, bytes: &[u8]) -> Result<(), Failure> {
     let made = OpenOptions::new().write(true).create_new(true).open(path);
     let mut file = made.map_err(|error| match error.kind() {
-        io::ErrorKind::AlreadyExists => about(path, "is already there, and is kept"),
+        io::ErrorKind::AlreadyExists => needed(path, "is already there, and is kept"),
         io::ErrorKind::NotFound => about(path, "cannot be made: its folder does not exist"),
         _ => unusable(path, "cannot be made", &error),
     })?;
