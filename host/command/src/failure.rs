@@ -4,13 +4,13 @@ use crate::json::Json;
 use crate::paths::shown;
 use std::io;
 use std::path::{Path, PathBuf};
-use usigrambal::Refusal;
+use usigrambal::{Refusal, Refused};
 
 /// What kind of failure it is; the number is the exit status.
 #[derive(Clone, Copy, Debug, PartialEq, Eq)]
 pub enum Kind {
-    /// By the library, with this number.
-    Refused(u32),
+    /// By the library.
+    Refused(Refusal),
     Usage,
     InputOutput,
     /// In use, or something is there that is kept unless a word says otherwise.
@@ -48,8 +48,8 @@ impl Failure {
         Failure { kind, words, hint: None, file: None, warnings: Vec::new(), fields: Vec::new() }
     }
 
-    pub fn refused(number: u32, words: impl Into<String>) -> Failure {
-        Failure::new(Kind::Refused(number), words)
+    pub fn refused(refusal: Refusal, words: impl Into<String>) -> Failure {
+        Failure::new(Kind::Refused(refusal), words)
     }
 
     pub fn usage(sentence: impl Into<String>) -> Failure {
@@ -95,21 +95,21 @@ impl Failure {
         self.kind.status()
     }
 
-    pub fn number(&self) -> Option<u32> {
+    pub fn refusal(&self) -> Option<Refusal> {
         match self.kind {
-            Kind::Refused(number) => Some(number),
+            Kind::Refused(refusal) => Some(refusal),
             _ => None,
         }
     }
 
     /// For standard error: `refused NUMBER: FILE: words` or `usigrambal: sentence`, then the warnings and the hint.
     pub fn lines(&self) -> Vec<String> {
-        let first = match (self.kind, &self.file) {
-            (Kind::Refused(number), Some((_, path))) => {
-                format!("refused {number}: {}: {}", shown(path), self.words)
+        let first = match (self.refusal(), &self.file) {
+            (Some(refusal), Some((_, path))) => {
+                format!("refused {}: {}: {}", refusal.number(), shown(path), self.words)
             }
-            (Kind::Refused(number), None) => format!("refused {number}: {}", self.words),
-            _ => format!("usigrambal: {}", self.words),
+            (Some(refusal), None) => format!("refused {}: {}", refusal.number(), self.words),
+            (None, _) => format!("usigrambal: {}", self.words),
         };
         let warnings = self.warnings.iter().map(|warning| warning_line(warning));
         let hint = self.hint.iter().map(|hint| format!("hint: {hint}"));
@@ -122,9 +122,9 @@ impl Failure {
         if let Some((what, path)) = &self.file {
             fields.push((*what, path.as_path().into()));
         }
-        match self.number() {
-            Some(number) => {
-                fields.push(("refused", u64::from(number).into()));
+        match self.refusal() {
+            Some(refusal) => {
+                fields.push(("refused", u64::from(refusal.number()).into()));
                 fields.push(("words", self.words.as_str().into()));
             }
             None => fields.push(("error", self.words.as_str().into())),
@@ -140,9 +140,9 @@ pub fn warning_line(warning: &str) -> String {
     format!("usigrambal: warning: {warning}")
 }
 
-impl From<Refusal> for Failure {
-    fn from(refusal: Refusal) -> Failure {
-        Failure::refused(refusal.number(), refusal.sentence())
+impl From<Refused> for Failure {
+    fn from(refused: Refused) -> Failure {
+        Failure::refused(refused.refusal, refused.sentence())
     }
 }
 
@@ -176,8 +176,9 @@ mod tests {
 
     #[test]
     fn a_refusal_names_file_number_words_and_hint() {
-        let failure =
-            Failure::refused(25, "no room").hint("the longest run is 7 blocks").on("disk", Path::new("a\nb"));
+        let failure = Failure::refused(Refusal::NoRoom, "no room")
+            .hint("the longest run is 7 blocks")
+            .on("disk", Path::new("a\nb"));
         assert_eq!(failure.status(), 1);
         assert_eq!(failure.lines(), ["refused 25: a\\nb: no room", "hint: the longest run is 7 blocks"]);
         let json = r#"{"disk": "a\nb", "refused": 25, "words": "no room", "hint": "the longest run is 7 blocks", "warnings": []}"#;

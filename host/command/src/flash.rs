@@ -15,9 +15,6 @@ use std::os::unix::ffi::OsStrExt;
 use std::path::Path;
 use usigrambal::flash::{self, Carried};
 
-/// The C interface's number for an area that is not there.
-const NO_AREA: u32 = usigrambal::raw::NOTHING;
-
 pub fn show(given: &Given) -> Result<Report, Failure> {
     let path = given.path(0);
     let image = image::read(path)?.bytes;
@@ -140,8 +137,12 @@ pub fn extract(given: &Given) -> Result<Report, Failure> {
     let image = image::read(path)?;
     let found = flash::area_named(&image.bytes, name.as_bytes())?;
     let area = found.map(|k| flash::area(&image.bytes, k)).transpose()?.flatten();
-    let area =
-        area.ok_or_else(|| Failure::refused(NO_AREA, format!("no area has that name: {}", name.display())))?;
+    let area = area.ok_or_else(|| {
+        Failure::refused(
+            usigrambal::Refusal::NoSuchArea,
+            format!("no area has that name: {}", name.display()),
+        )
+    })?;
     let bytes = area.bytes(&image.bytes);
     match target {
         Some(target) => save(path, &image, target, bytes)?,
