@@ -1,5 +1,5 @@
 // The lines of the disk samples.
-use crate::calls::Sums;
+use crate::ledger::Sums;
 use crate::print;
 use gpt::Added;
 use gpt::Counted;
