@@ -1,23 +1,18 @@
 // The disk calls of the samples: each prints its line and books what it was granted and gave back.
 use crate::ledger;
 use crate::ledger::Sums;
-use crate::lines;
-use crate::print;
 use gpt::Added;
 use gpt::Done;
 
 pub fn format(head: &mut [u8], tail: &mut [u8], n: u64) -> Sums {
-    lines::begin(n, b"format");
-    lines::done(gpt::format(
+    sample_lines::begin(n, b"format");
+    sample_lines::done(gpt::format(
         head,
         tail,
         n,
         *b"\x00\x01\x02\x03\x04\x05\x06\x07\x08\x09\x0a\x0b\x0c\x0d\x0e\x0f",
     ));
-    Sums {
-        granted: 0,
-        back: 0,
-    }
+    ledger::empty()
 }
 
 // Type linux (G4), as stored.
@@ -33,17 +28,9 @@ fn name(letter: u16) -> [u16; 36] {
 }
 
 // The k-th add: each has another unique GUID and another name.
-pub fn add(
-    head: &mut [u8],
-    tail: &mut [u8],
-    n: u64,
-    sizes: &mut [u64],
-    before: Sums,
-    k: u8,
-    size: u64,
-) -> Sums {
-    lines::begin(n, b"add ");
-    print::decimal(size);
+pub fn add(head: &mut [u8], tail: &mut [u8], n: u64, before: Sums, k: u8, size: u64) -> Sums {
+    sample_lines::begin(n, b"add ");
+    print_out::decimal(size);
     let answer = gpt::add(
         head,
         tail,
@@ -54,27 +41,20 @@ pub fn add(
         0,
         name(64 + k as u16),
     );
-    lines::added(answer);
+    sample_lines::added(answer);
     match answer {
-        Added::At { slot, .. } => ledger::booked(sizes, before, slot, size),
+        Added::At { slot, .. } => ledger::booked(before, slot, size),
         Added::Refused(_) => before,
     }
 }
 
-pub fn delete(
-    head: &mut [u8],
-    tail: &mut [u8],
-    n: u64,
-    sizes: &mut [u64],
-    before: Sums,
-    slot: u64,
-) -> Sums {
-    lines::begin(n, b"delete ");
-    print::decimal(slot);
+pub fn delete(head: &mut [u8], tail: &mut [u8], n: u64, before: Sums, slot: u64) -> Sums {
+    sample_lines::begin(n, b"delete ");
+    print_out::decimal(slot);
     let answer = gpt::delete(head, tail, n, slot);
-    lines::done(answer);
+    sample_lines::done(answer);
     match answer {
-        Done::Accepted => ledger::booked(sizes, before, slot, 0),
+        Done::Accepted => ledger::booked(before, slot, 0),
         Done::Refused(_) => before,
     }
 }
@@ -83,19 +63,18 @@ pub fn resize(
     head: &mut [u8],
     tail: &mut [u8],
     n: u64,
-    sizes: &mut [u64],
     before: Sums,
     slot: u64,
     size: u64,
 ) -> Sums {
-    lines::begin(n, b"resize ");
-    print::decimal(slot);
-    print::bytes(b" ");
-    print::decimal(size);
+    sample_lines::begin(n, b"resize ");
+    print_out::decimal(slot);
+    print_out::bytes(b" ");
+    print_out::decimal(size);
     let answer = gpt::resize(head, tail, n, slot, size);
-    lines::done(answer);
+    sample_lines::done(answer);
     match answer {
-        Done::Accepted => ledger::booked(sizes, before, slot, size),
+        Done::Accepted => ledger::booked(before, slot, size),
         Done::Refused(_) => before,
     }
 }

@@ -11,8 +11,6 @@
 //     disk N crc32 HEAD TAIL                  of all bytes of head and tail
 mod calls;
 mod ledger;
-mod lines;
-mod print;
 
 use ledger::Sums;
 ghost use mathlib.Core.Path.{_≡_};
@@ -22,23 +20,20 @@ const HEAD: usize = 17408;
 
 const TAIL: usize = 16896;
 
-// A size for each slot, by its number.
-const SIZES: usize = 129;
-
 // S1.
 fn too_small(head: &mut [u8], tail: &mut [u8]) {
     calls::format(head, tail, 67);
 }
 
 // S2.
-fn smallest(head: &mut [u8], tail: &mut [u8], sizes: &mut [u64])
+fn smallest(head: &mut [u8], tail: &mut [u8])
     requires { ⌜ (length (now head) ≡ 17408) × (length (now tail) ≡ 16896) ⌝ }
 {
     let formatted = calls::format(head, tail, 68);
-    lines::headers(&head[..], &tail[..], 68);
-    let filled = calls::add(head, tail, 68, sizes, formatted, 1, 1);
-    let sums = calls::add(head, tail, 68, sizes, filled, 2, 1);
-    lines::close(&head[..], &tail[..], 68, sums);
+    sample_lines::headers(&head[..], &tail[..], 68);
+    let filled = calls::add(head, tail, 68, formatted, 1, 1);
+    let sums = calls::add(head, tail, 68, filled, 2, 1);
+    sample_lines::close(&head[..], &tail[..], 68, sums.granted, sums.back);
 }
 
 // S3.
@@ -46,62 +41,59 @@ fn hundred(head: &mut [u8], tail: &mut [u8]) -> Sums
     requires { ⌜ (length (now head) ≡ 17408) × (length (now tail) ≡ 16896) ⌝ }
 {
     let formatted = calls::format(head, tail, 100);
-    lines::headers(&head[..], &tail[..], 100);
+    sample_lines::headers(&head[..], &tail[..], 100);
     formatted
 }
 
 // S4, to the deletion.
-fn adds_and_delete(head: &mut [u8], tail: &mut [u8], sizes: &mut [u64], formatted: Sums) -> Sums {
-    let one = calls::add(head, tail, 100, sizes, formatted, 1, 10);
-    let two = calls::add(head, tail, 100, sizes, one, 2, 5);
-    calls::delete(head, tail, 100, sizes, two, 1)
+fn adds_and_delete(head: &mut [u8], tail: &mut [u8], formatted: Sums) -> Sums {
+    let one = calls::add(head, tail, 100, formatted, 1, 10);
+    let two = calls::add(head, tail, 100, one, 2, 5);
+    calls::delete(head, tail, 100, two, 1)
 }
 
 // S4, after it.
-fn adds_again(head: &mut [u8], tail: &mut [u8], sizes: &mut [u64], deleted: Sums) -> Sums {
-    let three = calls::add(head, tail, 100, sizes, deleted, 3, 11);
-    calls::add(head, tail, 100, sizes, three, 4, 10)
+fn adds_again(head: &mut [u8], tail: &mut [u8], deleted: Sums) -> Sums {
+    let three = calls::add(head, tail, 100, deleted, 3, 11);
+    calls::add(head, tail, 100, three, 4, 10)
 }
 
 // S5.
-fn resizes(head: &mut [u8], tail: &mut [u8], sizes: &mut [u64], sums: Sums) -> Sums {
-    let same = calls::resize(head, tail, 100, sizes, sums, 1, 19);
-    calls::resize(head, tail, 100, sizes, same, 1, 18)
+fn resizes(head: &mut [u8], tail: &mut [u8], sums: Sums) -> Sums {
+    let same = calls::resize(head, tail, 100, sums, 1, 19);
+    calls::resize(head, tail, 100, same, 1, 18)
 }
 
 // S9, and that the whole disk can be taken afterwards.
-fn largest_size(head: &mut [u8], tail: &mut [u8], sizes: &mut [u64], n: u64, usable: u64) {
+fn largest_size(head: &mut [u8], tail: &mut [u8], n: u64, usable: u64) {
     let formatted = calls::format(head, tail, n);
-    let same = calls::add(head, tail, n, sizes, formatted, 1, 18446744073709551615);
-    let sums = calls::add(head, tail, n, sizes, same, 2, usable);
-    lines::close(&head[..], &tail[..], n, sums);
+    let same = calls::add(head, tail, n, formatted, 1, 18446744073709551615);
+    let sums = calls::add(head, tail, n, same, 2, usable);
+    sample_lines::close(&head[..], &tail[..], n, sums.granted, sums.back);
 }
 
 fn on_68_blocks() {
     let mut head = [0u8; HEAD];
     let mut tail = [0u8; TAIL];
-    let mut sizes = [0u64; SIZES];
     too_small(&mut head, &mut tail);
-    smallest(&mut head, &mut tail, &mut sizes);
+    smallest(&mut head, &mut tail);
 }
 
 fn on_100_blocks() {
     let mut head = [0u8; HEAD];
     let mut tail = [0u8; TAIL];
-    let mut sizes = [0u64; SIZES];
     let formatted = hundred(&mut head, &mut tail);
-    let deleted = adds_and_delete(&mut head, &mut tail, &mut sizes, formatted);
-    let edited = adds_again(&mut head, &mut tail, &mut sizes, deleted);
-    lines::close(&head, &tail, 100, edited);
-    let resized = resizes(&mut head, &mut tail, &mut sizes, edited);
-    lines::close(&head, &tail, 100, resized);
+    let deleted = adds_and_delete(&mut head, &mut tail, formatted);
+    let edited = adds_again(&mut head, &mut tail, deleted);
+    sample_lines::close(&head, &tail, 100, edited.granted, edited.back);
+    let resized = resizes(&mut head, &mut tail, edited);
+    sample_lines::close(&head, &tail, 100, resized.granted, resized.back);
 }
 
 fn with_largest_size(n: u64, usable: u64) {
     let mut head = [0u8; HEAD];
     let mut tail = [0u8; TAIL];
-    let mut sizes = [0u64; SIZES];
-    largest_size(&mut head, &mut tail, &mut sizes, n, usable);
+    largest_size(&mut head, &mut tail, n, usable);
 }
 
 fn main() {
