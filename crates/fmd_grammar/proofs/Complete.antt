@@ -12,8 +12,11 @@ use Rattle.octets.specs.Tests.{_and_}
 use Rattle.octets.specs.Rows.{pickRow}
 use Rattle.octets.specs.Bytes.{same}
 use Rattle.octets.proofs.Bools.{choice, clash, and-i, and-r, not-t}
-use Rattle.fmd_lex.specs.Chars.{isDigit}
-use Rattle.fmd_lex.specs.Numbers.{digitOf, someDigits, numberOf}
+use Rattle.text_words.specs.Classes.{isDigit, digitOf}
+use Rattle.text_words.specs.Numerals.{someDigits, numeralOf}
+use Rattle.text_words.specs.declared.Numeral.{Numeral}
+use Rattle.text_words.specs.declared.Numeral.the-variants.{Missing}
+use Rattle.fmd_lex.specs.Numbers.{scaledAfter, numberOf}
 use Rattle.fmd_lex.specs.Names.{goodName, flagOf}
 use Rattle.fmd_lex.specs.declared.Number.{Number}
 use Rattle.fmd_lex.specs.declared.Number.the-variants.{Value, Wrong}
@@ -50,14 +53,14 @@ digit-is b =
     (λ i. choice P (ltb b 103) _ _ (λ j z. absurd (let x = ltb-false b 97 i in let y = ltb-true (b - 87) 10 z in omega arith)) (λ j z. absurd (clash z refl)))))))
 
 number-digit : (w : List ℕ) {n : ℕ} → numberOf w ≡ Value n → isDigit (getD w 0 0) ≡ true
-unfolding numberOf someDigits isDigit _and_
+unfolding numberOf numeralOf someDigits isDigit _and_
 number-digit [] e = absurd (wrong-value e)
 number-digit (x ∷ xs) {n} e = go e
   where
-    P : Number → Type 0
-    P v = v ≡ Value n → isDigit x ≡ true
+    P : Numeral → Type 0
+    P v = scaledAfter (x ∷ xs) v ≡ Value n → isDigit x ≡ true
 
-    go : P (numberOf (x ∷ xs))
+    go : P (numeralOf 4294967295 (x ∷ xs))
     go =
         choice P (eqb x 48) _ _ (λ f z. rw (eqb-true x 48 f))
         (λ f. choice P (ltb (digitOf x) 10) _ _ (λ g z. digit-is x g) (λ g z. absurd (wrong-value z)))

@@ -14,8 +14,9 @@ use Rattle.octets.specs.Bytes.{same}
 use Rattle.octets.specs.Rows.{pickRow}
 use Rattle.octets.proofs.Bools.{choice, clash}
 use Rattle.octets.proofs.Equal.{same-true}
-use Rattle.fmd_lex.specs.Chars.{isDigit}
-use Rattle.fmd_lex.specs.Numbers.{numberOf, afterZero}
+use Rattle.text_words.specs.Classes.{isDigit}
+use Rattle.text_words.specs.Numerals.{afterZero, numeralOf}
+use Rattle.fmd_lex.specs.Numbers.{capped, scaled, numberOf}
 use Rattle.fmd_lex.specs.Names.{goodName, cbfs, preserve, flagOf}
 use Rattle.fmd_lex.specs.declared.Number.{Number}
 use Rattle.fmd_lex.specs.declared.Number.the-variants.{Value, Wrong}
@@ -139,7 +140,7 @@ SizesOn own = (us : List Item) × (z : Size) × Sizes (own ++ us) z
 
 -- "0"
 pub nought : numberOf (48 ∷ []) ≡ Value 0
-unfolding numberOf afterZero
+unfolding numberOf scaled capped numeralOf afterZero
 nought = refl
 
 module _ (p n lv par : ℕ) (c v : Bool) where

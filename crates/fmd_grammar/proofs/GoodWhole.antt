@@ -11,7 +11,9 @@ use borrow.Author.Tests.{eqb-true, leb-true, le-leb}
 use Rattle.octets.specs.Tests.{_and_}
 use Rattle.octets.specs.Rows.{pickRow}
 use Rattle.octets.proofs.Bools.{and-l, and-r, clash, and-i}
-use Rattle.fmd_lex.specs.Numbers.{numberOf, someDigits, digits, digitOf, capped}
+use Rattle.text_words.specs.Classes.{digitOf}
+use Rattle.text_words.specs.Numerals.{upTo, digitsFrom, someDigits, numeralOf}
+use Rattle.fmd_lex.specs.Numbers.{capped, scaled, numberOf}
 use Rattle.fmd_lex.specs.Names.{goodName}
 use Rattle.fmd_lex.specs.declared.Number.{Number}
 use Rattle.fmd_lex.specs.declared.Number.the-variants.{Value, Wrong}
@@ -41,7 +43,7 @@ lone : Lists 129 9 1 128 0 (word 0 (65 ∷ []) ∷ []) (built 0 1 1 128 false fa
 lone = one (section {lv = 1} {k = 0} {w = 65 ∷ []} (letter 0 0 0) (omega arith) (omega arith) unflagged noOffset noSize noBraces)
 
 ninety-eight : numberOf (57 ∷ 56 ∷ []) ≡ Value 98
-unfolding numberOf someDigits digits digitOf capped
+unfolding numberOf scaled capped numeralOf someDigits digitsFrom upTo digitOf
 ninety-eight = refl
 
 module _ {p : ℕ} {w : List ℕ} (g : goodName w ≡ true) where

@@ -10,7 +10,7 @@ use lib.Seq.{getD-take, getD-drop}
 use borrow.Author.Tests.{eqb-true, ne-eqb}
 use Rattle.octets.specs.Bytes.{part}
 use Rattle.octets.specs.Rows.{pickRow}
-use Rattle.fmd_lex.specs.Chars.{isDigit}
+use Rattle.text_words.specs.Classes.{isDigit}
 use Rattle.fmd_lex.specs.Tokens.{wordKind, bytesOf}
 use Rattle.fmd_lex.specs.Numbers.{numberOf}
 use Rattle.fmd_lex.specs.Names.{goodName, flagOf}

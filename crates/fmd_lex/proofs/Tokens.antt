@@ -9,7 +9,8 @@ use lib.ListN.{length, drop, getD, drop-of-length-le}
 use lib.Seq.{drop-cons}
 use borrow.Author.Tests.{ne-eqb}
 use Rattle.octets.specs.Tests.{_or_}
-use Rattle.fmd_lex.specs.Chars.{isBlank, isWord}
+use Rattle.text_words.specs.Classes.{isBlank}
+use Rattle.fmd_lex.specs.Chars.{isWord}
 use Rattle.fmd_lex.specs.Tokens.{skipFrom, wordFrom, Within}
 use Rattle.fmd_lex.specs.declared.Token.{Token}
 

@@ -6,7 +6,8 @@ use mathlib.Core.Path.{_≡_}
 use lib.Dec.{ltb, eqb}
 use lib.ListN.{length, getD, drop}
 use Rattle.octets.specs.Bytes.{part}
-use Rattle.fmd_lex.specs.Chars.{isBlank, isSign, isWord}
+use Rattle.text_words.specs.Classes.{isBlank}
+use Rattle.fmd_lex.specs.Chars.{isSign, isWord}
 use Rattle.fmd_lex.specs.declared.Token.{Token}
 
 -- the kinds of tokens; a sign's kind is its own byte

@@ -11,7 +11,8 @@ use borrow.Author.Tests.{leb-false, ltb-false, eqb-true}
 use Rattle.octets.specs.Tests.{_or_, all}
 use Rattle.octets.specs.Rows.{pickRow}
 use Rattle.octets.proofs.Bools.{choice, not-f}
-use Rattle.fmd_lex.specs.Chars.{isDigit, isWord}
+use Rattle.text_words.specs.Classes.{isDigit}
+use Rattle.fmd_lex.specs.Chars.{isWord}
 use Rattle.fmd_lex.specs.Tokens.{wordKind, tokenAt, bytesOf, Within}
 use Rattle.fmd_lex.specs.Numbers.{numberOf}
 use Rattle.fmd_lex.specs.Names.{goodName, flagOf}

@@ -7,7 +7,7 @@ use Prim.Native.Nat.{ℕ, _-_, _≤_, _<_}
 use lib.Dec.{ltb, leb, eqb}
 use lib.ListN.{getD}
 use Rattle.octets.specs.Rows.{row, refusal}
-use Rattle.fmd_lex.specs.Chars.{isDigit}
+use Rattle.text_words.specs.Classes.{isDigit}
 use Rattle.fmd_lex.specs.Tokens.{wordKind, tokenAt, bytesOf, Within}
 use Rattle.fmd_lex.specs.Numbers.{numberOf}
 use Rattle.fmd_lex.specs.Names.{goodName, flagOf}
