@@ -10,7 +10,8 @@ use lib.ListN.{length, getD, drop}
 use borrow.Author.Tests.{eqb-true, eq-eqb}
 use Rattle.octets.proofs.Parts.{length-part}
 use Rattle.octets.proofs.Bools.{choice, clash}
-use Rattle.fmd_lex.specs.Tokens.{endKind, wordKind, skipFrom, tokenHere, tokenAt, bytesOf, Within}
+use Rattle.fmd_lex.specs.Tokens.{endKind, wordKind, skipFrom, tokenHere, tokenAt, bytesOf}
+use Rattle.fmd_lex.specs.Invariants.{Within}
 use Rattle.fmd_lex.specs.Chars.{isWord, isSign}
 use Rattle.fmd_lex.specs.declared.Token.{Token}
 use Rattle.fmd_lex.proofs.Tokens.{earlier}

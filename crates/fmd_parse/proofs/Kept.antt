@@ -13,7 +13,8 @@ use Rattle.octets.specs.Rows.{pickRow}
 use Rattle.octets.proofs.Bools.{choice, not-f}
 use Rattle.text_words.specs.Classes.{isDigit}
 use Rattle.fmd_lex.specs.Chars.{isWord}
-use Rattle.fmd_lex.specs.Tokens.{wordKind, tokenAt, bytesOf, Within}
+use Rattle.fmd_lex.specs.Tokens.{wordKind, tokenAt, bytesOf}
+use Rattle.fmd_lex.specs.Invariants.{Within}
 use Rattle.fmd_lex.specs.Numbers.{numberOf}
 use Rattle.fmd_lex.specs.Names.{goodName, flagOf}
 use Rattle.fmd_lex.specs.declared.Token.{Token}

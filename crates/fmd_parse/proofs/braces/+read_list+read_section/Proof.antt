@@ -3,10 +3,10 @@ use mathlib.Core.List.{List}
 use native.Mathlib.Omega.{arith}
 use lib.ListN.{length}
 use borrow.Author.Needs.{needs}
-use Rattle.fmd_lex.specs.Tokens.{Within}
+use Rattle.fmd_lex.specs.Invariants.{Within}
 use Rattle.fmd_lex.proofs.Tokens.{earlier}
 use Rattle.fmd_table.specs.Table.{sectionsIn}
-use Rattle.fmd_parse.specs.Layouts.{ListRead}
+use Rattle.fmd_parse.specs.Invariants.{ListRead}
 use Rattle.fmd_parse.specs.declared.Step.{Step}
 use Rattle.fmd_parse.proofs.Layouts.{section-stopped, section-shut, section-open, list-stopped, here, list-closed, list-more}
 use Prim.Native.Nat.{ℕ, _+_, _*_, _-_, _≤_, _<_}
