@@ -28,9 +28,12 @@ use Rattle.fmd_table.specs.declared.Section.{Section}
 use Rattle.fmd_parse.specs.declared.Address.{Address}
 use Rattle.fmd_parse.specs.declared.Address.the-variants.{Omitted}
 use Rattle.fmd_parse.specs.declared.Image.{Image}
-use Rattle.fmd_grammar.specs.Grammar.{Lexeme, word, sign, OptionalFlags, noFlags, onlyCbfs, onlyPreserve, cbfsPreserve, preserveCbfs, OptionalOffset, noOffset, offset, OptionalSize, noSize, size, SectionTree, section, noBraces, braces, SectionList, one, more, OptionalAddress, noAddress, address, LayoutText, image}
+use Rattle.fmd_grammar.specs.Grammar.{Lexeme, word, sign, OptionalFlags, noFlags, onlyCbfs, onlyPreserve, cbfsPreserve, preserveCbfs, OptionalOffset}
+use Rattle.fmd_grammar.specs.Grammar.{noOffset, offset, OptionalSize, noSize, size, SectionTree, section, noBraces, braces, SectionList, one, more}
+use Rattle.fmd_grammar.specs.Grammar.{OptionalAddress, noAddress, address, LayoutText, image}
 use Rattle.fmd_grammar.proofs.Built.{built}
-use Rattle.fmd_grammar.proofs.Parsers.{ok, Parser, item, ret, bind, isIt, sizeAct, lastP, otherP, flagsP, offsetP, headP, sectionP, listP, addressP, imageP, layoutP}
+use Rattle.fmd_grammar.proofs.Parsers.{ok, Parser, item, ret, bind, isIt, sizeAct, lastP, otherP, flagsP, offsetP, headP, sectionP, listP, addressP}
+use Rattle.fmd_grammar.proofs.Parsers.{imageP, layoutP}
 
 -- ---- the first byte of a number, of a name
 
@@ -50,7 +53,8 @@ digit-is b =
     (λ f. choice P (ltb b 65) _ _ (λ g z. absurd (clash z refl))
     (λ g. choice P (ltb b 71) _ _ (λ h z. absurd (let x = ltb-false b 65 g in let y = ltb-true (b - 55) 10 z in omega arith))
     (λ h. choice P (ltb b 97) _ _ (λ i z. absurd (clash z refl))
-    (λ i. choice P (ltb b 103) _ _ (λ j z. absurd (let x = ltb-false b 97 i in let y = ltb-true (b - 87) 10 z in omega arith)) (λ j z. absurd (clash z refl)))))))
+    (λ i. choice P (ltb b 103) _ _ (λ j z. absurd (let x = ltb-false b 97 i in let y = ltb-true (b - 87) 10 z in omega arith))
+    (λ j z. absurd (clash z refl)))))))
 
 number-digit : (w : List ℕ) {n : ℕ} → numberOf w ≡ Value n → isDigit (getD w 0 0) ≡ true
 unfolding numberOf numeralOf someDigits isDigit _and_
@@ -194,16 +198,19 @@ regroup fs os zs bs us =
 sections-some : {lv par k : ℕ} {ts : List Lexeme} {m : List Section} → SectionTree 128 8 lv par k ts m → 0 < length ts
 sections-some (section g r d x y n b) = omega arith
 
-list-one : (f lv par : ℕ) (l m : List Section) (ts us : List Lexeme) (b : ℕ) → sectionP f lv par l ts ≡ ok m (sign b 125 ∷ us) → listP (suc f) lv par l ts ≡ ok m us
+list-one : (f lv par : ℕ) (l m : List Section) (ts us : List Lexeme) (b : ℕ) → sectionP f lv par l ts ≡ ok m (sign b 125 ∷ us) → listP (suc f) lv par l ts ≡
+    ok m us
 unfolding listP
 list-one f lv par l m ts us b e = rw e
 
-list-more : (f lv par : ℕ) (l m : List Section) (ts us : List Lexeme) → Starts us → sectionP f lv par l ts ≡ ok m us → listP (suc f) lv par l ts ≡ listP f lv par m us
+list-more : (f lv par : ℕ) (l m : List Section) (ts us : List Lexeme) → Starts us → sectionP f lv par l ts ≡ ok m us → listP (suc f) lv par l ts ≡ listP f
+    lv par m us
 unfolding listP
 list-more f lv par l m ts us s e = rw e (unsigned 125 _ _ us (starts-lack us s))
 
 -- a section up to its braces
-section-opens : (f : ℕ) (lv par k p : ℕ) (w : List ℕ) {fs os zs : List Lexeme} (bs : List Lexeme) {c v : Bool} {o : Offset} {z : Size} → goodName w ≡ true → k < 128 → lv ≤ 8
+section-opens : (f : ℕ) (lv par k p : ℕ) (w : List ℕ) {fs os zs : List Lexeme} (bs : List Lexeme) {c v : Bool} {o : Offset} {z : Size} → goodName w ≡ true →
+    k < 128 → lv ≤ 8
     → OptionalFlags fs c v → OptionalOffset os o → OptionalSize zs z → (l : List Section) (us : List Lexeme) → length l ≡ k → Ends (bs ++ us)
     → sectionP (suc f) lv par l ((word p w ∷ (fs ++ (os ++ (zs ++ bs)))) ++ us)
     ≡ bind (item (isIt 123))
@@ -214,7 +221,8 @@ section-opens f lv par k p w {fs} {os} {zs} bs g r d x y n l us e i =
     ∙ rw (e, head-complete lv par k p w g r d x y n (bs ++ us) i)
 
 mutual
-  section-complete : (f : ℕ) {lv par k : ℕ} {ts : List Lexeme} {m : List Section} → SectionTree 128 8 lv par k ts m → (l : List Section) (us : List Lexeme) → length l ≡ k
+  section-complete : (f : ℕ) {lv par k : ℕ} {ts : List Lexeme} {m : List Section} → SectionTree 128 8 lv par k ts m → (l : List Section) (us : List Lexeme)
+      → length l ≡ k
       → Stops us → 2 * length ts < f → sectionP f lv par l (ts ++ us) ≡ ok (l ++ m) us
   section-complete zero d l us e o q = absurd (not-suc-le-zero q)
   section-complete (suc f) (section {level = lv} {parent = par} {before = k} {place = p} {name = w} g r d x y n noBraces) l us e s q =
@@ -232,10 +240,12 @@ mutual
       omega arith)
       ∙ ap (λ (j : List Section). ok j us) (append-assoc l (h ∷ []) m)
 
-  list-complete : (f : ℕ) {lv par k : ℕ} {ts : List Lexeme} {m : List Section} → SectionList 128 8 lv par k ts m → (l : List Section) (us : List Lexeme) (b : ℕ) → length l ≡ k
+  list-complete : (f : ℕ) {lv par k : ℕ} {ts : List Lexeme} {m : List Section} → SectionList 128 8 lv par k ts m → (l : List Section) (us : List Lexeme)
+      (b : ℕ) → length l ≡ k
       → 2 * length ts + 1 < f → listP f lv par l (ts ++ (sign b 125 ∷ us)) ≡ ok (l ++ m) us
   list-complete zero d l us b e q = absurd (not-suc-le-zero q)
-  list-complete (suc f) (one {level = lv} {parent = par} {before = k} {ts} {l = m} d) l us b e q = list-one f lv par l (l ++ m) (ts ++ (sign b 125 ∷ us)) us b (section-complete f d l (sign b 125 ∷ us) e refl (omega arith))
+  list-complete (suc f) (one {level = lv} {parent = par} {before = k} {ts} {l = m} d) l us b e q = list-one f lv par l (l ++ m) (ts ++ (sign b 125 ∷ us)) us
+      b (section-complete f d l (sign b 125 ∷ us) e refl (omega arith))
   list-complete (suc f) (more {level = lv} {parent = par} {before = k} {ts} {us = vs} {l = n} {m} d i) l us b e q =
       let a1 = length-append ts vs in
       let a2 = sections-some d in
@@ -253,7 +263,8 @@ unfolding addressP
 addresses-complete p n noAddress us e = unsigned 64 _ _ us e
 addresses-complete p n (address m) us e = rw m
 
-image-complete : {os : List Lexeme} {d : Address} (p n q a : ℕ) (w v : List ℕ) → goodName w ≡ true → OptionalAddress os d → numberOf v ≡ Value n → 98 ≤ n → n ≤ 16777216
+image-complete : {os : List Lexeme} {d : Address} (p n q a : ℕ) (w v : List ℕ) → goodName w ≡ true → OptionalAddress os d → numberOf v ≡ Value n → 98 ≤ n →
+    n ≤ 16777216
     → (us : List Lexeme) → imageP (word p w ∷ (os ++ (word q v ∷ sign a 123 ∷ us))) ≡ ok (record { address = d; size = n; place = p; length = length w }) us
 unfolding imageP pickRow
 image-complete p n q a w v g o m i j us =

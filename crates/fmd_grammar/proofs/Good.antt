@@ -63,7 +63,8 @@ module _ {A : Type 0} where
     pub stops : (ts : List Lexeme) (n p : ℕ) → q ts ≡ no n p → (n ≡ 0 → ⊥) → Stopped W r ts n p
     pub passes : (ts : List Lexeme) (a : A) (us : List Lexeme) → q ts ≡ ok a us → Passed G r ts a us
 
-  pub map-good : {G H : List Lexeme → A → Type 0} {U W : List Lexeme → Type 0} (q : Parser A) (r : ℕ → Parser A) → ((ts : List Lexeme) (a : A) → G ts a → H ts a)
+  pub map-good : {G H : List Lexeme → A → Type 0} {U W : List Lexeme → Type 0} (q : Parser A) (r : ℕ → Parser A) →
+      ((ts : List Lexeme) (a : A) → G ts a → H ts a)
       → ((ts : List Lexeme) → U ts → W ts) → Good G U q r → Good H W q r
   map-good q r f g h =
       record {
@@ -102,7 +103,8 @@ module _ {A : Type 0} where
   Fine G W x (eat a) = G (x ∷ []) a
   Fine G W x (leave a) = G [] a
 
-  pub item-good : {G : List Lexeme → A → Type 0} {W : List Lexeme → Type 0} (f : Lexeme → Act A) → ((x : Lexeme) → Fine G W x (f x)) → Good G W (item f) (λ k. item f)
+  pub item-good : {G : List Lexeme → A → Type 0} {W : List Lexeme → Type 0} (f : Lexeme → Act A) → ((x : Lexeme) → Fine G W x (f x)) → Good G W (item f)
+      (λ k. item f)
   item-good {G} {W} f h = record { stops = stops; passes = passes }
     where
       stopped : (x : Lexeme) (xs : List Lexeme) (n p : ℕ) (a : Act A) → f x ≡ a → Fine G W x a → acted a x xs ≡ no n p → Stopped W (λ k. item f) (x ∷ xs) n p
@@ -129,7 +131,8 @@ module _ {A : Type 0} where
       stops [] n p e z = absurd (z (sym (same e .0)))
       stops (x ∷ xs) n p e z = stopped x xs n p (f x) refl (h x) e
 
-      passed : (x : Lexeme) (xs : List Lexeme) (a : A) (us : List Lexeme) (b : Act A) → f x ≡ b → Fine G W x b → acted b x xs ≡ ok a us → Passed G (λ k. item f) (x ∷ xs) a us
+      passed : (x : Lexeme) (xs : List Lexeme) (a : A) (us : List Lexeme) (b : Act A) → f x ≡ b → Fine G W x b → acted b x xs ≡ ok a us → Passed G
+          (λ k. item f) (x ∷ xs) a us
       passed x xs a us (stop m) q w e = absurd (same e)
       passed x xs a us (eat b) q w e =
           let s = same e in
@@ -153,12 +156,15 @@ module _ {A : Type 0} where
       passes [] a us e = absurd (same e)
       passes (x ∷ xs) a us e = passed x xs a us (f x) refl (h x) e
 
-module _ {A B : Type 0} {F : List Lexeme → A → Type 0} {G : List Lexeme → B → Type 0} {W : List Lexeme → Type 0} (q : Parser A) (r : ℕ → Parser A) (k : A → Parser B) (j : ℕ → A → Parser B) where
-  pub bind-good : Good F W q r → ((own : List Lexeme) (a : A) → F own a → Good (λ (us : List Lexeme) (b : B). G (own ++ us) b) (λ (us : List Lexeme). W (own ++ us)) (k a) (λ e. j e a))
+module _ {A B : Type 0} {F : List Lexeme → A → Type 0} {G : List Lexeme → B → Type 0} {W : List Lexeme → Type 0} (q : Parser A) (r : ℕ → Parser A)
+    (k : A → Parser B) (j : ℕ → A → Parser B) where
+  pub bind-good : Good F W q r → ((own : List Lexeme) (a : A) → F own a → Good (λ (us : List Lexeme) (b : B). G (own ++ us) b)
+      (λ (us : List Lexeme). W (own ++ us)) (k a) (λ e. j e a))
       → Good G W (bind q k) (λ e. bind (r e) (j e))
   bind-good g h = record { stops = stops; passes = passes }
     where
-      bridge : {ts us : List Lexeme} {a : A} (t : Passed F r ts a us) (o : List Lexeme) (x : Lexeme) (rest : List Lexeme) → us ≡ o ++ (x ∷ rest) → (i : ℕ) (xs : List Lexeme)
+      bridge : {ts us : List Lexeme} {a : A} (t : Passed F r ts a us) (o : List Lexeme) (x : Lexeme) (rest : List Lexeme) → us ≡ o ++ (x ∷ rest) → (i : ℕ)
+          (xs : List Lexeme)
           → r i (t .own ++ (o ++ (x ∷ xs))) ≡ ok a (o ++ (x ∷ xs))
       bridge t [] x rest e i xs = t .again i x rest xs e
       bridge t (y ∷ o) x rest e i xs = t .again i y (o ++ (x ∷ rest)) (o ++ (x ∷ xs)) e
@@ -233,10 +239,12 @@ is-fine W k (sign p j) = go (eqb j k) refl
     go true e = (p, ap (λ (i : ℕ). sign p i ∷ []) (eqb-true j k e))
     go false e = refl
 
-pub sign-good : {A : Type 0} {G : List Lexeme → A → Type 0} {W : List Lexeme → Type 0} (k : ℕ) (q : Parser A) (r : ℕ → Parser A) (x : Parser A) (y : ℕ → Parser A)
+pub sign-good : {A : Type 0} {G : List Lexeme → A → Type 0} {W : List Lexeme → Type 0} (k : ℕ) (q : Parser A) (r : ℕ → Parser A) (x : Parser A)
+    (y : ℕ → Parser A)
     → ((p : ℕ) → Good (λ (us : List Lexeme) (a : A). G (sign p k ∷ us) a) (λ (us : List Lexeme). W (sign p k ∷ us)) q r) → Good G W x y
     → Good G W (bind (item (isIt k)) (λ b. cond b q x)) (λ e. bind (item (isIt k)) (λ b. cond b (r e) (y e)))
-sign-good {A} {G} {W} k q r x y g h = bind-good {F = IsIt k} {G = G} {W = W} (item (isIt k)) (λ e. item (isIt k)) (λ b. cond b q x) (λ e b. cond b (r e) (y e)) (item-good (isIt k) (is-fine W k)) go
+sign-good {A} {G} {W} k q r x y g h = bind-good {F = IsIt k} {G = G} {W = W} (item (isIt k)) (λ e. item (isIt k)) (λ b. cond b q x)
+    (λ e b. cond b (r e) (y e)) (item-good (isIt k) (is-fine W k)) go
   where
     go : (own : List Lexeme) (b : Bool) → IsIt k own b
         → Good (λ (us : List Lexeme) (a : A). G (own ++ us) a) (λ (us : List Lexeme). W (own ++ us)) (cond b q x) (λ e. cond b (r e) (y e))

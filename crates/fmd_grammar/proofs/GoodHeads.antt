@@ -27,10 +27,12 @@ use Rattle.fmd_table.specs.declared.Size.{Size}
 use Rattle.fmd_table.specs.declared.Size.the-variants.{Given as GivenSize, Omitted as OmittedSize}
 use Rattle.fmd_table.specs.declared.Section.{Section}
 use Rattle.fmd_parse.specs.Heads.{judged, setCbfs, setPreserve, setOffset, setSize}
-use Rattle.fmd_grammar.specs.Grammar.{Lexeme, word, sign, OptionalFlags, noFlags, onlyCbfs, onlyPreserve, cbfsPreserve, preserveCbfs, OptionalOffset, noOffset, offset, OptionalSize, noSize, size}
+use Rattle.fmd_grammar.specs.Grammar.{Lexeme, word, sign, OptionalFlags, noFlags, onlyCbfs, onlyPreserve, cbfsPreserve, preserveCbfs, OptionalOffset}
+use Rattle.fmd_grammar.specs.Grammar.{noOffset, offset, OptionalSize, noSize, size}
 use Rattle.fmd_grammar.specs.Claims.{unfit, badNumber, badName, tooMany, badFlag}
 use Rattle.fmd_grammar.proofs.Built.{built, Flagged, Placed, Sized, Head}
-use Rattle.fmd_grammar.proofs.Parsers.{Parser, Act, stop, eat, leave, item, ret, bind, valued, numberAct, nameAct, flagAct, markAct, sizeAct, lastP, otherP, flagsP, offsetP, headP}
+use Rattle.fmd_grammar.proofs.Parsers.{Parser, Act, stop, eat, leave, item, ret, bind, valued, numberAct, nameAct, flagAct, markAct, sizeAct, lastP}
+use Rattle.fmd_grammar.proofs.Parsers.{otherP, flagsP, offsetP, headP}
 use Rattle.fmd_grammar.proofs.Good.{Good, Fine, map-good, ret-good, item-good, bind-good, sign-good}
 
 -- ---- numbers
@@ -48,7 +50,8 @@ number-fine W g i (word p w) = go (numberOf w) refl
 
 -- ---- flags
 
-mark-fine : (F : List Lexeme → Section → Type 0) (W : List Lexeme → Type 0) (h : Section) → W [] → (h .cbfs ≡ false → (p : ℕ) → F (word p cbfs ∷ []) (setCbfs h))
+mark-fine : (F : List Lexeme → Section → Type 0) (W : List Lexeme → Type 0) (h : Section) → W [] →
+    (h .cbfs ≡ false → (p : ℕ) → F (word p cbfs ∷ []) (setCbfs h))
     → (h .preserve ≡ false → (p : ℕ) → F (word p preserve ∷ []) (setPreserve h)) → (x : Lexeme) → Fine F W x (markAct h x)
 unfolding flagOf
 mark-fine F W h g c v (sign p k) = (unfit, g, λ e. absurd (omega arith), λ a b. absurd (a refl))
@@ -77,13 +80,15 @@ module _ (p n lv par : ℕ) where
 
   -- after the tokens o, which are ( and both flags
   last-good : (o : List Lexeme) → ((c : ℕ) → OptionalFlags (o ++ (sign c 41 ∷ [])) true true)
-      → Good (λ (us : List Lexeme) (x : Section). Flagged p n lv par (o ++ us) x) (λ (us : List Lexeme). FlagsOn (o ++ us)) (lastP (h true true)) (λ e. lastP (h true true))
+      → Good (λ (us : List Lexeme) (x : Section). Flagged p n lv par (o ++ us) x) (λ (us : List Lexeme). FlagsOn (o ++ us)) (lastP (h true true))
+      (λ e. lastP (h true true))
   unfolding lastP
   last-good o g =
       sign-good 41 (ret (h true true)) (λ e. ret (h true true)) (item (markAct (h true true))) (λ e. item (markAct (h true true)))
       (λ c. ret-good (h true true) (true, true, g c, refl))
       (item-good (markAct (h true true))
-      (mark-fine _ (λ (us : List Lexeme). FlagsOn (o ++ us)) (h true true) (sign 0 41 ∷ [], true, true, subst (λ (r : List Lexeme). OptionalFlags (r ++ (sign 0 41 ∷ [])) true true) (sym (append-nil o)) (g 0))
+      (mark-fine _ (λ (us : List Lexeme). FlagsOn (o ++ us)) (h true true)
+      (sign 0 41 ∷ [], true, true, subst (λ (r : List Lexeme). OptionalFlags (r ++ (sign 0 41 ∷ [])) true true) (sym (append-nil o)) (g 0))
       (λ z. absurd (clash refl z)) (λ z. absurd (clash refl z))))
 
   -- after ( and one flag u; the other flag is w, and makes it both
@@ -93,7 +98,8 @@ module _ (p n lv par : ℕ) where
     abbrev Other : List Lexeme → Section → Type 0
     Other own x = (d : ℕ) × (own ≡ word d w ∷ []) × (x ≡ h true true)
 
-    other-good : Good (λ (us : List Lexeme) (x : Section). Flagged p n lv par (sign a 40 ∷ word b u ∷ us) x) (λ (us : List Lexeme). FlagsOn (sign a 40 ∷ word b u ∷ us))
+    other-good : Good (λ (us : List Lexeme) (x : Section). Flagged p n lv par (sign a 40 ∷ word b u ∷ us) x)
+        (λ (us : List Lexeme). FlagsOn (sign a 40 ∷ word b u ∷ us))
         (otherP (h c v)) (λ e. otherP (h c v))
     unfolding otherP
     other-good =
@@ -112,7 +118,8 @@ module _ (p n lv par : ℕ) where
   pub flags-good : Good (Flagged p n lv par) FlagsOn (flagsP (h false false)) (λ e. flagsP (h false false))
   unfolding flagsP
   flags-good =
-      sign-good 40 (bind (item (markAct (h false false))) otherP) (λ e. bind (item (markAct (h false false))) otherP) (ret (h false false)) (λ e. ret (h false false))
+      sign-good 40 (bind (item (markAct (h false false))) otherP) (λ e. bind (item (markAct (h false false))) otherP) (ret (h false false))
+      (λ e. ret (h false false))
       (λ a.
       bind-good {F = One} (item (markAct (h false false))) (λ e. item (markAct (h false false))) otherP (λ e. otherP)
       (item-good (markAct (h false false))
@@ -121,8 +128,10 @@ module _ (p n lv par : ℕ) where
       (λ own x f. by-one a own x (f .0) (f .1)))
       (ret-good (h false false) (false, false, noFlags, refl))
     where
-      by-one : (a : ℕ) (own : List Lexeme) (x : Section) (b : ℕ) → ((own ≡ word b cbfs ∷ []) × (x ≡ h true false)) ⊎ ((own ≡ word b preserve ∷ []) × (x ≡ h false true))
-          → Good (λ (us : List Lexeme) (y : Section). Flagged p n lv par (sign a 40 ∷ (own ++ us)) y) (λ (us : List Lexeme). FlagsOn (sign a 40 ∷ (own ++ us))) (otherP x) (λ e. otherP x)
+      by-one : (a : ℕ) (own : List Lexeme) (x : Section) (b : ℕ) → ((own ≡ word b cbfs ∷ []) × (x ≡ h true false)) ⊎
+          ((own ≡ word b preserve ∷ []) × (x ≡ h false true))
+          → Good (λ (us : List Lexeme) (y : Section). Flagged p n lv par (sign a 40 ∷ (own ++ us)) y)
+          (λ (us : List Lexeme). FlagsOn (sign a 40 ∷ (own ++ us))) (otherP x) (λ e. otherP x)
       by-one a own x b (inl f) =
           rw (f .0, f .1)
           (other-good a b cbfs preserve true false (λ d. onlyCbfs) (λ d e. cbfsPreserve) (λ z. absurd (clash refl z)) (λ z. (refl, refl)))
@@ -144,25 +153,29 @@ unfolding numberOf scaled capped numeralOf afterZero
 nought = refl
 
 module _ (p n lv par : ℕ) (c v : Bool) where
-  pub offset-good : Good (Placed p n lv par c v) OffsetsOn (offsetP (built p n lv par c v OmittedOffset OmittedSize)) (λ e. offsetP (built p n lv par c v OmittedOffset OmittedSize))
+  pub offset-good : Good (Placed p n lv par c v) OffsetsOn (offsetP (built p n lv par c v OmittedOffset OmittedSize))
+      (λ e. offsetP (built p n lv par c v OmittedOffset OmittedSize))
   unfolding offsetP
   offset-good =
       let h = built p n lv par c v OmittedOffset OmittedSize in
       let q : Parser Section = bind (item numberAct) (λ m. ret (setOffset m h)) in
       sign-good 64 q (λ e. q) (ret h) (λ e. ret h)
       (λ a. bind-good {F = Numbered} (item numberAct) (λ e. item numberAct) (λ m. ret (setOffset m h)) (λ e. λ m. ret (setOffset m h))
-      (item-good numberAct (number-fine (λ (us : List Lexeme). OffsetsOn (sign a 64 ∷ us)) (word 0 (48 ∷ []) ∷ [], GivenOffset (record { 0 = 0 }), offset nought) (λ q. ([], GivenOffset (record { 0 = 0 }), offset nought))))
+      (item-good numberAct (number-fine (λ (us : List Lexeme). OffsetsOn (sign a 64 ∷ us))
+      (word 0 (48 ∷ []) ∷ [], GivenOffset (record { 0 = 0 }), offset nought) (λ q. ([], GivenOffset (record { 0 = 0 }), offset nought))))
       (λ own m f. rw (f .2) (ret-good (setOffset m h) (GivenOffset (record { 0 = m }), offset (f .3), refl))))
       (ret-good h (OmittedOffset, noOffset, refl))
 
-  pub size-good : (o : Offset) → Good (Sized p n lv par c v o) SizesOn (item (sizeAct (built p n lv par c v o OmittedSize))) (λ e. item (sizeAct (built p n lv par c v o OmittedSize)))
+  pub size-good : (o : Offset) → Good (Sized p n lv par c v o) SizesOn (item (sizeAct (built p n lv par c v o OmittedSize)))
+      (λ e. item (sizeAct (built p n lv par c v o OmittedSize)))
   size-good o = item-good (sizeAct (built p n lv par c v o OmittedSize)) fine
     where
       h : Section
       h = built p n lv par c v o OmittedSize
 
       by-number : (q : ℕ) (w : List ℕ) (b : Bool) (m : Number) → numberOf w ≡ m
-          → Fine (Sized p n lv par c v o) SizesOn (word q w) (cond b (valued m (λ k. eat (setSize k (built p n lv par c v o OmittedSize)))) (leave (built p n lv par c v o OmittedSize)))
+          → Fine (Sized p n lv par c v o) SizesOn (word q w) (cond b (valued m (λ k. eat (setSize k (built p n lv par c v o OmittedSize))))
+          (leave (built p n lv par c v o OmittedSize)))
       by-number q w false m e = (OmittedSize, noSize, refl)
       by-number q w true (Value m) e = (GivenSize m, size e, refl)
       by-number q w true Wrong e = (badNumber e, ([], OmittedSize, noSize), λ z. absurd (omega arith), λ a b. (48 ∷ [], ([], GivenSize 0, size nought)))
@@ -183,9 +196,29 @@ Named lv par k own x =
 
 module _ (lv par k : ℕ) where
   headed : {most deepest p : ℕ} {w : List ℕ} {fs os zs : List Lexeme} {c v : Bool} {o : Offset} {z : Size} → goodName w ≡ true → k < most → lv ≤ deepest
-      → OptionalFlags fs c v → OptionalOffset os o → OptionalSize zs z → Head most deepest lv par k (word p w ∷ (fs ++ (os ++ zs))) (built p (length w) lv par c v o z)
+      → OptionalFlags fs c v → OptionalOffset os o → OptionalSize zs z → Head most deepest lv par k (word p w ∷ (fs ++ (os ++ zs)))
+      (built p (length w) lv par c v o z)
   headed {most} {deepest} {p} {w} {fs} {os} {zs} {c} {v} {o} {z} g r d x y n =
-      record { p = p; w = w; fs = fs; os = os; zs = zs; c = c; v = v; o = o; z = z; good = g; room = r; deep = d; flags = x; offsets = y; sizes = n; list = refl; says = refl }
+      record {
+        p = p;
+        w = w;
+        fs = fs;
+        os = os;
+        zs = zs;
+        c = c;
+        v = v;
+        o = o;
+        z = z;
+        good = g;
+        room = r;
+        deep = d;
+        flags = x;
+        offsets = y;
+        sizes = n;
+        list =
+            refl;
+        says = refl;
+      }
 
   -- "A"
   pub letter : goodName (65 ∷ []) ≡ true
@@ -240,12 +273,18 @@ module _ (lv par k : ℕ) where
           moved {xs} {ys} {x} q = subst (λ (ts : List Lexeme). Head 129 9 lv par k (word p w ∷ ts) x) q
 
           flagged : (fs : List Lexeme) (c v : Bool) → OptionalFlags fs c v
-              → Good (λ (us : List Lexeme) (x : Section). Head 128 8 lv par k (word p w ∷ (fs ++ us)) x) (λ (us : List Lexeme). HeadOn lv par k (word p w ∷ (fs ++ us)))
+              → Good (λ (us : List Lexeme) (x : Section). Head 128 8 lv par k (word p w ∷ (fs ++ us)) x)
+              (λ (us : List Lexeme). HeadOn lv par k (word p w ∷ (fs ++ us)))
               (bind (offsetP (h c v OmittedOffset)) (λ j. item (sizeAct j))) (λ e. bind (offsetP (h c v OmittedOffset)) (λ j. item (sizeAct j)))
           flagged fs c v x =
               bind-good {F = Placed p n lv par c v} (offsetP (h c v OmittedOffset)) (λ e. offsetP (h c v OmittedOffset)) _ _
               (map-good _ _ (λ ts i f. f)
-              (λ ts f. (f .0, _, moved (ap (λ (q : List Lexeme). fs ++ q) (append-nil (ts ++ f .0)) ∙ sym (append-assoc fs ts (f .0))) (headed g r d x (f .2) noSize)))
+              (λ ts f. (
+                f .0,
+                _,
+                moved (ap (λ (q : List Lexeme). fs ++ q) (append-nil (ts ++ f .0)) ∙ sym (append-assoc fs ts (f .0)))
+                    (headed g r d x (f .2) noSize),
+              ))
               (offset-good p n lv par c v))
               (λ os i f.
               rw (f .2)
@@ -253,6 +292,7 @@ module _ (lv par k : ℕ) where
               (λ ts t. (
                 t .0,
                 _,
-                moved (ap (λ (q : List Lexeme). fs ++ q) (sym (append-assoc os ts (t .0))) ∙ sym (append-assoc fs (os ++ ts) (t .0))) (headed g r d x (f .1) (t .2)),
+                moved (ap (λ (q : List Lexeme). fs ++ q) (sym (append-assoc os ts (t .0))) ∙ sym (append-assoc fs (os ++ ts) (t .0)))
+                    (headed g r d x (f .1) (t .2)),
               ))
               (size-good p n lv par c v (f .0))))

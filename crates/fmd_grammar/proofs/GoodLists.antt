@@ -68,7 +68,8 @@ module _ {lv par : ℕ} (l : List Section) (own : List Lexeme) (h : Section) (d 
   leaf-says : SectionSays lv par l (own ++ []) (l ++ (h ∷ []))
   leaf-says = (h ∷ [], refl, λ m e x y. section-of (widen d x y) noBraces, let q = one-more in let r = d .room in omega arith)
 
-  node-says : (a : ℕ) (us : List Lexeme) (m : List Section) → ListSays (lv + 1) (length l) (l ++ (h ∷ [])) us m → SectionSays lv par l (own ++ (sign a 123 ∷ us)) m
+  node-says : (a : ℕ) (us : List Lexeme) (m : List Section) → ListSays (lv + 1) (length l) (l ++ (h ∷ [])) us m → SectionSays lv par l
+      (own ++ (sign a 123 ∷ us)) m
   node-says a us m s = (
     h ∷ s .0,
     s .1 ∙ append-assoc l (h ∷ []) (s .0),
@@ -135,7 +136,8 @@ mutual
       let n = one-more l own h x in
       let i = x .room in
       let j = x .deep in
-      sign-good 123 (listP f (lv + 1) (length l) (l ++ (h ∷ []))) (λ k. listP (plus f k) (lv + 1) (length l) (l ++ (h ∷ []))) (ret (l ++ (h ∷ []))) (λ k. ret (l ++ (h ∷ [])))
+      sign-good 123 (listP f (lv + 1) (length l) (l ++ (h ∷ []))) (λ k. listP (plus f k) (lv + 1) (length l) (l ++ (h ∷ []))) (ret (l ++ (h ∷ [])))
+      (λ k. ret (l ++ (h ∷ [])))
       (λ a. map-good _ _ (node-says l own h x a) (node-on l own h x a) (list-good f (lv + 1) (length l) (l ++ (h ∷ [])) (omega arith) (omega arith)))
       (ret-good (l ++ (h ∷ [])) (leaf-says l own h x)))
 

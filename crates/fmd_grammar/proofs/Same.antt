@@ -20,7 +20,8 @@ use Rattle.fmd_lex.specs.declared.Number.the-variants.{Value, Wrong}
 use Rattle.fmd_lex.specs.declared.Flag.{Flag}
 use Rattle.fmd_lex.specs.declared.Flag.the-variants.{Cbfs, Preserve, Unknown}
 use Rattle.fmd_table.specs.declared.Section.{Section}
-use Rattle.fmd_parse.specs.Heads.{next, isKind, counted, amountAt, onward, judged, bare, namedAt, setOffset, marked, markAt, lastAt, otherAt, flagsAt, withOffset, offsetAt, withSize, sizeAt, headAt}
+use Rattle.fmd_parse.specs.Heads.{next, isKind, counted, amountAt, onward, judged, bare, namedAt, setOffset, marked, markAt, lastAt, otherAt, flagsAt}
+use Rattle.fmd_parse.specs.Heads.{withOffset, offsetAt, withSize, sizeAt, headAt}
 use Rattle.fmd_parse.specs.declared.Amount.{Amount}
 use Rattle.fmd_parse.specs.declared.Amount.the-variants.{Counted, Uncounted}
 use Rattle.fmd_parse.specs.declared.Part.{Part}
@@ -32,7 +33,8 @@ use Rattle.fmd_table.specs.declared.Size.the-variants.{Omitted as OmittedSize}
 use Rattle.fmd_grammar.proofs.Built.{built}
 use Rattle.fmd_grammar.specs.Grammar.{Lexeme, word, sign}
 use Rattle.fmd_grammar.proofs.Views.{View, Worded, as-word, as-sign, after-sign, name-length}
-use Rattle.fmd_grammar.proofs.Parsers.{Got, no, ok, Parser, stop, eat, leave, acted, item, ret, after, bind, isIt, valued, numberAct, nameAct, flagAct, markAct, sizeAct, lastP, otherP, flagsP, offsetP, headP}
+use Rattle.fmd_grammar.proofs.Parsers.{Got, no, ok, Parser, stop, eat, leave, acted, item, ret, after, bind, isIt, valued, numberAct, nameAct}
+use Rattle.fmd_grammar.proofs.Parsers.{flagAct, markAct, sizeAct, lastP, otherP, flagsP, offsetP, headP}
 
 -- ---- one token
 
@@ -111,7 +113,8 @@ same-name {s} {t} (word p w ∷ xs) v lv par n =
   where
     by-rows : Worded s t p w xs → (b c d : Bool)
         → Parts s (judged (pickRow (not b) 53 (pickRow c 55 (pickRow d 55 none))) (λ m. Fault m (t .start)) (Read (bare t lv par) (next s t)))
-        (acted (judged (pickRow (not b) 53 (pickRow c 55 (pickRow d 55 none))) stop (eat (built p (length w) lv par false false OmittedOffset OmittedSize))) (word p w) xs)
+        (acted (judged (pickRow (not b) 53 (pickRow c 55 (pickRow d 55 none))) stop (eat (built p (length w) lv par false false OmittedOffset OmittedSize)))
+        (word p w) xs)
     by-rows a false c d = (refl, a .place)
     by-rows a true true d = (refl, a .place)
     by-rows a true false true = (refl, a .place)
@@ -120,7 +123,8 @@ same-name {s} {t} (word p w ∷ xs) v lv par n =
 
 -- ---- signs, and one reader after another
 
-pub same-sign : {A B : Type 0} (M : B → Got A → Type 0) {s : List ℕ} {t : Token} (k : ℕ) → (k ≡ 0 → ⊥) → (k ≡ 2 → ⊥) → (ts : List Lexeme) → View s t ts → (x y : B) (q r : Parser A)
+pub same-sign : {A B : Type 0} (M : B → Got A → Type 0) {s : List ℕ} {t : Token} (k : ℕ) → (k ≡ 0 → ⊥) → (k ≡ 2 → ⊥) → (ts : List Lexeme) → View s t ts →
+    (x y : B) (q r : Parser A)
     → ((xs : List Lexeme) → View s (next s t) xs → M x (q xs)) → M y (r ts) → M (cond (isKind k t) x y) (bind (item (isIt k)) (λ b. cond b q r) ts)
 same-sign M k n m [] v x y q r f g = absurd (view-some v)
 same-sign M {t} k n m (word p w ∷ xs) v x y q r f g =
@@ -173,6 +177,7 @@ module _ {s : List ℕ} where
   pub same-head : {t : Token} (ts : List Lexeme) → View s t ts → (lv par n : ℕ) → Parts s (headAt s t lv par n) (headP lv par n ts)
   unfolding headAt headP
   same-head {t} ts v lv par n =
-      part-then (namedAt s t lv par n) (item (nameAct lv par n) ts) _ (λ h. bind (flagsP h) (λ i. bind (offsetP i) (λ j. item (sizeAct j)))) (same-name ts v lv par n)
+      part-then (namedAt s t lv par n) (item (nameAct lv par n) ts) _ (λ h. bind (flagsP h) (λ i. bind (offsetP i) (λ j. item (sizeAct j))))
+      (same-name ts v lv par n)
       (λ h u us w. part-then (flagsAt s u h) (flagsP h us) _ (λ i. bind (offsetP i) (λ j. item (sizeAct j))) (same-flags us w h)
       (λ i x xs y. part-then (offsetAt s x i) (offsetP i xs) _ (λ j. item (sizeAct j)) (same-offset xs y i) (λ j z zs r. same-size zs r j)))

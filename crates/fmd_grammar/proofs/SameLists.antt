@@ -19,7 +19,8 @@ use Rattle.fmd_lex.specs.declared.Number.the-variants.{Value, Wrong}
 use Rattle.fmd_table.specs.declared.Section.{Section}
 use Rattle.fmd_parse.specs.Heads.{next, isKind, counted, amountAt, judged, headAt}
 use Rattle.fmd_parse.specs.Images.{onward, titleAt, setAddress, withAddress, addressAt, setLength, withLength, lengthAt, openAt, imageAt}
-use Rattle.fmd_parse.specs.Layouts.{Parsed, fault, parsed, afterHead, afterSection, sectionFrom, listFrom, Layout, layout, refused, afterImage, afterList, endedBy, layoutOf}
+use Rattle.fmd_parse.specs.Layouts.{Parsed, fault, parsed, afterHead, afterSection, sectionFrom, listFrom, Layout, layout, refused, afterImage, afterList}
+use Rattle.fmd_parse.specs.Layouts.{endedBy, layoutOf}
 use Rattle.fmd_parse.specs.declared.Address.the-variants.{Omitted}
 use Rattle.fmd_parse.specs.declared.Amount.{Amount}
 use Rattle.fmd_parse.specs.declared.Amount.the-variants.{Counted, Uncounted}
@@ -30,7 +31,8 @@ use Rattle.fmd_parse.specs.declared.Heading.{Heading}
 use Rattle.fmd_parse.specs.declared.Heading.the-variants.{Read as ReadImage, Fault as FaultImage}
 use Rattle.fmd_grammar.specs.Grammar.{Lexeme, word, sign, lexemesOf}
 use Rattle.fmd_grammar.proofs.Views.{View, view-of, Worded, as-word, as-sign, after-sign, after-end, name-length}
-use Rattle.fmd_grammar.proofs.Parsers.{Got, no, ok, Parser, stop, eat, acted, item, ret, after, bind, valued, numberAct, titleAct, lengthAct, mustBe, headP, sectionP, listP, addressP, imageP, layoutP}
+use Rattle.fmd_grammar.proofs.Parsers.{Got, no, ok, Parser, stop, eat, acted, item, ret, after, bind, valued, numberAct, titleAct, lengthAct}
+use Rattle.fmd_grammar.proofs.Parsers.{mustBe, headP, sectionP, listP, addressP, imageP, layoutP}
 use Rattle.fmd_grammar.proofs.Same.{view-some, Numbers, Parts, same-number, same-sign, same-head}
 
 -- ---- sections
@@ -134,7 +136,8 @@ module _ {s : List ℕ} where
       by-number a Wrong = (refl, a .place)
 
   same-must : {A B : Type 0} (M : B → Got A → Type 0) {t : Token} (k : ℕ) → (k ≡ 2 → ⊥) → (ts : List Lexeme) → View s t ts → (x y : B) (a : A)
-      → ((p : ℕ) (xs : List Lexeme) → View s t (sign p k ∷ xs) → M x (ok a xs)) → ((p : ℕ) → t .start ≡ p → M y (no 51 p)) → M (cond (isKind k t) x y) (item (mustBe k a) ts)
+      → ((p : ℕ) (xs : List Lexeme) → View s t (sign p k ∷ xs) → M x (ok a xs)) → ((p : ℕ) → t .start ≡ p → M y (no 51 p)) → M (cond (isKind k t) x y)
+      (item (mustBe k a) ts)
   same-must M k m [] v x y a f g = absurd (view-some v)
   same-must M {t} k m (word p w ∷ xs) v x y a f g =
       let b = as-word v in rw (ne-eqb (t .kind) k (λ e. m (sym e ∙ eqb-true (t .kind) wordKind (b .kind)))) (g p (b .place))
@@ -171,7 +174,8 @@ same-layout s = by-image (imageAt s (tokenAt s 0)) (imageP (lexemesOf s)) (same-
     by-list : (i j : Image) → i ≡ j → (q : Parsed) (g : Got (List Section)) → Listed s q g
         → Whole (afterList q (endedBy i)) (after g (λ l. item (mustBe 0 (j, l))))
     by-list i j e (parsed l u) (ok m us) w =
-        same-must (λ (a : Layout) (g : Got (Image × List Section)). Whole a g) 0 (λ z. omega arith) us (w .1) _ _ (j, m) (λ p os x. (e, w .0, after-end x)) (λ p x. (refl, x))
+        same-must (λ (a : Layout) (g : Got (Image × List Section)). Whole a g) 0 (λ z. omega arith) us (w .1) _ _ (j, m) (λ p os x. (e, w .0, after-end x))
+        (λ p x. (refl, x))
     by-list i j e (parsed l u) (no m p) w = absurd w
     by-list i j e (fault n p) (ok m us) w = absurd w
     by-list i j e (fault n p) (no m q) w = w

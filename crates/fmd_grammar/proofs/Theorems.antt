@@ -28,7 +28,8 @@ items-few : (f : ℕ) (s : List ℕ) (t : Token) → length (lexemesFrom f s t) 
 unfolding lexemesFrom
 items-few zero s t = omega arith
 items-few (suc f) s t =
-    choice (λ (r : List Lexeme). length (lexemeOf s t ∷ r) ≤ suc f) (isKind endKind t) _ _ (λ e. omega arith) (λ e. let h = items-few f s (next s t) in omega arith)
+    choice (λ (r : List Lexeme). length (lexemeOf s t ∷ r) ≤ suc f) (isKind endKind t) _ _ (λ e. omega arith)
+    (λ e. let h = items-few f s (next s t) in omega arith)
 
 few : (s : List ℕ) → 2 * length (lexemesOf s) ≤ 2 * length s + 2
 unfolding lexemesOf
@@ -104,7 +105,8 @@ module _ (s : List ℕ) (n p : ℕ) (e : layoutOf s ≡ refused n p) where
       let g = 2 * length s + 2 + 2 * length (t .own ++ (t .it ∷ ts)) in
       same (sym (always g (omega arith) ts) ∙ layout-complete d g (omega arith))
 
-again : (s : List ℕ) (n p : ℕ) (e : layoutOf s ≡ refused n p) (r : List ℕ) (ts : List Lexeme) → lexemesOf r ≡ stopped s n p e .own ++ (stopped s n p e .it ∷ ts) → layoutOf r ≡ refused n p
+again : (s : List ℕ) (n p : ℕ) (e : layoutOf s ≡ refused n p) (r : List ℕ) (ts : List Lexeme) → lexemesOf r ≡ stopped s n p e .own ++
+    (stopped s n p e .it ∷ ts) → layoutOf r ≡ refused n p
 again s n p e r ts q = go (layoutOf r) refl
   where
     go : (a : Layout) → layoutOf r ≡ a → layoutOf r ≡ refused n p

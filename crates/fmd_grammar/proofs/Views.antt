@@ -10,7 +10,8 @@ use lib.ListN.{length, getD, drop}
 use borrow.Author.Tests.{eqb-true, eq-eqb}
 use Rattle.octets.proofs.Parts.{length-part}
 use Rattle.octets.proofs.Bools.{choice, clash}
-use Rattle.fmd_lex.specs.Tokens.{endKind, wordKind, skipFrom, tokenHere, tokenAt, bytesOf, Within}
+use Rattle.fmd_lex.specs.Tokens.{endKind, wordKind, skipFrom, tokenHere, tokenAt, bytesOf}
+use Rattle.fmd_lex.specs.Invariants.{Within}
 use Rattle.fmd_lex.specs.Chars.{isWord, isSign}
 use Rattle.fmd_lex.specs.declared.Token.{Token}
 use Rattle.fmd_lex.proofs.Tokens.{earlier}
@@ -21,7 +22,8 @@ use Rattle.fmd_grammar.specs.Grammar.{Lexeme, word, sign, lexemeOf, lexe
 -- xs are the token t and those after it
 pub data View (s : List ℕ) : Token → List Lexeme → Type 0 where
   last : {t : Token} {x : Lexeme} → Within (length s) 0 t → x ≡ lexemeOf s t → isKind endKind t ≡ true → View s t (x ∷ [])
-  step : {t : Token} {x : Lexeme} {xs : List Lexeme} → Within (length s) 0 t → x ≡ lexemeOf s t → isKind endKind t ≡ false → View s (next s t) xs → View s t (x ∷ xs)
+  step : {t : Token} {x : Lexeme} {xs : List Lexeme} → Within (length s) 0 t → x ≡ lexemeOf s t → isKind endKind t ≡ false → View s (next s t) xs → View s t
+      (x ∷ xs)
 
 token-filled : (s : List ℕ) (at : ℕ) → isKind endKind (tokenAt s at) ≡ false → tokenAt s at .start < tokenAt s at .end
 unfolding tokenAt tokenHere

@@ -13,7 +13,8 @@ use Rattle.octets.specs.Bytes.{part}
 use Rattle.octets.proofs.Bools.{and-i, choice}
 use Rattle.text_words.specs.Classes.{isBlank}
 use Rattle.fmd_lex.specs.Chars.{isSign, isWord}
-use Rattle.fmd_lex.specs.Tokens.{wordKind, skipFrom, wordFrom, tokenHere, tokenAt, bytesOf, Within}
+use Rattle.fmd_lex.specs.Tokens.{wordKind, skipFrom, wordFrom, tokenHere, tokenAt, bytesOf}
+use Rattle.fmd_lex.specs.Invariants.{Within}
 use Rattle.fmd_lex.specs.declared.Token.{Token}
 use Rattle.fmd_lex.proofs.Tokens.{word-in}
 

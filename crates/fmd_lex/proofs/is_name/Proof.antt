@@ -19,11 +19,19 @@ is-digit-requires c κs = search needs
 
 returns : tie.Need-returns
 unfolding goodName _and_
-returns c = rw (sym (c .before .before .before .before .is-sized .ensures) ∙ c .before .before .before .if1 .taken, sym (c .before .is-digit .ensures) ∙ c .if2 .taken)
+returns c = rw (
+  sym (c .before .before .before .before .is-sized .ensures) ∙ c .before .before .before .if1 .taken,
+  sym (c .before .is-digit .ensures) ∙ c
+      .if2 .taken,
+)
 
 returns-2 : tie.Need-returns-2
 unfolding goodName _and_
-returns-2 c = rw (sym (c .before .before .before .before .is-sized .ensures) ∙ c .before .before .before .if1 .taken, sym (c .before .is-digit .ensures) ∙ c .if2 .left)
+returns-2 c = rw (
+  sym (c .before .before .before .before .is-sized .ensures) ∙ c .before .before .before .if1 .taken,
+  sym (c .before .is-digit .ensures) ∙ c
+      .if2 .left,
+)
 
 returns-3 : tie.Need-returns-3
 unfolding goodName _and_

@@ -18,11 +18,21 @@ returns c = rw (sym (c .before .before .before .is-graphic .ensures) ∙ c .befo
 
 returns-2 : tie.Need-returns-2
 unfolding isWord _and_
-returns-2 c = rw (sym (c .before .before .before .before .is-graphic .ensures) ∙ c .before .before .before .if1 .taken, sym (c .before .before .is-sign .ensures) ∙ c .before .if2 .left, eq-eqb _ _ (c .if3 .taken))
+returns-2 c = rw (
+  sym (c .before .before .before .before .is-graphic .ensures) ∙ c .before .before .before .if1 .taken,
+  sym
+      (c .before .before .is-sign .ensures) ∙ c .before .if2 .left,
+  eq-eqb _ _ (c .if3 .taken),
+)
 
 returns-3 : tie.Need-returns-3
 unfolding isWord _and_
-returns-3 c = rw (sym (c .before .before .before .before .is-graphic .ensures) ∙ c .before .before .before .if1 .taken, sym (c .before .before .is-sign .ensures) ∙ c .before .if2 .left, ne-eqb _ _ (c .if3 .left))
+returns-3 c = rw (
+  sym (c .before .before .before .before .is-graphic .ensures) ∙ c .before .before .before .if1 .taken,
+  sym
+      (c .before .before .is-sign .ensures) ∙ c .before .if2 .left,
+  ne-eqb _ _ (c .if3 .left),
+)
 
 returns-4 : tie.Need-returns-4
 unfolding isWord _and_

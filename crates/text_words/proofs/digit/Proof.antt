@@ -25,22 +25,63 @@ sub-result-2 c = search needs
 
 returns-4 : tie.Need-returns-4
 unfolding digitOf
-returns-4 c = (simp (le-ltb _ _ (c .before .before .before .if1 .left), le-ltb _ _ (c .before .before .if2 .left), le-ltb _ _ (c .before .if3 .left), lt-ltb _ _ (c .if4 .taken)), omega arith)
+returns-4 c = (
+  simp (
+    le-ltb _ _ (c .before .before .before .if1 .left),
+    le-ltb _ _ (c .before .before .if2 .left),
+    le-ltb _ _ (c .before .if3 .left),
+    lt-ltb
+        _ _ (c .if4 .taken),
+  ),
+  omega arith,
+)
 
 returns-5 : tie.Need-returns-5
 unfolding digitOf
-returns-5 c = (simp (le-ltb _ _ (c .before .before .before .before .if1 .left), le-ltb _ _ (c .before .before .before .if2 .left), le-ltb _ _ (c .before .before .if3 .left), le-ltb _ _ (c .before .if4 .left), lt-ltb _ _ (c .if5 .taken)), omega arith)
+returns-5 c = (
+  simp (
+    le-ltb _ _ (c .before .before .before .before .if1 .left),
+    le-ltb _ _ (c .before .before .before .if2 .left),
+    le-ltb _ _
+        (c .before .before .if3 .left),
+    le-ltb _ _ (c .before .if4 .left),
+    lt-ltb _ _ (c .if5 .taken),
+  ),
+  omega arith,
+)
 
 sub-result-3 : tie.Need-sub-result-3
 sub-result-3 c = search needs
 
 returns-6 : tie.Need-returns-6
 unfolding digitOf
-returns-6 c = (simp (le-ltb _ _ (c .before .before .before .before .before .if1 .left), le-ltb _ _ (c .before .before .before .before .if2 .left), le-ltb _ _ (c .before .before .before .if3 .left), le-ltb _ _ (c .before .before .if4 .left), le-ltb _ _ (c .before .if5 .left), lt-ltb _ _ (c .if6 .taken)), omega arith)
+returns-6 c = (
+  simp (
+    le-ltb _ _ (c .before .before .before .before .before .if1 .left),
+    le-ltb _ _ (c .before .before .before .before .if2 .left),
+    le-ltb _
+        _ (c .before .before .before .if3 .left),
+    le-ltb _ _ (c .before .before .if4 .left),
+    le-ltb _ _ (c .before .if5 .left),
+    lt-ltb _ _ (c .if6 .taken),
+  ),
+  omega arith,
+)
 
 returns-7 : tie.Need-returns-7
 unfolding digitOf
-returns-7 c = (simp (le-ltb _ _ (c .before .before .before .before .before .if1 .left), le-ltb _ _ (c .before .before .before .before .if2 .left), le-ltb _ _ (c .before .before .before .if3 .left), le-ltb _ _ (c .before .before .if4 .left), le-ltb _ _ (c .before .if5 .left), le-ltb _ _ (c .if6 .left)), omega arith)
+returns-7 c = (
+  simp (
+    le-ltb _ _ (c .before .before .before .before .before .if1 .left),
+    le-ltb _ _ (c .before .before .before .before .if2 .left),
+    le-ltb _
+        _ (c .before .before .before .if3 .left),
+    le-ltb _ _ (c .before .before .if4 .left),
+    le-ltb _ _ (c .before .if5 .left),
+    le-ltb _ _ (c .if6 .left),
+  ),
+  omega arith,
+)
 
 pub digit-spec : {M : Type 1} → statement M
 digit-spec =

@@ -13,7 +13,8 @@ enum-known-n c = search needs
 
 with-unit-requires : tie.Need-with-unit-requires
 with-unit-requires c κs =
-    let v = value-in 4294967295 (c .before .before .before .before .before .args .w .now) (c .before .before .before .numeral-of .ensures) (c .before .n .given .1) in
+    let v = value-in 4294967295 (c .before .before .before .before .before .args .w .now) (c .before .before .before .numeral-of .ensures)
+    (c .before .n .given .1) in
     (v .1, v .0)
 
 enum-told : tie.Need-enum-told

@@ -69,7 +69,8 @@ returns-3 c =
 add-n : tie.Need-add-n Inv-loop μ-loop
 add-n c =
     let start = c .before .before .before .before .before .before .before .before in
-    let u = under-limit (start .args .most) (start .args .base) (c .before .before .before .before .before .before .loop .n) (start .pre .1) (c .before .if2 .left) in
+    let u = under-limit (start .args .most) (start .args .base) (c .before .before .before .before .before .before .loop .n) (start .pre .1)
+    (c .before .if2 .left) in
     search needs
 
 add-i : tie.Need-add-i Inv-loop μ-loop
@@ -95,7 +96,8 @@ returns-4 : tie.Need-returns-4 Inv-loop μ-loop
 returns-4 c =
     let turn = c .before in
     let start = c .before .before .before in
-    up-to _ _ _ (turn .loop .inv .1) ∙ digits-end (start .args .w .now) (turn .loop .i) (start .args .most) (start .args .base) (turn .loop .n) (omega arith) ∙ turn .loop .inv .2
+    up-to _ _ _ (turn .loop .inv .1) ∙ digits-end (start .args .w .now) (turn .loop .i) (start .args .most) (start .args .base) (turn .loop .n)
+    (omega arith) ∙ turn .loop .inv .2
 
 pub digits-from-spec : {M : Type 1} → statement M
 digits-from-spec =

@@ -15,7 +15,8 @@ some-digits-requires : tie.Need-some-digits-requires
 some-digits-requires c κs = search needs
 
 returns-2 : tie.Need-returns-2
-returns-2 c = c .some-digits .ensures ∙ num-plain _ (c .before .before .before .before .before .args .w .now) (c .before .before .before .if1 .left) (c .before .if2 .taken)
+returns-2 c = c .some-digits .ensures ∙ num-plain _ (c .before .before .before .before .before .args .w .now) (c .before .before .before .if1 .left)
+    (c .before .if2 .taken)
 
 returns-3 : tie.Need-returns-3
 returns-3 c = num-zero _ (c .before .before .before .before .before .args .w .now) (c .if3 .taken) (c .before .if2 .left)
@@ -27,10 +28,12 @@ some-digits-requires-2 : tie.Need-some-digits-requires-2
 some-digits-requires-2 c κs = search needs
 
 returns-4 : tie.Need-returns-4
-returns-4 c = c .some-digits2 .ensures ∙ num-hex _ (c .before .before .before .before .before .before .before .before .args .w .now) (omega arith) (c .before .before .before .before .if2 .left) (c .before .if4 .taken)
+returns-4 c = c .some-digits2 .ensures ∙ num-hex _ (c .before .before .before .before .before .before .before .before .args .w .now) (omega arith)
+    (c .before .before .before .before .if2 .left) (c .before .if4 .taken)
 
 returns-5 : tie.Need-returns-5
-returns-5 c = num-before _ (c .before .before .before .before .before .before .before .args .w .now) (omega arith) (c .before .before .before .if2 .left) (c .if4 .left)
+returns-5 c = num-before _ (c .before .before .before .before .before .before .before .args .w .now) (omega arith) (c .before .before .before .if2 .left)
+    (c .if4 .left)
 
 pub numeral-of-spec : {M : Type 1} → statement M
 numeral-of-spec =
