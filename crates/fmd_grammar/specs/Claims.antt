@@ -1,4 +1,4 @@
--- The statements of the theorems (proofs/Theorems).
+-- What is claimed of the reading of layout texts (proofs/Theorems): `layoutOf`, which the reader's contract cites, is the grammar's.
 use mathlib.Core.Path.{_≡_}
 use mathlib.Core.List.{List, [], _∷_, _++_}
 use mathlib.Core.Logic.{_↔_}
@@ -10,47 +10,57 @@ use Rattle.fmd_lex.specs.declared.Number.the-variants.{Value, Wrong}
 use Rattle.fmd_table.specs.declared.Section.{Section}
 use Rattle.fmd_parse.specs.Layouts.{layout, refused, layoutOf}
 use Rattle.fmd_parse.specs.declared.Image.{Image}
-use Rattle.fmd_grammar.specs.Grammar.{Item, word, sign, itemsOf, Layouts, Derives}
+use Rattle.fmd_grammar.specs.Grammar.{Lexeme, word, sign, lexemesOf, LayoutText, Derives}
 
--- (1) The reader accepts exactly what derives, with what derives. So no text derives two things.
+-- The reader accepts exactly the texts that derive, with what they say. So no text says two things.
 abbrev pub Exact : Type 0
 Exact = (s : List ℕ) (i : Image) (l : List Section) → (layoutOf s ≡ layout i l) ↔ Derives s i l
 
--- R33: a word's fault stands at its first byte, .. an unfit sign or byte at itself, an early end after the last byte
-abbrev pub placeOf : Item → ℕ
+-- ---- the first fault
+
+-- R33: a word's fault stands at its first byte, 55 at the name .., an unfit sign or byte at itself, an early end after the last byte
+abbrev pub placeOf : Lexeme → ℕ
 placeOf (word p w) = p
-placeOf (sign p k) = p
+placeOf (sign p b) = p
 
--- why a token has a fault of this number; at one place the lowest number
-pub data Blame : ℕ → Item → Type 0 where
-  unfit : {x : Item} → Blame 51 x
-  badNumber : {p : ℕ} {w : List ℕ} → numberOf w ≡ Wrong → Blame 52 (word p w)
-  badLength : {p n : ℕ} {w : List ℕ} → numberOf w ≡ Value n → (98 ≤ n → n ≤ 16777216 → ⊥) → Blame 52 (word p w)
-  badName : {p : ℕ} {w : List ℕ} → goodName w ≡ false → Blame 53 (word p w)
-  tooMuch : {p : ℕ} {w : List ℕ} → goodName w ≡ true → Blame 55 (word p w)
-  badFlag : {p : ℕ} {w : List ℕ} → Blame 56 (word p w)
+-- what a token must be for a fault of this number
+pub data Reason : ℕ → Lexeme → Type 0 where
+  -- R18: 51: text out of grammar
+  unfit : {x : Lexeme} → Reason 51 x
+  -- L9: Where a number must stand (after @, the image's size), any other word is 52. L7: a size
+  badNumber : {p : ℕ} {w : List ℕ} → numberOf w ≡ Wrong → Reason 52 (word p w)
+  -- L1: size (an image length in range, else 52)
+  badLength : {p n : ℕ} {w : List ℕ} → numberOf w ≡ Value n → (98 ≤ n → n ≤ 16777216 → ⊥) → Reason 52 (word p w)
+  -- L6: (else 53)
+  badName : {p : ℕ} {w : List ℕ} → goodName w ≡ false → Reason 53 (word p w)
+  -- R33: 55 at the name of the section too many or too deep
+  tooMany : {p : ℕ} {w : List ℕ} → goodName w ≡ true → Reason 55 (word p w)
+  -- R20: 56: unknown or repeated flag
+  badFlag : {p : ℕ} {w : List ℕ} → Reason 56 (word p w)
 
--- these tokens begin a layout, where one section and one level more are allowed
-abbrev pub Viable : List Item → Type 0
-Viable ts = (us : List Item) × (i : Image) × (l : List Section) × Layouts 129 9 (ts ++ us) i l
+-- the tokens ts can be continued to a layout text, if one section and one level more than the limits are allowed:
+-- after { on level 8 no text within the limits goes on, yet a } there is 51
+abbrev pub Viable : List Lexeme → Type 0
+Viable ts = (us : List Lexeme) × (i : Image) × (l : List Section) × LayoutText 129 9 (ts ++ us) i l
 
--- the fault n at the place p: of the token `it`, which `own` come before
+-- R33: left to right, the first fault in the text: of the number n, at the place p
 pub record FirstFault (s : List ℕ) (n p : ℕ) : Type 0 where
-  pub own : List Item
-  pub it : Item
-  pub rest : List Item
-  pub list : itemsOf s ≡ own ++ (it ∷ rest)
-  pub place : placeOf it ≡ p
-  pub blame : Blame n it
-  -- what comes before can be continued; with `it` too, if only too many or too deep
-  pub viable : Viable own
-  pub wide : n ≡ 55 → Viable (own ++ (it ∷ []))
-  -- 52, 53, 55: a word may stand there
-  pub instead : (n ≡ 51 → ⊥) → (n ≡ 56 → ⊥) → (v : List ℕ) × Viable (own ++ (word p v ∷ []))
-  -- but with `it` nothing derives, and every text that begins so has this fault
-  pub never : (ts : List Item) (i : Image) (l : List Section) → Layouts 128 8 (own ++ (it ∷ ts)) i l → ⊥
-  pub again : (r : List ℕ) (ts : List Item) → itemsOf r ≡ own ++ (it ∷ ts) → layoutOf r ≡ refused n p
+  -- the token at fault, the tokens before and after it
+  pub before : List Lexeme
+  pub token : Lexeme
+  pub after : List Lexeme
+  pub tokens : lexemesOf s ≡ before ++ (token ∷ after)
+  pub place : placeOf token ≡ p
+  pub reason : Reason n token
+  -- up to it nothing is at fault; 55: nor with it, were one section and one level more allowed
+  pub viable : Viable before
+  pub wider : n ≡ 55 → Viable (before ++ (token ∷ []))
+  -- 52, 53, 55: some other word may stand in its place
+  pub instead : (n ≡ 51 → ⊥) → (n ≡ 56 → ⊥) → (v : List ℕ) × Viable (before ++ (word p v ∷ []))
+  -- with it no continuation derives, and every text that begins so has the same fault, whatever follows
+  pub never : (ts : List Lexeme) (i : Image) (l : List Section) → LayoutText 128 8 (before ++ (token ∷ ts)) i l → ⊥
+  pub always : (r : List ℕ) (ts : List Lexeme) → lexemesOf r ≡ before ++ (token ∷ ts) → layoutOf r ≡ refused n p
 
--- (2) The fault of a refused text is its first.
+-- The fault of a refused text is its first.
 abbrev pub First : Type 0
 First = (s : List ℕ) (n p : ℕ) → layoutOf s ≡ refused n p → FirstFault s n p
