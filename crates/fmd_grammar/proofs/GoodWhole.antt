@@ -101,7 +101,8 @@ Long p m d own i =
     (q : ℕ) × (v : List ℕ) × (n : ℕ) × (own ≡ word q v ∷ []) × (numberOf v ≡ Value n) × (98 ≤ n) × (n ≤ 16777216) × (i ≡ pictured p m d n)
 
 an-image : (p : ℕ) (v : List ℕ) → goodName v ≡ true
-    → LayoutText 129 9 (word p v ∷ word 0 (ascii "98") ∷ sign 0 123 ∷ tail) (pictured p (length v) Omitted 98) (built 0 1 1 128 false false OmittedOffset OmittedSize ∷ [])
+    → LayoutText 129 9 (word p v ∷ word 0 (ascii "98") ∷ sign 0 123 ∷ tail) (pictured p (length v) Omitted 98)
+        (built 0 1 1 128 false false OmittedOffset OmittedSize ∷ [])
 an-image p v h = image 0 0 0 0 (ascii "98") h noAddress ninety-eight (omega arith) (omega arith) lone
 
 titled : Viable []
@@ -151,18 +152,18 @@ module _ (p : ℕ) (w : List ℕ) (g : goodName w ≡ true) where
         go (Value n) e = in-range n e (leb 98 n and leb n 16777216) refl
         go Wrong e = (badNumber e may, length-on g o)
 
-module _ {A : Type 0} {F : List Lexeme → A → Type 0} {W : List Lexeme → Type 0} (k : ℕ) (a : A)
-    (f : (p : ℕ) → F (sign p k ∷ []) a) (m : (p : ℕ) (w : List ℕ) → Fault W 51 (word p w)) (g : W []) where
-  must-fine : (x : Lexeme) → Fine F W x (mustBe k a x)
-  must-fine (word p w) = (m p w, g)
-  must-fine (sign p j) = go (eqb j k) refl
-    where
-      go : (b : Bool) → eqb j k ≡ b → Fine F W (sign p j) (cond b (eat a) (stop 51))
-      go true e = subst (λ (i : ℕ). F (sign p i ∷ []) a) (sym (eqb-true j k e)) (f p)
-      go false e = (unfitSign, g)
+must-fine : {A : Type 0} (F : List Lexeme → A → Type 0) (W : List Lexeme → Type 0) (k : ℕ) (a : A)
+    → ((p : ℕ) → F (sign p k ∷ []) a) → ((p : ℕ) (w : List ℕ) → Fault W 51 (word p w)) → W [] → (x : Lexeme) → Fine F W x (mustBe k a x)
+must-fine F W k a f m g (word p w) = (m p w, g)
+must-fine F W k a f m g (sign p j) = go (eqb j k) refl
+  where
+    go : (b : Bool) → eqb j k ≡ b → Fine F W (sign p j) (cond b (eat a) (stop 51))
+    go true e = subst (λ (i : ℕ). F (sign p i ∷ []) a) (sym (eqb-true j k e)) (f p)
+    go false e = (unfitSign, g)
 
-  must-good : Good F W (item (mustBe k a)) (λ e. item (mustBe k a))
-  must-good = item-good (mustBe k a) must-fine
+must-good : {A : Type 0} {F : List Lexeme → A → Type 0} {W : List Lexeme → Type 0} (k : ℕ) (a : A)
+    → ((p : ℕ) → F (sign p k ∷ []) a) → ((p : ℕ) (w : List ℕ) → Fault W 51 (word p w)) → W [] → Good F W (item (mustBe k a)) (λ e. item (mustBe k a))
+must-good {A} {F} {W} k a f m g = item-good (mustBe k a) (must-fine F W k a f m g)
 
 image-good : Good Front Viable imageP (λ e. imageP)
 unfolding imageP

@@ -31,7 +31,8 @@ placeOf (sign p b) = p
 abbrev pub Viable : List Lexeme → Type 0
 Viable ts = (us : List Lexeme) × (i : Image) × (l : List Section) × LayoutText 129 9 (ts ++ us) i l
 
--- why a token has a fault of this number; `May us`: the tokens us may stand in its place
+-- Why a token has a fault of this number; `May us`: the tokens us may stand in its place.
+-- Where a size or a name may stand, a word that is neither fits 52 and 53; by L7 one that begins with a digit has 52.
 pub data Fault (May : List Lexeme → Type 0) : ℕ → Lexeme → Type 0 where
   -- R18: 51: text out of grammar: a sign or another byte, or the text's end
   unfitSign : {p b : ℕ} → Fault May 51 (sign p b)
