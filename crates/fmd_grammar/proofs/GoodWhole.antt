@@ -102,7 +102,7 @@ Long p m d own i =
 
 an-image : (p : ℕ) (v : List ℕ) → goodName v ≡ true
     → LayoutText 129 9 (word p v ∷ word 0 (ascii "98") ∷ sign 0 123 ∷ tail) (pictured p (length v) Omitted 98)
-        (built 0 1 1 128 false false OmittedOffset OmittedSize ∷ [])
+    (built 0 1 1 128 false false OmittedOffset OmittedSize ∷ [])
 an-image p v h = image 0 0 0 0 (ascii "98") h noAddress ninety-eight (omega arith) (omega arith) lone
 
 titled : Viable []
