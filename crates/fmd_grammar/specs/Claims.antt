@@ -34,25 +34,31 @@ Viable ts = (us : List Lexeme) × (i : Image) × (l : List Section) × LayoutTex
 -- Why a token has a fault of this number; `May us`: the tokens us may stand in its place.
 -- Where a size or a name may stand, a word that is neither fits 52 and 53; by L7 one that begins with a digit has 52.
 pub data Fault (May : List Lexeme → Type 0) : ℕ → Lexeme → Type 0 where
-  -- R18: 51: text out of grammar: a sign or another byte, or the text's end
+  -- text out of grammar (R18): a sign or another byte, or the text's end
   unfitSign : {p b : ℕ} → Fault May 51 (sign p b)
-  -- 51: a word before the image's braces: there { A } and the text's end may stand
+  -- a word before the image's braces: there { A } and the text's end may stand
   wordBeforeBraces : {p : ℕ} {w : List ℕ}
       → May (sign p (code "{") ∷ word 0 (ascii "A") ∷ sign 0 (code "}") ∷ sign 0 endKind ∷ []) → Fault May 51 (word p w)
-  -- L10: 51: a word after the last brace: there the text's end may stand
+  -- L10: After the last brace only blanks and comments.
+  -- So a word there is 51; the text's end may stand.
   wordAfterBraces : {p : ℕ} {w : List ℕ} → May (sign p endKind ∷ []) → Fault May 51 (word p w)
-  -- L9: Where a number must stand (after @, the image's size), any other word is 52. L7: so is a size that is no number.
+  -- L9: Where a number must stand (after @, the image's size), any other word is 52.
+  -- So is a section's size that is no number (L7).
   badNumber : {p : ℕ} {w : List ℕ} → numberOf w ≡ Wrong → May (word p (ascii "98") ∷ []) → Fault May 52 (word p w)
   -- L1: size (an image length in range, else 52)
   badLength : {p n : ℕ} {w : List ℕ} → numberOf w ≡ Value n → (98 ≤ n → n ≤ 16777216 → ⊥) → May (word p (ascii "98") ∷ []) → Fault May 52 (word p w)
-  -- L6: A name .. (else 53): every name may stand there
+  -- L6: .. (else 53).
+  -- Every name may stand there.
   badName : {p : ℕ} {w : List ℕ} → goodName w ≡ false → ((v : List ℕ) → goodName v ≡ true → May (word p v ∷ [])) → Fault May 53 (word p w)
-  -- R33: 55 at the name of the section too many or too deep: it is a name, and were one more allowed, every name might stand there
+  -- R33: 55 at the name of the section too many or too deep
+  -- It is a name, and were one more allowed, every name might stand there.
   tooMany : {p : ℕ} {w : List ℕ} → goodName w ≡ true → ((v : List ℕ) → goodName v ≡ true → May (word p v ∷ [])) → Fault May 55 (word p w)
-  -- R20: 56: unknown or repeated flag: there ) may stand, or one flag and )
+  -- R20: 56: unknown or repeated flag
+  -- There ) may stand, or one flag and ).
   badFlag : {p : ℕ} {w : List ℕ} → May (sign p (code ")") ∷ []) ⊎ May (word p cbfs ∷ sign 0 (code ")") ∷ []) → Fault May 56 (word p w)
 
--- R33: left to right, the first fault in the text: of the number n, at the place p
+-- R33: .. left to right, the first fault in the text ..
+-- Its number is n, its place p.
 pub record FirstFault (s : List ℕ) (n p : ℕ) : Type 0 where
   -- the token at fault, the tokens before and after it
   pub before : List Lexeme
