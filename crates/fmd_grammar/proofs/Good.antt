@@ -1,12 +1,13 @@
 -- What a parser is good for: what it passes is of a form G, and what comes before its fault can be continued, W; by the tokens up to there alone.
 use mathlib.Core.Path.{_≡_, refl, sym, ap, subst, _∙_}
 use mathlib.Core.Bool.{Bool, true, false, cond}
+use mathlib.Core.Logic.{inl, inr}
 use mathlib.Core.List.{List, [], _∷_, _++_, append-assoc}
 use Prim.Native.Nat.{ℕ}
 use lib.Dec.{eqb}
 use borrow.Author.Tests.{eqb-true}
 use Rattle.fmd_grammar.specs.Grammar.{Lexeme, word, sign}
-use Rattle.fmd_grammar.specs.Claims.{Reason, placeOf}
+use Rattle.fmd_grammar.specs.Claims.{Fault, unfitSign, wordBeforeBraces, wordAfterBraces, badNumber, badLength, badName, tooMany, badFlag, placeOf}
 use Rattle.fmd_grammar.proofs.Parsers.{Got, no, ok, Parser, Act, stop, eat, leave, acted, item, ret, after, bind, isIt}
 
 -- ---- equal answers
@@ -37,6 +38,19 @@ heads-refl (x ∷ xs) = refl
 heads : (xs ys : List Lexeme) → xs ≡ ys → Heads xs ys
 heads xs ys e = subst (Heads xs) e (heads-refl xs)
 
+-- ---- faults where more may stand
+
+fault-map : {U W : List Lexeme → Type 0} {n : ℕ} {x : Lexeme} → ((us : List Lexeme) → U us → W us) → Fault U n x → Fault W n x
+fault-map g unfitSign = unfitSign
+fault-map g (wordBeforeBraces m) = wordBeforeBraces (g _ m)
+fault-map g (wordAfterBraces m) = wordAfterBraces (g _ m)
+fault-map g (badNumber e m) = badNumber e (g _ m)
+fault-map g (badLength e i m) = badLength e i (g _ m)
+fault-map g (badName e m) = badName e (λ v h. g _ (m v h))
+fault-map g (tooMany e m) = tooMany e (λ v h. g _ (m v h))
+fault-map g (badFlag (inl m)) = badFlag (inl (g _ m))
+fault-map g (badFlag (inr m)) = badFlag (inr (g _ m))
+
 -- ---- good parsers
 
 module _ {A : Type 0} where
@@ -47,10 +61,8 @@ module _ {A : Type 0} where
     pub rest : List Lexeme
     pub list : ts ≡ own ++ (it ∷ rest)
     pub place : placeOf it ≡ p
-    pub blame : Reason n it
     pub viable : W own
-    pub wide : n ≡ 55 → W (own ++ (it ∷ []))
-    pub instead : (n ≡ 51 → ⊥) → (n ≡ 56 → ⊥) → (v : List ℕ) × W (own ++ (word p v ∷ []))
+    pub fault : Fault (λ us. W (own ++ us)) n it
     pub again : (k : ℕ) (xs : List Lexeme) → r k (own ++ (it ∷ xs)) ≡ no n p
 
   pub record Passed (G : List Lexeme → A → Type 0) (r : ℕ → Parser A) (ts : List Lexeme) (a : A) (us : List Lexeme) : Type 0 where
@@ -76,10 +88,8 @@ module _ {A : Type 0} where
               rest = s .rest;
               list = s .list;
               place = s .place;
-              blame = s .blame;
               viable = g _ (s .viable);
-              wide = λ k. g _ (s .wide k);
-              instead = λ a b. let y = s .instead a b in (y .0, g _ (y .1));
+              fault = fault-map (λ us. g _) (s .fault);
               again = s .again;
             };
         passes = λ ts a us e. let s = h .passes ts a us e in record { own = s .own; list = s .list; says = f _ _ (s .says); again = s .again };
@@ -99,7 +109,7 @@ module _ {A : Type 0} where
   none-good r = record { stops = λ ts n p e z. absurd (z (sym (same e .0))); passes = λ ts a us e. absurd (same e) }
 
   abbrev pub Fine : (List Lexeme → A → Type 0) → (List Lexeme → Type 0) → Lexeme → Act A → Type 0
-  Fine G W x (stop n) = Reason n x × W [] × (n ≡ 55 → W (x ∷ [])) × ((n ≡ 51 → ⊥) → (n ≡ 56 → ⊥) → (v : List ℕ) × W (word (placeOf x) v ∷ []))
+  Fine G W x (stop n) = Fault W n x × W []
   Fine G W x (eat a) = G (x ∷ []) a
   Fine G W x (leave a) = G [] a
 
@@ -116,12 +126,8 @@ module _ {A : Type 0} where
             rest = xs;
             list = refl;
             place = s .1;
-            blame = subst (λ (j : ℕ). Reason j x) (s .0) (w .0);
             viable = w .1;
-            wide = λ k. w .2 (s .0 ∙ k);
-            instead = λ a b.
-                let y = w .3 (λ z. a (sym (s .0) ∙ z)) (λ z. b (sym (s .0) ∙ z)) in
-                (y .0, subst (λ (q : ℕ). W (word q (y .0) ∷ [])) (s .1) (y .1));
+            fault = subst (λ (j : ℕ). Fault W j x) (s .0) (w .0);
             again = λ i ys. ap (λ (b : Act A). acted b x ys) q ∙ e;
           }
       stopped x xs n p (eat b) q w e = absurd (same e)
@@ -179,10 +185,8 @@ module _ {A B : Type 0} {F : List Lexeme → A → Type 0} {G : List Lexeme → 
             rest = s .rest;
             list = s .list;
             place = s .place;
-            blame = s .blame;
             viable = s .viable;
-            wide = s .wide;
-            instead = s .instead;
+            fault = s .fault;
             again = λ i xs. ap (λ (c : Got A). after c (j i)) (s .again i xs);
           }
       stopped ts n p (ok a us) f e z =
@@ -194,10 +198,8 @@ module _ {A B : Type 0} {F : List Lexeme → A → Type 0} {G : List Lexeme → 
             rest = s .rest;
             list = t .list ∙ ap (λ (x : List Lexeme). t .own ++ x) (s .list) ∙ sym (append-assoc (t .own) (s .own) (s .it ∷ s .rest));
             place = s .place;
-            blame = s .blame;
             viable = s .viable;
-            wide = λ i. subst W (sym (append-assoc (t .own) (s .own) (s .it ∷ []))) (s .wide i);
-            instead = λ a b. let y = s .instead a b in (y .0, subst W (sym (append-assoc (t .own) (s .own) (word p (y .0) ∷ []))) (y .1));
+            fault = fault-map (λ us. subst W (sym (append-assoc (t .own) (s .own) us))) (s .fault);
             again = λ i xs.
                 ap (bind (r i) (j i)) (append-assoc (t .own) (s .own) (s .it ∷ xs))
                 ∙ ap (λ (c : Got A). after c (j i)) (bridge t (s .own) (s .it) (s .rest) (s .list) i xs)

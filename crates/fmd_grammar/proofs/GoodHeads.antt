@@ -10,12 +10,13 @@ use lib.Dec.{leb, ltb}
 use lib.ListN.{length, getD}
 use borrow.Author.Tests.{leb-false, ltb-false}
 use Rattle.octets.specs.Tests.{_and_}
+use Rattle.octets.specs.Ascii.{ascii}
 use Rattle.octets.specs.Bytes.{same}
 use Rattle.octets.specs.Rows.{pickRow}
 use Rattle.octets.proofs.Bools.{choice, clash}
 use Rattle.octets.proofs.Equal.{same-true}
-use Rattle.text_words.specs.Classes.{isDigit}
-use Rattle.text_words.specs.Numerals.{afterZero, numeralOf}
+use Rattle.text_words.specs.Classes.{isDigit, digitOf}
+use Rattle.text_words.specs.Numerals.{upTo, digitsFrom, someDigits, numeralOf}
 use Rattle.fmd_lex.specs.Numbers.{capped, scaled, numberOf}
 use Rattle.fmd_lex.specs.Names.{goodName, cbfs, preserve, flagOf}
 use Rattle.fmd_lex.specs.declared.Number.{Number}
@@ -29,7 +30,7 @@ use Rattle.fmd_table.specs.declared.Section.{Section}
 use Rattle.fmd_parse.specs.Heads.{judged, setCbfs, setPreserve, setOffset, setSize}
 use Rattle.fmd_grammar.specs.Grammar.{Lexeme, word, sign, OptionalFlags, noFlags, onlyCbfs, onlyPreserve, cbfsPreserve, preserveCbfs, OptionalOffset}
 use Rattle.fmd_grammar.specs.Grammar.{noOffset, offset, OptionalSize, noSize, size}
-use Rattle.fmd_grammar.specs.Claims.{unfit, badNumber, badName, tooMany, badFlag}
+use Rattle.fmd_grammar.specs.Claims.{unfitSign, badNumber, badName, tooMany, badFlag}
 use Rattle.fmd_grammar.proofs.Built.{built, Flagged, Placed, Sized, Head}
 use Rattle.fmd_grammar.proofs.Parsers.{Parser, Act, stop, eat, leave, item, ret, bind, valued, numberAct, nameAct, flagAct, markAct, sizeAct, lastP}
 use Rattle.fmd_grammar.proofs.Parsers.{otherP, flagsP, offsetP, headP}
@@ -37,31 +38,35 @@ use Rattle.fmd_grammar.proofs.Good.{Good, Fine, map-good, ret-good, ite
 
 -- ---- numbers
 
+pub ninety-eight : numberOf (ascii "98") ≡ Value 98
+unfolding numberOf scaled capped numeralOf someDigits digitsFrom upTo digitOf
+ninety-eight = refl
+
 abbrev pub Numbered : List Lexeme → ℕ → Type 0
 Numbered own n = (b : ℕ) × (w : List ℕ) × (own ≡ word b w ∷ []) × (numberOf w ≡ Value n)
 
-pub number-fine : (W : List Lexeme → Type 0) → W [] → ((p : ℕ) → W (word p (48 ∷ []) ∷ [])) → (x : Lexeme) → Fine Numbered W x (numberAct x)
-number-fine W g i (sign p k) = (unfit, g, λ e. absurd (omega arith), λ a b. absurd (a refl))
+pub number-fine : (W : List Lexeme → Type 0) → W [] → ((p : ℕ) → W (word p (ascii "98") ∷ [])) → (x : Lexeme) → Fine Numbered W x (numberAct x)
+number-fine W g i (sign p k) = (unfitSign, g)
 number-fine W g i (word p w) = go (numberOf w) refl
   where
     go : (n : Number) → numberOf w ≡ n → Fine Numbered W (word p w) (valued n eat)
     go (Value n) e = (p, w, refl, e)
-    go Wrong e = (badNumber e, g, λ z. absurd (omega arith), λ a b. (48 ∷ [], i p))
+    go Wrong e = (badNumber e (i p), g)
 
 -- ---- flags
 
-mark-fine : (F : List Lexeme → Section → Type 0) (W : List Lexeme → Type 0) (h : Section) → W [] →
-    (h .cbfs ≡ false → (p : ℕ) → F (word p cbfs ∷ []) (setCbfs h))
+mark-fine : (F : List Lexeme → Section → Type 0) (W : List Lexeme → Type 0) (h : Section)
+    → W [] → ((p : ℕ) → W (sign p 41 ∷ []) ⊎ W (word p cbfs ∷ sign 0 41 ∷ [])) → (h .cbfs ≡ false → (p : ℕ) → F (word p cbfs ∷ []) (setCbfs h))
     → (h .preserve ≡ false → (p : ℕ) → F (word p preserve ∷ []) (setPreserve h)) → (x : Lexeme) → Fine F W x (markAct h x)
 unfolding flagOf
-mark-fine F W h g c v (sign p k) = (unfit, g, λ e. absurd (omega arith), λ a b. absurd (a refl))
-mark-fine F W h g c v (word p w) = go
+mark-fine F W h g m c v (sign p k) = (unfitSign, g)
+mark-fine F W h g m c v (word p w) = go
   where
     P : Act Section → Type 0
     P = Fine F W (word p w)
 
     bad : P (stop 56)
-    bad = (badFlag, g, λ e. absurd (omega arith), λ a b. absurd (b refl))
+    bad = (badFlag (m p), g)
 
     go : P (flagAct h (flagOf w))
     go =
@@ -89,6 +94,7 @@ module _ (p n lv par : ℕ) where
       (item-good (markAct (h true true))
       (mark-fine _ (λ (us : List Lexeme). FlagsOn (o ++ us)) (h true true)
       (sign 0 41 ∷ [], true, true, subst (λ (r : List Lexeme). OptionalFlags (r ++ (sign 0 41 ∷ [])) true true) (sym (append-nil o)) (g 0))
+      (λ q. inl ([], true, true, subst (λ (r : List Lexeme). OptionalFlags r true true) (sym (append-nil (o ++ (sign q 41 ∷ [])))) (g q)))
       (λ z. absurd (clash refl z)) (λ z. absurd (clash refl z))))
 
   -- after ( and one flag u; the other flag is w, and makes it both
@@ -107,7 +113,7 @@ module _ (p n lv par : ℕ) where
         (λ d. ret-good (h c v) (c, v, g d, refl))
         (bind-good {F = Other} (item (markAct (h c v))) (λ e. item (markAct (h c v))) lastP (λ e. lastP)
         (item-good (markAct (h c v))
-        (mark-fine Other (λ (us : List Lexeme). FlagsOn (sign a 40 ∷ word b u ∷ us)) (h c v) (sign 0 41 ∷ [], c, v, g 0)
+        (mark-fine Other (λ (us : List Lexeme). FlagsOn (sign a 40 ∷ word b u ∷ us)) (h c v) (sign 0 41 ∷ [], c, v, g 0) (λ q. inl ([], c, v, g q))
         (λ z q. (q, ap (λ (t : List ℕ). word q t ∷ []) (sym (i z .0)), i z .1)) (λ z q. (q, ap (λ (t : List ℕ). word q t ∷ []) (sym (j z .0)), j z .1))))
         (λ own x f.
         rw (f .1, f .2) (last-good (sign a 40 ∷ word b u ∷ word (f .0) w ∷ []) (k (f .0)))))
@@ -124,6 +130,7 @@ module _ (p n lv par : ℕ) where
       bind-good {F = One} (item (markAct (h false false))) (λ e. item (markAct (h false false))) otherP (λ e. otherP)
       (item-good (markAct (h false false))
       (mark-fine One (λ (us : List Lexeme). FlagsOn (sign a 40 ∷ us)) (h false false) (word 0 cbfs ∷ sign 0 41 ∷ [], true, false, onlyCbfs)
+      (λ q. inr ([], true, false, onlyCbfs))
       (λ z q. (q, inl (refl, refl))) (λ z q. (q, inr (refl, refl)))))
       (λ own x f. by-one a own x (f .0) (f .1)))
       (ret-good (h false false) (false, false, noFlags, refl))
@@ -147,11 +154,6 @@ OffsetsOn own = (us : List Lexeme) × (o : Offset) × OptionalOffset (own ++ us)
 abbrev pub SizesOn : List Lexeme → Type 0
 SizesOn own = (us : List Lexeme) × (z : Size) × OptionalSize (own ++ us) z
 
--- "0"
-pub nought : numberOf (48 ∷ []) ≡ Value 0
-unfolding numberOf scaled capped numeralOf afterZero
-nought = refl
-
 module _ (p n lv par : ℕ) (c v : Bool) where
   pub offset-good : Good (Placed p n lv par c v) OffsetsOn (offsetP (built p n lv par c v OmittedOffset OmittedSize))
       (λ e. offsetP (built p n lv par c v OmittedOffset OmittedSize))
@@ -162,7 +164,7 @@ module _ (p n lv par : ℕ) (c v : Bool) where
       sign-good 64 q (λ e. q) (ret h) (λ e. ret h)
       (λ a. bind-good {F = Numbered} (item numberAct) (λ e. item numberAct) (λ m. ret (setOffset m h)) (λ e. λ m. ret (setOffset m h))
       (item-good numberAct (number-fine (λ (us : List Lexeme). OffsetsOn (sign a 64 ∷ us))
-      (word 0 (48 ∷ []) ∷ [], GivenOffset (record { 0 = 0 }), offset nought) (λ q. ([], GivenOffset (record { 0 = 0 }), offset nought))))
+      (word 0 (ascii "98") ∷ [], GivenOffset (record { 0 = 98 }), offset ninety-eight) (λ q. ([], GivenOffset (record { 0 = 98 }), offset ninety-eight))))
       (λ own m f. rw (f .2) (ret-good (setOffset m h) (GivenOffset (record { 0 = m }), offset (f .3), refl))))
       (ret-good h (OmittedOffset, noOffset, refl))
 
@@ -178,7 +180,7 @@ module _ (p n lv par : ℕ) (c v : Bool) where
           (leave (built p n lv par c v o OmittedSize)))
       by-number q w false m e = (OmittedSize, noSize, refl)
       by-number q w true (Value m) e = (GivenSize m, size e, refl)
-      by-number q w true Wrong e = (badNumber e, ([], OmittedSize, noSize), λ z. absurd (omega arith), λ a b. (48 ∷ [], ([], GivenSize 0, size nought)))
+      by-number q w true Wrong e = (badNumber e ([], GivenSize 98, size ninety-eight), ([], OmittedSize, noSize))
 
       fine : (x : Lexeme) → Fine (Sized p n lv par c v o) SizesOn x (sizeAct (built p n lv par c v o OmittedSize) x)
       fine (sign q k) = (OmittedSize, noSize, refl)
@@ -220,28 +222,27 @@ module _ (lv par k : ℕ) where
         says = refl;
       }
 
-  -- "A"
-  pub letter : goodName (65 ∷ []) ≡ true
+  pub letter : goodName (ascii "A") ≡ true
   unfolding goodName _and_ isDigit
   letter = refl
 
   name-fine : k < 129 → lv ≤ 9 → (x : Lexeme) → Fine (Named lv par k) (HeadOn lv par k) x (nameAct lv par k x)
   unfolding pickRow
-  name-fine r d (sign p j) = (unfit, (word 0 (65 ∷ []) ∷ [], _, headed letter r d noFlags noOffset noSize), λ e. absurd (omega arith), λ a b. absurd (a refl))
+  name-fine r d (sign p j) = (unfitSign, (word 0 (ascii "A") ∷ [], _, headed letter r d noFlags noOffset noSize))
   name-fine r d (word p w) = go (goodName w) (leb 128 k) (ltb 8 lv) refl refl refl
     where
-      any : HeadOn lv par k []
-      any = (word 0 (65 ∷ []) ∷ [], _, headed letter r d noFlags noOffset noSize)
+      may : HeadOn lv par k []
+      may = (word 0 (ascii "A") ∷ [], _, headed letter r d noFlags noOffset noSize)
 
-      other : (v : List ℕ) × HeadOn lv par k (word p v ∷ [])
-      other = (65 ∷ [], ([], _, headed letter r d noFlags noOffset noSize))
+      any : (v : List ℕ) → goodName v ≡ true → HeadOn lv par k (word p v ∷ [])
+      any v g = ([], _, headed g r d noFlags noOffset noSize)
 
       go : (b e f : Bool) → goodName w ≡ b → leb 128 k ≡ e → ltb 8 lv ≡ f
           → Fine (Named lv par k) (HeadOn lv par k) (word p w)
           (judged (pickRow (not b) 53 (pickRow e 55 (pickRow f 55 none))) stop (eat (built p (length w) lv par false false OmittedOffset OmittedSize)))
-      go false e f g x y = (badName g, any, λ z. absurd (omega arith), λ a b. other)
-      go true true f g x y = (tooMany g, any, λ z. ([], _, headed g r d noFlags noOffset noSize), λ a b. other)
-      go true false true g x y = (tooMany g, any, λ z. ([], _, headed g r d noFlags noOffset noSize), λ a b. other)
+      go false e f g x y = (badName g any, may)
+      go true true f g x y = (tooMany g any, may)
+      go true false true g x y = (tooMany g any, may)
       go true false false g x y = (p, w, refl, g, leb-false 128 k x, ltb-false 8 lv y, refl)
 
   pub head-good : k < 129 → lv ≤ 9 → Good (Head 128 8 lv par k) (HeadOn lv par k) (headP lv par k) (λ e. headP lv par k)

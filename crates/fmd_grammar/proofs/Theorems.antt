@@ -126,10 +126,8 @@ first s n p e =
       after = t .rest;
       tokens = t .list;
       place = t .place;
-      reason = t .blame;
       viable = t .viable;
-      wider = t .wide;
-      instead = t .instead;
+      fault = t .fault;
       never = never s n p e;
       always = again s n p e;
     }
