@@ -1,11 +1,16 @@
 -- What is claimed of the reading of layout texts (proofs/Theorems): `layoutOf`, which the reader's contract cites, is the grammar's.
 use mathlib.Core.Path.{_≡_}
 use mathlib.Core.List.{List, [], _∷_, _++_}
-use mathlib.Core.Logic.{_↔_}
+use mathlib.Core.Logic.{_↔_, _⊎_}
 use mathlib.Core.Bool.{true, false}
+use Prim.Native.Char.{code}
 use Prim.Native.Nat.{ℕ, _≤_}
+use lib.ListN.{getD}
+use Rattle.octets.specs.Ascii.{ascii}
+use Rattle.text_words.specs.Classes.{isDigit}
+use Rattle.fmd_lex.specs.Tokens.{endKind}
 use Rattle.fmd_lex.specs.Numbers.{numberOf}
-use Rattle.fmd_lex.specs.Names.{goodName}
+use Rattle.fmd_lex.specs.Names.{goodName, cbfs}
 use Rattle.fmd_lex.specs.declared.Number.the-variants.{Value, Wrong}
 use Rattle.fmd_table.specs.declared.Section.{Section}
 use Rattle.fmd_parse.specs.Layouts.{layout, refused, layoutOf}
@@ -23,27 +28,42 @@ abbrev pub placeOf : Lexeme → ℕ
 placeOf (word p w) = p
 placeOf (sign p b) = p
 
--- what a token must be for a fault of this number
-pub data Reason : ℕ → Lexeme → Type 0 where
-  -- R18: 51: text out of grammar
-  unfit : {x : Lexeme} → Reason 51 x
-  -- L9: Where a number must stand (after @, the image's size), any other word is 52. L7: a size
-  badNumber : {p : ℕ} {w : List ℕ} → numberOf w ≡ Wrong → Reason 52 (word p w)
-  -- L1: size (an image length in range, else 52)
-  badLength : {p n : ℕ} {w : List ℕ} → numberOf w ≡ Value n → (98 ≤ n → n ≤ 16777216 → ⊥) → Reason 52 (word p w)
-  -- L6: (else 53)
-  badName : {p : ℕ} {w : List ℕ} → goodName w ≡ false → Reason 53 (word p w)
-  -- R33: 55 at the name of the section too many or too deep
-  tooMany : {p : ℕ} {w : List ℕ} → goodName w ≡ true → Reason 55 (word p w)
-  -- R20: 56: unknown or repeated flag
-  badFlag : {p : ℕ} {w : List ℕ} → Reason 56 (word p w)
-
 -- the tokens ts can be continued to a layout text, if one section and one level more than the limits are allowed:
 -- after { on level 8 no text within the limits goes on, yet a } there is 51
 abbrev pub Viable : List Lexeme → Type 0
 Viable ts = (us : List Lexeme) × (i : Image) × (l : List Section) × LayoutText 129 9 (ts ++ us) i l
 
--- R33: left to right, the first fault in the text: of the number n, at the place p
+-- no layout text begins with the tokens ts
+abbrev pub NoText : List Lexeme → Type 0
+NoText ts = (us : List Lexeme) (i : Image) (l : List Section) → LayoutText 128 8 (ts ++ us) i l → ⊥
+
+-- why a token has a fault of this number; `May us`: the tokens us may stand in its place
+pub data Fault (May : List Lexeme → Type 0) : ℕ → Lexeme → Type 0 where
+  -- text out of grammar (R18): a sign or another byte, or the text's end
+  unfitSign : {p b : ℕ} → Fault May 51 (sign p b)
+  -- a word before the image's braces: there { A } and the text's end may stand
+  wordBeforeBraces : {p : ℕ} {w : List ℕ}
+      → May (sign p (code "{") ∷ word 0 (ascii "A") ∷ sign 0 (code "}") ∷ sign 0 endKind ∷ []) → Fault May 51 (word p w)
+  -- L10: After the last brace only blanks and comments.
+  -- So a word there is 51; the text's end may stand.
+  wordAfterBraces : {p : ℕ} {w : List ℕ} → May (sign p endKind ∷ []) → Fault May 51 (word p w)
+  -- L9: Where a number must stand (after @, the image's size), any other word is 52.
+  -- So is a section's size that is no number (L7).
+  badNumber : {p : ℕ} {w : List ℕ} → numberOf w ≡ Wrong → May (word p (ascii "98") ∷ []) → Fault May 52 (word p w)
+  -- L1: size (an image length in range, else 52)
+  badLength : {p n : ℕ} {w : List ℕ} → numberOf w ≡ Value n → (98 ≤ n → n ≤ 16777216 → ⊥) → May (word p (ascii "98") ∷ []) → Fault May 52 (word p w)
+  -- L6: .. (else 53).
+  -- Every name may stand there.
+  badName : {p : ℕ} {w : List ℕ} → goodName w ≡ false → ((v : List ℕ) → goodName v ≡ true → May (word p v ∷ [])) → Fault May 53 (word p w)
+  -- R33: 55 at the name of the section too many or too deep
+  -- It is a name, and were one more allowed, every name might stand there.
+  tooMany : {p : ℕ} {w : List ℕ} → goodName w ≡ true → ((v : List ℕ) → goodName v ≡ true → May (word p v ∷ [])) → Fault May 55 (word p w)
+  -- R20: 56: unknown or repeated flag
+  -- There ) may stand, or one flag and ).
+  badFlag : {p : ℕ} {w : List ℕ} → May (sign p (code ")") ∷ []) ⊎ May (word p cbfs ∷ sign 0 (code ")") ∷ []) → Fault May 56 (word p w)
+
+-- R33: .. left to right, the first fault in the text ..
+-- Its number is n, its place p.
 pub record FirstFault (s : List ℕ) (n p : ℕ) : Type 0 where
   -- the token at fault, the tokens before and after it
   pub before : List Lexeme
@@ -51,14 +71,15 @@ pub record FirstFault (s : List ℕ) (n p : ℕ) : Type 0 where
   pub after : List Lexeme
   pub tokens : lexemesOf s ≡ before ++ (token ∷ after)
   pub place : placeOf token ≡ p
-  pub reason : Reason n token
-  -- up to it nothing is at fault; 55: nor with it, were one section and one level more allowed
+  -- up to it nothing is at fault
   pub viable : Viable before
-  pub wider : n ≡ 55 → Viable (before ++ (token ∷ []))
-  -- 52, 53, 55: some other word may stand in its place
-  pub instead : (n ≡ 51 → ⊥) → (n ≡ 56 → ⊥) → (v : List ℕ) × Viable (before ++ (word p v ∷ []))
-  -- with it no continuation derives, and every text that begins so has the same fault, whatever follows
-  pub never : (ts : List Lexeme) (i : Image) (l : List Section) → LayoutText 128 8 (before ++ (token ∷ ts)) i l → ⊥
+  pub fault : Fault (λ us. Viable (before ++ us)) n token
+  -- L7: After a section's name, flags or offset, a word beginning with a digit is its size.
+  -- So 53 at such a word stands where no word beginning with a digit may, and 52 at any other word where no name may.
+  pub digit : n ≡ 53 → (w v : List ℕ) → token ≡ word p w → isDigit (getD w 0 0) ≡ true → isDigit (getD v 0 0) ≡ true → NoText (before ++ (word p v ∷ []))
+  pub letter : n ≡ 52 → (w v : List ℕ) → token ≡ word p w → isDigit (getD w 0 0) ≡ false → goodName v ≡ true → NoText (before ++ (word p v ∷ []))
+  -- with it no text derives, and every text that begins so has the same fault, whatever follows
+  pub never : NoText (before ++ (token ∷ []))
   pub always : (r : List ℕ) (ts : List Lexeme) → lexemesOf r ≡ before ++ (token ∷ ts) → layoutOf r ≡ refused n p
 
 -- The fault of a refused text is its first.

@@ -29,7 +29,7 @@ pub data Lexeme : Type 0 where
   word : ℕ → List ℕ → Lexeme
   sign : ℕ → ℕ → Lexeme
 
--- L4, L5: the token t of the text s (`tokenAt` of fmd_lex: blanks and comments skipped, then as many bytes of a word as there are)
+-- the token t of the text s; `tokenAt` of fmd_lex finds it (L4, L5): past blanks and comments, as many bytes of a word as there are
 unfoldable pub lexemeOf : List ℕ → Token → Lexeme
 lexemeOf s t = cond (eqb (t .kind) wordKind) (word (t .start) (bytesOf s t)) (sign (t .start) (t .kind))
 
@@ -44,7 +44,8 @@ lexemesOf s = lexemesFrom (length s + 1) s (tokenAt s 0)
 
 -- ---- the parts of a section
 
--- L2: optional flags in parentheses (CBFS, PRESERVE, at least one, blanks between). R20: no unknown flag, none repeated.
+-- L2: optional flags in parentheses (CBFS, PRESERVE, at least one, blanks between)
+-- No other flag, and none twice (R20).
 pub data OptionalFlags : List Lexeme → Bool → Bool → Type 0 where
   noFlags : OptionalFlags [] false false
   onlyCbfs : {a b c : ℕ} → OptionalFlags (sign a (code "(") ∷ word b cbfs ∷ sign c (code ")") ∷ []) true false
@@ -52,23 +53,26 @@ pub data OptionalFlags : List Lexeme → Bool → Bool → Type 0 where
   cbfsPreserve : {a b c d : ℕ} → OptionalFlags (sign a (code "(") ∷ word b cbfs ∷ word c preserve ∷ sign d (code ")") ∷ []) true true
   preserveCbfs : {a b c d : ℕ} → OptionalFlags (sign a (code "(") ∷ word b preserve ∷ word c cbfs ∷ sign d (code ")") ∷ []) true true
 
--- L2: optional @offset from its parent. L8: a number, as `numberOf` of fmd_lex reads the word.
+-- L2: optional @offset from its parent
+-- `numberOf` of fmd_lex is the number that a word is (L8).
 pub data OptionalOffset : List Lexeme → Offset → Type 0 where
   noOffset : OptionalOffset [] OmittedOffset
   offset : {a b n : ℕ} {w : List ℕ} → numberOf w ≡ Value n → OptionalOffset (sign a (code "@") ∷ word b w ∷ []) (GivenOffset (record { 0 = n }))
 
--- L2: optional size. L7: .. a word beginning with a digit is its size. (Every number begins with a digit, and by L6 no name does.)
+-- L2: optional size
+-- L7: .. a word beginning with a digit is its size.
+-- (Every number begins with a digit, and no name does.)
 pub data OptionalSize : List Lexeme → Size → Type 0 where
   noSize : OptionalSize [] OmittedSize
   size : {a n : ℕ} {w : List ℕ} → numberOf w ≡ Value n → OptionalSize (word a w ∷ []) (GivenSize n)
 
 -- ---- sections
 
--- Q5: A layout text has at most .. 128 sections, 8 levels below the image: `most` and `deepest`.
--- Then come the level; the parent's index in the text's order, 128 for the image; and how many sections stand before.
+-- Q5: A layout text has at most .. 128 sections, 8 levels below the image.
+-- These are `most` and `deepest`. Then come the level; the parent's index in the text's order, 128 for the image; and how many sections stand before.
 mutual
-  -- L2: A section: name, optional flags .., optional @offset .., optional size, optional braces. L6: a name, as `goodName` of fmd_lex says.
-  -- It says itself and, after it, the sections in its braces.
+  -- L2: A section: name, optional flags .., optional @offset .., optional size, optional braces.
+  -- `goodName` of fmd_lex says which words are names (L6). A section says itself and, after it, the sections in its braces.
   pub data SectionTree (most deepest : ℕ) : ℕ → ℕ → ℕ → List Lexeme → List Section → Type 0 where
     section : {level parent before place : ℕ} {name : List ℕ} {fs os zs bs : List Lexeme} {c p : Bool} {o : Offset} {z : Size} {l : List Section}
         → goodName name ≡ true → before < most → level ≤ deepest → OptionalFlags fs c p → OptionalOffset os o → OptionalSize zs z
@@ -76,7 +80,8 @@ mutual
         → SectionTree most deepest level parent before (word place name ∷ (fs ++ (os ++ (zs ++ bs))))
         (record { offset = o; size = z; place = place; length = length name; cbfs = c; preserve = p; parent = parent; level = level } ∷ l)
 
-  -- L2: optional braces. L3: .. a section may hold sections to any allowed depth.
+  -- L2: optional braces
+  -- L3: .. a section may hold sections to any allowed depth.
   pub data OptionalBraces (most deepest : ℕ) : ℕ → ℕ → ℕ → List Lexeme → List Section → Type 0 where
     noBraces : {level parent before : ℕ} → OptionalBraces most deepest level parent before [] []
     braces : {level parent before a : ℕ} (b : ℕ) {ts : List Lexeme} {l : List Section} → SectionList most deepest level parent before ts l
@@ -96,8 +101,10 @@ pub data OptionalAddress : List Lexeme → Address → Type 0 where
   noAddress : OptionalAddress [] Omitted
   address : {a b n : ℕ} {w : List ℕ} → numberOf w ≡ Value n → OptionalAddress (sign a (code "@") ∷ word b w ∷ []) (Given n)
 
--- L1: An image: name, optional @address, size (an image length in range), braces. Q4: A flash image is 98 to 16,777,216 bytes.
--- L10: After the last brace only blanks and comments: the text's end is the next token.
+-- L1: An image: name, optional @address, size (an image length in range ..), braces.
+-- Q4: A flash image is 98 to 16,777,216 bytes.
+-- L10: After the last brace only blanks and comments.
+-- So the text's end is the next token.
 pub data LayoutText (most deepest : ℕ) : List Lexeme → Image → List Section → Type 0 where
   image : {place n : ℕ} (a b c d : ℕ) {name : List ℕ} (w : List ℕ) {os ts : List Lexeme} {at : Address} {l : List Section}
       → goodName name ≡ true → OptionalAddress os at → numberOf w ≡ Value n → 98 ≤ n → n ≤ 16777216 → SectionList most deepest 1 128 0 ts l
