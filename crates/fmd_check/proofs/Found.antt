@@ -11,7 +11,8 @@ use Rattle.fmd_parse.specs.Layouts.{layout, layoutOf}
 use Rattle.fmd_parse.specs.Trees.{LayoutFacts}
 use Rattle.fmd_parse.specs.declared.Image.{Image}
 use Rattle.fmd_parse.proofs.Trees.{layout-facts}
-use Rattle.fmd_rows.specs.Rows.{foundFrom, Inside}
+use Rattle.fmd_rows.specs.Rows.{foundFrom}
+use Rattle.fmd_rows.specs.Invariants.{Inside}
 use Rattle.fmd_rows.specs.declared.Found.the-variants.{At}
 use Rattle.fmd_rows.proofs.Rows.{FirstFacts, first-facts, inside}
 use Rattle.fmd_plan.specs.Plans.{unfit, resolveFrom}

@@ -6,7 +6,7 @@ ghost use Prim.Native.Nat.{_*_, _≤_, _<_};
 ghost use lib.ListN.{length, getD};
 ghost use Rattle.fmd_table.specs.Table.{sectionsIn, placedIn, HasRows, HasSpots};
 ghost use Rattle.fmd_parse.specs.Trees.{blank};
-ghost use Rattle.fmd_rows.specs.Rows.{Inside};
+ghost use Rattle.fmd_rows.specs.Invariants.{Inside};
 ghost use Rattle.fmd_check.specs.Check.{verdictOf, checkLeaf, checkMap, checkPlaces, checkSizes, checkMarks, checkList, checkText};
 use fmd_parse::Answer;
 use fmd_parse::Image;
