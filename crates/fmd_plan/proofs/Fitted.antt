@@ -46,14 +46,16 @@ unfolding spotOf fits
 spot-facts h e start size room =
     choice (SpotFacts h e room false) (leb 1 size and leb e start and leb (start + size) room) _ _
     (λ q.
-    let a = and-l (leb 1 size and leb e start) (leb (start + size) room) q in
-    (record {
-      some = leb-true 1 size (and-l _ _ a);
-      after = leb-true e start (and-r _ _ a);
-      within = leb-true (start + size) room (and-r _ _ q);
-      parent = refl;
-      level = refl;
-    }, refl))
+    let a = and-l (leb 1 size and leb e start) (leb (start + size) room) q in (
+      record {
+        some = leb-true 1 size (and-l _ _ a);
+        after = leb-true e start (and-r _ _ a);
+        within = leb-true (start + size) room (and-r _ _ q);
+        parent = refl;
+        level = refl;
+      },
+      refl,
+    ))
     (λ q. refl)
 
 reach-facts : (h : Section) (e start room : ℕ) (r : Reach) → SpotFacts h e room (isUndecided r) (spotBy h e start room r)
@@ -184,13 +186,15 @@ from-rest : (z : ℕ) (l : List Section) (hs : List Section) (ps : List Placed) 
 unfolding resolveFrom
 from-rest z l [] ps e w =
     let a = w .short in
-    let n : length ps ≡ length l = omega (arith, sym (length-drop (length ps) l) ∙ ap length e) in
-    (record {
-      count = n;
-      each = w .each;
-      parent = w .parent;
-      level = w .level;
-    }, rw n at (w .sized))
+    let n : length ps ≡ length l = omega (arith, sym (length-drop (length ps) l) ∙ ap length e) in (
+      record {
+        count = n;
+        each = w .each;
+        parent = w .parent;
+        level = w .level;
+      },
+      rw n at (w .sized),
+    )
 from-rest z l (h ∷ hs) ps e w =
     let a : length l - length ps ≡ suc (length hs) = sym (length-drop (length ps) l) ∙ ap length e in
     let q : length ps < length l = omega arith in
