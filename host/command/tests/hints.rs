@@ -105,7 +105,8 @@ fn tables_that_cannot_be_edited() {
     let hint = format!("the backup copy is not good; the primary is used; {repair} backup from the primary");
     refused(&["gpt", "add", path, "--size", "1"], 11, said, &hint);
     spoil(&image, 512);
-    let hint = format!("both copies: no GPT signature; usigrambal gpt format {path} tells what is there");
+    let hint =
+        format!("both copies: no GPT signature; usigrambal gpt format {path} --dry-run tells what is there");
     for verb in ["show", "free", "verify", "repair"] {
         refused(&["gpt", verb, path], 10, "neither GPT copy is good", &hint);
     }

@@ -4,7 +4,7 @@ use super::why;
 use super::words::copies;
 use crate::disk::Ends;
 use crate::failure::Failure;
-use crate::sizes::{plural, BLOCK_LEN};
+use crate::sizes::{human, plural, BLOCK_LEN};
 use crate::storage::unusable;
 use std::fs::File;
 use std::os::unix::fs::FileExt;
@@ -74,20 +74,25 @@ fn table(ends: &mut Ends, front: &[u8]) -> Option<String> {
 fn records(block: &[u8], has_table: bool) -> Option<String> {
     let records: Vec<&[u8]> = block[RECORDS..].chunks_exact(RECORD_LEN).take(4).collect();
     let well_formed = block[510..512] == [0x55, 0xAA] && records.iter().all(|record| record[0] & 0x7F == 0);
-    let used: Vec<&&[u8]> =
-        records.iter().filter(|record| record[4] != 0 && !even(&record[12..16])).collect();
-    let protective = records.iter().all(|record| [0, 0xEE].contains(&record[4]));
+    let used: Vec<(usize, &[u8])> =
+        (1..).zip(records).filter(|(_, record)| record[4] != 0 && !even(&record[12..])).collect();
+    let protective = used.iter().all(|(_, record)| record[4] == 0xEE);
     match used.len() {
         0 => None,
         _ if !well_formed || (protective && has_table) => None,
         _ if protective => Some("a protective MBR without its GPT".to_string()),
         many => {
-            let types: Vec<String> = used.iter().map(|record| format!("{:02x}", record[4])).collect();
-            let noun = if many == 1 { "type" } else { "types" };
-            let count = plural(many as u64, "partition");
-            Some(format!("an MBR with {count} ({noun} {} hex)", types.join(", ")))
+            let parts: Vec<String> =
+                used.iter().map(|(number, record)| record_words(*number, record)).collect();
+            Some(format!("an MBR with {} ({})", plural(many as u64, "partition"), parts.join("; ")))
         }
     }
+}
+
+/// `1: type 83 hex, 10 MiB`
+fn record_words(number: usize, record: &[u8]) -> String {
+    let blocks = u32::from_le_bytes(record[12..16].try_into().expect("4 bytes"));
+    format!("{number}: type {:02x} hex, {}", record[4], human(u64::from(blocks) * BLOCK_LEN))
 }
 
 /// Other programs' judgement.
@@ -182,7 +187,7 @@ mod tests {
         assert_eq!(records(&block, false).as_deref(), Some("a protective MBR without its GPT"));
         assert_eq!(records(&block, true), None);
         put(&mut block, 2, 0x83);
-        let said = "an MBR with 2 partitions (types ee, 83 hex)";
+        let said = "an MBR with 2 partitions (1: type ee hex, 512 B; 3: type 83 hex, 512 B)";
         assert_eq!(records(&block, true).as_deref(), Some(said));
         block[RECORDS] = 1;
         assert_eq!(records(&block, true), None);

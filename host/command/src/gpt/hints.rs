@@ -24,9 +24,11 @@ pub fn advised(refused: Refused, path: &Path, disk: &Disk) -> Failure {
             human(BLOCKS_MAX * BLOCK_LEN)
         )),
         Refusal::NoDiskGuid => Some("without --guid a random one is taken".into()),
-        Refusal::NeitherGood => {
-            Some(format!("{}; usigrambal gpt format {} tells what is there", why::both(disk), quoted(path)))
-        }
+        Refusal::NeitherGood => Some(format!(
+            "{}; usigrambal gpt format {} --dry-run tells what is there",
+            why::both(disk),
+            quoted(path)
+        )),
         Refusal::NotTheSame => disk.state().ok().map(|state| repairable(state, path)),
         Refusal::NoSuchSlot | Refusal::SlotUnused => disk.partitions().ok().map(|held| used(&held)),
         Refusal::NoSize => Some(format!("the least is {}", of_blocks(1))),
