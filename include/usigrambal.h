@@ -2,10 +2,15 @@
  *
  * - Every call returns 0, or the number of its refusal (usi_crc32 alone returns the CRC). No refusal has the number 0.
  * - A refusal changes no byte of any buffer, and no number behind a pointer for an answer.
- * - A buffer is a pointer and a length, in bytes or, for a name, in 16-bit units, where the pointer is aligned for uint16_t. Buffers of one call must not overlap. A buffer of length 0 may have a null pointer.
+ * - A buffer is a pointer and a length, in bytes or, for a name, in 16-bit units, where the pointer is aligned for uint16_t.
+ *   Buffers of one call must not overlap. A buffer of length 0 may have a null pointer.
+ * - A pointer for an answer must be valid, and those of one call differ from each other and point into none of its buffers.
  * - Every call answers on every input: no buffer needs to be checked before.
+ * - Threads: the library keeps no state and takes no memory. Any number of threads may call at once, each with its own buffers;
+ *   a buffer that is only read may be shared.
+ * - Stack: every call runs on a thread with 24 KiB of stack.
  *
- * Link target/staticlib/libusigrambal.a, which `make archive` writes. */
+ * To link: `make install` writes libusigrambal.a, libusigrambal.so and usigrambal.pc (pkg-config), `make archive` target/staticlib/libusigrambal.a alone. */
 #ifndef USIGRAMBAL_H
 #define USIGRAMBAL_H
 
@@ -15,6 +20,155 @@
 #ifdef __cplusplus
 extern "C" {
 #endif
+
+#define USI_VERSION_MAJOR 0
+#define USI_VERSION_MINOR 1
+#define USI_VERSION_PATCH 0
+#define USI_VERSION "0.1.0"
+
+/* What a call returns. */
+enum usi_answer {
+    USI_ACCEPTED = 0,
+    USI_WRONG_LENGTH = 1,
+    USI_BLOCK_COUNT = 2,
+    USI_NO_DISK_GUID = 3,
+    USI_NEITHER_GOOD = 10,
+    USI_NOT_THE_SAME = 11,
+    USI_NO_SUCH_SLOT = 12,
+    USI_SLOT_UNUSED = 13,
+    USI_NO_SIZE = 20,
+    USI_NO_TYPE = 21,
+    USI_BAD_UNIQUE_GUID = 22,
+    USI_BAD_PARTITION_NAME = 23,
+    USI_NO_UNUSED_SLOT = 24,
+    USI_NO_ROOM = 25,
+    USI_NOT_A_GUID = 30,
+    USI_IMAGE_LENGTH = 40,
+    USI_NO_SIGNATURE = 41,
+    USI_NO_GOOD_MAP = 42,
+    USI_TEXT_TOO_LONG = 50,
+    USI_OUT_OF_GRAMMAR = 51,
+    USI_BAD_NUMBER = 52,
+    USI_BAD_NAME = 53,
+    USI_NAME_TWICE = 54,
+    USI_TOO_MANY = 55,
+    USI_BAD_FLAG = 56,
+    USI_UNDECIDED = 57,
+    USI_DOES_NOT_FIT = 58,
+    USI_NO_MAP_SECTION = 59,
+    USI_AREA_MISSING = 60,
+    USI_AREA_OTHER_SIZE = 61,
+    USI_AREAS_SHARE = 62,
+    USI_AREA_ON_MAP = 63,
+    USI_NO_SUCH_AREA = 255
+};
+
+/* What the number of a refusal says, for a person; of a number that no call returns, that it is none. */
+static inline const char *usi_words(uint32_t number)
+{
+    switch (number) {
+    case USI_ACCEPTED: return "accepted";
+    case USI_WRONG_LENGTH: return "a lent buffer has a wrong length";
+    case USI_BLOCK_COUNT: return "the number of blocks is outside its range";
+    case USI_NO_DISK_GUID: return "the disk GUID is all zero";
+    case USI_NEITHER_GOOD: return "neither GPT copy is good";
+    case USI_NOT_THE_SAME: return "the GPT copies are not both good and the same";
+    case USI_NO_SUCH_SLOT: return "the partition number is not 1 to 128";
+    case USI_SLOT_UNUSED: return "the slot is unused";
+    case USI_NO_SIZE: return "the size is zero";
+    case USI_NO_TYPE: return "the type GUID is zero";
+    case USI_BAD_UNIQUE_GUID: return "the unique GUID is zero or already in a used slot";
+    case USI_BAD_PARTITION_NAME: return "the name has a nonzero unit after a zero one";
+    case USI_NO_UNUSED_SLOT: return "no unused slot";
+    case USI_NO_ROOM: return "no room";
+    case USI_NOT_A_GUID: return "not a GUID text";
+    case USI_IMAGE_LENGTH: return "the image length is outside its range";
+    case USI_NO_SIGNATURE: return "the signature of a map stands nowhere";
+    case USI_NO_GOOD_MAP: return "no good map";
+    case USI_TEXT_TOO_LONG: return "the layout text is too long";
+    case USI_OUT_OF_GRAMMAR: return "the text is out of grammar";
+    case USI_BAD_NUMBER: return "a bad number";
+    case USI_BAD_NAME: return "a bad name";
+    case USI_NAME_TWICE: return "a section name is used twice";
+    case USI_TOO_MANY: return "too many sections or levels";
+    case USI_BAD_FLAG: return "an unknown or repeated flag, or CBFS on a section with children";
+    case USI_UNDECIDED: return "the size of a section is undecided";
+    case USI_DOES_NOT_FIT: return "a section does not fit";
+    case USI_NO_MAP_SECTION: return "no section FMAP, or it has children or is too small";
+    case USI_AREA_MISSING: return "a preserved area is missing in the new map";
+    case USI_AREA_OTHER_SIZE: return "a preserved area has another size in the new map";
+    case USI_AREAS_SHARE: return "areas to be carried share a byte";
+    case USI_AREA_ON_MAP: return "an area to be carried shares a byte with area FMAP of the new map";
+    case USI_NO_SUCH_AREA: return "the map has no such area";
+    default: return "no call returns this number";
+    }
+}
+
+/* A GUID, as stored and as text. */
+#define USI_GUID_LEN 16
+#define USI_GUID_TEXT_LEN 36
+
+/* A disk: blocks of 512 bytes; the head is blocks 0 to 33, the tail the last 33 blocks; usable are blocks 34 to n - 34. */
+#define USI_BLOCK_LEN 512
+#define USI_BLOCKS_MIN UINT64_C(68)
+#define USI_BLOCKS_MAX UINT64_C(4294967296)
+#define USI_HEAD_LEN 17408
+#define USI_TAIL_LEN 16896
+#define USI_FIRST_USABLE 34
+#define USI_BEHIND_LAST_USABLE 34
+
+/* A table: 128 entries, one a slot; an entry whose bytes are all zero is unused. Numbers are little-endian. */
+#define USI_ENTRIES_LEN 16384
+#define USI_ENTRY_LEN 128
+#define USI_SLOTS 128
+
+/* Where the fields of an entry begin: type and unique GUID (16 bytes each), first block, last block (which is the partition's own),
+ * attributes (8 each), name (36 units of 2). */
+#define USI_ENTRY_TYPE 0
+#define USI_ENTRY_UNIQUE 16
+#define USI_ENTRY_FIRST 32
+#define USI_ENTRY_LAST 40
+#define USI_ENTRY_ATTRIBUTES 48
+#define USI_ENTRY_NAME 56
+#define USI_NAME_UNITS 36
+
+/* Where the disk GUID of the copy in use stands: in the head or in the tail, as usi_gpt_table says. */
+#define USI_DISK_GUID_IN_HEAD 568
+#define USI_DISK_GUID_IN_TAIL 16440
+
+/* The states of the two copies. */
+#define USI_STATE_SAME 1
+#define USI_STATE_DIFFERENT 2
+#define USI_STATE_PRIMARY_ONLY 3
+#define USI_STATE_BACKUP_ONLY 4
+
+/* An image, and its map: a header and then the areas. */
+#define USI_IMAGE_MIN 98
+#define USI_IMAGE_MAX 16777216
+#define USI_MAP_HEADER_LEN 56
+#define USI_AREA_LEN 42
+#define USI_AREAS_MAX 128
+
+/* Where the fields of an area begin: offset and size (4 bytes each), name (32, zeros after the name), flags (2). */
+#define USI_AREA_OFFSET 0
+#define USI_AREA_SIZE 4
+#define USI_AREA_NAME 8
+#define USI_AREA_FLAGS 40
+#define USI_AREA_NAME_LEN 32
+
+/* The flags of an area. */
+#define USI_FLAG_STATIC 1
+#define USI_FLAG_COMPRESSED 2
+#define USI_FLAG_RO 4
+#define USI_FLAG_PRESERVE 8
+
+/* A layout text, and its list of sections: 128 records, each as an area of the map. */
+#define USI_TEXT_MAX 32768
+#define USI_SECTIONS_MAX 128
+#define USI_LEVELS_MAX 8
+#define USI_IMAGE_NAME_LEN 32
+#define USI_RECORD_LEN 42
+#define USI_RECORDS_LEN 5376
 
 /* The CRC-32 of UEFI, zlib and gzip: reflected, polynomial 04C11DB7, all ones at the start, inverted at the end. */
 uint32_t usi_crc32(const uint8_t *bytes, size_t bytes_len);
@@ -58,7 +212,8 @@ uint32_t usi_fmap_carry(const uint8_t *old, size_t old_len, uint8_t *image, size
  * Refusals of every call, before its own: 1 a buffer has a wrong length; 2 n is not 68 to 4,294,967,296. All calls but usi_gpt_format then:
  * 10 neither copy is good. The four edits (add, delete, resize, rename) then: 11 the two copies are not both good and the same.
  *
- * On a refusal head, tail and the numbers behind the pointers for answers are as they were. A pointer for an answer must be valid and point into no buffer. */
+ * On a refusal head, tail and the numbers behind the pointers for answers are as they were.
+ * Pointers for answers must be valid and differ, and point into no buffer. */
 
 /* Writes both copies with no entries, and block 0. Refusals in order: 1, 2; 3 the disk GUID is all zero. */
 uint32_t usi_gpt_format(uint8_t *head, size_t head_len, uint8_t *tail, size_t tail_len, uint64_t n, const uint8_t *guid, size_t guid_len);
@@ -97,11 +252,12 @@ uint32_t usi_gpt_repair(uint8_t *head, size_t head_len, uint8_t *tail, size_t ta
 
 /* The layout language. A text of at most 32,768 bytes describes an image and its sections, at most 128 of them on at most 8 levels.
  *
- * Refusals of a text, in order: 50 text_len is over 32,768; then the first fault from left to right, 51 the text is out of grammar, 52 a bad number, 53 a bad name,
- * 55 too many sections or levels, 56 an unknown or repeated flag; then over all sections 54 a name is used twice, 56 CBFS on a section with children,
- * 57 a size is undecided, 58 a section does not fit, 59 no section FMAP, or it has children or is too small for the map.
+ * Refusals of a text, in order: 50 text_len is over 32,768; then the first fault from left to right, 51 the text is out of grammar, 52 a bad number,
+ * 53 a bad name, 55 too many sections or levels, 56 an unknown or repeated flag; then over all sections 54 a name is used twice,
+ * 56 CBFS on a section with children, 57 a size is undecided, 58 a section does not fit, 59 no section FMAP, or it has children or is too small for the map.
  *
- * On a refusal every buffer and every number behind a pointer for an answer is as it was. Pointers for answers must be valid and differ, and point into no buffer. */
+ * On a refusal every buffer and every number behind a pointer for an answer is as it was.
+ * Pointers for answers must be valid and differ, and point into no buffer. */
 
 /* Reads a text: the image's name (32 bytes, zeros after the name), its size, its address or 0, and how many sections it has.
  * Refusals in order: 1 name_len is not 32; then those of a text. */

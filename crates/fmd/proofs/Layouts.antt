@@ -13,11 +13,10 @@ use Rattle.fmap_rules.specs.declared.Area.{Area}
 use Rattle.fmap_write.specs.Areas.{listOf, Sound}
 use Rattle.fmap_write.specs.declared.Areas.{Areas}
 use Rattle.fmap_write.proofs.Fields.{map-written}
-use Rattle.fmd_table.specs.Table.{sectionsIn}
+use Rattle.fmd_table.specs.Table.{sectionsIn, placedIn, HasRows, HasSpots}
 use Rattle.fmd_table.proofs.Table.{length-sections}
 use Rattle.fmd_parse.specs.declared.Image.{Image}
-use Rattle.fmd_plan.specs.Plans.{placedIn}
-use Rattle.fmd_plan.proofs.Plans.{length-placed}
+use Rattle.fmd_table.proofs.Spots.{length-placed}
 use Rattle.fmd_check.specs.Check.{fault, good, checkText}
 use Rattle.fmd_check.specs.Facts.{Numbered}
 use Rattle.fmd_check.proofs.Facts.{check-facts}
@@ -35,9 +34,9 @@ no-areas r w e = sym (length-take-le (r .count) (r .items) (omega (arith, w .roo
 -- ---- the tables of a text that is accepted
 
 -- what a check of the text answers, with the tables afterwards
-pub held : (s : List ℕ) (i : Image) (rows spots : List ℕ) (n m : ℕ) → length rows ≡ 1280 → length spots ≡ 512
+pub held : (s : List ℕ) (i : Image) (rows spots : List ℕ) (n m : ℕ) → HasRows 128 rows → HasSpots 128 spots
     → good i (sectionsIn n rows) (placedIn n spots) m ≡ checkText s → Held s i rows spots n m
-held s i rows spots n m p q e = record { rows-full = p; spots-full = q; accepted = rw (sym e) at (check-facts s) }
+held s i rows spots n m p q e = record { rows-room = p; spots-room = q; accepted = rw (sym e) at (check-facts s) }
 
 pub numbered : (s : List ℕ) (n p : ℕ) → fault n p ≡ checkText s → Numbered n
 numbered s n p e = (rw (sym e) at (check-facts s)) .0
@@ -48,8 +47,8 @@ module _ {s : List ℕ} {i : Image} {rows spots : List ℕ} {n m : ℕ} (g : Hel
 
   pub laid : Laid s rows spots n
   laid = record {
-    rows-room = omega (arith, few, g .rows-full);
-    spots-room = omega (arith, few, g .spots-full);
+    rows-room = omega (arith, few, g .rows-room);
+    spots-room = omega (arith, few, g .spots-room);
     tree = g .accepted .tree;
     size = i .size;
     small = omega (arith, g .accepted .image .high);

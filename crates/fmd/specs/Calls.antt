@@ -17,8 +17,7 @@ use Rattle.fmd_parse.specs.declared.Address.the-variants.{Given, Omitted}
 use Rattle.fmd_parse.specs.declared.Image.{Image as TextImage}
 use Rattle.fmd_check.specs.Check.{Judged, fault, good, checkText}
 use Rattle.fmd_check.specs.Facts as Text
-use Rattle.fmd_plan.specs.Plans.{placedIn}
-use Rattle.fmd_table.specs.Table.{sectionsIn}
+use Rattle.fmd_table.specs.Table.{sectionsIn, placedIn, HasRows, HasSpots}
 use Rattle.fmd_areas.specs.Areas.{storedName, areaAt, areasOf}
 use Rattle.fmd.specs.declared.Answer.{Answer}
 use Rattle.fmd.specs.declared.Answer.the-variants.{Accepted, WrongLength, TooLong, OutOfGrammar, BadNumber, BadName, NameTwice, TooMany, BadFlag, Undecided, Unfit, NoMapSection}
@@ -148,8 +147,8 @@ writeText s image = writeBy (layoutIn s) image (layoutIn s .answer)
 
 -- a text that is accepted, with the tables of its n sections; section m is FMAP
 pub record Held (s : List ℕ) (i : TextImage) (rows spots : List ℕ) (n m : ℕ) : Type 0 where
-  pub rows-full : length rows ≡ 1280
-  pub spots-full : length spots ≡ 512
+  pub rows-room : HasRows 128 rows
+  pub spots-room : HasSpots 128 spots
   pub accepted : Text.Accepted s i (sectionsIn n rows) (placedIn n spots) m
 
 abbrev pub said : Layout → Said

@@ -13,7 +13,7 @@ use Rattle.fmap_rules.specs.Written.{Writable, Headed}
 use Rattle.fmap.specs.Find.{accepted, findMap}
 use Rattle.fmd_table.specs.declared.Section.{Section}
 use Rattle.fmd_parse.specs.declared.Image.{Image as TextImage}
-use Rattle.fmd_plan.specs.declared.Placed.{Placed}
+use Rattle.fmd_table.specs.declared.Placed.{Placed}
 use Rattle.fmd_check.specs.Check.{good, checkText}
 use Rattle.fmd_areas.specs.Areas.{areaAt}
 use Rattle.fmd_areas.specs.Nested.{Nested}

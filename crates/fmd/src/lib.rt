@@ -7,8 +7,7 @@ ghost use lib.ListN.{length, getD};
 ghost use Rattle.octets.specs.Rows.{codeOf};
 ghost use Rattle.fmap_rules.specs.Map.{blank};
 ghost use Rattle.fmap_write.specs.Areas.{listOf, Sound};
-ghost use Rattle.fmd_table.specs.Table.{sectionsIn};
-ghost use Rattle.fmd_plan.specs.Plans.{placedIn};
+ghost use Rattle.fmd_table.specs.Table.{sectionsIn, placedIn};
 ghost use Rattle.fmd_check.specs.Check.{good};
 ghost use Rattle.fmd_check.specs.Facts.{Numbered};
 ghost use Rattle.fmd.specs.Calls.{numberOf, Held, said, refusedWith, blank as blankImage, baseOf, imageOf, saidBy, layoutIn, layoutFor, reading, readText, sectionOf, filled, listed, listText, recorded, recordText, written, writeBy, writeText};
@@ -20,6 +19,8 @@ use fmd_areas::area_at;
 use fmd_check::Verdict;
 use fmd_parse::Address;
 use fmd_parse::Image as TextImage;
+use fmd_table::ROWS;
+use fmd_table::SPOTS;
 
 // What a call answers.
 pub enum Answer {
@@ -191,8 +192,8 @@ fn accepted(text: &[u8], i: TextImage, rows: &[u32], spots: &[u32], n: usize, m:
 fn layout_in(text: &[u8]) -> Layout
     ensures { λ r. ⌜ Sound (r .areas) × (said r ≡ layoutIn (now (text .entry))) ⌝ }
 {
-    let mut rows = [0u32; 1280];
-    let mut spots = [0u32; 512];
+    let mut rows = [0u32; ROWS];
+    let mut spots = [0u32; SPOTS];
     match fmd_check::check(text, &mut rows, &mut spots) {
         Verdict::Good(i, n, m) => accepted(text, i, &rows, &spots, n, m),
         Verdict::Fault(k, _) => refused(answer_of(k)),
@@ -203,8 +204,8 @@ fn layout_in(text: &[u8]) -> Layout
 pub fn read(text: &[u8]) -> Reading
     ensures { λ r. ⌜ reading r ≡ readText (now (text .entry)) ⌝ }
 {
-    let mut rows = [0u32; 1280];
-    let mut spots = [0u32; 512];
+    let mut rows = [0u32; ROWS];
+    let mut spots = [0u32; SPOTS];
     match fmd_check::check(text, &mut rows, &mut spots) {
         Verdict::Good(i, n, _) => {
             let image = image_of(text, i, n);
@@ -274,8 +275,8 @@ pub fn put_records(text: &[u8], records: &mut [u8]) -> Reading
     if records.len() != 5376 {
         return unread(Answer::WrongLength);
     }
-    let mut rows = [0u32; 1280];
-    let mut spots = [0u32; 512];
+    let mut rows = [0u32; ROWS];
+    let mut spots = [0u32; SPOTS];
     match fmd_check::check(text, &mut rows, &mut spots) {
         Verdict::Good(i, n, _) => {
             fmd_areas::put_areas(text, &rows, &spots, n, records, 0);
@@ -319,8 +320,8 @@ fn put_layout(
 pub fn write_map(text: &[u8], image: &mut [u8]) -> Answer
     ensures { λ r. ⌜ written r (now (image .exit)) ≡ writeText (now (text .entry)) (now (image .entry)) ⌝ }
 {
-    let mut rows = [0u32; 1280];
-    let mut spots = [0u32; 512];
+    let mut rows = [0u32; ROWS];
+    let mut spots = [0u32; SPOTS];
     match fmd_check::check(text, &mut rows, &mut spots) {
         Verdict::Good(i, n, m) => put_layout(text, i, &rows, &spots, n, m, image),
         Verdict::Fault(k, _) => answer_of(k),

@@ -11,13 +11,12 @@ use Rattle.octets.proofs.Parts.{length-part, length-zeros, part-zeros}
 use Rattle.octets.proofs.Puts.{put-eq}
 use Rattle.fmap_rules.specs.Map.{blank as blankArea}
 use Rattle.fmap_rules.specs.declared.Area.{Area}
-use Rattle.fmd_table.specs.Table.{sectionAt, sectionsIn}
+use Rattle.fmd_table.specs.Table.{blank, sectionAt, sectionsIn, placedAt, placedIn}
 use Rattle.fmd_table.specs.declared.Section.{Section}
 use Rattle.fmd_table.proofs.Table.{length-sections, section-in}
 use Rattle.fmd_parse.specs.Trees.{blank as blankSection}
-use Rattle.fmd_plan.specs.Plans.{blank, placedAt, placedIn}
-use Rattle.fmd_plan.specs.declared.Placed.{Placed}
-use Rattle.fmd_plan.proofs.Plans.{length-placed, placed-in}
+use Rattle.fmd_table.specs.declared.Placed.{Placed}
+use Rattle.fmd_table.proofs.Spots.{length-placed, placed-in}
 use Rattle.fmd_areas.specs.Areas.{positionIn, Climbs, storedName, areaFrom, areaAt, areasOf, Laid}
 use Rattle.fmd_areas.proofs.Places.{climbs, ends}
 use Rattle.fmd_areas.proofs.Names.{name-short}

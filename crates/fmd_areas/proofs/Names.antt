@@ -20,7 +20,7 @@ use Rattle.fmd_lex.specs.Names.{goodName}
 use Rattle.fmd_parse.specs.Trees.{Named, Tree, blank as blankSection}
 use Rattle.fmd_table.specs.declared.Section.{Section}
 use Rattle.fmd_rows.specs.Rows.{repeats, fmap, isFmap}
-use Rattle.fmd_plan.specs.declared.Placed.{Placed}
+use Rattle.fmd_table.specs.declared.Placed.{Placed}
 use Rattle.fmd_areas.specs.Areas.{storedName, areaFrom, areaAt}
 
 length-name : (s : List ℕ) (p n : ℕ) → p + n ≤ length s → n ≤ 32 → length (storedName s p n) ≡ 32

@@ -16,9 +16,9 @@ use Rattle.fmap_rules.specs.declared.Extent.{Extent}
 use Rattle.fmap_rules.specs.declared.Area.{Area}
 use Rattle.fmd_parse.specs.Trees.{Tree}
 use Rattle.fmd_table.specs.declared.Section.{Section}
-use Rattle.fmd_plan.specs.Plans.{blank}
+use Rattle.fmd_table.specs.Table.{blank}
 use Rattle.fmd_plan.specs.Fitted.{Fitted}
-use Rattle.fmd_plan.specs.declared.Placed.{Placed}
+use Rattle.fmd_table.specs.declared.Placed.{Placed}
 use Rattle.fmd_areas.specs.Areas.{positionIn, areaFrom, areaAt, areasOf}
 use Rattle.fmd_areas.specs.Nested.{AreasNested}
 use Rattle.fmd_areas.proofs.Places.{Top, Child, above, ends}

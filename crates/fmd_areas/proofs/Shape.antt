@@ -6,7 +6,7 @@ use native.Mathlib.Nat.{not-suc-le-zero, le-of-suc-le-suc, add-zero, add-suc, su
 use lib.ListN.{length, getD}
 use Rattle.fmap_rules.specs.Map.{blank as blankArea}
 use Rattle.fmd_table.specs.declared.Section.{Section}
-use Rattle.fmd_plan.specs.declared.Placed.{Placed}
+use Rattle.fmd_table.specs.declared.Placed.{Placed}
 use Rattle.fmd_areas.specs.Areas.{areaAt, areasFrom, areasOf}
 
 module _ (s : List ℕ) (l : List Section) (ps : List Placed) where

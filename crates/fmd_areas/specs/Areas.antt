@@ -6,12 +6,11 @@ use lib.ListN.{length, getD}
 use Rattle.octets.specs.Bytes.{part, zeros}
 use Rattle.fmap_rules.specs.Map.{position}
 use Rattle.fmap_rules.specs.declared.Area.{Area}
-use Rattle.fmd_table.specs.Table.{sectionsIn}
+use Rattle.fmd_table.specs.Table.{blank, sectionsIn, placedIn, HasRows, HasSpots}
 use Rattle.fmd_parse.specs.Trees.{blank as blankSection, Tree}
 use Rattle.fmd_table.specs.declared.Section.{Section}
 use Rattle.fmd_plan.specs.Fitted.{Fitted}
-use Rattle.fmd_plan.specs.Plans.{blank, placedIn}
-use Rattle.fmd_plan.specs.declared.Placed.{Placed}
+use Rattle.fmd_table.specs.declared.Placed.{Placed}
 
 -- L15: A section's position in the image is its offset plus its parent's position. Section k, of a level; level 0 is the image.
 unfoldable pub positionIn : ℕ → List Placed → ℕ → ℕ
@@ -52,8 +51,8 @@ areasOf s l ps = areasFrom s l ps (length ps) 0
 
 -- n sections of the text s and their places, in an image whose size fits 32 bits
 pub record Laid (s rows spots : List ℕ) (n : ℕ) : Type 0 where
-  pub rows-room : 10 * n ≤ length rows
-  pub spots-room : 4 * n ≤ length spots
+  pub rows-room : HasRows n rows
+  pub spots-room : HasSpots n spots
   pub tree : Tree s (sectionsIn n rows)
   pub size : ℕ
   pub small : size ≤ 4294967295

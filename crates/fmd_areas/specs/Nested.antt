@@ -9,7 +9,7 @@ use Rattle.fmap_rules.specs.declared.Area.{Area}
 use Rattle.fmd_parse.specs.Trees.{Tree, blank as blankSection}
 use Rattle.fmd_table.specs.declared.Section.{Section}
 use Rattle.fmd_plan.specs.Fitted.{Fitted}
-use Rattle.fmd_plan.specs.declared.Placed.{Placed}
+use Rattle.fmd_table.specs.declared.Placed.{Placed}
 use Rattle.fmd_areas.specs.Areas.{areasOf}
 
 -- the areas of the sections l of an image of z bytes

@@ -7,22 +7,21 @@ ghost use lib.ListN.{length};
 ghost use Rattle.octets.specs.Bytes.{put, flat};
 ghost use Rattle.fmap_rules.specs.Written.{areaBytes};
 ghost use Rattle.fmap_write.specs.Areas.{listOf, Sound};
-ghost use Rattle.fmd_table.specs.Table.{sectionsIn};
-ghost use Rattle.fmd_plan.specs.Plans.{placedIn};
+ghost use Rattle.fmd_table.specs.Table.{sectionsIn, placedIn, HasSpots};
 ghost use Rattle.fmd_areas.specs.Areas.{positionIn, Climbs, storedName, areaFrom, areaAt, areasOf, Laid};
 use fmap_rules::Area;
 use fmap_rules::Extent;
 use fmap_rules::ImagePosition;
 use fmap_write::Areas;
 use fmap_write::put_area;
-use fmd_plan::Placed;
-use fmd_plan::placed_at;
+use fmd_table::Placed;
 use fmd_table::Section;
+use fmd_table::placed_at;
 use fmd_table::row_at;
 
 // The position of section k of n, of a level: its offset plus its parent's position. Level 0 is the image.
 fn position(spots: &[u32], n: usize, k: usize, level: u32) -> ImagePosition
-    requires { ⌜ (4 * n ≤ length (now spots)) × Climbs level (placedIn n (now spots)) k × (positionIn level (placedIn n (now spots)) k ≤ 4294967295) ⌝ }
+    requires { ⌜ HasSpots n (now spots) × Climbs level (placedIn n (now spots)) k × (positionIn level (placedIn n (now spots)) k ≤ 4294967295) ⌝ }
     ensures { λ r. ⌜ r .0 ≡ positionIn level (placedIn n (now (spots .entry))) k ⌝ }
 {
     if level == 0 {

@@ -13,6 +13,7 @@ use Rattle.octets.proofs.Bools.{choice, and-l, and-r, or-cases, or-false-l, or-
 use Rattle.fmap_rules.specs.Map.{mapSize}
 use Rattle.fmd_parse.specs.Trees.{blank as blankSection, Tree, Imaged, LayoutFacts}
 use Rattle.fmd_parse.specs.Layouts.{Layout, layout, refused, layoutOf}
+use Rattle.fmd_table.specs.Table.{blank}
 use Rattle.fmd_table.specs.declared.Section.{Section}
 use Rattle.fmd_parse.specs.declared.Image.{Image}
 use Rattle.fmd_parse.proofs.Trees.{layout-facts}
@@ -20,9 +21,9 @@ use Rattle.fmd_rows.specs.Rows.{foundFrom, repeats, firstRepeat, holdsCbfs, fir
 use Rattle.fmd_rows.specs.declared.Found.{Found}
 use Rattle.fmd_rows.specs.declared.Found.the-variants.{At, Nowhere}
 use Rattle.fmd_rows.proofs.Rows.{FirstFacts, first-facts}
-use Rattle.fmd_plan.specs.Plans.{Resolved, unfit, plan, resolveFrom, blank}
+use Rattle.fmd_plan.specs.Plans.{Resolved, unfit, plan, resolveFrom}
 use Rattle.fmd_plan.specs.Fitted.{Fitted, ResolvedFacts}
-use Rattle.fmd_plan.specs.declared.Placed.{Placed}
+use Rattle.fmd_table.specs.declared.Placed.{Placed}
 use Rattle.fmd_plan.proofs.Fitted.{resolve-facts}
 use Rattle.fmd_check.specs.Check.{Judged, fault, atSection, checkLeaf, atMap, checkMap, atPlan, checkPlaces, checkSizes, checkMarks, checkList, checkLayout, checkText}
 use Rattle.fmd_check.specs.Facts.{Numbered, CheckedFacts}

@@ -7,7 +7,7 @@ use lib.Dec.{ltb}
 use lib.ListN.{length, getD}
 use Rattle.octets.specs.Tests.{_or_}
 use Rattle.fmap_rules.specs.Map.{mapSize}
-use Rattle.fmd_table.specs.Table.{sectionsIn}
+use Rattle.fmd_table.specs.Table.{blank, sectionsIn, placedIn}
 use Rattle.fmd_parse.specs.Trees.{blank as blankSection}
 use Rattle.fmd_parse.specs.Layouts.{Layout, layout, refused, layoutOf}
 use Rattle.fmd_table.specs.declared.Section.{Section}
@@ -15,8 +15,8 @@ use Rattle.fmd_parse.specs.declared.Image.{Image}
 use Rattle.fmd_rows.specs.Rows.{firstRepeat, firstCbfs, firstUndecided, fmapIn, hasChild}
 use Rattle.fmd_rows.specs.declared.Found.{Found}
 use Rattle.fmd_rows.specs.declared.Found.the-variants.{At, Nowhere}
-use Rattle.fmd_plan.specs.Plans.{Resolved, unfit, plan, blank, resolveFrom, placedIn}
-use Rattle.fmd_plan.specs.declared.Placed.{Placed}
+use Rattle.fmd_plan.specs.Plans.{Resolved, unfit, plan, resolveFrom}
+use Rattle.fmd_table.specs.declared.Placed.{Placed}
 use Rattle.fmd_check.specs.declared.Verdict.{Verdict}
 use Rattle.fmd_check.specs.declared.Verdict.the-variants.{Good, Fault}
 

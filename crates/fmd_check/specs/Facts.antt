@@ -9,9 +9,9 @@ use Rattle.fmd_parse.specs.Trees.{Tree, Imaged}
 use Rattle.fmd_table.specs.declared.Section.{Section}
 use Rattle.fmd_parse.specs.declared.Image.{Image}
 use Rattle.fmd_rows.specs.Rows.{isFmap, hasChild, repeats}
-use Rattle.fmd_plan.specs.Plans.{blank}
+use Rattle.fmd_table.specs.Table.{blank}
 use Rattle.fmd_plan.specs.Fitted.{Fitted}
-use Rattle.fmd_plan.specs.declared.Placed.{Placed}
+use Rattle.fmd_table.specs.declared.Placed.{Placed}
 use Rattle.fmd_check.specs.Check.{Judged, fault, good}
 
 -- (R33) a layout text is refused with one of the numbers 50 to 59

@@ -4,10 +4,9 @@
 ghost use mathlib.Core.Path.{_≡_};
 ghost use Prim.Native.Nat.{_*_, _≤_, _<_};
 ghost use lib.ListN.{length, getD};
-ghost use Rattle.fmd_table.specs.Table.{sectionsIn};
+ghost use Rattle.fmd_table.specs.Table.{sectionsIn, placedIn, HasRows, HasSpots};
 ghost use Rattle.fmd_parse.specs.Trees.{blank};
 ghost use Rattle.fmd_rows.specs.Rows.{Inside};
-ghost use Rattle.fmd_plan.specs.Plans.{placedIn};
 ghost use Rattle.fmd_check.specs.Check.{verdictOf, checkLeaf, checkMap, checkPlaces, checkSizes, checkMarks, checkList, checkText};
 use fmd_parse::Answer;
 use fmd_parse::Image;
@@ -22,7 +21,7 @@ pub enum Verdict {
 
 // A fault at the name of section k.
 fn fault_at(number: u16, rows: &[u32], n: usize, k: usize) -> Verdict
-    requires { ⌜ (10 * n ≤ length (now rows)) × (k < n) ⌝ }
+    requires { ⌜ HasRows n (now rows) × (k < n) ⌝ }
     ensures { λ r. ⌜ r ≡ Verdict.Fault number (getD (sectionsIn n (now (rows .entry))) k blank .place) ⌝ }
 {
     let h = row_at(rows, k);
@@ -31,13 +30,13 @@ fn fault_at(number: u16, rows: &[u32], n: usize, k: usize) -> Verdict
 
 // Row 59, where section k is FMAP.
 fn check_leaf(i: Image, rows: &[u32], spots: &[u32], n: usize, k: usize) -> Verdict
-    requires { ⌜ (10 * n ≤ length (now rows)) × (4 * n ≤ length (now spots)) × (n ≤ 128) × (k < n) ⌝ }
+    requires { ⌜ HasRows n (now rows) × HasSpots n (now spots) × (n ≤ 128) × (k < n) ⌝ }
     ensures { λ r. ⌜ verdictOf r (now (rows .entry)) (now (spots .entry)) ≡ checkLeaf i (sectionsIn n (now (rows .entry))) (placedIn n (now (spots .entry))) k ⌝ }
 {
     if fmd_rows::has_child(rows, n, k) {
         return fault_at(59, rows, n, k);
     }
-    let q = fmd_plan::placed_at(spots, k);
+    let q = fmd_table::placed_at(spots, k);
     if (q.size as usize) < 56 + 42 * n {
         return fault_at(59, rows, n, k);
     }
@@ -46,7 +45,7 @@ fn check_leaf(i: Image, rows: &[u32], spots: &[u32], n: usize, k: usize) -> Verd
 
 // Row 59.
 fn check_map(text: &[u8], i: Image, rows: &[u32], spots: &[u32], n: usize) -> Verdict
-    requires { ⌜ (10 * n ≤ length (now rows)) × (4 * n ≤ length (now spots)) × (n ≤ 128) × Inside (now text) (sectionsIn n (now rows)) ⌝ }
+    requires { ⌜ HasRows n (now rows) × HasSpots n (now spots) × (n ≤ 128) × Inside (now text) (sectionsIn n (now rows)) ⌝ }
     ensures { λ r. ⌜ verdictOf r (now (rows .entry)) (now (spots .entry)) ≡ checkMap (now (text .entry)) i (sectionsIn n (now (rows .entry))) (placedIn n (now (spots .entry))) ⌝ }
 {
     match fmd_rows::find_fmap(text, rows, n) {
@@ -57,7 +56,7 @@ fn check_map(text: &[u8], i: Image, rows: &[u32], spots: &[u32], n: usize) -> Ve
 
 // Rows 58 and 59.
 fn check_places(text: &[u8], i: Image, rows: &[u32], spots: &mut [u32], n: usize) -> Verdict
-    requires { ⌜ (10 * n ≤ length (now rows)) × (4 * n ≤ length (now spots)) × (n ≤ 128) × Inside (now text) (sectionsIn n (now rows)) ⌝ }
+    requires { ⌜ HasRows n (now rows) × HasSpots n (now spots) × (n ≤ 128) × Inside (now text) (sectionsIn n (now rows)) ⌝ }
     ensures { λ r. ⌜ verdictOf r (now (rows .entry)) (now (spots .exit)) ≡ checkPlaces (now (text .entry)) i (sectionsIn n (now (rows .entry))) ⌝ }
 {
     match fmd_plan::resolve(rows, n, i.size, spots) {
@@ -68,7 +67,7 @@ fn check_places(text: &[u8], i: Image, rows: &[u32], spots: &mut [u32], n: usize
 
 // Rows 57 to 59.
 fn check_sizes(text: &[u8], i: Image, rows: &[u32], spots: &mut [u32], n: usize) -> Verdict
-    requires { ⌜ (10 * n ≤ length (now rows)) × (4 * n ≤ length (now spots)) × (n ≤ 128) × Inside (now text) (sectionsIn n (now rows)) ⌝ }
+    requires { ⌜ HasRows n (now rows) × HasSpots n (now spots) × (n ≤ 128) × Inside (now text) (sectionsIn n (now rows)) ⌝ }
     ensures { λ r. ⌜ verdictOf r (now (rows .entry)) (now (spots .exit)) ≡ checkSizes (now (text .entry)) i (sectionsIn n (now (rows .entry))) ⌝ }
 {
     match fmd_rows::first_undecided(rows, n) {
@@ -79,7 +78,7 @@ fn check_sizes(text: &[u8], i: Image, rows: &[u32], spots: &mut [u32], n: usize)
 
 // Rows 56 to 59.
 fn check_marks(text: &[u8], i: Image, rows: &[u32], spots: &mut [u32], n: usize) -> Verdict
-    requires { ⌜ (10 * n ≤ length (now rows)) × (4 * n ≤ length (now spots)) × (n ≤ 128) × Inside (now text) (sectionsIn n (now rows)) ⌝ }
+    requires { ⌜ HasRows n (now rows) × HasSpots n (now spots) × (n ≤ 128) × Inside (now text) (sectionsIn n (now rows)) ⌝ }
     ensures { λ r. ⌜ verdictOf r (now (rows .entry)) (now (spots .exit)) ≡ checkMarks (now (text .entry)) i (sectionsIn n (now (rows .entry))) ⌝ }
 {
     match fmd_rows::first_cbfs(rows, n) {
@@ -90,7 +89,7 @@ fn check_marks(text: &[u8], i: Image, rows: &[u32], spots: &mut [u32], n: usize)
 
 // Rows 54 to 59.
 fn check_list(text: &[u8], i: Image, rows: &[u32], spots: &mut [u32], n: usize) -> Verdict
-    requires { ⌜ (10 * n ≤ length (now rows)) × (4 * n ≤ length (now spots)) × (n ≤ 128) × Inside (now text) (sectionsIn n (now rows)) ⌝ }
+    requires { ⌜ HasRows n (now rows) × HasSpots n (now spots) × (n ≤ 128) × Inside (now text) (sectionsIn n (now rows)) ⌝ }
     ensures { λ r. ⌜ verdictOf r (now (rows .entry)) (now (spots .exit)) ≡ checkList (now (text .entry)) i (sectionsIn n (now (rows .entry))) ⌝ }
 {
     match fmd_rows::first_repeat(text, rows, n) {
@@ -101,7 +100,7 @@ fn check_list(text: &[u8], i: Image, rows: &[u32], spots: &mut [u32], n: usize) 
 
 // Image, sections and their places of a layout text, or its first fault.
 pub fn check(text: &[u8], rows: &mut [u32], spots: &mut [u32]) -> Verdict
-    requires { ⌜ (length (now rows) ≡ 1280) × (length (now spots) ≡ 512) ⌝ }
+    requires { ⌜ HasRows 128 (now rows) × HasSpots 128 (now spots) ⌝ }
     ensures { λ r. ⌜ verdictOf r (now (rows .exit)) (now (spots .exit)) ≡ checkText (now (text .entry)) ⌝ }
 {
     if 32768 < text.len() {

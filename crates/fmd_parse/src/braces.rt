@@ -3,7 +3,7 @@ ghost use mathlib.Core.Path.{_≡_};
 ghost use Prim.Native.Nat.{_≤_};
 ghost use lib.ListN.{length};
 ghost use Rattle.fmd_lex.specs.Tokens.{Within};
-ghost use Rattle.fmd_table.specs.Table.{sectionsIn};
+ghost use Rattle.fmd_table.specs.Table.{sectionsIn, HasRows};
 ghost use Rattle.fmd_parse.specs.Layouts.{SectionRead, ListRead};
 use super::Part;
 use super::Step;
@@ -15,7 +15,7 @@ use fmd_lex::next_token;
 
 // A section, put into row n, with the sections in its braces.
 fn read_section(text: &[u8], t: Token, level: u32, parent: u32, rows: &mut [u32], n: usize) -> Step
-    requires { ⌜ (length (now text) ≤ 32768) × Within (length (now text)) 0 t × (length (now rows) ≡ 1280) × (n ≤ 128) ⌝ }
+    requires { ⌜ (length (now text) ≤ 32768) × Within (length (now text)) 0 t × HasRows 128 (now rows) × (n ≤ 128) ⌝ }
     ensures { λ r. ⌜ SectionRead (now (text .entry)) t level parent (sectionsIn n (now (rows .entry))) (now (rows .exit)) r ⌝ }
 {
     match head_at(text, t, level, parent, n) {
@@ -35,7 +35,7 @@ fn read_section(text: &[u8], t: Token, level: u32, parent: u32, rows: &mut [u32]
 
 // The sections up to the closing brace, from row n on.
 pub fn read_list(text: &[u8], t: Token, level: u32, parent: u32, rows: &mut [u32], n: usize) -> Step
-    requires { ⌜ (length (now text) ≤ 32768) × Within (length (now text)) 0 t × (length (now rows) ≡ 1280) × (n ≤ 128) ⌝ }
+    requires { ⌜ (length (now text) ≤ 32768) × Within (length (now text)) 0 t × HasRows 128 (now rows) × (n ≤ 128) ⌝ }
     ensures { λ r. ⌜ ListRead (now (text .entry)) t level parent (sectionsIn n (now (rows .entry))) (now (rows .exit)) r ⌝ }
 {
     let mut now = t;

@@ -4,6 +4,7 @@ ghost use mathlib.Core.List.{List};
 ghost use mathlib.Core.Path.{_≡_};
 ghost use Prim.Native.Nat.{ℕ, _≤_};
 ghost use lib.ListN.{length};
+ghost use Rattle.fmd_table.specs.Table.{HasRows};
 ghost use Rattle.fmd_parse.specs.Layouts.{stepOf, answerOf, afterList, endedBy, layoutOf};
 use fmd_lex::Token;
 use fmd_lex::next_token;
@@ -79,7 +80,7 @@ fn ended(i: Image, o: Step) -> Answer
 
 // Image and sections of a layout text, or its first fault.
 pub fn read_layout(text: &[u8], rows: &mut [u32]) -> Answer
-    requires { ⌜ (length (now text) ≤ 32768) × (length (now rows) ≡ 1280) ⌝ }
+    requires { ⌜ (length (now text) ≤ 32768) × HasRows 128 (now rows) ⌝ }
     ensures { λ r. ⌜ answerOf r (now (rows .exit)) ≡ layoutOf (now (text .entry)) ⌝ }
 {
     let t = next_token(text, 0);

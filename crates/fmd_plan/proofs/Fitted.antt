@@ -12,10 +12,11 @@ use borrow.Author.Tests.{ltb-true, ltb-false, leb-true, eqb-true, eq-eqb}
 use Rattle.octets.specs.Tests.{_and_}
 use Rattle.octets.proofs.Bools.{choice, and-l, and-r}
 use Rattle.fmd_parse.specs.Trees.{blank as blankSection}
+use Rattle.fmd_table.specs.Table.{blank}
 use Rattle.fmd_table.specs.declared.Section.{Section}
-use Rattle.fmd_plan.specs.Plans.{blank, endOf, endWith, endIn, roomOf, fits, spotOf, spotIn, placeOf, Resolved, afterSpot, resolveFrom}
+use Rattle.fmd_table.specs.declared.Placed.{Placed}
+use Rattle.fmd_plan.specs.Plans.{endOf, endWith, endIn, roomOf, fits, spotOf, spotIn, placeOf, Resolved, afterSpot, resolveFrom}
 use Rattle.fmd_plan.specs.Fitted.{Lies, ResolvedFacts}
-use Rattle.fmd_plan.specs.declared.Placed.{Placed}
 use Rattle.fmd_plan.specs.declared.Spot.{Spot}
 use Rattle.fmd_plan.specs.declared.Spot.the-variants.{Fits, Unfit}
 

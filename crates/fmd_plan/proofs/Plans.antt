@@ -1,63 +1,20 @@
--- Laws of the table of placed sections, and of the resolution's loops over it.
+-- Laws of the resolution's loops over the two tables.
 use mathlib.Core.Path.{_≡_, refl, sym, ap, _∙_}
 use mathlib.Core.List.{List, [], _∷_, _++_}
 use Prim.Native.Nat.{ℕ, suc, _+_, _*_, _≤_, _<_}
-use native.Mathlib.Nat.{add-zero}
 use native.Mathlib.Numerals.{add-one}
 use native.Mathlib.Omega.{arith}
-use lib.ListN.{length, getD, set, drop, drop-of-length-le}
+use lib.ListN.{length, getD, drop, drop-of-length-le}
 use lib.Seq.{drop-cons}
 use borrow.Author.Tests.{eq-eqb, ne-eqb}
-use Rattle.octets.specs.Bytes.{part, put}
-use Rattle.octets.proofs.Parts.{getD-part}
-use Rattle.fmd_table.specs.Table.{listed, sectionsIn}
-use Rattle.fmd_table.proofs.Listed.{length-listed, nothing-listed, listed-more, getD-listed, rows-put}
+use Rattle.fmd_table.specs.Table.{listed, sectionsIn, placedAt, placedIn}
+use Rattle.fmd_table.proofs.Listed.{listed-more}
 use Rattle.fmd_table.proofs.Table.{length-sections}
+use Rattle.fmd_table.proofs.Spots.{length-placed, none-placed}
+use Rattle.fmd_table.specs.declared.Placed.{Placed}
 use Rattle.fmd_parse.specs.Trees.{blank as blankSection}
-use Rattle.fmd_plan.specs.Plans.{blank, endWith, endIn, placeOf, unfit, plan, resolveFrom, wordsOf, placedOf, placedAt, placedIn}
-use Rattle.fmd_plan.specs.declared.Placed.{Placed}
+use Rattle.fmd_plan.specs.Plans.{endWith, endIn, placeOf, unfit, plan, resolveFrom}
 use Rattle.fmd_plan.specs.declared.Spot.the-variants.{Fits, Unfit}
-
--- ---- the table
-
-stored : (xs : List ℕ) (at a b c d : ℕ) → set (set (set (set xs at a) (at + 1) b) (at + 2) c) (at + 3) d ≡ put at (a ∷ b ∷ c ∷ d ∷ []) xs
-unfolding put
-stored xs at a b c d =
-    let e1 : at + 1 ≡ suc at = omega arith in
-    let e2 : at + 2 ≡ suc (suc at) = omega arith in
-    let e3 : at + 3 ≡ suc (suc (suc at)) = omega arith in
-    rw (e1, e2, e3)
-
-words-back : (q : Placed) → placedOf (wordsOf q) ≡ q
-unfolding placedOf
-words-back q = refl
-
-pub placed-stored : (spots : List ℕ) (k : ℕ) (q : Placed) → 4 * k + 4 ≤ length spots
-    → placedIn (k + 1) (set (set (set (set spots (4 * k) (q .offset .0)) (4 * k + 1) (q .size)) (4 * k + 2) (q .parent)) (4 * k + 3) (q .level))
-    ≡ placedIn k spots ++ (q ∷ [])
-unfolding placedIn placedAt
-placed-stored spots k q room =
-    rw (stored spots (4 * k) (q .offset .0) (q .size) (q .parent) (q .level)) (rows-put 4 placedOf spots (wordsOf q) k refl room ∙ rw (words-back q))
-
-pub placed-read : (spots : List ℕ) (k : ℕ)
-    → record { offset = record { 0 = getD spots (4 * k) 0 }; size = getD spots (4 * k + 1) 0; parent = getD spots (4 * k + 2) 0; level = getD spots (4 * k + 3) 0 }
-    ≡ placedAt spots k
-unfolding placedAt placedOf
-placed-read spots k =
-    let w = getD-part spots (4 * k) 4 in
-    rw (w 0 (omega arith), add-zero, w 1 (omega arith), w 2 (omega arith), w 3 (omega arith))
-
-pub length-placed : (n : ℕ) (spots : List ℕ) → length (placedIn n spots) ≡ n
-unfolding placedIn
-length-placed n spots = length-listed (placedAt spots) n
-
-pub placed-in : (n : ℕ) (spots : List ℕ) (k : ℕ) → k < n → getD (placedIn n spots) k blank ≡ placedAt spots k
-unfolding placedIn
-placed-in n spots k h = getD-listed (placedAt spots) n k blank h
-
-pub none-placed : (spots : List ℕ) → placedIn 0 spots ≡ []
-unfolding placedIn
-none-placed spots = nothing-listed (placedAt spots)
 
 -- ---- the end of the last section with a parent, sought from the last row back
 

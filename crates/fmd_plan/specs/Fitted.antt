@@ -4,9 +4,10 @@ use mathlib.Core.Path.{_≡_}
 use Prim.Native.Nat.{ℕ, _≤_, _<_}
 use lib.ListN.{length, getD, take}
 use Rattle.fmd_parse.specs.Trees.{blank as blankSection}
+use Rattle.fmd_table.specs.Table.{blank}
 use Rattle.fmd_table.specs.declared.Section.{Section}
-use Rattle.fmd_plan.specs.Plans.{blank, endOf, roomOf, Resolved, unfit, plan}
-use Rattle.fmd_plan.specs.declared.Placed.{Placed}
+use Rattle.fmd_table.specs.declared.Placed.{Placed}
+use Rattle.fmd_plan.specs.Plans.{endOf, roomOf, Resolved, unfit, plan}
 
 -- L14: Sizes are at least 1, siblings ascend without overlap and end within the parent. The section p at the index k.
 pub record Lies (z : ℕ) (ps : List Placed) (k : ℕ) (p : Placed) : Type 0 where

@@ -1,29 +1,24 @@
 -- Offsets and sizes of the sections, in the text's order, or the first section that does not fit (58).
 use mathlib.Core.Bool.{Bool, cond}
 use mathlib.Core.List.{List, [], _∷_, _++_}
-use Prim.Native.Nat.{ℕ, _+_, _*_, _-_}
+use Prim.Native.Nat.{ℕ, _+_, _-_}
 use lib.Dec.{ltb, leb, eqb}
 use lib.ListN.{length, getD}
-use Rattle.octets.specs.Bytes.{part}
 use Rattle.octets.specs.Tests.{_and_}
-use Rattle.fmd_table.specs.Table.{listed}
+use Rattle.fmd_table.specs.Table.{blank}
 use Rattle.fmd_table.specs.declared.Offset.{Offset}
 use Rattle.fmd_table.specs.declared.Offset.the-variants.{Given as GivenOffset, Omitted as OmittedOffset}
 use Rattle.fmd_table.specs.declared.Size.{Size}
 use Rattle.fmd_table.specs.declared.Size.the-variants.{Given as GivenSize, Omitted as OmittedSize}
 use Rattle.fmd_table.specs.declared.Section.{Section}
+use Rattle.fmd_table.specs.declared.Placed.{Placed}
 use Rattle.fmd_rows.specs.Rows.{siblingIn}
 use Rattle.fmd_rows.specs.declared.Found.{Found}
 use Rattle.fmd_rows.specs.declared.Found.the-variants.{At, Nowhere}
 use Rattle.fmd_rows.specs.declared.Sibling.{Sibling}
 use Rattle.fmd_rows.specs.declared.Sibling.the-variants.{Next, Last}
-use Rattle.fmd_plan.specs.declared.Placed.{Placed}
 use Rattle.fmd_plan.specs.declared.Spot.{Spot}
 use Rattle.fmd_plan.specs.declared.Spot.the-variants.{Fits, Unfit}
-
--- what getD answers past the end of a list
-abbrev pub blank : Placed
-blank = record { offset = record { 0 = 0 }; size = 0; parent = 0; level = 0 }
 
 -- the end of a section in its parent
 abbrev pub endOf : Placed → ℕ
@@ -84,20 +79,6 @@ resolveFrom z ps [] = plan ps
 resolveFrom z ps (h ∷ hs) = afterSpot (placeOf z ps h hs) (length ps) (λ p. resolveFrom z (ps ++ (p ∷ [])) hs)
 
 -- ---- what the values of the code say, with the table that was lent
-
-abbrev pub wordsOf : Placed → List ℕ
-wordsOf p = p .offset .0 ∷ p .size ∷ p .parent ∷ p .level ∷ []
-
-unfoldable pub placedOf : List ℕ → Placed
-placedOf w = record { offset = record { 0 = getD w 0 0 }; size = getD w 1 0; parent = getD w 2 0; level = getD w 3 0 }
-
--- the section in row k
-unfoldable pub placedAt : List ℕ → ℕ → Placed
-placedAt spots k = placedOf (part (4 * k) 4 spots)
-
--- the sections in the first n rows
-unfoldable pub placedIn : ℕ → List ℕ → List Placed
-placedIn n spots = listed (placedAt spots) n
 
 abbrev pub foundOf : Found → List Placed → Resolved
 foundOf (At k) ps = unfit k

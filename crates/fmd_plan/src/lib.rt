@@ -4,63 +4,29 @@ ghost use mathlib.Core.List.{_++_, _∷_, []};
 ghost use mathlib.Core.Path.{_≡_};
 ghost use Prim.Native.Nat.{ℕ, _+_, _*_, _-_, _≤_, _<_};
 ghost use lib.ListN.{length, drop, getD};
-ghost use Rattle.fmd_table.specs.Table.{sectionsIn};
+ghost use Rattle.fmd_table.specs.Table.{sectionsIn, placedIn, HasRows, HasSpots};
 ghost use Rattle.fmd_parse.specs.Trees.{blank as blankSection};
 ghost use Rattle.fmd_rows.specs.Rows.{siblingIn};
-ghost use Rattle.fmd_plan.specs.Plans.{placedAt, placedIn, endIn, roomOf, startOf, sizeOf, spotOf, spotIn, placeOf, resolveFrom, foundOf};
+ghost use Rattle.fmd_plan.specs.Plans.{endIn, roomOf, startOf, sizeOf, spotOf, spotIn, placeOf, resolveFrom, foundOf};
 use fmd_rows::Found;
 use fmd_rows::Sibling;
 use fmd_table::Offset;
 use fmd_table::ParentOffset;
+use fmd_table::Placed;
 use fmd_table::Section;
 use fmd_table::Size;
+use fmd_table::placed_at;
+use fmd_table::put_placed;
 use fmd_table::row_at;
-
-// A section with its offset and its size.
-pub struct Placed {
-    pub offset: ParentOffset,
-    pub size: u32,
-    pub parent: u32,
-    pub level: u32,
-}
 
 pub enum Spot {
     Fits(Placed),
     Unfit,
 }
 
-// ---- placed sections in a table that is lent, four words a row
-
-// Writes row k, after those below it.
-fn put_placed(spots: &mut [u32], k: usize, q: Placed)
-    requires { ⌜ 4 * k + 4 ≤ length (now spots) ⌝ }
-    ensures { λ _. ⌜ placedIn (k + 1) (now (spots .exit)) ≡ placedIn k (now (spots .entry)) ++ (q ∷ []) ⌝ }
-{
-    let at = 4 * k;
-    spots[at] = q.offset.0;
-    spots[at + 1] = q.size;
-    spots[at + 2] = q.parent;
-    spots[at + 3] = q.level;
-}
-
-pub fn placed_at(spots: &[u32], k: usize) -> Placed
-    requires { ⌜ 4 * k + 4 ≤ length (now spots) ⌝ }
-    ensures { λ r. ⌜ r ≡ placedAt (now (spots .entry)) k ⌝ }
-{
-    let at = 4 * k;
-    Placed {
-        offset: ParentOffset(spots[at]),
-        size: spots[at + 1],
-        parent: spots[at + 2],
-        level: spots[at + 3],
-    }
-}
-
-// ---- one section, after those of the first k rows
-
 // The end of the last section with the parent, sought from the last row back.
 fn end_in(spots: &[u32], k: usize, parent: u32) -> u64
-    requires { ⌜ 4 * k ≤ length (now spots) ⌝ }
+    requires { ⌜ HasSpots k (now spots) ⌝ }
     ensures { λ r. ⌜ (r ≡ endIn parent 0 (placedIn k (now (spots .entry)))) × (r ≤ 8589934590) ⌝ }
 {
     let mut j = k;
@@ -77,7 +43,7 @@ fn end_in(spots: &[u32], k: usize, parent: u32) -> u64
 
 // The parent's size.
 fn room_of(spots: &[u32], k: usize, parent: u32, size: u32) -> u32
-    requires { ⌜ 4 * k ≤ length (now spots) ⌝ }
+    requires { ⌜ HasSpots k (now spots) ⌝ }
     ensures { λ r. ⌜ r ≡ roomOf size parent (placedIn k (now (spots .entry))) ⌝ }
 {
     let i = parent as usize;
@@ -156,7 +122,7 @@ fn spot_in(h: Section, e: u64, room: u32, next: Sibling) -> Spot
 
 // The next sibling of section k, where the size of k depends on it.
 fn next_of(rows: &[u32], n: usize, k: usize, h: Section) -> Sibling
-    requires { ⌜ (10 * n ≤ length (now rows)) × (k < n) ⌝ }
+    requires { ⌜ HasRows n (now rows) × (k < n) ⌝ }
     ensures { λ r. ⌜ ((start room : ℕ) → sizeOf (h .size) r start room ≡ sizeOf (h .size) (siblingIn (h .parent) (drop (k + 1) (sectionsIn n (now (rows .entry))))) start room) ⌝ }
 {
     let size = h.size;
@@ -168,7 +134,7 @@ fn next_of(rows: &[u32], n: usize, k: usize, h: Section) -> Sibling
 
 // Section k.
 fn place_at(rows: &[u32], n: usize, k: usize, spots: &[u32], size: u32) -> Spot
-    requires { ⌜ (10 * n ≤ length (now rows)) × (4 * n ≤ length (now spots)) × (k < n) ⌝ }
+    requires { ⌜ HasRows n (now rows) × HasSpots n (now spots) × (k < n) ⌝ }
     ensures { λ r. ⌜ r ≡ placeOf size (placedIn k (now (spots .entry))) (getD (sectionsIn n (now (rows .entry))) k blankSection) (drop (k + 1) (sectionsIn n (now (rows .entry)))) ⌝ }
 {
     let h = row_at(rows, k);
@@ -180,7 +146,7 @@ fn place_at(rows: &[u32], n: usize, k: usize, spots: &[u32], size: u32) -> Spot
 
 // Offsets and sizes of the sections of an image of size bytes, or the first section that does not fit.
 pub fn resolve(rows: &[u32], n: usize, size: u32, spots: &mut [u32]) -> Found
-    requires { ⌜ (10 * n ≤ length (now rows)) × (4 * n ≤ length (now spots)) ⌝ }
+    requires { ⌜ HasRows n (now rows) × HasSpots n (now spots) ⌝ }
     ensures { λ r. ⌜ foundOf r (placedIn n (now (spots .exit))) ≡ resolveFrom size [] (sectionsIn n (now (rows .entry))) ⌝ }
 {
     let mut k: usize = 0;

@@ -5,7 +5,7 @@ ghost use mathlib.Core.Path.{_≡_};
 ghost use Prim.Native.Nat.{_+_, _*_, _≤_, _<_};
 ghost use lib.ListN.{length, drop};
 ghost use Rattle.octets.specs.Bytes.{same as sameBytes};
-ghost use Rattle.fmd_table.specs.Table.{sectionsIn};
+ghost use Rattle.fmd_table.specs.Table.{sectionsIn, HasRows};
 ghost use Rattle.fmd_rows.specs.Rows.{nameOf, repeats, firstRepeat, isFmap, fmapIn, hasChild, holdsCbfs, firstCbfs, siblingIn, isUndecided, undecided, firstUndecided, Inside};
 use fmd_table::Offset;
 use fmd_table::Section;
@@ -37,7 +37,7 @@ fn same_name(text: &[u8], a: Section, b: Section) -> bool
 
 // Section k has the name of an earlier one.
 fn is_repeat(text: &[u8], rows: &[u32], n: usize, k: usize) -> bool
-    requires { ⌜ (10 * n ≤ length (now rows)) × Inside (now text) (sectionsIn n (now rows)) × (k < n) ⌝ }
+    requires { ⌜ HasRows n (now rows) × Inside (now text) (sectionsIn n (now rows)) × (k < n) ⌝ }
     ensures { λ r. ⌜ r ≡ repeats (now (text .entry)) (sectionsIn n (now (rows .entry))) k ⌝ }
 {
     let h = row_at(rows, k);
@@ -54,7 +54,7 @@ fn is_repeat(text: &[u8], rows: &[u32], n: usize, k: usize) -> bool
 
 // Row 54.
 pub fn first_repeat(text: &[u8], rows: &[u32], n: usize) -> Found
-    requires { ⌜ (10 * n ≤ length (now rows)) × Inside (now text) (sectionsIn n (now rows)) ⌝ }
+    requires { ⌜ HasRows n (now rows) × Inside (now text) (sectionsIn n (now rows)) ⌝ }
     ensures { λ r. ⌜ r ≡ firstRepeat (now (text .entry)) (sectionsIn n (now (rows .entry))) ⌝ }
 {
     let mut k: usize = 0;
@@ -69,7 +69,7 @@ pub fn first_repeat(text: &[u8], rows: &[u32], n: usize) -> Found
 
 // Section k is named FMAP.
 fn is_fmap(text: &[u8], rows: &[u32], n: usize, k: usize) -> bool
-    requires { ⌜ (10 * n ≤ length (now rows)) × Inside (now text) (sectionsIn n (now rows)) × (k < n) ⌝ }
+    requires { ⌜ HasRows n (now rows) × Inside (now text) (sectionsIn n (now rows)) × (k < n) ⌝ }
     ensures { λ r. ⌜ r ≡ isFmap (now (text .entry)) (sectionsIn n (now (rows .entry))) k ⌝ }
 {
     let h = row_at(rows, k);
@@ -80,7 +80,7 @@ fn is_fmap(text: &[u8], rows: &[u32], n: usize, k: usize) -> bool
 
 // The section FMAP.
 pub fn find_fmap(text: &[u8], rows: &[u32], n: usize) -> Found
-    requires { ⌜ (10 * n ≤ length (now rows)) × Inside (now text) (sectionsIn n (now rows)) ⌝ }
+    requires { ⌜ HasRows n (now rows) × Inside (now text) (sectionsIn n (now rows)) ⌝ }
     ensures { λ r. ⌜ r ≡ fmapIn (now (text .entry)) (sectionsIn n (now (rows .entry))) ⌝ }
 {
     let mut k: usize = 0;
@@ -94,7 +94,7 @@ pub fn find_fmap(text: &[u8], rows: &[u32], n: usize) -> Found
 }
 
 pub fn has_child(rows: &[u32], n: usize, k: usize) -> bool
-    requires { ⌜ 10 * n ≤ length (now rows) ⌝ }
+    requires { ⌜ HasRows n (now rows) ⌝ }
     ensures { λ r. ⌜ r ≡ hasChild (sectionsIn n (now (rows .entry))) k ⌝ }
 {
     let mut j: usize = 0;
@@ -110,7 +110,7 @@ pub fn has_child(rows: &[u32], n: usize, k: usize) -> bool
 
 // Section k is marked CBFS and has children.
 fn holds_cbfs(rows: &[u32], n: usize, k: usize) -> bool
-    requires { ⌜ (10 * n ≤ length (now rows)) × (k < n) ⌝ }
+    requires { ⌜ HasRows n (now rows) × (k < n) ⌝ }
     ensures { λ r. ⌜ r ≡ holdsCbfs (sectionsIn n (now (rows .entry))) k ⌝ }
 {
     let h = row_at(rows, k);
@@ -122,7 +122,7 @@ fn holds_cbfs(rows: &[u32], n: usize, k: usize) -> bool
 
 // Row 56 of the whole list.
 pub fn first_cbfs(rows: &[u32], n: usize) -> Found
-    requires { ⌜ 10 * n ≤ length (now rows) ⌝ }
+    requires { ⌜ HasRows n (now rows) ⌝ }
     ensures { λ r. ⌜ r ≡ firstCbfs (sectionsIn n (now (rows .entry))) ⌝ }
 {
     let mut k: usize = 0;
@@ -137,7 +137,7 @@ pub fn first_cbfs(rows: &[u32], n: usize) -> Found
 
 // The next section with the parent, from the index at on.
 pub fn next_sibling(rows: &[u32], n: usize, at: usize, parent: u32) -> Sibling
-    requires { ⌜ (10 * n ≤ length (now rows)) × (at ≤ n) ⌝ }
+    requires { ⌜ HasRows n (now rows) × (at ≤ n) ⌝ }
     ensures { λ r. ⌜ r ≡ siblingIn parent (drop at (sectionsIn n (now (rows .entry)))) ⌝ }
 {
     let mut j = at;
@@ -166,7 +166,7 @@ fn is_open(next: Sibling) -> bool
 
 // Section k has no size, and a next sibling without an offset.
 fn undecided_at(rows: &[u32], n: usize, k: usize) -> bool
-    requires { ⌜ (10 * n ≤ length (now rows)) × (k < n) ⌝ }
+    requires { ⌜ HasRows n (now rows) × (k < n) ⌝ }
     ensures { λ r. ⌜ r ≡ undecided (sectionsIn n (now (rows .entry))) k ⌝ }
 {
     let h = row_at(rows, k);
@@ -179,7 +179,7 @@ fn undecided_at(rows: &[u32], n: usize, k: usize) -> bool
 
 // Row 57.
 pub fn first_undecided(rows: &[u32], n: usize) -> Found
-    requires { ⌜ 10 * n ≤ length (now rows) ⌝ }
+    requires { ⌜ HasRows n (now rows) ⌝ }
     ensures { λ r. ⌜ r ≡ firstUndecided (sectionsIn n (now (rows .entry))) ⌝ }
 {
     let mut k: usize = 0;

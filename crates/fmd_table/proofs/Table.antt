@@ -9,7 +9,7 @@ use lib.Dec.{eqb}
 use lib.ListN.{length, getD, set}
 use Rattle.octets.specs.Bytes.{part, put}
 use Rattle.octets.proofs.Parts.{getD-part}
-use Rattle.fmd_table.specs.Table.{listed, wordsOf, markWord, offsetTag, offsetWord, sizeTag, sizeWord, offsetFrom, sizeFrom, sectionOf, sectionAt, sectionsIn}
+use Rattle.fmd_table.specs.Table.{listed, wordsOf, markWord, offsetTag, offsetWord, sizeTag, sizeWord, offsetFrom, sizeFrom, sectionOf, sectionAt, sectionsIn, HasRows}
 use Rattle.fmd_table.specs.declared.Offset.{Offset}
 use Rattle.fmd_table.specs.declared.Offset.the-variants.{Given as GivenOffset, Omitted as OmittedOffset}
 use Rattle.fmd_table.specs.declared.Size.{Size}
@@ -41,9 +41,9 @@ words-back h = rebuilt h _ _ _ _ (offset-back (h .offset)) (size-back (h .size))
 
 -- ---- rows
 
-row-put : (rows : List ℕ) (k : ℕ) (h : Section) → 10 * k + 10 ≤ length rows → sectionsIn (k + 1) (put (10 * k) (wordsOf h) rows) ≡ sectionsIn k rows ++ (h ∷ [])
+row-put : (rows : List ℕ) (k : ℕ) (h : Section) → HasRows (k + 1) rows → sectionsIn (k + 1) (put (10 * k) (wordsOf h) rows) ≡ sectionsIn k rows ++ (h ∷ [])
 unfolding sectionsIn sectionAt
-row-put rows k h room = rows-put 10 sectionOf rows (wordsOf h) k refl room ∙ rw (words-back h)
+row-put rows k h room = rows-put 10 sectionOf rows (wordsOf h) k refl (omega (arith, room)) ∙ rw (words-back h)
 
 -- ten stores, one after the other
 stored : (xs : List ℕ) (at a b c d e f g h i j : ℕ)
@@ -62,7 +62,7 @@ stored xs at a b c d e f g h i j =
     let e9 : at + 9 ≡ suc (suc (suc (suc (suc (suc (suc (suc (suc at)))))))) = omega arith in
     rw (e1, e2, e3, e4, e5, e6, e7, e8, e9)
 
-pub row-stored : (rows : List ℕ) (k : ℕ) (s : Section) → 10 * k + 10 ≤ length rows → (a b c d g h : ℕ) → a ≡ offsetTag (s .offset) → b ≡ offsetWord (s .offset)
+pub row-stored : (rows : List ℕ) (k : ℕ) (s : Section) → HasRows (k + 1) rows → (a b c d g h : ℕ) → a ≡ offsetTag (s .offset) → b ≡ offsetWord (s .offset)
     → c ≡ sizeTag (s .size) → d ≡ sizeWord (s .size) → g ≡ markWord (s .cbfs) → h ≡ markWord (s .preserve)
     → sectionsIn (k + 1)
     (set (set (set (set (set (set (set (set (set (set rows (10 * k) a) (10 * k + 1) b) (10 * k + 2) c) (10 * k + 3) d) (10 * k + 4) (s .place)) (10 * k + 5) (s .length)) (10 * k + 6) g) (10 * k + 7) h)

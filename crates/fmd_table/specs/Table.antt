@@ -1,15 +1,30 @@
--- Sections in a table of words, ten a row.
+-- Sections in a table of words: as they stand in the text, and with their offsets and sizes.
 use mathlib.Core.Bool.{Bool, true, false, cond}
 use mathlib.Core.List.{List, [], _∷_, _++_}
-use Prim.Native.Nat.{ℕ, zero, suc, _*_}
+use Prim.Native.Nat.{ℕ, zero, suc, _*_, _≤_}
 use lib.Dec.{eqb}
-use lib.ListN.{getD}
+use lib.ListN.{length, getD}
 use Rattle.octets.specs.Bytes.{part}
 use Rattle.fmd_table.specs.declared.Offset.{Offset}
 use Rattle.fmd_table.specs.declared.Offset.the-variants.{Given as GivenOffset, Omitted as OmittedOffset}
 use Rattle.fmd_table.specs.declared.Size.{Size}
 use Rattle.fmd_table.specs.declared.Size.the-variants.{Given as GivenSize, Omitted as OmittedSize}
 use Rattle.fmd_table.specs.declared.Section.{Section}
+use Rattle.fmd_table.specs.declared.Placed.{Placed}
+
+-- the words of a section, and of a section with its offset and size
+abbrev pub rowWords : ℕ
+rowWords = 10
+
+abbrev pub spotWords : ℕ
+spotWords = 4
+
+-- a table has n rows
+abbrev pub HasRows : ℕ → List ℕ → Type 0
+HasRows n rows = rowWords * n ≤ length rows
+
+abbrev pub HasSpots : ℕ → List ℕ → Type 0
+HasSpots n spots = spotWords * n ≤ length spots
 
 -- what f gives at 0, 1, .., n - 1
 unfoldable pub listed : {A : Type 0} → (ℕ → A) → ℕ → List A
@@ -65,8 +80,28 @@ sectionOf w =
 
 -- the section in row k
 unfoldable pub sectionAt : List ℕ → ℕ → Section
-sectionAt rows k = sectionOf (part (10 * k) 10 rows)
+sectionAt rows k = sectionOf (part (rowWords * k) rowWords rows)
 
 -- the sections in the first n rows
 unfoldable pub sectionsIn : ℕ → List ℕ → List Section
 sectionsIn n rows = listed (sectionAt rows) n
+
+-- ---- sections with their offsets and sizes
+
+-- what getD answers past the end of a list
+abbrev pub blank : Placed
+blank = record { offset = record { 0 = 0 }; size = 0; parent = 0; level = 0 }
+
+abbrev pub placedWords : Placed → List ℕ
+placedWords p = p .offset .0 ∷ p .size ∷ p .parent ∷ p .level ∷ []
+
+unfoldable pub placedOf : List ℕ → Placed
+placedOf w = record { offset = record { 0 = getD w 0 0 }; size = getD w 1 0; parent = getD w 2 0; level = getD w 3 0 }
+
+-- the section in row k
+unfoldable pub placedAt : List ℕ → ℕ → Placed
+placedAt spots k = placedOf (part (spotWords * k) spotWords spots)
+
+-- the sections in the first n rows
+unfoldable pub placedIn : ℕ → List ℕ → List Placed
+placedIn n spots = listed (placedAt spots) n

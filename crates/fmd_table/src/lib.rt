@@ -1,10 +1,20 @@
-// Sections in a table that is lent: ten words a row. Only put_row and row_at know what the words mean.
+// Sections in two tables of words that are lent: as they stand in the text, and with their offsets and sizes.
+// Only the four functions that write or read a row know what the words mean.
 // An inner crate: no user calls it, so its functions may have a `requires`, which each caller meets.
 ghost use mathlib.Core.List.{_++_, _∷_, []};
 ghost use mathlib.Core.Path.{_≡_};
-ghost use Prim.Native.Nat.{_+_, _*_, _≤_};
-ghost use lib.ListN.{length};
-ghost use Rattle.fmd_table.specs.Table.{offsetTag, offsetWord, sizeTag, sizeWord, markWord, offsetFrom, sizeFrom, sectionAt, sectionsIn};
+ghost use Prim.Native.Nat.{_+_};
+ghost use Rattle.fmd_table.specs.Table.{offsetTag, offsetWord, sizeTag, sizeWord, markWord, offsetFrom, sizeFrom, sectionAt, sectionsIn, placedAt, placedIn, HasRows, HasSpots};
+
+// The words of a section, and of a section with its offset and size.
+const ROW: usize = 10;
+
+const SPOT: usize = 4;
+
+// The words of 128 of them, the most that a layout text has.
+pub const ROWS: usize = 128 * ROW;
+
+pub const SPOTS: usize = 128 * SPOT;
 
 // A number of bytes from the parent's start.
 pub struct ParentOffset(pub u32);
@@ -27,6 +37,14 @@ pub struct Section {
     pub length: u32,
     pub cbfs: bool,
     pub preserve: bool,
+    pub parent: u32,
+    pub level: u32,
+}
+
+// A section with its offset and its size.
+pub struct Placed {
+    pub offset: ParentOffset,
+    pub size: u32,
     pub parent: u32,
     pub level: u32,
 }
@@ -93,10 +111,10 @@ fn size_from(tag: u32, n: u32) -> Size
 
 // Writes row k, after those below it.
 pub fn put_row(rows: &mut [u32], k: usize, h: Section)
-    requires { ⌜ 10 * k + 10 ≤ length (now rows) ⌝ }
+    requires { ⌜ HasRows (k + 1) (now rows) ⌝ }
     ensures { λ _. ⌜ sectionsIn (k + 1) (now (rows .exit)) ≡ sectionsIn k (now (rows .entry)) ++ (h ∷ []) ⌝ }
 {
-    let at = 10 * k;
+    let at = ROW * k;
     let offset = h.offset;
     let size = h.size;
     rows[at] = offset_tag(offset);
@@ -112,10 +130,10 @@ pub fn put_row(rows: &mut [u32], k: usize, h: Section)
 }
 
 pub fn row_at(rows: &[u32], k: usize) -> Section
-    requires { ⌜ 10 * k + 10 ≤ length (now rows) ⌝ }
+    requires { ⌜ HasRows (k + 1) (now rows) ⌝ }
     ensures { λ r. ⌜ r ≡ sectionAt (now (rows .entry)) k ⌝ }
 {
-    let at = 10 * k;
+    let at = ROW * k;
     let offset = offset_from(rows[at], rows[at + 1]);
     let size = size_from(rows[at + 2], rows[at + 3]);
     Section {
@@ -127,5 +145,30 @@ pub fn row_at(rows: &[u32], k: usize) -> Section
         preserve: rows[at + 7] == 1,
         parent: rows[at + 8],
         level: rows[at + 9],
+    }
+}
+
+// Writes row k, after those below it.
+pub fn put_placed(spots: &mut [u32], k: usize, q: Placed)
+    requires { ⌜ HasSpots (k + 1) (now spots) ⌝ }
+    ensures { λ _. ⌜ placedIn (k + 1) (now (spots .exit)) ≡ placedIn k (now (spots .entry)) ++ (q ∷ []) ⌝ }
+{
+    let at = SPOT * k;
+    spots[at] = q.offset.0;
+    spots[at + 1] = q.size;
+    spots[at + 2] = q.parent;
+    spots[at + 3] = q.level;
+}
+
+pub fn placed_at(spots: &[u32], k: usize) -> Placed
+    requires { ⌜ HasSpots (k + 1) (now spots) ⌝ }
+    ensures { λ r. ⌜ r ≡ placedAt (now (spots .entry)) k ⌝ }
+{
+    let at = SPOT * k;
+    Placed {
+        offset: ParentOffset(spots[at]),
+        size: spots[at + 1],
+        parent: spots[at + 2],
+        level: spots[at + 3],
     }
 }

@@ -2,7 +2,7 @@
 
 use crate::json::Json;
 use std::io;
-use usigrambal::Refusal;
+use usigrambal::Refused;
 
 #[derive(Debug)]
 pub struct Failure {
@@ -26,9 +26,9 @@ impl Failure {
     }
 }
 
-impl From<Refusal> for Failure {
-    fn from(refusal: Refusal) -> Failure {
-        Failure::refused(refusal.number(), refusal.sentence())
+impl From<Refused> for Failure {
+    fn from(refused: Refused) -> Failure {
+        Failure::refused(refused.number(), refused.sentence())
     }
 }
 

@@ -14,8 +14,7 @@ use std::os::unix::ffi::OsStrExt;
 use std::path::Path;
 use usigrambal::flash::{self, Carried};
 
-/// The C interface's number for an area that is not there.
-const NO_AREA: u32 = usigrambal::raw::NOTHING;
+const NO_AREA: u32 = usigrambal::Refusal::NoSuchArea.number();
 
 pub fn show(given: &Given) -> Result<Report, Failure> {
     let path = given.path(0);

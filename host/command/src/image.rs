@@ -1,7 +1,8 @@
 //! A flash image: read whole, changed in memory, and written back.
 
 use crate::failure::Failure;
-use crate::storage::{self, about, changed_runs, open, put, same_file, unusable, Access, Kind, Opened};
+use crate::show::Progress;
+use crate::storage::{self, about, changed_runs, open, put_told, same_file, unusable, Access, Kind, Opened};
 use std::fs::Metadata;
 use std::io::{Read, Seek};
 use std::path::Path;
@@ -37,10 +38,14 @@ pub fn write(path: &Path, image: &Image, after: &[u8], force: bool) -> Result<()
     if opened.facts.kind == Kind::Regular {
         return storage::replace(path, &opened.metadata, after);
     }
-    let written = put(&opened.file, after, 0, &changed_runs(&image.bytes, after));
+    let progress = Progress::new();
+    let runs = changed_runs(&image.bytes, after);
+    let written = put_told(&opened.file, after, 0, &runs, |done, all| progress.tell(done, all));
+    drop(progress);
     written.map_err(|unwritten| {
         let (done, wanted) = (unwritten.written, unwritten.wanted);
         let error = crate::failure::words(&unwritten.error);
-        about(path, &format!("could not be written: {done} of {wanted} changed bytes were, then: {error}"))
+        let again = "the same call again writes what is missing";
+        about(path, &format!("could not be written: {done} of {wanted} bytes were, then: {error}; {again}"))
     })
 }

@@ -2,9 +2,12 @@
 
 mod common;
 
-use common::{add, Folder, Loop};
+use common::{add, Ended, Folder, Loop};
 use std::fs::{self, File};
 use std::os::unix::fs::{FileExt, OpenOptionsExt};
+use std::path::PathBuf;
+use std::process::{Command, Stdio};
+use std::time::{Duration, Instant};
 
 const O_EXCL: i32 = 0o200;
 
@@ -118,4 +121,48 @@ fn a_flash_image_on_a_device() {
     assert!(after[0x400..0x2000].iter().chain(&after[0x2400..]).all(|byte| *byte == 0xA5));
     let ended = run!["fmap", "extract", path, "CAL"];
     assert_eq!(ended.bytes, bytes);
+}
+
+/// Every second byte of 15 MiB differs.
+fn dotted(folder: &Folder) -> (PathBuf, PathBuf) {
+    let layout = folder.file("dotted.fmd", "CHIP 16M { FMAP 1K CAL(PRESERVE)@1M 15M }");
+    let (old, new) = (folder.path("dotted.bin"), folder.path("plain.bin"));
+    for path in [&old, &new] {
+        run!["fmd", "write", layout, path, "--create"].done();
+    }
+    let bytes: Vec<u8> = (0..15 << 20).map(|k: u32| if k % 2 == 0 { 0xFF } else { 0 }).collect();
+    let file = File::options().write(true).open(&old).expect("an image");
+    file.write_all_at(&bytes, 1 << 20).expect("an image");
+    (old, new)
+}
+
+#[test]
+fn neighbouring_changes_are_written_together() {
+    let folder = Folder::new();
+    let (old, new) = dotted(&folder);
+    let Some(device) = Loop::new(&new, &[]) else { return };
+    let start = Instant::now();
+    run!["fmap", "carry", old, device.0].done();
+    let taken = start.elapsed();
+    assert!(taken < Duration::from_secs(10), "{taken:?}");
+    assert!(fs::read(&device.0).expect("a device") == fs::read(&old).expect("an image"));
+}
+
+/// util-linux's `script` runs a command on a terminal.
+#[test]
+fn a_long_write_shows_how_far_it_is() {
+    if !testkit::peer::present("script", "bsdutils") {
+        return;
+    }
+    let folder = Folder::new();
+    let (old, new) = dotted(&folder);
+    let Some(device) = Loop::new(&new, &[]) else { return };
+    let program = env!("CARGO_BIN_EXE_usigrambal");
+    let line = format!("{program} fmap carry {} {}", old.display(), device.0.display());
+    let output = Command::new("script").args(["-qec", &line, "/dev/null"]).stdin(Stdio::null()).output();
+    let ended = Ended::from(output.expect("script"));
+    assert_eq!(ended.status, Some(0), "{}", ended.out);
+    assert!(ended.out.contains("..]  53 %, 8 MiB of 14.9 MiB"), "{}", ended.out);
+    let wiped = ended.out.rsplit('\r').find(|line| line.contains("carried from")).map(str::to_string);
+    assert!(ended.out.contains("\r\u{1b}[K") && wiped.is_some(), "{}", ended.out);
 }

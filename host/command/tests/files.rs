@@ -141,7 +141,7 @@ fn a_new_file_that_cannot_be_written() {
     let layout = folder.path("old.fmd");
     let create =
         ["fmd".as_ref(), "write".as_ref(), layout.as_os_str(), made.as_os_str(), "--create".as_ref()];
-    limited(&create).sentence("could not be written, and was removed: File too large");
+    limited(&create).sentence("was not made: File too large");
     assert_eq!(folder.names(), ["new.bin", "new.fmd", "old.bin", "old.fmd"]);
 }
 

@@ -195,9 +195,11 @@ fn a_short_write_of_a_flash_device() {
     let Some(device) = Loop::new(&file, &[]) else { return };
     let words = ["fmap", "carry", old.to_str().expect("UTF-8"), device.0.to_str().expect("UTF-8")];
     let ended = disturbed("short:1", &folder.path("log"), &words);
-    let said = "could not be written: 600 of 1024 changed bytes were, then: No space left on device";
+    let said = "could not be written: 600 of 1024 bytes were, then: No space left on device; the same call again writes what is missing";
     assert_eq!(ended.status, Some(2));
     assert!(ended.err.contains(said), "{}", ended.err);
     let bytes = fs::read(&device.0).expect("a device");
     assert_eq!((bytes[2047], bytes[2048], bytes[2647], bytes[2648]), (0, 0xFF, 0xFF, 0));
+    run!["fmap", "carry", old, device.0].done();
+    assert_eq!(fs::read(&device.0).expect("a device")[2048..3072], [0xFF; 1024]);
 }

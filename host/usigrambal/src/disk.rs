@@ -1,5 +1,6 @@
 use crate::raw;
-use crate::refusal::{accepted, Detail, Refusal};
+use crate::refusal::accepted;
+use crate::refused::{Detail, Refused};
 use crate::Guid;
 
 /// Rule Q3: bytes of blocks 0 to 33, and of the last 33 blocks.
@@ -115,12 +116,12 @@ impl Name {
 
 impl Disk<'_> {
     /// Writes an empty table, in both copies, and block 0 (rule D13).
-    pub fn format(&mut self, guid: Guid) -> Result<(), Refusal> {
+    pub fn format(&mut self, guid: Guid) -> Result<(), Refused> {
         let answer = raw::gpt_format(self.head, self.tail, self.n, &guid.0);
         self.accepted(answer, &[])
     }
 
-    pub fn state(&self) -> Result<State, Refusal> {
+    pub fn state(&self) -> Result<State, Refused> {
         let mut state = 0;
         let answer = raw::gpt_read(self.head, self.tail, self.n, &mut state);
         self.accepted(answer, &[])?;
@@ -128,21 +129,21 @@ impl Disk<'_> {
     }
 
     /// The 16,384 entry bytes of the copy that reading uses, where they stand (rule D11).
-    pub fn entries(&self) -> Result<&[u8], Refusal> {
+    pub fn entries(&self) -> Result<&[u8], Refused> {
         let (in_tail, start) = self.table()?;
         let buffer: &[u8] = if in_tail { self.tail } else { self.head };
         Ok(&buffer[start..start + ENTRIES_LEN])
     }
 
     /// The disk GUID of the copy that reading uses.
-    pub fn guid(&self) -> Result<Guid, Refusal> {
+    pub fn guid(&self) -> Result<Guid, Refused> {
         let (in_tail, _) = self.table()?;
         let stored = if in_tail { &self.tail[GUID_IN_TAIL..] } else { &self.head[GUID_IN_HEAD..] };
         Ok(Guid(stored[..16].try_into().expect("16 bytes")))
     }
 
     /// Whether the entries in use stand in the tail, and at which byte of it or of the head.
-    fn table(&self) -> Result<(bool, usize), Refusal> {
+    fn table(&self) -> Result<(bool, usize), Refused> {
         let (mut in_tail, mut offset) = (0, 0);
         let answer = raw::gpt_table(self.head, self.tail, self.n, &mut in_tail, &mut offset);
         self.accepted(answer, &[])?;
@@ -150,13 +151,13 @@ impl Disk<'_> {
     }
 
     /// The blocks that partitions may have; a disk that is refused for its number of blocks has none.
-    pub fn usable(&self) -> Result<Run, Refusal> {
+    pub fn usable(&self) -> Result<Run, Refused> {
         self.table()?;
         Ok(Run { first: FIRST_USABLE, last: self.n - BEHIND_USABLE })
     }
 
     /// The runs of free blocks, in order (rule D21).
-    pub fn free_runs(&self) -> Result<Vec<Run>, Refusal> {
+    pub fn free_runs(&self) -> Result<Vec<Run>, Refused> {
         let usable = self.usable()?;
         let mut used: Vec<Run> = self.partitions()?.iter().map(Partition::run).collect();
         used.sort_by_key(|run| run.first);
@@ -167,12 +168,12 @@ impl Disk<'_> {
     }
 
     /// The used entries in the order of their slots.
-    pub fn partitions(&self) -> Result<Vec<Partition>, Refusal> {
+    pub fn partitions(&self) -> Result<Vec<Partition>, Refused> {
         let slots = self.entries()?.chunks_exact(ENTRY_LEN).zip(1..);
         Ok(slots.filter(|(entry, _)| entry.iter().any(|b| *b != 0)).map(partition).collect())
     }
 
-    pub fn free(&self) -> Result<Free, Refusal> {
+    pub fn free(&self) -> Result<Free, Refused> {
         let (mut blocks, mut longest_run) = (0, 0);
         let answer = raw::gpt_free(self.head, self.tail, self.n, &mut blocks, &mut longest_run);
         self.accepted(answer, &[])?;
@@ -180,7 +181,7 @@ impl Disk<'_> {
     }
 
     /// Adds a partition in the lowest unused slot, from the lowest block that leaves it room.
-    pub fn add(&mut self, new: &NewPartition) -> Result<Placed, Refusal> {
+    pub fn add(&mut self, new: &NewPartition) -> Result<Placed, Refused> {
         let lent = raw::NewPartition {
             kind: &new.kind.0,
             unique: &new.unique.0,
@@ -194,33 +195,33 @@ impl Disk<'_> {
         Ok(Placed { slot, first })
     }
 
-    pub fn delete(&mut self, slot: u64) -> Result<(), Refusal> {
+    pub fn delete(&mut self, slot: u64) -> Result<(), Refused> {
         let answer = raw::gpt_delete(self.head, self.tail, self.n, slot);
         self.accepted(answer, &[Detail::Slot(slot)])
     }
 
     /// Sets the last block for a partition of `size` blocks; its first block stays.
-    pub fn resize(&mut self, slot: u64, size: u64) -> Result<(), Refusal> {
+    pub fn resize(&mut self, slot: u64, size: u64) -> Result<(), Refused> {
         let answer = raw::gpt_resize(self.head, self.tail, self.n, slot, size);
         self.accepted(answer, &[Detail::Slot(slot), Detail::SlotSize(slot, size)])
     }
 
-    pub fn rename(&mut self, slot: u64, name: &Name) -> Result<(), Refusal> {
+    pub fn rename(&mut self, slot: u64, name: &Name) -> Result<(), Refused> {
         let answer = raw::gpt_rename(self.head, self.tail, self.n, slot, &name.0);
         self.accepted(answer, &[Detail::Slot(slot)])
     }
 
     /// Makes both copies good and the same; answers the state found (rule D24).
-    pub fn repair(&mut self) -> Result<State, Refusal> {
+    pub fn repair(&mut self) -> Result<State, Refused> {
         let mut state = 0;
         let answer = raw::gpt_repair(self.head, self.tail, self.n, &mut state);
         self.accepted(answer, &[])?;
         Ok(named_state(state))
     }
 
-    fn accepted(&self, answer: u32, details: &[Detail]) -> Result<(), Refusal> {
+    fn accepted(&self, answer: u32, details: &[Detail]) -> Result<(), Refused> {
         let details = [&[Detail::Blocks(self.n)], details].concat();
-        accepted(answer).map_err(|refusal| refusal.about(&details))
+        accepted(answer).map_err(|refused| refused.about(&details))
     }
 }
 
@@ -258,7 +259,7 @@ mod tests {
         NewPartition { kind: Guid([7; 16]), unique: Guid([unique; 16]), size, attributes: 5, name }
     }
 
-    fn words<T: std::fmt::Debug>(result: Result<T, Refusal>) -> String {
+    fn words<T: std::fmt::Debug>(result: Result<T, Refused>) -> String {
         result.unwrap_err().to_string()
     }
 

@@ -1,7 +1,9 @@
 //! Flash images and their map.
 
 use crate::raw;
-use crate::refusal::{accepted, Detail, Refusal};
+use crate::refusal::accepted;
+use crate::refused::{Detail, Refused};
+use crate::Refusal;
 
 const AREA_LEN: usize = 42;
 const HEADER_LEN: usize = 56;
@@ -52,21 +54,21 @@ impl Area {
 }
 
 /// The position of the lowest good map (rule M10).
-pub fn find(image: &[u8]) -> Result<u64, Refusal> {
+pub fn find(image: &[u8]) -> Result<u64, Refused> {
     let mut position = 0;
     accepted_for(image, raw::fmap_find(image, &mut position))?;
     Ok(position)
 }
 
 /// The area at `k`, counted from 0; `None` if the map has no more than `k` areas.
-pub fn area(image: &[u8], k: u64) -> Result<Option<Area>, Refusal> {
+pub fn area(image: &[u8], k: u64) -> Result<Option<Area>, Refused> {
     let mut bytes = [0; AREA_LEN];
     let answer = raw::fmap_area(image, k, &mut bytes);
     there(image, answer, || decoded(&bytes))
 }
 
 /// The map that is found, with all its areas, by one search.
-pub fn map(image: &[u8]) -> Result<Map, Refusal> {
+pub fn map(image: &[u8]) -> Result<Map, Refused> {
     let position = find(image)?;
     let (header, rest) = image[position as usize..].split_at(HEADER_LEN);
     let count = u16::from_le_bytes([header[54], header[55]]);
@@ -82,34 +84,34 @@ pub fn map(image: &[u8]) -> Result<Map, Refusal> {
 }
 
 /// All areas, in the order of the map.
-pub fn areas(image: &[u8]) -> Result<Vec<Area>, Refusal> {
+pub fn areas(image: &[u8]) -> Result<Vec<Area>, Refused> {
     Ok(map(image)?.areas)
 }
 
 /// The place, counted from 0, of the area of that name, if there is one.
-pub fn area_named(image: &[u8], name: impl AsRef<[u8]>) -> Result<Option<u64>, Refusal> {
+pub fn area_named(image: &[u8], name: impl AsRef<[u8]>) -> Result<Option<u64>, Refused> {
     let mut k = 0;
     let answer = raw::fmap_named(image, name.as_ref(), &mut k);
     there(image, answer, || k)
 }
 
 /// Copies each area that the old map preserves to the same-named area of the new image (rules M11 to M13).
-pub fn carry(old: &[u8], new: &mut [u8]) -> Result<(), Refusal> {
+pub fn carry(old: &[u8], new: &mut [u8]) -> Result<(), Refused> {
     let answer = raw::fmap_carry(old, new);
     let blamed = || if find(old).is_err() { "old" } else { "new" };
-    accepted(answer).map_err(|refusal| {
-        let area = blamed_area(old, new, refusal.number()).map(Detail::Area);
-        refusal.about(&[[Detail::Image(blamed())].as_slice(), area.as_slice()].concat())
+    accepted(answer).map_err(|refused| {
+        let area = blamed_area(old, new, refused.refusal).map(Detail::Area);
+        refused.about(&[[Detail::Image(blamed())].as_slice(), area.as_slice()].concat())
     })
 }
 
 /// The first area that is missing in the new map (60) or has another size there (61), as the old map stores its name.
-fn blamed_area(old: &[u8], new: &[u8], number: u32) -> Option<[u8; 32]> {
+fn blamed_area(old: &[u8], new: &[u8], refusal: Refusal) -> Option<[u8; 32]> {
     let there = map(new).ok()?.areas;
     let same = |old: &Area| there.iter().find(|new| new.name == old.name);
-    let at_fault = |area: &&Area| match number {
-        60 => same(area).is_none(),
-        61 => same(area).is_some_and(|new| new.size != area.size),
+    let at_fault = |area: &&Area| match refusal {
+        Refusal::AreaMissing => same(area).is_none(),
+        Refusal::AreaOtherSize => same(area).is_some_and(|new| new.size != area.size),
         _ => false,
     };
     let areas = map(old).ok()?.areas;
@@ -120,7 +122,7 @@ fn blamed_area(old: &[u8], new: &[u8], number: u32) -> Option<[u8; 32]> {
 }
 
 /// What a carry between two images moves, in the order of the old map.
-pub fn carried(old: &[u8], new: &[u8]) -> Result<Vec<Carried>, Refusal> {
+pub fn carried(old: &[u8], new: &[u8]) -> Result<Vec<Carried>, Refused> {
     let (old, new) = (map(old)?.areas, map(new)?.areas);
     let pair = |area: &Area| {
         let target = new.iter().find(|target| target.name == area.name)?;
@@ -129,13 +131,13 @@ pub fn carried(old: &[u8], new: &[u8]) -> Result<Vec<Carried>, Refusal> {
     Ok(old.iter().filter(|area| area.preserved()).filter_map(pair).collect())
 }
 
-fn accepted_for(image: &[u8], answer: u32) -> Result<(), Refusal> {
-    accepted(answer).map_err(|refusal| refusal.about(&[Detail::Bytes(image.len())]))
+fn accepted_for(image: &[u8], answer: u32) -> Result<(), Refused> {
+    accepted(answer).map_err(|refused| refused.about(&[Detail::Bytes(image.len())]))
 }
 
 /// An accepted answer's value, `None` where no such area is there.
-fn there<T>(image: &[u8], answer: u32, value: impl FnOnce() -> T) -> Result<Option<T>, Refusal> {
-    if answer == raw::NOTHING {
+fn there<T>(image: &[u8], answer: u32, value: impl FnOnce() -> T) -> Result<Option<T>, Refused> {
+    if answer == Refusal::NoSuchArea.number() {
         return Ok(None);
     }
     accepted_for(image, answer)?;

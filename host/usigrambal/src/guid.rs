@@ -1,5 +1,6 @@
 use crate::raw;
-use crate::refusal::{accepted, Refusal};
+use crate::refusal::accepted;
+use crate::Refused;
 use std::fmt;
 use std::str::FromStr;
 
@@ -14,14 +15,14 @@ pub struct Guid(pub [u8; 16]);
 
 impl Guid {
     /// Reads a GUID text, hex digits of either case (rule G1).
-    pub fn parse(text: impl AsRef<[u8]>) -> Result<Guid, Refusal> {
+    pub fn parse(text: impl AsRef<[u8]>) -> Result<Guid, Refused> {
         let mut guid = [0; 16];
         accepted(raw::guid_read(text.as_ref(), &mut guid))?;
         Ok(Guid(guid))
     }
 
     /// Reads a partition type: a GUID text or one of the five short names (rules G1, G3, G4).
-    pub fn parse_type(text: impl AsRef<[u8]>) -> Result<Guid, Refusal> {
+    pub fn parse_type(text: impl AsRef<[u8]>) -> Result<Guid, Refused> {
         let mut guid = [0; 16];
         accepted(raw::type_read(text.as_ref(), &mut guid))?;
         Ok(Guid(guid))
@@ -42,9 +43,9 @@ impl Guid {
 }
 
 impl FromStr for Guid {
-    type Err = Refusal;
+    type Err = Refused;
 
-    fn from_str(text: &str) -> Result<Guid, Refusal> {
+    fn from_str(text: &str) -> Result<Guid, Refused> {
         Guid::parse(text)
     }
 }

@@ -1,7 +1,9 @@
 //! Layout texts (FMD).
 
 use crate::raw::{self, RECORDS, RECORD_LEN};
-use crate::refusal::{accepted, Detail, Refusal};
+use crate::refusal::accepted;
+use crate::refused::{Detail, Refused};
+use crate::Refusal;
 
 const NAME_LEN: usize = 32;
 
@@ -25,7 +27,7 @@ pub struct Section {
 }
 
 /// The image that a text describes.
-pub fn read(text: impl AsRef<[u8]>) -> Result<Layout, Refusal> {
+pub fn read(text: impl AsRef<[u8]>) -> Result<Layout, Refused> {
     let text = text.as_ref();
     let mut name = [0; NAME_LEN];
     let (mut size, mut address, mut sections) = (0, 0, 0);
@@ -34,7 +36,7 @@ pub fn read(text: impl AsRef<[u8]>) -> Result<Layout, Refusal> {
 }
 
 /// The sections of a text, children after parents.
-pub fn sections(text: impl AsRef<[u8]>) -> Result<Vec<Section>, Refusal> {
+pub fn sections(text: impl AsRef<[u8]>) -> Result<Vec<Section>, Refused> {
     let text = text.as_ref();
     let mut records = [0; RECORDS * RECORD_LEN];
     let mut count = 0;
@@ -43,16 +45,16 @@ pub fn sections(text: impl AsRef<[u8]>) -> Result<Vec<Section>, Refusal> {
 }
 
 /// Writes the map of a text at the start of section FMAP of an image that has the stated size (rules L17, L18).
-pub fn write_map(text: impl AsRef<[u8]>, image: &mut [u8]) -> Result<(), Refusal> {
+pub fn write_map(text: impl AsRef<[u8]>, image: &mut [u8]) -> Result<(), Refused> {
     let text = text.as_ref();
-    accepted_for(text, raw::fmd_write(text, image)).map_err(|refusal| match (refusal.number(), read(text)) {
-        (1, Ok(layout)) => refusal.about(&[Detail::Stated(image.len(), layout.size)]),
-        _ => refusal,
+    accepted_for(text, raw::fmd_write(text, image)).map_err(|refused| match (refused.refusal, read(text)) {
+        (Refusal::WrongLength, Ok(layout)) => refused.about(&[Detail::Stated(image.len(), layout.size)]),
+        _ => refused,
     })
 }
 
-fn accepted_for(text: &[u8], answer: u32) -> Result<(), Refusal> {
-    accepted(answer).map_err(|refusal| refusal.about(&[Detail::Text(text.len())]))
+fn accepted_for(text: &[u8], answer: u32) -> Result<(), Refused> {
+    accepted(answer).map_err(|refused| refused.about(&[Detail::Text(text.len())]))
 }
 
 fn text_of(name: &[u8]) -> String {

@@ -7,10 +7,12 @@ mod guid;
 pub mod layout;
 pub mod raw;
 mod refusal;
+mod refused;
 
 pub use disk::{Disk, Free, Name, NewPartition, Partition, Placed, Run, State, HEAD_LEN, TAIL_LEN};
 pub use guid::Guid;
-pub use refusal::{Refusal, IMAGE_MAX, TEXT_MAX};
+pub use refusal::Refusal;
+pub use refused::{Refused, IMAGE_MAX, TEXT_MAX};
 
 /// The CRC-32 of UEFI and zlib (rule D3).
 pub fn crc32(data: &[u8]) -> u32 {

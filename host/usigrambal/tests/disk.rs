@@ -3,7 +3,7 @@
 use testkit::disk::Disk;
 use testkit::disk_calls::{Calls, New};
 use testkit::listing;
-use usigrambal::{Guid, Name, NewPartition, Partition, Refusal};
+use usigrambal::{Guid, Name, NewPartition, Partition, Refused};
 
 const CALLS: Calls = Calls {
     crc32: usigrambal::crc32,
@@ -24,10 +24,10 @@ const CALLS: Calls = Calls {
 testkit::disk_tests!(CALLS);
 
 /// A call of the wrapper on the disk.
-fn on<T>(disk: &mut Disk, call: impl FnOnce(&mut usigrambal::Disk) -> Result<T, Refusal>) -> Result<T, u32> {
+fn on<T>(disk: &mut Disk, call: impl FnOnce(&mut usigrambal::Disk) -> Result<T, Refused>) -> Result<T, u32> {
     let head = disk.head.as_mut_slice().try_into().expect("a head");
     let tail = disk.tail.as_mut_slice().try_into().expect("a tail");
-    call(&mut usigrambal::Disk { head, tail, n: disk.n }).map_err(|refusal| refusal.number())
+    call(&mut usigrambal::Disk { head, tail, n: disk.n }).map_err(|refused| refused.number())
 }
 
 fn row(partition: Partition) -> listing::Partition {

@@ -1,13 +1,13 @@
-//! The largest layout text runs on a thread with a stack of 2 MiB.
+//! The largest layout text runs on a thread with a stack of 24 KiB, as include/usigrambal.h says.
 
 use std::thread;
 use testkit::layout::worst_text;
 use usigrambal::raw::{self, RECORDS, RECORD_LEN};
 
-const STACK: usize = 2 << 20;
+const STACK: usize = 24 << 10;
 
 #[test]
-fn the_largest_text_needs_at_most_2_mib_of_stack() {
+fn the_largest_text_needs_at_most_24_kib_of_stack() {
     let work = || {
         let mut text = worst_text();
         text.resize(32_768, b' ');

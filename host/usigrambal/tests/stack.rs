@@ -1,11 +1,17 @@
-//! Every disk call and every flash map call runs on a thread with a stack of 64 KiB.
+//! Every disk call and every flash map call runs on a thread with a stack of 24 KiB, as include/usigrambal.h says.
 
 use std::thread;
 use testkit::flash::{map_len, Area, Map, PRESERVE};
 use usigrambal::raw::{self, NewPartition};
 
-const STACK: usize = 64 << 10;
+const STACK: usize = 24 << 10;
 const N: u64 = 1 << 20;
+
+#[test]
+fn the_header_says_so() {
+    let header = include_str!("../../../include/usigrambal.h");
+    assert!(header.contains(&format!("every call runs on a thread with {} KiB of stack.", STACK >> 10)));
+}
 
 /// Head and tail on the heap, so that the stack holds the calls alone.
 fn disk() -> (Vec<u8>, Vec<u8>) {
@@ -17,7 +23,7 @@ fn on_small_stack(work: impl FnOnce() + Send + 'static) {
 }
 
 #[test]
-fn every_disk_call_needs_at_most_64_kib_of_stack() {
+fn every_disk_call_needs_at_most_24_kib_of_stack() {
     on_small_stack(|| {
         let (mut head, mut tail) = disk();
         let (mut a, mut b) = (0, 0);
@@ -64,7 +70,7 @@ fn image() -> Vec<u8> {
 }
 
 #[test]
-fn every_flash_map_call_needs_at_most_64_kib_of_stack() {
+fn every_flash_map_call_needs_at_most_24_kib_of_stack() {
     on_small_stack(|| {
         let (old, mut new) = (image(), image());
         let (mut number, mut area) = (1, [0; 42]);

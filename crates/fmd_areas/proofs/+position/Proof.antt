@@ -7,7 +7,7 @@ use borrow.Fn.PlainCycle.{Measures, is, falls, and}
 use Rattle.fmd_areas.proofs.position.Reads as position
 use Rattle.fmd_areas.proofs.position.Kinds as position-kinds
 use Rattle.fmd_areas.proofs.+position.Lts-position as position-lts
-use Rattle.fmd_plan.proofs.placed_at.Reads as placed-at-reads
+use Rattle.fmd_table.proofs.placed_at.Reads as placed-at-reads
 use Rattle.fmd_areas.proofs.+position.{statement}
 use Rattle.fmd_areas.proofs.+position.Tie.{close}
 

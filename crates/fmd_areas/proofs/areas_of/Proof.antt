@@ -1,9 +1,8 @@
 use borrow.Author.Needs.{needs}
 use Rattle.fmd_areas.proofs.Listed.{few, taken-on, taken-all}
 use Rattle.fmd_areas.specs.Areas.{areasOf}
-use Rattle.fmd_plan.specs.Plans.{placedIn}
+use Rattle.fmd_table.specs.Table.{placedIn, sectionsIn}
 use Rattle.fmd_table.proofs.Table.{length-sections}
-use Rattle.fmd_table.specs.Table.{sectionsIn}
 use lib.ListN.{length, take, length-set}
 use native.Mathlib.Omega.{arith}
 use Prim.Native.Nat.{_≤_, _<_, _-_}

@@ -1,8 +1,7 @@
 use borrow.Author.Needs.{needs}
 use Rattle.fmd_areas.proofs.Listed.{many, area-in}
 use Rattle.fmd_areas.specs.Areas.{areasOf}
-use Rattle.fmd_plan.specs.Plans.{placedIn}
-use Rattle.fmd_table.specs.Table.{sectionsIn}
+use Rattle.fmd_table.specs.Table.{placedIn, sectionsIn}
 use Rattle.fmap_write.proofs.Fields.{WrittenTo, written-none, written-on, written-all}
 use Rattle.fmap_rules.specs.Map.{blank}
 use lib.ListN.{length}

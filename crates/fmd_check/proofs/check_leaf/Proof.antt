@@ -1,5 +1,5 @@
 use Rattle.fmd_check.specs.Check.{checkLeaf}
-use Rattle.fmd_plan.proofs.Plans.{placed-in}
+use Rattle.fmd_table.proofs.Spots.{placed-in}
 use Rattle.fmd_table.proofs.Table.{length-sections}
 use Rattle.fmap_rules.specs.Map.{mapSize}
 use Rattle.octets.specs.Tests.{_or_}

@@ -1,6 +1,7 @@
 use borrow.Author.Needs.{needs}
 use Rattle.fmd_plan.proofs.Plans.{end-on, end-stop, end-done}
-use Rattle.fmd_plan.specs.Plans.{endIn, placedIn}
+use Rattle.fmd_plan.specs.Plans.{endIn}
+use Rattle.fmd_table.specs.Table.{placedIn}
 use native.Mathlib.Omega.{arith}
 use Prim.Native.Nat.{_≤_}
 use mathlib.Core.Path.{_≡_, _∙_}

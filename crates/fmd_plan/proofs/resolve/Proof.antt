@@ -1,7 +1,8 @@
 use borrow.Author.Needs.{needs}
-use Rattle.fmd_plan.proofs.Plans.{none-placed, resolve-stop, resolve-on, resolve-done}
-use Rattle.fmd_plan.specs.Plans.{placedIn, resolveFrom}
-use Rattle.fmd_table.specs.Table.{sectionsIn}
+use Rattle.fmd_plan.proofs.Plans.{resolve-stop, resolve-on, resolve-done}
+use Rattle.fmd_plan.specs.Plans.{resolveFrom}
+use Rattle.fmd_table.proofs.Spots.{none-placed}
+use Rattle.fmd_table.specs.Table.{sectionsIn, placedIn}
 use lib.ListN.{length, drop}
 use native.Mathlib.Omega.{arith}
 use Prim.Native.Nat.{_≤_, _-_}

@@ -1,4 +1,4 @@
-use Rattle.fmd_plan.proofs.Plans.{length-placed, placed-in}
+use Rattle.fmd_table.proofs.Spots.{length-placed, placed-in}
 use Rattle.fmd_plan.specs.Plans.{roomOf}
 use borrow.Author.Tests.{lt-ltb, le-ltb}
 use mathlib.Core.Path.{sym, _∙_}

@@ -2,11 +2,13 @@
 
 mod areas;
 mod bar;
+mod progress;
 mod table;
 mod tree;
 
 pub use areas::{area_table, areas_json, gaps_json, Area};
 pub use bar::{bar, Item};
+pub use progress::Progress;
 pub use table::{Side, Table};
 pub use tree::{tree, Row, Span};
 

@@ -1,13 +1,15 @@
 //! Files and block devices: what they are, whether they suit, and how they are read and written.
 
+mod beside;
 mod device;
 mod open;
 mod put;
 mod replace;
+mod signals;
 
 pub use open::{open, Access, Opened};
-pub use put::{changed_runs, put, Unwritten};
-pub use replace::{create, replace};
+pub use put::{changed_runs, put, put_told, Unwritten};
+pub use replace::{create, folder, replace};
 
 use crate::failure::Failure;
 use std::fs::{self, Metadata};

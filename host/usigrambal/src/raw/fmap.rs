@@ -1,8 +1,5 @@
 //! The flash map calls. A refusal leaves every buffer and every number answer alone.
 
-/// Answered where the map is found, but has no such area.
-pub const NOTHING: u32 = 255;
-
 mod c {
     extern "C" {
         pub fn usi_fmap_find(image: *const u8, image_len: usize, position: *mut u64) -> u32;

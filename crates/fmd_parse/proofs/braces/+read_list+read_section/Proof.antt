@@ -59,18 +59,18 @@ read-section-calls t =
 
 abbrev read-list-Inv-loop : read-list-lts.InvT-loop
 read-list-Inv-loop text level parent rows₀ n now₀ m₀ rows now m =
-    Within (length text) (now₀ .start) now × (length rows ≡ 1280) × (m ≤ 128)
+    Within (length text) (now₀ .start) now × (length rows ≡ length rows₀) × (m ≤ 128)
     × ((after : List ℕ) (r : Step) → ListRead text now level parent (sectionsIn m rows) after r → ListRead text now₀ level parent (sectionsIn m₀ rows₀) after r)
 
 abbrev read-list-μ-loop : read-list-lts.MeasureT-loop
 read-list-μ-loop text level parent rows₀ n now₀ m₀ rows now m = length text - now .start
 
 read-list-loop-holds : (t : ℕ) → read-list-lts.Need-loop-holds (read-list-calls t) (read-list-at t) read-list.Post read-list-Inv-loop read-list-μ-loop
-read-list-loop-holds t c = (search needs, c .before .before .pre .1 .2, c .before .before .pre .1 .3, λ after r g. g)
+read-list-loop-holds t c = (search needs, search needs, c .before .before .pre .1 .3, λ after r g. g)
 
 read-list-read-section-requires : (t : ℕ) → read-list-lts.Need-read-section-requires (read-list-calls t) (read-list-at t) read-list.Post read-list-Inv-loop read-list-μ-loop
 read-list-read-section-requires t c κs = let v = c .before .loop .inv in
-    (omega arith, (c .before .before .before .before .pre .1 .0, earlier (v .0) (omega arith), v .1, v .2))
+    (omega arith, (c .before .before .before .before .pre .1 .0, earlier (v .0) (omega arith), omega (arith, v .1, c .before .before .before .before .pre .1 .2), v .2))
 
 read-list-enum-known-k : (t : ℕ) → read-list-lts.Need-enum-known-k (read-list-calls t) (read-list-at t) read-list.Post read-list-Inv-loop read-list-μ-loop
 read-list-enum-known-k t c = search needs

@@ -1,9 +1,9 @@
-use Rattle.fmd_plan.proofs.Plans.{placed-stored}
+use Rattle.fmd_table.proofs.Spots.{placed-stored}
 use lib.ListN.{length-set}
 use native.Mathlib.Omega.{arith}
 use borrow.Author.Needs.{needs}
-use Rattle.fmd_plan.proofs.put_placed.Statement.{statement}
-use Rattle.fmd_plan.proofs.put_placed.Tie as tie
+use Rattle.fmd_table.proofs.put_placed.Statement.{statement}
+use Rattle.fmd_table.proofs.put_placed.Tie as tie
 
 mul-at : tie.Need-mul-at
 mul-at c = search needs

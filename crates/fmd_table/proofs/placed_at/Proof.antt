@@ -1,7 +1,7 @@
-use Rattle.fmd_plan.proofs.Plans.{placed-read}
+use Rattle.fmd_table.proofs.Spots.{placed-read}
 use borrow.Author.Needs.{needs}
-use Rattle.fmd_plan.proofs.placed_at.Statement.{statement}
-use Rattle.fmd_plan.proofs.placed_at.Tie as tie
+use Rattle.fmd_table.proofs.placed_at.Statement.{statement}
+use Rattle.fmd_table.proofs.placed_at.Tie as tie
 
 mul-at : tie.Need-mul-at
 mul-at c = search needs

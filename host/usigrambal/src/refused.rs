@@ -1,0 +1,145 @@
+//! A refused call: the refusal, and the argument that it is about.
+
+use crate::Refusal;
+use std::error::Error;
+use std::fmt;
+
+/// The most bytes of an image and of a layout text (rules Q4, Q5).
+pub const IMAGE_MAX: usize = 16_777_216;
+pub const TEXT_MAX: usize = 32_768;
+
+/// Why a call was refused, and of what.
+#[derive(Clone, Copy, Debug, PartialEq, Eq)]
+pub struct Refused {
+    pub refusal: Refusal,
+    detail: Option<Detail>,
+}
+
+/// The argument that a refusal is about.
+#[derive(Clone, Copy, Debug, PartialEq, Eq)]
+pub(crate) enum Detail {
+    /// A disk of so many blocks.
+    Blocks(u64),
+    Slot(u64),
+    /// An image of so many bytes.
+    Bytes(usize),
+    /// One of two images.
+    Image(&'static str),
+    /// A layout text of so many bytes.
+    Text(usize),
+    /// A partition of so many blocks to be placed.
+    NewSize(u64),
+    /// A partition to be given so many blocks.
+    SlotSize(u64, u64),
+    /// An image of so many bytes, where the layout text states so many.
+    Stated(usize, u64),
+    /// The name of an area to be carried, and zeros.
+    Area([u8; 32]),
+}
+
+impl Refused {
+    pub fn number(self) -> u32 {
+        self.refusal.number()
+    }
+
+    pub fn words(self) -> &'static str {
+        self.refusal.words()
+    }
+
+    /// What the number says, and of what.
+    pub fn sentence(self) -> String {
+        match self.detail {
+            Some(detail) => format!("{}: {detail}", self.words()),
+            None => self.words().to_string(),
+        }
+    }
+
+    /// The refusal with its argument, where it is about that argument.
+    pub(crate) fn about(self, details: &[Detail]) -> Refused {
+        let detail = details.iter().copied().find(|detail| detail.fits(self.refusal));
+        Refused { detail, ..self }
+    }
+}
+
+impl From<Refusal> for Refused {
+    fn from(refusal: Refusal) -> Refused {
+        Refused { refusal, detail: None }
+    }
+}
+
+impl Detail {
+    fn fits(self, refusal: Refusal) -> bool {
+        match self {
+            Detail::Blocks(_) => refusal == Refusal::BlockCount,
+            Detail::Bytes(_) => refusal == Refusal::ImageLength,
+            Detail::Text(_) => refusal == Refusal::TextTooLong,
+            Detail::Image(_) => {
+                matches!(refusal, Refusal::ImageLength | Refusal::NoSignature | Refusal::NoGoodMap)
+            }
+            Detail::Slot(_) => matches!(refusal, Refusal::NoSuchSlot | Refusal::SlotUnused),
+            Detail::NewSize(_) | Detail::SlotSize(..) => refusal == Refusal::NoRoom,
+            Detail::Stated(..) => refusal == Refusal::WrongLength,
+            Detail::Area(_) => matches!(refusal, Refusal::AreaMissing | Refusal::AreaOtherSize),
+        }
+    }
+}
+
+impl fmt::Display for Detail {
+    fn fmt(&self, f: &mut fmt::Formatter<'_>) -> fmt::Result {
+        match self {
+            Detail::Blocks(n) => write!(f, "{n} blocks"),
+            Detail::Bytes(len) => bytes(f, *len, IMAGE_MAX),
+            Detail::Text(len) => bytes(f, *len, TEXT_MAX),
+            Detail::Image(which) => write!(f, "the {which} image"),
+            Detail::Slot(slot) => write!(f, "slot {slot}"),
+            Detail::NewSize(size) => write!(f, "no run of {size} free blocks"),
+            Detail::SlotSize(slot, size) => write!(f, "slot {slot} cannot have {size} blocks"),
+            Detail::Stated(len, stated) => {
+                f.write_str("the image has ")?;
+                bytes(f, *len, IMAGE_MAX)?;
+                write!(f, ", the layout states {stated}")
+            }
+            Detail::Area(name) => name
+                .iter()
+                .take_while(|byte| **byte != 0)
+                .try_for_each(|byte| write!(f, "{}", char::from(*byte))),
+        }
+    }
+}
+
+/// A caller may cut what is too long, so that its length is not told.
+fn bytes(f: &mut fmt::Formatter<'_>, len: usize, max: usize) -> fmt::Result {
+    if len > max {
+        return write!(f, "more than {max} bytes");
+    }
+    write!(f, "{len} bytes")
+}
+
+impl fmt::Display for Refused {
+    fn fmt(&self, f: &mut fmt::Formatter<'_>) -> fmt::Result {
+        write!(f, "{}: {}", self.number(), self.sentence())
+    }
+}
+
+impl Error for Refused {}
+
+#[cfg(test)]
+mod tests {
+    use super::*;
+
+    fn refused(refusal: Refusal, details: &[Detail]) -> String {
+        Refused::from(refusal).about(details).to_string()
+    }
+
+    #[test]
+    fn a_refusal_names_the_argument_that_it_is_about() {
+        let details = [Detail::Slot(3), Detail::SlotSize(3, 4096)];
+        assert_eq!(refused(Refusal::SlotUnused, &details), "13: the slot is unused: slot 3");
+        assert_eq!(refused(Refusal::NoRoom, &details), "25: no room: slot 3 cannot have 4096 blocks");
+        assert_eq!(refused(Refusal::NoSize, &details), "20: the size is zero");
+        assert_eq!(
+            refused(Refusal::NoRoom, &[Detail::NewSize(4096)]),
+            "25: no room: no run of 4096 free blocks"
+        );
+    }
+}

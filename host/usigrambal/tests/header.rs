@@ -1,0 +1,45 @@
+//! include/usigrambal.h and the wrapper say the same: names, numbers and words of the refusals, and the version.
+
+use usigrambal::Refusal;
+
+const HEADER: &str = include_str!("../../../include/usigrambal.h");
+
+/// A case's name as the header has it: `NoRoom` is `USI_NO_ROOM`.
+fn c_name(refusal: Refusal) -> String {
+    let case = format!("{refusal:?}");
+    let mut name = String::from("USI");
+    for letter in case.chars() {
+        if letter.is_uppercase() {
+            name.push('_');
+        }
+        name.extend(letter.to_uppercase());
+    }
+    name
+}
+
+/// The lines between the two, without the commas that end them.
+fn between(first: &str, last: &str) -> Vec<&'static str> {
+    let (_, rest) = HEADER.split_once(first).expect(first);
+    let (lines, _) = rest.split_once(last).expect(last);
+    lines.lines().map(|line| line.trim().trim_end_matches(',')).filter(|line| !line.is_empty()).collect()
+}
+
+#[test]
+fn names_and_numbers_are_the_same() {
+    let of = |refusal: &Refusal| format!("{} = {}", c_name(*refusal), refusal.number());
+    let expected: Vec<String> =
+        [String::from("USI_ACCEPTED = 0")].into_iter().chain(Refusal::ALL.iter().map(of)).collect();
+    assert_eq!(between("enum usi_answer {", "};"), expected);
+}
+
+#[test]
+fn words_are_the_same() {
+    let of = |refusal: &Refusal| format!("case {}: return \"{}\";", c_name(*refusal), refusal.words());
+    let expected: Vec<String> = Refusal::ALL.iter().map(of).collect();
+    assert_eq!(between("case USI_ACCEPTED: return \"accepted\";", "default:"), expected);
+}
+
+#[test]
+fn the_version_is_the_same() {
+    assert!(HEADER.contains(concat!("#define USI_VERSION \"", env!("CARGO_PKG_VERSION"), "\"\n")));
+}

@@ -1,0 +1,137 @@
+/* Holds the constants of the header to what the calls do: each length is the one that is not refused, each field stands where a call wrote it. */
+#include "usigrambal.h"
+
+#include <stdio.h>
+#include <stdlib.h>
+#include <string.h>
+
+#define HOLDS(claim) ((claim) ? (void)held++ : broken(__LINE__, #claim))
+
+#define N USI_BLOCKS_MIN
+#define TEXT(text) (const uint8_t *)(text), strlen(text)
+
+static int held;
+static uint8_t head[USI_HEAD_LEN + 1], other[USI_HEAD_LEN], tail[USI_TAIL_LEN + 1];
+static uint8_t image[USI_IMAGE_MAX + 1], records[USI_RECORDS_LEN + 1], text[USI_TEXT_MAX + 1];
+static const uint8_t one[USI_GUID_LEN + 1] = {1}, two[USI_GUID_LEN + 1] = {2};
+static const uint16_t name[USI_NAME_UNITS + 1] = {'n'};
+
+static void broken(int line, const char *claim) {
+    printf("tests/c/header.c, line %d: %s does not hold\n", line, claim);
+    exit(1);
+}
+
+static uint64_t number(const uint8_t *at, int bytes) {
+    uint64_t value = 0;
+    while (bytes-- > 0) value = value << 8 | at[bytes];
+    return value;
+}
+
+static uint32_t format(size_t head_len, size_t tail_len, uint64_t n, size_t guid_len) {
+    return usi_gpt_format(head, head_len, tail, tail_len, n, one, guid_len);
+}
+
+static uint32_t add(size_t guid_len, size_t units) {
+    uint64_t slot, first;
+    return usi_gpt_add(head, USI_HEAD_LEN, tail, USI_TAIL_LEN, N, two, guid_len, one, guid_len, 1, 5, name, units, &slot, &first);
+}
+
+static uint64_t state(void) {
+    uint64_t found = 0;
+    HOLDS(usi_gpt_read(head, USI_HEAD_LEN, tail, USI_TAIL_LEN, N, &found) == USI_ACCEPTED);
+    return found;
+}
+
+static void disk(void) {
+    uint64_t in_tail, offset;
+    uint8_t *entry, guid_text[USI_GUID_TEXT_LEN + 1];
+    HOLDS(usi_guid_write(one, USI_GUID_LEN, guid_text, USI_GUID_TEXT_LEN) == USI_ACCEPTED);
+    HOLDS(usi_guid_write(one, USI_GUID_LEN, guid_text, USI_GUID_TEXT_LEN + 1) == USI_WRONG_LENGTH);
+    HOLDS(format(USI_HEAD_LEN, USI_TAIL_LEN, USI_BLOCKS_MAX, USI_GUID_LEN) == USI_ACCEPTED);
+    HOLDS(format(USI_HEAD_LEN, USI_TAIL_LEN, USI_BLOCKS_MAX + 1, USI_GUID_LEN) == USI_BLOCK_COUNT);
+    HOLDS(format(USI_HEAD_LEN, USI_TAIL_LEN, N - 1, USI_GUID_LEN) == USI_BLOCK_COUNT);
+    HOLDS(format(USI_HEAD_LEN + 1, USI_TAIL_LEN, N, USI_GUID_LEN) == USI_WRONG_LENGTH);
+    HOLDS(format(USI_HEAD_LEN, USI_TAIL_LEN + 1, N, USI_GUID_LEN) == USI_WRONG_LENGTH);
+    HOLDS(format(USI_HEAD_LEN, USI_TAIL_LEN, N, USI_GUID_LEN + 1) == USI_WRONG_LENGTH);
+    HOLDS(format(USI_HEAD_LEN, USI_TAIL_LEN, N, USI_GUID_LEN) == USI_ACCEPTED);
+    HOLDS(memcmp(head + USI_DISK_GUID_IN_HEAD, one, USI_GUID_LEN) == 0 && memcmp(tail + USI_DISK_GUID_IN_TAIL, one, USI_GUID_LEN) == 0);
+    HOLDS(number(head + USI_BLOCK_LEN, 8) == number((const uint8_t *)"EFI PART", 8));
+    HOLDS(add(USI_GUID_LEN, USI_NAME_UNITS + 1) == USI_WRONG_LENGTH);
+    HOLDS(add(USI_GUID_LEN, USI_NAME_UNITS) == USI_ACCEPTED);
+    HOLDS(usi_gpt_table(head, USI_HEAD_LEN, tail, USI_TAIL_LEN, N, &in_tail, &offset) == USI_ACCEPTED && in_tail == 0);
+    HOLDS(offset + USI_ENTRIES_LEN == USI_HEAD_LEN && USI_ENTRY_LEN * USI_SLOTS == USI_ENTRIES_LEN);
+    entry = head + offset;
+    HOLDS(memcmp(entry + USI_ENTRY_TYPE, two, USI_GUID_LEN) == 0 && memcmp(entry + USI_ENTRY_UNIQUE, one, USI_GUID_LEN) == 0);
+    HOLDS(number(entry + USI_ENTRY_FIRST, 8) == USI_FIRST_USABLE && number(entry + USI_ENTRY_LAST, 8) == N - USI_BEHIND_LAST_USABLE);
+    HOLDS(number(entry + USI_ENTRY_ATTRIBUTES, 8) == 5 && number(entry + USI_ENTRY_NAME, 2) == 'n');
+    HOLDS(USI_ENTRY_NAME + 2 * USI_NAME_UNITS == USI_ENTRY_LEN);
+    HOLDS(usi_gpt_delete(head, USI_HEAD_LEN, tail, USI_TAIL_LEN, N, USI_SLOTS) == USI_SLOT_UNUSED);
+    HOLDS(usi_gpt_delete(head, USI_HEAD_LEN, tail, USI_TAIL_LEN, N, USI_SLOTS + 1) == USI_NO_SUCH_SLOT);
+    HOLDS(state() == USI_STATE_SAME);
+    tail[USI_ENTRIES_LEN]++;
+    HOLDS(state() == USI_STATE_PRIMARY_ONLY);
+    tail[USI_ENTRIES_LEN]--;
+    head[USI_BLOCK_LEN]++;
+    HOLDS(state() == USI_STATE_BACKUP_ONLY);
+    head[USI_BLOCK_LEN]--;
+    HOLDS(usi_gpt_format(other, USI_HEAD_LEN, tail, USI_TAIL_LEN, N, two, USI_GUID_LEN) == USI_ACCEPTED);
+    HOLDS(state() == USI_STATE_DIFFERENT);
+}
+
+static uint32_t find(size_t len) {
+    uint64_t position;
+    return usi_fmap_find(image, len, &position);
+}
+
+static void flash(void) {
+    static const char layout[] = "I 98K { A(PRESERVE)@1K 2K FMAP }";
+    uint8_t area[USI_AREA_LEN + 1], image_name[USI_IMAGE_NAME_LEN + 1];
+    uint64_t position = 0, size = 0, address, count;
+    HOLDS(find(USI_IMAGE_MIN - 1) == USI_IMAGE_LENGTH && find(USI_IMAGE_MIN) == USI_NO_SIGNATURE);
+    HOLDS(find(USI_IMAGE_MAX + 1) == USI_IMAGE_LENGTH && find(USI_IMAGE_MAX) == USI_NO_SIGNATURE);
+    HOLDS(usi_fmd_read(TEXT(layout), image_name, USI_IMAGE_NAME_LEN + 1, &size, &address, &count) == USI_WRONG_LENGTH);
+    HOLDS(usi_fmd_read(TEXT(layout), image_name, USI_IMAGE_NAME_LEN, &size, &address, &count) == USI_ACCEPTED);
+    HOLDS(usi_fmd_write(TEXT(layout), image, size) == USI_ACCEPTED && usi_fmap_find(image, size, &position) == USI_ACCEPTED);
+    HOLDS(usi_fmap_area(image, size, 0, area, USI_AREA_LEN + 1) == USI_WRONG_LENGTH);
+    HOLDS(usi_fmap_area(image, size, 0, area, USI_AREA_LEN) == USI_ACCEPTED);
+    HOLDS(memcmp(area, image + position + USI_MAP_HEADER_LEN, USI_AREA_LEN) == 0);
+    HOLDS(number(area + USI_AREA_OFFSET, 4) == 1024 && number(area + USI_AREA_SIZE, 4) == 2048);
+    HOLDS(area[USI_AREA_NAME] == 'A' && number(area + USI_AREA_FLAGS, 2) == USI_FLAG_PRESERVE);
+    HOLDS(USI_AREA_NAME + USI_AREA_NAME_LEN == USI_AREA_FLAGS);
+    HOLDS(usi_fmd_records(TEXT(layout), records, USI_RECORDS_LEN + 1, &count) == USI_WRONG_LENGTH);
+    HOLDS(usi_fmd_records(TEXT(layout), records, USI_RECORDS_LEN, &count) == USI_ACCEPTED);
+    HOLDS(memcmp(records, area, USI_RECORD_LEN) == 0 && USI_RECORD_LEN * USI_SECTIONS_MAX == USI_RECORDS_LEN);
+}
+
+/* So many sections, the last of them on so many levels. */
+static uint32_t nested(int sections, int levels) {
+    uint64_t count;
+    int at = sprintf((char *)text, "I 1M { FMAP 8K ");
+    for (int k = levels + 1; k < sections; k++) at += sprintf((char *)text + at, "S%d 1 ", k);
+    for (int k = 1; k < levels; k++) at += sprintf((char *)text + at, "L%d { ", k);
+    at += sprintf((char *)text + at, "L%d", levels);
+    for (int k = 1; k <= levels; k++) at += sprintf((char *)text + at, " }");
+    return usi_fmd_records(text, (size_t)at, records, USI_RECORDS_LEN, &count);
+}
+
+static void layout(void) {
+    uint64_t count;
+    HOLDS(nested(USI_SECTIONS_MAX, USI_LEVELS_MAX) == USI_ACCEPTED);
+    HOLDS(nested(USI_SECTIONS_MAX + 1, USI_LEVELS_MAX) == USI_TOO_MANY);
+    HOLDS(nested(USI_SECTIONS_MAX, USI_LEVELS_MAX + 1) == USI_TOO_MANY);
+    memset(text, ' ', sizeof text);
+    HOLDS(usi_fmd_records(text, USI_TEXT_MAX, records, USI_RECORDS_LEN, &count) == USI_OUT_OF_GRAMMAR);
+    HOLDS(usi_fmd_records(text, USI_TEXT_MAX + 1, records, USI_RECORDS_LEN, &count) == USI_TEXT_TOO_LONG);
+}
+
+int main(void) {
+    char version[32];
+    disk();
+    flash();
+    layout();
+    sprintf(version, "%d.%d.%d", USI_VERSION_MAJOR, USI_VERSION_MINOR, USI_VERSION_PATCH);
+    HOLDS(strcmp(version, USI_VERSION) == 0);
+    HOLDS(strcmp(usi_words(USI_NO_ROOM), "no room") == 0 && strcmp(usi_words(99), usi_words(100)) == 0);
+    printf("%d claims about the header's constants hold\n", held);
+    return 0;
+}
