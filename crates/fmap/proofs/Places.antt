@@ -1,22 +1,25 @@
 -- What stands at a position that is given, and a carry by two of them.
 use mathlib.Core.Path.{_≡_, refl, sym, ap, _∙_}
 use mathlib.Core.Logic.{_⊎_, inl, inr}
-use mathlib.Core.Bool.{Bool, true, false, not}
+use mathlib.Core.Bool.{Bool, true, false, not, true≢false}
 use mathlib.Core.List.{List, [], _∷_, _++_}
 use mathlib.Core.Option.{Option, none, some}
-use Prim.Native.Nat.{ℕ}
+use Prim.Native.Nat.{ℕ, _≤_}
 use native.Mathlib.Omega.{arith}
 use Rattle.octets.specs.Rows.{row, refusal, codeOf}
 use Rattle.octets.specs.Bytes.{rest}
-use Rattle.octets.proofs.Bools.{not-f, option-cases}
-use Rattle.octets.proofs.Rows.{pick-true, pick-false, passes, refusal-append, refusal-first, refusal-before}
+use borrow.Author.Tests.{ltb-false}
+use Rattle.octets.proofs.Bools.{or-false-r, not-f, bool-cases, option-cases}
+use Rattle.octets.proofs.Rows.{pick-true, pick-false, passes, refusal-append, refusal-first, refusal-before, refusal-holds}
 use lib.ListN.{length}
 use Rattle.fmap_rules.specs.Map.{areasOf, mapRows, goodMap}
 use Rattle.fmap_rules.proofs.Rules.{code-none, map-no-zero}
+use Rattle.fmap_rules.proofs.Good.{unsigned-first}
 use Rattle.fmap_carry.specs.Carry.{Outcome, outcome, carryRows, carried, carryAreas}
 use Rattle.fmap.specs.Find.{Reply, accepted, refused, reply, outOfRange, signedAt}
 use Rattle.fmap.specs.Faults.{faultAt}
 use Rattle.fmap.specs.Carry.{placeRows, carryAtRows, carryAt}
+use Rattle.fmap.proofs.Finding.{reply-accepted, signed-short}
 
 -- ---- the first rule
 
@@ -41,6 +44,32 @@ module _ (image : List ℕ) (at : ℕ) where
         go : (refusal (mapRows image at) ≡ none) ⊎ ((s : ℕ) × (refusal (mapRows image at) ≡ some s)) → some k ≡ refusal (mapRows image at)
         go (inl q) = absurd (h (e ∙ ap codeOf q))
         go (inr (s, q)) = ap (λ (x : ℕ). some x) (e ∙ ap codeOf q) ∙ sym q
+
+-- no rule has the number 0
+pub rule-some : (image : List ℕ) (at : ℕ) → faultAt image at ≡ accepted (some 0) → ⊥
+unfolding faultAt
+rule-some image at e = by-rows (refusal (row (outOfRange (length image)) 40 ∷ [])) e
+  where
+    by-rows : (o : Option ℕ) → reply o (refusal (mapRows image at)) ≡ accepted (some 0) → ⊥
+    by-rows none e =
+        let q : refusal (mapRows image at) ≡ some 0 = reply-accepted none (refusal (mapRows image at)) (some 0) e .1 in
+        true≢false (sym (refusal-holds 0 (mapRows image at) q) ∙ map-no-zero image at)
+    by-rows (some k) e = let z : _≡_ {A = ℕ} 0 1 = cc in omega arith
+
+-- ---- positions behind the image
+
+behind : (image : List ℕ) (at : ℕ) → outOfRange (length image) ≡ false → 16777216 ≤ at → refusal (mapRows image at) ≡ some 1
+unfolding signedAt outOfRange
+behind image at w h =
+    let l : length image ≤ 16777216 = ltb-false _ _ (or-false-r _ _ w) in
+    unsigned-first image at (signed-short image at (omega arith))
+
+pub fault-behind : (image : List ℕ) (at bt : ℕ) → 16777216 ≤ at → 16777216 ≤ bt → faultAt image at ≡ faultAt image bt
+fault-behind image at bt a b = go (bool-cases (outOfRange (length image)))
+  where
+    go : (outOfRange (length image) ≡ true) ⊎ (outOfRange (length image) ≡ false) → faultAt image at ≡ faultAt image bt
+    go (inl w) = sym (fault-40 image at w) ∙ fault-40 image bt w
+    go (inr w) = sym (looked image at w (some 1) (sym (behind image at w a))) ∙ looked image bt w (some 1) (sym (behind image bt w b))
 
 -- ---- what stands at a position
 
