@@ -139,33 +139,33 @@ module _ (len at : ℕ) (areas : List Area)
     (held : any (holdsMap at (length areas)) areas ≡ true)
     (differ : (i j : ℕ) → i < j → j < length areas → named (getD areas i blank .name) (getD areas j blank) ≡ false)
     (apart : (i j : ℕ) → i < j → j < length areas → disjointOrNested (getD areas i blank .place) (getD areas j blank .place) ≡ true)
-    where
-  none-empty : any empty areas ≡ false
-  unfolding empty
-  none-empty = any-false empty areas blank (λ i h. ne-eqb (getD areas i blank .place .size) 0 (λ e. omega (arith, e, some i h)))
+  where
+    none-empty : any empty areas ≡ false
+    unfolding empty
+    none-empty = any-false empty areas blank (λ i h. ne-eqb (getD areas i blank .place .size) 0 (λ e. omega (arith, e, some i h)))
 
-  none-past : any (endsPast len) areas ≡ false
-  unfolding endsPast
-  none-past = any-false (endsPast len) areas blank (λ i h. le-ltb len _ (within i h))
+    none-past : any (endsPast len) areas ≡ false
+    unfolding endsPast
+    none-past = any-false (endsPast len) areas blank (λ i h. le-ltb len _ (within i h))
 
-  none-misnamed : any misnamed areas ≡ false
-  unfolding misnamed
-  none-misnamed = any-false misnamed areas blank (λ i h. ap not (legals i h))
+    none-misnamed : any misnamed areas ≡ false
+    unfolding misnamed
+    none-misnamed = any-false misnamed areas blank (λ i h. ap not (legals i h))
 
-  all-differ : pairs otherName areas ≡ true
-  unfolding otherName
-  all-differ = pairs-make otherName areas blank (λ i j h k. ap not (differ i j h k))
+    all-differ : pairs otherName areas ≡ true
+    unfolding otherName
+    all-differ = pairs-make otherName areas blank (λ i j h k. ap not (differ i j h k))
 
-  all-apart : pairs goodPlaces areas ≡ true
-  unfolding goodPlaces
-  all-apart = pairs-make goodPlaces areas blank apart
+    all-apart : pairs goodPlaces areas ≡ true
+    unfolding goodPlaces
+    all-apart = pairs-make goodPlaces areas blank apart
 
-  pub areas-good : goodAreas len at areas ≡ true
-  unfolding goodAreas
-  areas-good =
-      none-holds (areaRows len at areas)
-      (pick-false _ 10 _ none-empty ∙ pick-false _ 11 _ none-past ∙ pick-false _ 12 _ none-misnamed ∙ pick-false _ 13 _ (ap not held)
-      ∙ pick-false _ 14 _ (ap not all-differ) ∙ pick-false _ 15 _ (ap not all-apart))
+    pub areas-good : goodAreas len at areas ≡ true
+    unfolding goodAreas
+    areas-good =
+        none-holds (areaRows len at areas)
+        (pick-false _ 10 _ none-empty ∙ pick-false _ 11 _ none-past ∙ pick-false _ 12 _ none-misnamed ∙ pick-false _ 13 _ (ap not held)
+        ∙ pick-false _ 14 _ (ap not all-differ) ∙ pick-false _ 15 _ (ap not all-apart))
 
 -- the bytes of all areas, as a lent part
 pub areas-are : (image xs : List ℕ) (at : ℕ) → xs ≡ part 56 (42 * countOf (take (length image - at) (drop at image))) (take (length image - at) (drop at image))
