@@ -22,7 +22,7 @@ fn a_disk_of_100_blocks() {
     assert_eq!(placed(add(&image, "11", "c")), (1, 49, 59));
     assert_eq!(placed(add(&image, "10", "d")), (3, 34, 43));
     let free = run!["gpt", "free", image].done();
-    let runs = "Free  First  Last  Blocks     Size\n         60    66       7  3.5 KiB\n";
+    let runs = "  Free  First  Last  Blocks     Size\n           60    66       7  3.5 KiB\n";
     let expected = "free:        7 blocks (3.5 KiB)\nlongest run: 7 blocks (3.5 KiB)\n";
     assert_eq!(free, format!("{}:\n{expected}\n{runs}", image.display()));
     let words = run!["gpt", "resize", image, "1", "19"].refused(25);
@@ -59,8 +59,8 @@ Number  First  Last  Blocks    Size  Type                                  Uniqu
      1     34    57      24  12 KiB  system                                {unique}  0x0         boot
      2     58    81      24  12 KiB  {foreign}  {GUID}  0x5
 
-Free  First  Last  Blocks    Size
-         82   129      48  24 KiB
+  Free  First  Last  Blocks    Size
+           82   129      48  24 KiB
 
 1{part}2{part}{free}
 ",

@@ -158,7 +158,7 @@ fn partitions_by_name() {
     // Now the text is a name alone.
     assert!(told(&["delete", GUID]).done().starts_with("deleted partition 5"));
     let ended = told(&["rename", "Boot", "x"]);
-    assert_eq!(ended.hint(), "the numbers in use are 1 to 4");
+    assert_eq!(ended.hint(), r#"there are 1 "boot", 2 "pages", 3 "pages", 4 "7""#);
     ended.usage("no partition has the number, the name or the unique GUID \"Boot\"");
     // Digits are a number.
     told(&["delete", "7"]).refused(13);

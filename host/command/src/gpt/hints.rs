@@ -76,6 +76,16 @@ pub fn used(partitions: &[Partition]) -> String {
     }
 }
 
+/// The partitions with their names, where they are few.
+fn named(partitions: &[Partition]) -> String {
+    let named =
+        |partition: &Partition| format!("{} \"{}\"", partition.slot, printable(&partition.name.to_text()));
+    match partitions.len() {
+        0 | 9.. => used(partitions),
+        _ => format!("there are {}", partitions.iter().map(named).collect::<Vec<_>>().join(", ")),
+    }
+}
+
 /// A refused add.
 pub fn of_add(refused: Refused, path: &Path, disk: &Disk, unique: Guid) -> Failure {
     let failure = advised(refused, path, disk);
@@ -149,7 +159,7 @@ pub fn slot(disk: &Disk, path: &Path, text: &str) -> Result<u64, Failure> {
         [] => Err(Failure::usage(format!(
             "no partition has the number, the name or the unique GUID \"{told}\""
         ))
-        .hint(used(&held))),
+        .hint(named(&held))),
         _ => {
             let numbers: Vec<String> = alike.iter().map(|partition| partition.slot.to_string()).collect();
             Err(Failure::usage(format!("{} are called \"{told}\"", plural(alike.len() as u64, "partition")))
