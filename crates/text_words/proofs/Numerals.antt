@@ -16,14 +16,13 @@ use Rattle.text_words.specs.Numerals.{upTo, digitsFrom, someDigits, afte
 use Rattle.text_words.specs.declared.Numeral.{Numeral}
 use Rattle.text_words.specs.declared.Numeral.the-variants.{Value, Over, Missing}
 
--- ---- the limit: the most that can be multiplied by the base
+-- ---- the limit, divided once
 
-module _ (most base n : ℕ) {limit : ℕ} (h : 1 ≤ base) (q : limit ≡ most / base) where
-  pub under-limit : n ≤ limit → n * base ≤ most
-  under-limit e = le-div-iff-mul-le {k = base} {x = n} {y = most} h .0 (subst (λ (k : ℕ). n ≤ k) q e)
+pub under-limit : (most base n : ℕ) → 1 ≤ base → n ≤ most / base → n * base ≤ most
+under-limit most base n h e = le-div-iff-mul-le {k = base} {x = n} {y = most} h .0 e
 
-  pub over-limit : limit < n → most < n * base
-  over-limit e = div-lt-iff-lt-mul {k = base} {x = most} {y = n} h .0 (subst (λ (k : ℕ). k < n) q e)
+pub over-limit : (most base n : ℕ) → 1 ≤ base → most / base < n → most < n * base
+over-limit most base n h e = div-lt-iff-lt-mul {k = base} {x = most} {y = n} h .0 e
 
 -- ---- digits
 

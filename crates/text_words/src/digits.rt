@@ -1,16 +1,17 @@
 // Numerals.
 ghost use mathlib.Core.Path.{_≡_};
-ghost use Prim.Native.Nat.{_/_, _≤_};
+ghost use Prim.Native.Nat.{_≤_};
 ghost use lib.ListN.{length, drop};
 ghost use Rattle.text_words.specs.Numerals.{digitsFrom, someDigits, numeralOf};
 use super::Numeral;
 use super::digit;
 
-// The digits from at on; limit is the most that can be multiplied by the base. A value over `most` stays so, whatever digits follow.
-fn digits_from(w: &[u8], at: usize, base: u64, most: u64, limit: u64) -> Numeral
-    requires { ⌜ (at ≤ length (now w)) × (1 ≤ base) × (limit ≡ most / base) ⌝ }
+// The digits from at on. A value over the limit stays so, whatever digits follow.
+fn digits_from(w: &[u8], at: usize, base: u64, most: u64) -> Numeral
+    requires { ⌜ (at ≤ length (now w)) × (1 ≤ base) ⌝ }
     ensures { λ r. ⌜ r ≡ digitsFrom most base 0 (drop at (now (w .entry))) at ⌝ }
 {
+    let limit = most / base;
     let mut n: u64 = 0;
     let mut i = at;
     while i < w.len() {
@@ -32,13 +33,13 @@ fn digits_from(w: &[u8], at: usize, base: u64, most: u64, limit: u64) -> Numeral
 }
 
 // One digit at least, from at on.
-fn some_digits(w: &[u8], at: usize, base: u64, most: u64, limit: u64) -> Numeral
-    requires { ⌜ (at ≤ length (now w)) × (1 ≤ base) × (limit ≡ most / base) ⌝ }
+fn some_digits(w: &[u8], at: usize, base: u64, most: u64) -> Numeral
+    requires { ⌜ (at ≤ length (now w)) × (1 ≤ base) ⌝ }
     ensures { λ r. ⌜ r ≡ someDigits most base (drop at (now (w .entry))) at ⌝ }
 {
     if at < w.len() {
         if digit(w[at]) < base {
-            return digits_from(w, at, base, most, limit);
+            return digits_from(w, at, base, most);
         }
         return Numeral::Missing;
     }
@@ -53,13 +54,13 @@ pub fn numeral_of(w: &[u8], most: u64) -> Numeral
         return Numeral::Missing;
     }
     if w[0] != 48 {
-        return some_digits(w, 0, 10, most, most / 10);
+        return some_digits(w, 0, 10, most);
     }
     if w.len() == 1 {
         return Numeral::Value(0, 1);
     }
     if w[1] == 120 {
-        return some_digits(w, 2, 16, most, most / 16);
+        return some_digits(w, 2, 16, most);
     }
     Numeral::Value(0, 1)
 }

@@ -14,6 +14,9 @@ Inv-loop w at base most limit n₀ i₀ n i = (i ≤ length w) × (n ≤ most) �
 abbrev μ-loop : tie.MeasureT-loop
 μ-loop w at base most limit n₀ i₀ n i = length w - i
 
+div-limit : tie.Need-div-limit Inv-loop μ-loop
+div-limit c = search needs
+
 loop-holds : tie.Need-loop-holds Inv-loop μ-loop
 loop-holds c = search needs
 
@@ -37,20 +40,20 @@ returns-2 c =
     let start = c .before .before .before .before .before .before .before in
     let s = start .args .w .now in
     let h : turn .loop .i < length s = search needs in
-    let o = over-limit (start .args .most) (start .args .base) (turn .loop .n) (start .pre .1) (start .pre .2) (c .if2 .taken) in
+    let o = over-limit (start .args .most) (start .args .base) (turn .loop .n) (start .pre .1) (c .if2 .taken) in
     digits-over (start .args .most) (start .args .base) _ _ _ (start .pre .1) (omega arith)
     ∙ digits-in s (turn .loop .i) (start .args .most) (start .args .base) (turn .loop .n) h (omega arith) ∙ turn .loop .inv .2
 
 mul-high : tie.Need-mul-high Inv-loop μ-loop
 mul-high c =
     let start = c .before .before .before .before .before .before .before in
-    let u = under-limit (start .args .most) (start .args .base) (c .before .before .before .before .before .loop .n) (start .pre .1) (start .pre .2) (c .if2 .left) in
+    let u = under-limit (start .args .most) (start .args .base) (c .before .before .before .before .before .loop .n) (start .pre .1) (c .if2 .left) in
     search needs
 
 sub-if3 : tie.Need-sub-if3 Inv-loop μ-loop
 sub-if3 c =
     let start = c .before .before .before .before .before .before .before in
-    let u = under-limit (start .args .most) (start .args .base) (c .before .before .before .before .before .loop .n) (start .pre .1) (start .pre .2) (c .if2 .left) in
+    let u = under-limit (start .args .most) (start .args .base) (c .before .before .before .before .before .loop .n) (start .pre .1) (c .if2 .left) in
     search needs
 
 returns-3 : tie.Need-returns-3 Inv-loop μ-loop
@@ -59,14 +62,14 @@ returns-3 c =
     let start = c .before .before .before .before .before .before .before .before in
     let s = start .args .w .now in
     let h : turn .loop .i < length s = search needs in
-    let u = under-limit (start .args .most) (start .args .base) (turn .loop .n) (start .pre .1) (start .pre .2) (c .before .if2 .left) in
+    let u = under-limit (start .args .most) (start .args .base) (turn .loop .n) (start .pre .1) (c .before .if2 .left) in
     digits-over (start .args .most) (start .args .base) _ _ _ (start .pre .1) (omega arith)
     ∙ digits-in s (turn .loop .i) (start .args .most) (start .args .base) (turn .loop .n) h (omega arith) ∙ turn .loop .inv .2
 
 add-n : tie.Need-add-n Inv-loop μ-loop
 add-n c =
     let start = c .before .before .before .before .before .before .before .before in
-    let u = under-limit (start .args .most) (start .args .base) (c .before .before .before .before .before .before .loop .n) (start .pre .1) (start .pre .2)
+    let u = under-limit (start .args .most) (start .args .base) (c .before .before .before .before .before .before .loop .n) (start .pre .1)
     (c .before .if2 .left) in
     search needs
 
@@ -82,7 +85,7 @@ loop-again c =
     let start = c .before .before .before .before .before .before .before .before in
     let s = start .args .w .now in
     let h : turn .loop .i < length s = search needs in
-    let u = under-limit (start .args .most) (start .args .base) (turn .loop .n) (start .pre .1) (start .pre .2) (c .before .if2 .left) in
+    let u = under-limit (start .args .most) (start .args .base) (turn .loop .n) (start .pre .1) (c .before .if2 .left) in
     let d = c .before .before .before .digit .ensures .0 in (
       search needs,
       omega arith,
@@ -102,6 +105,7 @@ digits-from-spec =
     (tie.spec
     Inv-loop
     μ-loop
+    div-limit
     loop-holds
     shared-slice-read-digit
     digit-requires
