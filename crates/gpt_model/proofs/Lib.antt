@@ -15,3 +15,6 @@ pub mod Steps
 pub mod Demand3
 pub mod Touches
 pub mod SameSize
+pub mod StoredTable
+pub mod StoredHeader
+pub mod StoredCopies
