@@ -18,3 +18,6 @@ pub mod SameSize
 pub mod StoredTable
 pub mod StoredHeader
 pub mod StoredCopies
+pub mod StoredFormat
+pub mod StoredEdits
+pub mod StoredRepair

@@ -21,7 +21,7 @@ use Rattle.gpt_model.proofs.Entries.{slot-unused, slot-used, Used, ok-u
 -- ---- entry i
 
 module _ (es : List ℕ) (i : ℕ) (h : i < 128) where
-  entry-is : entryAt es i ≡ part (i * 128) 128 es
+  pub entry-is : entryAt es i ≡ part (i * 128) 128 es
   entry-is = chunk-part 128 128 i es h
 
   field-is : (at k : ℕ) → at + k ≤ 128 → part at k (entryAt es i) ≡ part (i * 128 + at) k es
@@ -33,13 +33,13 @@ module _ (es : List ℕ) (i : ℕ) (h : i < 128) where
   unique-is : uniqueOf (entryAt es i) ≡ uniqueAt es i
   unique-is = field-is 16 16 (omega arith)
 
-  first-is : firstOf (entryAt es i) ≡ firstAt es i
+  pub first-is : firstOf (entryAt es i) ≡ firstAt es i
   first-is = ap unle (field-is 32 8 (omega arith))
 
   last-is : lastOf (entryAt es i) ≡ lastAt es i
   last-is = ap unle (field-is 40 8 (omega arith))
 
-  used-is : unused (entryAt es i) ≡ isZero (part (i * 128) 128 es)
+  pub used-is : unused (entryAt es i) ≡ isZero (part (i * 128) 128 es)
   unfolding unused
   used-is = ap isZero entry-is
 

@@ -4,15 +4,18 @@ use mathlib.Core.Path.{_≡_}
 use mathlib.Core.Logic.{_≢_, _↔_}
 use mathlib.Core.Bool.{true, false}
 use mathlib.Core.List.{List, [], _∷_}
+use mathlib.Core.Option.{none}
 use Prim.Native.Nat.{ℕ, suc, _+_, _-_, _*_, _≤_, _<_}
-use lib.ListN.{length}
+use lib.ListN.{length, getD}
 use Rattle.octets.specs.Ascii.{ascii}
+use Rattle.octets.specs.Rows.{refusal}
 use Rattle.octets.specs.Bytes.{le, unle, part, put, zeros, isZero}
 use Rattle.crc_lanes.specs.Crc.{crc32}
 use Rattle.gpt_model.specs.Table.{slots}
 use Rattle.gpt_model.specs.Disk.{Shape, primary, backup, goodCopy, tableOf}
 use Rattle.gpt_model.specs.Ranges.{lies}
-use Rattle.gpt_model.specs.Calls.{read, Answer, refused, accepted, step}
+use Rattle.gpt_model.specs.Calls.{Edit, add, delete, resize, rename, read, repair, edit, Answer, refused, accepted, Out, rowsOf, step, format}
+use Rattle.gpt_model.specs.Claims.{FreeFrom, Outside}
 
 -- ---- a table: 128 entries of 128 bytes, counted from 0
 
@@ -118,3 +121,90 @@ pub record ReadSays (g : Shape) (n : ℕ) (h t : List ℕ) (a : Answer) (es : Li
 
 abbrev pub ReadByBytes : Type 0
 ReadByBytes = (g : Shape) (n : ℕ) (h t : List ℕ) → Lent g n h t → ReadSays g n h t (step g n h t read .answer) (tableOf g n h t)
+
+-- ---- what formatting writes
+
+pub record Formatted (g : Shape) (n : ℕ) (guid h t : List ℕ) : Type 0 where
+  -- D13: Formatting writes both copies with no entries
+  pub head : HeadGood g n h
+  pub tail : TailGood g n t
+  pub guids : (part (g .block + 56) 16 h ≡ guid) × (part (16384 + 56) 16 t ≡ guid)
+  pub entries : (part (2 * g .block) 16384 h ≡ zeros 16384) × (part 0 16384 t ≡ zeros 16384)
+  -- D14: All header tails are zero.
+  pub tails : (part (g .block + 92) (g .block - 92) h ≡ zeros (g .block - 92)) × (part (16384 + 92) (g .block - 92) t ≡ zeros (g .block - 92))
+  -- D13: and block 0: zeros, except at 446 the record 00, 00 02 00, EE, FF FF FF, 1, N−1 (last two 32-bit), and 55 AA at 510.
+  pub block0 : part 0 446 h ≡ zeros 446
+  pub at446 : part 446 8 h ≡ 0 ∷ 0 ∷ 2 ∷ 0 ∷ 0xEE ∷ 0xFF ∷ 0xFF ∷ 0xFF ∷ []
+  pub at454 : part 454 4 h ≡ le 4 1
+  pub at458 : part 458 4 h ≡ le 4 (n - 1)
+  pub at462 : part 462 48 h ≡ zeros 48
+  pub at510 : part 510 2 h ≡ 0x55 ∷ 0xAA ∷ []
+  pub at512 : part 512 (g .block - 512) h ≡ zeros (g .block - 512)
+
+-- P2: formatting is accepted for every legal N and nonzero GUID; R25: and for no other
+abbrev pub FormatWrites : Type 0
+FormatWrites =
+    (g : Shape) (n : ℕ) (guid h t : List ℕ) → 512 ≤ g .block
+    → let o = format g n guid h t in
+    ((o .answer ≡ accepted []) ↔ (Lent g n h t × (length guid ≡ 16) × (isZero guid ≡ false)))
+    × (o .answer ≡ accepted [] → Formatted g n guid (o .head) (o .tail))
+
+-- ---- what an edit writes into the table
+
+-- D5: name 56 as 36 16-bit units
+abbrev pub NameAt : List ℕ → ℕ → List ℕ → Type 0
+NameAt es i name = (u : ℕ) → u < 36 → part (i * 128 + 56 + 2 * u) 2 es ≡ le 2 (getD name u 0)
+
+-- every byte but the w bytes from at on is as it was
+abbrev pub StaysBut : ℕ → ℕ → List ℕ → List ℕ → Type 0
+StaysBut at w es es′ = (k : ℕ) → Outside at w k → getD es′ k 0 ≡ getD es k 0
+
+-- what an add writes into entry i, at start s
+pub record Added (g : Shape) (n : ℕ) (type unique : List ℕ) (size attributes : ℕ) (name es es′ : List ℕ) (i s : ℕ) : Type 0 where
+  -- D15: and takes the lowest unused slot
+  pub slot : (i < 128) × (¬ UsedAt es i) × ((j : ℕ) → j < i → UsedAt es j)
+  -- and the lowest start with enough free blocks
+  pub start : FreeFrom g n (slots es) size s × ((b : ℕ) → b < s → ¬ FreeFrom g n (slots es) size b)
+  -- D15: Add is given type, unique GUID (16 stored bytes each), size in blocks, attributes and name (36 units)
+  pub typeGuid : typeAt es′ i ≡ type
+  pub uniqueGuid : uniqueAt es′ i ≡ unique
+  pub first : part (i * 128 + 32) 8 es′ ≡ le 8 s
+  pub last : part (i * 128 + 40) 8 es′ ≡ le 8 (s + size - 1)
+  pub bits : part (i * 128 + 48) 8 es′ ≡ le 8 attributes
+  pub units : NameAt es′ i name
+  pub others : StaysBut (i * 128) 128 es es′
+
+-- the answer a of an edit, the table es before it and es′ after it
+abbrev pub EditSays : Shape → ℕ → Edit → Answer → List ℕ → List ℕ → Type 0
+-- R3: Accepted, add answers slot and first block
+EditSays g n (add type unique size attributes name) a es es′ =
+    (i : ℕ) × (s : ℕ) × (a ≡ accepted (suc i ∷ s ∷ [])) × Added g n type unique size attributes name es es′ i s
+-- D16: Delete zeroes the slot.
+EditSays g n (delete k) a es es′ = (a ≡ accepted []) × (part ((k - 1) * 128) 128 es′ ≡ zeros 128) × StaysBut ((k - 1) * 128) 128 es es′
+-- D18: Resize sets the last block alone, to the size asked
+EditSays g n (resize k size) a es es′ =
+    (a ≡ accepted []) × (part ((k - 1) * 128 + 40) 8 es′ ≡ le 8 (firstAt es (k - 1) + size - 1)) × StaysBut ((k - 1) * 128 + 40) 8 es es′
+-- D17: Rename sets the entry's 72 name bytes alone, to 36 given units.
+EditSays g n (rename k name) a es es′ = (a ≡ accepted []) × NameAt es′ (k - 1) name × StaysBut ((k - 1) * 128 + 56) 72 es es′
+
+abbrev pub EditWrites : Type 0
+EditWrites =
+    (g : Shape) (n : ℕ) (h t : List ℕ) (d : Edit) → 92 ≤ g .block → refusal (rowsOf g n h t (edit d)) ≡ none
+    → let o = step g n h t (edit d) in EditSays g n d (o .answer) (tableOf g n h t) (tableOf g n (o .head) (o .tail))
+
+-- ---- what repair writes
+
+-- D24: Repair in state 1 changes nothing; otherwise it writes the other copy's 33 blocks from the good one (state 2: from the primary), header tail zero.
+pub record RepairSays (g : Shape) (n : ℕ) (h t : List ℕ) (o : Out) : Type 0 where
+  pub one : o .answer ≡ accepted (1 ∷ []) → (o .head ≡ h) × (o .tail ≡ t)
+  pub primaryUsed : (s : ℕ) → o .answer ≡ accepted (s ∷ []) → s ≢ 1 → s ≢ 4
+      → (o .head ≡ h) × TailGood g n (o .tail) × Alike g h (o .tail) × (part (16384 + 92) (g .block - 92) (o .tail) ≡ zeros (g .block - 92))
+  pub backupUsed : o .answer ≡ accepted (4 ∷ [])
+      → (o .tail ≡ t) × HeadGood g n (o .head) × Alike g (o .head) t × (part (g .block + 92) (g .block - 92) (o .head) ≡ zeros (g .block - 92))
+      × (part 0 (g .block) (o .head) ≡ part 0 (g .block) h)
+
+-- R3: Accepted, .. repair [answers] the state found, as reading does
+abbrev pub RepairWrites : Type 0
+RepairWrites =
+    (g : Shape) (n : ℕ) (h t : List ℕ) → Lent g n h t
+    → let o = step g n h t repair in (o .answer ≡ step g n h t read .answer) × RepairSays g n h t o
