@@ -55,7 +55,7 @@ goodByBytes g n h t l = (good-iff g (l .wide) n primary h (l .head), good-iff g 
 -- ---- reading
 
 -- equal disk GUID and entries
-alike-iff : (g : Shape) (h t : List ℕ) → (sameCopies g h t ≡ true) ↔ Alike g h t
+pub alike-iff : (g : Shape) (h t : List ℕ) → (sameCopies g h t ≡ true) ↔ Alike g h t
 alike-iff g h t = (
   λ e. (sym (guid primary h) ∙ same-true _ _ (and-l _ _ e) ∙ guid backup t, same-true _ _ (and-r _ _ e)),
   λ w. and-i _ _ (subst (λ (x : List ℕ). same (guidIn g primary h) x ≡ true) (guid primary h ∙ w .0 ∙ sym (guid backup t)) (same-refl _))
@@ -66,28 +66,29 @@ alike-iff g h t = (
     guid side b = part-part 56 16 (headerAt g side) 92 b (omega arith)
 
 -- what reading answers, by the state
-abbrev reply : ℕ → Answer
+abbrev pub reply : ℕ → Answer
 reply zero = refused 10
 reply (suc s) = accepted (suc s ∷ [])
 
-reply-read : (s : ℕ) → s ≢ 0 → accepted (s ∷ []) ≡ reply s
+pub reply-read : (s : ℕ) → s ≢ 0 → accepted (s ∷ []) ≡ reply s
 reply-read zero ne = absurd (ne refl)
 reply-read (suc s) ne = refl
 
-read-replies : (g : Shape) (n : ℕ) (h t : List ℕ) → Lent g n h t → step g n h t read .answer ≡ reply (state g n h t)
+-- only row 10 can hold
+pub lent-rows : (g : Shape) (n : ℕ) (h t : List ℕ) → Lent g n h t → refusal (readRows g n h t true) ≡ pickRow (eqb (state g n h t) 0) 10 none
+lent-rows g n h t l =
+    pick-false _ 1 _ (ap not (and-i _ _ (and-i _ _ (eq-eqb _ _ (l .head)) (eq-eqb _ _ (l .tail))) refl))
+    ∙ pick-false _ 2 _ (ap not (and-i _ _ (le-leb _ _ (l .low)) (le-leb _ _ (l .high))))
+
+pub read-replies : (g : Shape) (n : ℕ) (h t : List ℕ) → Lent g n h t → step g n h t read .answer ≡ reply (state g n h t)
 read-replies g n h t l = go (ℕ-discrete (state g n h t) 0)
   where
-    rows : refusal (readRows g n h t true) ≡ pickRow (eqb (state g n h t) 0) 10 none
-    rows =
-        pick-false _ 1 _ (ap not (and-i _ _ (and-i _ _ (eq-eqb _ _ (l .head)) (eq-eqb _ _ (l .tail))) refl))
-        ∙ pick-false _ 2 _ (ap not (and-i _ _ (le-leb _ _ (l .low)) (le-leb _ _ (l .high))))
-
     go : Dec (state g n h t ≡ 0) → step g n h t read .answer ≡ reply (state g n h t)
-    go (yes z) = ap (λ (o : Out). o .answer) (step-refused g n h t read 10 (rows ∙ pick-true _ 10 _ (eq-eqb _ _ z))) ∙ ap reply (sym z)
-    go (no z) = ap (λ (o : Out). o .answer) (step-made g n h t read (rows ∙ pick-false _ 10 _ (ne-eqb _ _ z))) ∙ reply-read (state g n h t) z
+    go (yes z) = ap (λ (o : Out). o .answer) (step-refused g n h t read 10 (lent-rows g n h t l ∙ pick-true _ 10 _ (eq-eqb _ _ z))) ∙ ap reply (sym z)
+    go (no z) = ap (λ (o : Out). o .answer) (step-made g n h t read (lent-rows g n h t l ∙ pick-false _ 10 _ (ne-eqb _ _ z))) ∙ reply-read (state g n h t) z
 
 -- an answer as a number: the state, or 0 for a refusal
-abbrev stateIn : Answer → ℕ
+abbrev pub stateIn : Answer → ℕ
 stateIn (refused k) = 0
 stateIn (accepted values) = getD values 0 0
 

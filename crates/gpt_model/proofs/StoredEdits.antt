@@ -57,7 +57,7 @@ module _ (es v : List ℕ) (a w : ℕ) (len : length v ≡ w) where
   stays : StaysBut a w es (put a v es)
   stays k o = getD-put-out v es a k (subst (λ (x : ℕ). Outside a x k) (sym len) o)
 
-  inner : (at k : ℕ) → at + k ≤ w → a + w ≤ length es → part (a + at) k (put a v es) ≡ part at k v
+  pub inner : (at k : ℕ) → at + k ≤ w → a + w ≤ length es → part (a + at) k (put a v es) ≡ part at k v
   inner at k h l = sym (part-part at k a w (put a v es) h) ∙ ap (part at k) (part-put-at v es a w len l)
 
 module _ (es : List ℕ) (long : length es ≡ 16384) (i : ℕ) (hi : i < 128) where
