@@ -4,7 +4,7 @@ use mathlib.Core.Logic.{_⊎_, inl, inr}
 use mathlib.Core.Bool.{Bool, true, false, not}
 use mathlib.Core.List.{List}
 use Prim.Native.Nat.{ℕ, zero, suc, _+_, _-_, _≤_, _<_, max}
-use native.Mathlib.Nat.{suc-add, zero-add, add-zero}
+use native.Mathlib.Nat.{le-refl, suc-add, zero-add, add-zero}
 use native.Mathlib.Decide.{decLe, ℕ-discrete}
 use native.Mathlib.Omega.{arith}
 use Rattle.octets.proofs.Bools.{bool-cases, not-t}
@@ -145,3 +145,11 @@ fits-room t first last size pos h =
     let a = r .1 in
     let b = r .2 in
     (r .0, a, (omega arith, λ c x y. not-t _ (r .3 c x y)))
+
+-- a run of that length stands somewhere
+pub longest-room : (t : List Slot) (first last : ℕ) → first ≤ suc last → (s : ℕ) × (first ≤ s) × Room t last (longestFree t first last) s
+longest-room t first last h = go (ℕ-discrete (longestFree t first last) 0)
+  where
+    go : Dec (longestFree t first last ≡ 0) → (s : ℕ) × (first ≤ s) × Room t last (longestFree t first last) s
+    go (yes z) = (first, omega arith, (omega arith, λ b x y. absurd (omega arith)))
+    go (no z) = fits-room t first last (longestFree t first last) (omega arith) (le-refl _)
