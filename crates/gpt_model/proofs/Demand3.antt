@@ -168,11 +168,14 @@ module _ (g : Shape) (n : ℕ) (r : Run) (v : Kept g n r) where
     not10 = not-ten g n (r .head) (r .tail) (v .reads);
     not11 = not-eleven g n (r .head) (r .tail) (v .reads);
     counts =
-        let p = longest-room (slots tab) (g .first) (lastUsable g n) usable-run in
-        (freeCount (slots tab) (g .first) (lastUsable g n), longestFree (slots tab) (g .first) (lastUsable g n),
-        ap (λ (o : Out). o .answer) (step-made g n (r .head) (r .tail) freeCounts read-none),
-        omega (arith, taken-free (slots tab) (g .first) (lastUsable g n)), (p .0, (p .1, p .2 .0, p .2 .1)),
-        λ size s w. room-fits (slots tab) (g .first) (lastUsable g n) size s (w .0) (w .1, w .2));
+        let p = longest-room (slots tab) (g .first) (lastUsable g n) usable-run in (
+          freeCount (slots tab) (g .first) (lastUsable g n),
+          longestFree (slots tab) (g .first) (lastUsable g n),
+          ap (λ (o : Out). o .answer) (step-made g n (r .head) (r .tail) freeCounts read-none),
+          omega (arith, taken-free (slots tab) (g .first) (lastUsable g n)),
+          (p .0, (p .1, p .2 .0, p .2 .1)),
+          λ size s w. room-fits (slots tab) (g .first) (lastUsable g n) size s (w .0) (w .1, w .2),
+        );
     passes = λ type unique size attributes name. (new-passes type unique size attributes name, passes-new type unique size attributes name);
     fits = fits-iff;
     deletes = λ k. accepts (delete k) refl (slot-rows (g .first) (lastUsable g n) tab k);

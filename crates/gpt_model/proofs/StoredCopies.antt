@@ -118,25 +118,45 @@ module _ (P Q R : Type 0) where
       go : (x y z : Bool) → p ≡ x → q ≡ y → r ≡ z → Answers (reply (stateOf x y z))
       go true true true a b c =
           let v : P = f .0 a in
-          let w : Q = g .0 b in
-          (both refl (v, w, h .0 c), neither (other (λ e. omega arith)) (λ x. x .2 (h .0 c)), neither (other (λ e. omega arith)) (λ x. x .1 w),
-          neither (other (λ e. omega arith)) (λ x. x .0 v), neither (other (λ e. omega arith)) (λ x. x .0 v))
+          let w : Q = g .0 b in (
+            both refl (v, w, h .0 c),
+            neither (other (λ e. omega arith)) (λ x. x .2 (h .0 c)),
+            neither (other (λ e. omega arith)) (λ x. x .1 w),
+            neither (other (λ e. omega arith)) (λ x. x .0 v),
+            neither (other (λ e. omega arith)) (λ x. x .0 v),
+          )
       go true true false a b c =
           let v : P = f .0 a in
-          let w : Q = g .0 b in
-          (neither (other (λ e. omega arith)) (λ x. no h c (x .2)), both refl (v, w, no h c), neither (other (λ e. omega arith)) (λ x. x .1 w),
-          neither (other (λ e. omega arith)) (λ x. x .0 v), neither (other (λ e. omega arith)) (λ x. x .0 v))
+          let w : Q = g .0 b in (
+            neither (other (λ e. omega arith)) (λ x. no h c (x .2)),
+            both refl (v, w, no h c),
+            neither (other (λ e. omega arith)) (λ x. x .1 w),
+            neither (other (λ e. omega arith)) (λ x. x .0 v),
+            neither (other (λ e. omega arith)) (λ x. x .0 v),
+          )
       go true false z a b c =
-          let v : P = f .0 a in
-          (neither (other (λ e. omega arith)) (λ x. no g b (x .1)), neither (other (λ e. omega arith)) (λ x. no g b (x .1)), both refl (v, no g b),
-          neither (other (λ e. omega arith)) (λ x. x .0 v), neither (other (λ e. omega arith)) (λ x. x .0 v))
+          let v : P = f .0 a in (
+            neither (other (λ e. omega arith)) (λ x. no g b (x .1)),
+            neither (other (λ e. omega arith)) (λ x. no g b (x .1)),
+            both refl (v, no g b),
+            neither (other (λ e. omega arith)) (λ x. x .0 v),
+            neither (other (λ e. omega arith)) (λ x. x .0 v),
+          )
       go false true z a b c =
-          let w : Q = g .0 b in
-          (neither (other (λ e. omega arith)) (λ x. no f a (x .0)), neither (other (λ e. omega arith)) (λ x. no f a (x .0)), neither (other (λ e. omega arith)) (λ x. no f a (x .0)),
-          both refl (no f a, w), neither (other (λ e. omega arith)) (λ x. x .1 w))
-      go false false z a b c =
-          (neither (other (λ e. omega arith)) (λ x. no f a (x .0)), neither (other (λ e. omega arith)) (λ x. no f a (x .0)), neither (other (λ e. omega arith)) (λ x. no f a (x .0)),
-          neither (other (λ e. omega arith)) (λ x. no g b (x .1)), both refl (no f a, no g b))
+          let w : Q = g .0 b in (
+            neither (other (λ e. omega arith)) (λ x. no f a (x .0)),
+            neither (other (λ e. omega arith)) (λ x. no f a (x .0)),
+            neither (other (λ e. omega arith)) (λ x. no f a (x .0)),
+            both refl (no f a, w),
+            neither (other (λ e. omega arith)) (λ x. x .1 w),
+          )
+      go false false z a b c = (
+        neither (other (λ e. omega arith)) (λ x. no f a (x .0)),
+        neither (other (λ e. omega arith)) (λ x. no f a (x .0)),
+        neither (other (λ e. omega arith)) (λ x. no f a (x .0)),
+        neither (other (λ e. omega arith)) (λ x. no g b (x .1)),
+        both refl (no f a, no g b),
+      )
 
 pub readByBytes : ReadByBytes
 unfolding state

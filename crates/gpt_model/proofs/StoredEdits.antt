@@ -121,18 +121,22 @@ module _ (g : Shape) (n : ℕ) (es : List ℕ) (long : length es ≡ 16384) wher
       let new = entryWith type unique s (s + size - 1) attributes name in
       let ln′ = length-new type unique s (s + size - 1) attributes name in
       let q = replaced es long i h new ln′ in
-      let at : (k w : ℕ) → k + w ≤ 128 → part (i * 128 + k) w (put (i * 128) new es) ≡ part k w new = λ k w l. inner es new (i * 128) 128 ln′ k w l (omega arith) in
-      (i, s, refl, subst (λ (x : List ℕ). Added g n type unique size attributes name es x i s) (sym q) (record {
-        slot = (h, λ u. clash (f .1) (used-is es i h ∙ u), λ j l. sym (used-is es j (omega arith)) ∙ findIx-before unused (entries es) [] j l);
-        start = ((p .0, p .1 .0, p .1 .1), λ b l w. p .2 b (w .0) l (w .1, w .2));
-        typeGuid = ap (λ (x : ℕ). part x 16 (put (i * 128) new es)) (omega arith) ∙ at 0 16 (omega arith) ∙ new-type type unique s (s + size - 1) attributes name lt;
-        uniqueGuid = at 16 16 (omega arith) ∙ new-unique type unique s (s + size - 1) attributes name lu;
-        first = at 32 8 (omega arith) ∙ new-first-bytes type unique s (s + size - 1) attributes name;
-        last = at 40 8 (omega arith) ∙ new-last-bytes type unique s (s + size - 1) attributes name;
-        bits = at 48 8 (omega arith) ∙ new-attributes type unique s (s + size - 1) attributes name;
-        units = named es long i h name _ ln (at 56 72 (omega arith) ∙ new-name type unique s (s + size - 1) attributes name ln);
-        others = stays es new (i * 128) 128 ln′;
-      }))
+      let at : (k w : ℕ) → k + w ≤ 128 → part (i * 128 + k) w (put (i * 128) new es) ≡ part k w new = λ k w l. inner es new (i * 128) 128 ln′ k w l (omega arith) in (
+        i,
+        s,
+        refl,
+        subst (λ (x : List ℕ). Added g n type unique size attributes name es x i s) (sym q) (record {
+          slot = (h, λ u. clash (f .1) (used-is es i h ∙ u), λ j l. sym (used-is es j (omega arith)) ∙ findIx-before unused (entries es) [] j l);
+          start = ((p .0, p .1 .0, p .1 .1), λ b l w. p .2 b (w .0) l (w .1, w .2));
+          typeGuid = ap (λ (x : ℕ). part x 16 (put (i * 128) new es)) (omega arith) ∙ at 0 16 (omega arith) ∙ new-type type unique s (s + size - 1) attributes name lt;
+          uniqueGuid = at 16 16 (omega arith) ∙ new-unique type unique s (s + size - 1) attributes name lu;
+          first = at 32 8 (omega arith) ∙ new-first-bytes type unique s (s + size - 1) attributes name;
+          last = at 40 8 (omega arith) ∙ new-last-bytes type unique s (s + size - 1) attributes name;
+          bits = at 48 8 (omega arith) ∙ new-attributes type unique s (s + size - 1) attributes name;
+          units = named es long i h name _ ln (at 56 72 (omega arith) ∙ new-name type unique s (s + size - 1) attributes name ln);
+          others = stays es new (i * 128) 128 ln′;
+        }),
+      )
 
   says : (d : Edit) → lengthsOf d ≡ true → refusal (tableRows (g .first) (lastUsable g n) es d) ≡ none → FitsEdit (g .first) (lastUsable g n) es d → Says d
   says (add type unique size attributes name) l e f =

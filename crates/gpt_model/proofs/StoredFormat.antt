@@ -140,11 +140,14 @@ formatWrites g n guid h t wide = ((to, from), λ a. let w = to a in subst (λ (o
             absurd (omega arith)
         go (inl e) =
             let x = not-f _ (passes 1 (formatRows g n guid h t) e) in
-            let r = not-f _ (passes 2 (formatRows g n guid h t) e) in
-            (record {
-              wide = omega arith;
-              head = eqb-true _ _ (and-l _ _ (and-l _ _ x));
-              tail = eqb-true _ _ (and-r _ _ (and-l _ _ x));
-              low = leb-true _ _ (and-l _ _ r);
-              high = leb-true _ _ (and-r _ _ r);
-            }, eqb-true _ _ (and-r _ _ x), passes 3 (formatRows g n guid h t) e)
+            let r = not-f _ (passes 2 (formatRows g n guid h t) e) in (
+              record {
+                wide = omega arith;
+                head = eqb-true _ _ (and-l _ _ (and-l _ _ x));
+                tail = eqb-true _ _ (and-r _ _ (and-l _ _ x));
+                low = leb-true _ _ (and-l _ _ r);
+                high = leb-true _ _ (and-r _ _ r);
+              },
+              eqb-true _ _ (and-r _ _ x),
+              passes 3 (formatRows g n guid h t) e,
+            )

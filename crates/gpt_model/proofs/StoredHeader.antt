@@ -79,21 +79,46 @@ module _ (g : Shape) (n : ℕ) (side : Side) (es x : List ℕ) where
     says-make s =
         let c = crc32 (put 16 (zeros 4) x) in
         let whole : x ≡ headerWith g n side guid es c =
-        sym (written-again (headerFields g n side guid es c) x
-        (stays 0 8 _ (s .signature) (omega arith),
-        (stays 8 4 _ (s .revision) (omega arith),
-        (stays 12 4 _ (s .headerSize) (omega arith),
-        (stays 16 4 _ (s .headerCrc) (omega arith),
-        (stays 20 4 _ (s .reserved ∙ zero-four) (omega arith),
-        (stays 24 8 _ (s .ownBlock) (omega arith),
-        (stays 32 8 _ (s .otherBlock) (omega arith),
-        (stays 40 8 _ (s .firstUsable) (omega arith),
-        (stays 48 8 _ (s .lastUsable) (omega arith),
-        (put-self x 56 16 (omega arith),
-        (stays 72 8 _ (s .entriesBlock) (omega arith),
-        (stays 80 4 _ (s .entryCount) (omega arith),
-        (stays 84 4 _ (s .entrySize) (omega arith),
-        (stays 88 4 _ (s .entriesCrc) (omega arith), tt)))))))))))))))
+        sym (written-again (headerFields g n side guid es c) x (
+          stays 0 8 _ (s .signature) (omega arith),
+          (
+            stays 8 4 _ (s .revision) (omega arith),
+            (
+              stays 12 4 _ (s .headerSize) (omega arith),
+              (
+                stays 16 4 _ (s .headerCrc) (omega arith),
+                (
+                  stays 20 4 _ (s .reserved ∙ zero-four) (omega arith),
+                  (
+                    stays 24 8 _ (s .ownBlock) (omega arith),
+                    (
+                      stays 32 8 _ (s .otherBlock) (omega arith),
+                      (
+                        stays 40 8 _ (s .firstUsable) (omega arith),
+                        (
+                          stays 48 8 _ (s .lastUsable) (omega arith),
+                          (
+                            put-self x 56 16 (omega arith),
+                            (
+                              stays 72 8 _ (s .entriesBlock) (omega arith),
+                              (
+                                stays 80 4 _ (s .entryCount) (omega arith),
+                                (
+                                  stays 84 4 _ (s .entrySize) (omega arith),
+                                  (stays 88 4 _ (s .entriesCrc) (omega arith), tt),
+                                ),
+                              ),
+                            ),
+                          ),
+                        ),
+                      ),
+                    ),
+                  ),
+                ),
+              ),
+            ),
+          ),
+        ))
         ∙ header-over g n side guid es (length-part x 56 16 (omega arith)) c x len in
         whole ∙ ap (headerWith g n side guid es) (covers c whole)
 

@@ -81,10 +81,10 @@ module _ (first last : ℕ) (es : List ℕ) where
         (omega arith, omega arith, omega arith);
     differ = λ i j hi hj ne u v e.
         clash (subst (λ (x : List ℕ). same (uniqueOf (entryAt es i)) x ≡ true) (unique-is es i hi ∙ e ∙ sym (unique-is es j hj)) (same-refl _))
-            (good-beside first last es k i j hi hj ne (used-is es i hi ∙ u) (used-is es j hj ∙ v) .0);
+        (good-beside first last es k i j hi hj ne (used-is es i hi ∙ u) (used-is es j hj ∙ v) .0);
     apart = λ i j b hi hj ne p q.
         apart-get _ _ (good-beside first last es k i j hi hj ne (used-is es i hi ∙ p .0) (used-is es j hj ∙ q .0) .1) b
-            (inside-is es i hi b .1 p) (inside-is es j hj b .1 q);
+        (inside-is es i hi b .1 p) (inside-is es j hj b .1 q);
   }
     where
       own : (i : ℕ) → i < 128 → UsedAt es i → Used first last (entryAt es i)
