@@ -9,9 +9,11 @@ use lib.ListN.{length, getD}
 use Rattle.octets.specs.Rows.{refusal}
 use Rattle.octets.specs.Bytes.{zeros, isZero}
 use Rattle.gpt_model.specs.Table.{entryBytes, uniqueOf, firstOf, lastOf, unused, Slot, vacant, slotCount, tableBytes, slots}
-use Rattle.gpt_model.specs.Disk.{Shape, disk512, lastUsable, usable, inRange, Side, primary, backup, entriesBlock, lentBytes, headerAt, entriesAt, headerBytes, state, lent, tableOf}
+use Rattle.gpt_model.specs.Disk.{Shape, disk512, lastUsable, usable, inRange, Side, primary, backup, entriesBlock, lentBytes, headerAt, entriesAt}
+use Rattle.gpt_model.specs.Disk.{headerBytes, state, lent, tableOf}
 use Rattle.gpt_model.specs.Ranges.{inside, lies, taken}
-use Rattle.gpt_model.specs.Calls.{Edit, add, delete, resize, rename, Call, read, freeCounts, repair, edit, refused, accepted, out, entryOf, addRows, change, edited, openRows, rowsOf, step, format}
+use Rattle.gpt_model.specs.Calls.{Edit, add, delete, resize, rename, Call, read, freeCounts, repair, edit, refused, accepted, out}
+use Rattle.gpt_model.specs.Calls.{entryOf, addRows, change, edited, openRows, rowsOf, step, format}
 use Rattle.gpt_model.specs.Lists.{Run, run, answers, applied, begun, slotsOf, StartsAfresh}
 
 -- ---- demand 3
@@ -32,7 +34,8 @@ pub record Sound (g : Shape) (n : ℕ) (r : Run) : Type 0 where
       → inside b (getD (slotsOf g n r) i vacant) ≡ true → inside b (getD (slotsOf g n r) j vacant) ≡ true → i ≡ j
   -- The blocks lying in partitions, counted one by one, equal all blocks granted by accepted calls less all given back.
   pub counted : taken (slotsOf g n r) (g .first) (lastUsable g n) + r .ledger .back ≡ r .ledger .granted
-  -- An add that comes next, once its earlier checks pass, is refused for room exactly when no run of as many free blocks as it asks exists, freed ones included.
+  -- An add that comes next, once its earlier checks pass, is refused for room exactly when no run of as many free blocks as it asks exists, freed ones
+  -- included.
   pub room : (type unique : List ℕ) (size attributes : ℕ) (name : List ℕ) → Passes g n r type unique size attributes name
       → (step g n (r .head) (r .tail) (edit (add type unique size attributes name)) .answer ≡ refused 25)
       ↔ ((s : ℕ) → ¬ FreeFrom g n (slotsOf g n r) size s)
@@ -73,7 +76,8 @@ pub record Numbers512 : Type 0 where
   pub first : disk512 .first ≡ 34
   pub blocks : (n : ℕ) → 68 ≤ n → (lastUsable disk512 n ≡ n - 34) × (entriesBlock disk512 backup n ≡ n - 33) × (usable disk512 n ≡ n - 67)
 
--- ---- demand 3 is not empty. P2: These imposters are shut out: refusing all calls, a constant reply or no writes, doing only the first add, made-up free counts.
+-- ---- demand 3 is not empty. P2: These imposters are shut out: refusing all calls, a constant reply or no writes, doing only the first add, made-up free
+-- counts.
 
 -- slot k can be edited: its number is one of 1 to 128, and it is used
 abbrev pub UsedSlot : List ℕ → ℕ → Type 0
@@ -166,7 +170,8 @@ EditTouches =
     → Outside (headerAt g side + 16) 4 k → Outside (headerAt g side + 88) 4 k
     → getD (lent side (o .head) (o .tail)) k 0 ≡ getD (lent side h t) k 0)
 
--- (D18) a resize to the present size is accepted and changes no byte, where the head's list holds bytes; the copies are both good and the same, and the slot is used
+-- (D18) a resize to the present size is accepted and changes no byte, where the head's list holds bytes, the copies are both good and the same and the
+-- slot is used
 abbrev pub ResizeToSame : Type 0
 ResizeToSame =
     (g : Shape) (n : ℕ) (h t : List ℕ) (k : ℕ) → headerBytes ≤ g .block → ((i : ℕ) → getD h i 0 < 256) → refusal (rowsOf g n h t (edit (delete k))) ≡ none

@@ -72,13 +72,13 @@ pub record HeaderSays (own other first last table : ℕ) (es x : List ℕ) : Typ
 
 -- ---- head and tail. At 512-byte blocks the first usable block is 34: the head's header stands at byte 512, its entries at 1,024
 
--- Q3: the head is blocks 0 to 33; D2: The primary header is block 1 with entries from 2
+-- the head: block 0, the header's block, the entries. D2: The primary header is block 1 with entries from 2
 abbrev pub HeadGood : Shape → ℕ → List ℕ → Type 0
 HeadGood g n h =
     let es = part (2 * g .block) 16384 h in
     HeaderSays 1 (n - 1) (g .first) (n - g .first) 2 es (part (g .block) 92 h) × TableRules (g .first) (n - g .first) es
 
--- Q3: the tail, the last 33 blocks; D2: the backup header is block N−1 with entries from N−33
+-- the tail: the entries, the header's block. D2: the backup header is block N−1 with entries from N−33
 abbrev pub TailGood : Shape → ℕ → List ℕ → Type 0
 TailGood g n t =
     let es = part 0 16384 t in
@@ -141,7 +141,7 @@ pub record Formatted (g : Shape) (n : ℕ) (guid h t : List ℕ) : Type 0 where
   pub at510 : part 510 2 h ≡ 0x55 ∷ 0xAA ∷ []
   pub at512 : part 512 (g .block - 512) h ≡ zeros (g .block - 512)
 
--- P2: formatting is accepted for every legal N and nonzero GUID; R25: and for no other
+-- P2: formatting is accepted for every legal N and nonzero GUID. It is refused for every other
 abbrev pub FormatWrites : Type 0
 FormatWrites =
     (g : Shape) (n : ℕ) (guid h t : List ℕ) → 512 ≤ g .block

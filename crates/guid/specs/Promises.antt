@@ -39,7 +39,7 @@ Digit c v = ((v < 10) × (c ≡ code "0" + v)) ⊎ ((10 ≤ v) × (v < 16) × ((
 abbrev pub Pair : List ℕ → ℕ → ℕ → Type 0
 Pair text p b = (high : ℕ) × (low : ℕ) × Digit (getD text p 0) high × Digit (getD text (p + 1) 0) low × (b ≡ 16 * high + low)
 
--- G1: Groups 8-4-4-4-12. Where the sixteen pairs of digits stand in the text, and which stored byte each is. G2: The first three groups are stored reversed.
+-- where the sixteen pairs of digits stand in the text (G1: Groups 8-4-4-4-12), and which stored byte each is (G2: The first three groups are stored reversed)
 abbrev pub inText : List ℕ
 inText = 0 ∷ 2 ∷ 4 ∷ 6 ∷ 9 ∷ 11 ∷ 14 ∷ 16 ∷ 19 ∷ 21 ∷ 24 ∷ 26 ∷ 28 ∷ 30 ∷ 32 ∷ 34 ∷ []
 
@@ -66,7 +66,7 @@ WritesText =
     (guid text : List ℕ)
     → ((writeOf guid text .number ≡ none) ↔ ((length guid ≡ 16) × (length text ≡ 36)))
     × (writeOf guid text .number ≡ none → areBytes guid ≡ true
-    → StandsFor (writeOf guid text .buffer) guid × ((i : ℕ) → ¬ ((code "a" ≤ getD (writeOf guid text .buffer) i 0) × (getD (writeOf guid text .buffer) i 0 ≤ code "z"))))
+    → let w = writeOf guid text .buffer in StandsFor w guid × ((i : ℕ) → ¬ ((code "a" ≤ getD w i 0) × (getD w i 0 ≤ code "z"))))
 
 -- G1: a type may also be a short name. G3: Five short names stand for types, in lower case only
 pub record ReadsTypes : Type 0 where
