@@ -20,7 +20,7 @@ use Rattle.gpt_model.specs.Disk.{Shape, disk512, lastUsable, inRange, st
 use Rattle.gpt_model.specs.Ranges.{inside, place, freeCount, longestFree}
 use Rattle.gpt_model.specs.Calls.{Edit, add, delete, resize, rename, Call, read, freeCounts, repair, edit, refused, accepted, Out, out, decided, isNone, addRows, tableRows, change, edited, lengthsOf, readRows, openRows, rowsOf, repaired, step, formatRows, format}
 use Rattle.gpt_model.specs.Lists.{Run, run, answers, applied, begun, total, StartsAfresh}
-use Rattle.gpt_model.specs.Claims.{FreeFrom, Passes, Sound, Formats, Demand3From, Demand3, Demand3At512, Numbers512, UsedSlot, NameOk, NewOk, Serves, NotEmpty, EditReadsBack, RepairReadsBack}
+use Rattle.gpt_model.specs.Claims.{FreeFrom, Passes, Sound, Formats, Demand3From, Demand3, Demand3At512, BooksDifference, Numbers512, UsedSlot, NameOk, NewOk, Serves, NotEmpty, EditReadsBack, RepairReadsBack}
 use Rattle.gpt_model.proofs.Room.{place-none, place-some, place-is-none}
 use Rattle.gpt_model.proofs.Counts.{apart-get, taken-total, total-zeros, taken-free}
 use Rattle.gpt_model.proofs.Longest.{room-fits, longest-room}
@@ -243,6 +243,9 @@ notEmpty g n guid h t f cs =
     subst (λ (es : List ℕ). Serves g n es (run g n cs r))
     (k .1 ∙ ap (λ (es : List ℕ). applied (g .first) (lastUsable g n) es cs (answers g n cs r)) (s .table))
     (serves g n (run g n cs r) (k .0) (f .range))
+
+pub booksDifference : BooksDifference
+booksDifference l k size reply = (λ h. (omega arith, omega arith), λ h. (omega arith, omega arith))
 
 pub numbers512 : Numbers512
 numbers512 = record {

@@ -14,7 +14,7 @@ use Rattle.gpt_model.specs.Disk.{headerBytes, state, lent, tableOf}
 use Rattle.gpt_model.specs.Ranges.{inside, lies, taken}
 use Rattle.gpt_model.specs.Calls.{Edit, add, delete, resize, rename, Call, read, freeCounts, repair, edit, refused, accepted, out}
 use Rattle.gpt_model.specs.Calls.{entryOf, addRows, change, edited, openRows, rowsOf, step, format}
-use Rattle.gpt_model.specs.Lists.{Run, run, answers, applied, begun, slotsOf, StartsAfresh}
+use Rattle.gpt_model.specs.Lists.{Ledger, sizeWas, bookEdit, Run, run, answers, applied, begun, slotsOf, StartsAfresh}
 
 -- ---- demand 3
 
@@ -66,6 +66,13 @@ Demand3At512 =
     (n : ℕ) (guid h t : List ℕ) → 68 ≤ n → n ≤ 4294967296 → length guid ≡ 16 → isZero guid ≡ false → length h ≡ 17408 → length t ≡ 16896
     → (cs : List Call)
     → (format disk512 n guid h t .answer ≡ accepted []) × Sound disk512 n (run disk512 n cs (begun (format disk512 n guid h t)))
+
+-- D22: a resize grants or gives back the difference from it: what it grants gives nothing back, and what it gives back grants nothing
+abbrev pub BooksDifference : Type 0
+BooksDifference =
+    (l : Ledger) (k size reply : ℕ) → let m = bookEdit l (resize k size) reply in
+    (sizeWas l k ≤ size → (m .granted + sizeWas l k ≡ l .granted + size) × (m .back ≡ l .back))
+    × (size ≤ sizeWas l k → (m .granted ≡ l .granted) × (m .back + size ≡ l .back + sizeWas l k))
 
 -- The numbers of such a disk. Q2: N .. is 68 to 4,294,967,296. Q3: the head .. (17,408 bytes), and the tail .. (16,896 bytes).
 -- D1: first usable 34, last usable N−34. D2: entries from N−33. So N−67 blocks are usable.
