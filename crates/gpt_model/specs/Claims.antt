@@ -67,13 +67,6 @@ Demand3At512 =
     → (cs : List Call)
     → (format disk512 n guid h t .answer ≡ accepted []) × Sound disk512 n (run disk512 n cs (begun (format disk512 n guid h t)))
 
--- D22: a resize grants or gives back the difference from it: what it grants gives nothing back, and what it gives back grants nothing
-abbrev pub BooksDifference : Type 0
-BooksDifference =
-    (l : Ledger) (k size reply : ℕ) → let m = bookEdit l (resize k size) reply in
-    (sizeWas l k ≤ size → (m .granted + sizeWas l k ≡ l .granted + size) × (m .back ≡ l .back))
-    × (size ≤ sizeWas l k → (m .granted ≡ l .granted) × (m .back + size ≡ l .back + sizeWas l k))
-
 -- The numbers of such a disk. Q2: N .. is 68 to 4,294,967,296. Q3: the head .. (17,408 bytes), and the tail .. (16,896 bytes).
 -- D1: first usable 34, last usable N−34. D2: entries from N−33. So N−67 blocks are usable.
 pub record Numbers512 : Type 0 where
@@ -82,6 +75,13 @@ pub record Numbers512 : Type 0 where
   pub range : (n : ℕ) → (inRange disk512 n ≡ true) ↔ ((68 ≤ n) × (n ≤ 4294967296))
   pub first : disk512 .first ≡ 34
   pub blocks : (n : ℕ) → 68 ≤ n → (lastUsable disk512 n ≡ n - 34) × (entriesBlock disk512 backup n ≡ n - 33) × (usable disk512 n ≡ n - 67)
+
+-- D22: a resize grants or gives back the difference from it: what it grants gives nothing back, and what it gives back grants nothing
+abbrev pub BooksDifference : Type 0
+BooksDifference =
+    (l : Ledger) (k size reply : ℕ) → let m = bookEdit l (resize k size) reply in
+    (sizeWas l k ≤ size → (m .granted + sizeWas l k ≡ l .granted + size) × (m .back ≡ l .back))
+    × (size ≤ sizeWas l k → (m .granted ≡ l .granted) × (m .back + size ≡ l .back + sizeWas l k))
 
 -- ---- demand 3 is not empty. P2: These imposters are shut out: refusing all calls, a constant reply or no writes, doing only the first add, made-up free
 -- counts.
