@@ -20,13 +20,13 @@ use Rattle.gpt_model.specs.Disk.{Shape, disk512, lastUsable, inRange, st
 use Rattle.gpt_model.specs.Ranges.{inside, place, freeCount, longestFree}
 use Rattle.gpt_model.specs.Calls.{Edit, add, delete, resize, rename, Call, read, freeCounts, repair, edit, refused, accepted, Out, out, decided, isNone, addRows, tableRows, change, edited, lengthsOf, readRows, openRows, rowsOf, repaired, step, formatRows, format}
 use Rattle.gpt_model.specs.Lists.{Run, run, answers, applied, begun, total, StartsAfresh}
-use Rattle.gpt_model.specs.Claims.{FreeFrom, Passes, Sound, Formats, Demand3From, Demand3, Demand3At512, BooksDifference, Numbers512, UsedSlot, NameOk, NewOk, Serves, NotEmpty, EditReadsBack, RepairReadsBack}
+use Rattle.gpt_model.specs.Claims.{FreeFrom, Passes, Sound, Formats, Demand3From, Demand3, Demand3At512, RefusedStays, BooksDifference, Numbers512, UsedSlot, NameOk, NewOk, Serves, NotEmpty, EditReadsBack, RepairReadsBack}
 use Rattle.gpt_model.proofs.Room.{place-none, place-some, place-is-none}
 use Rattle.gpt_model.proofs.Counts.{apart-get, taken-total, total-zeros, taken-free}
 use Rattle.gpt_model.proofs.Longest.{room-fits, longest-room}
 use Rattle.gpt_model.proofs.Entries.{length-slots, good-bounded, good-apart, empty-sizes, empty-good}
 use Rattle.gpt_model.proofs.States.{Holds, readable-good, fresh-holds, repair-holds}
-use Rattle.gpt_model.proofs.Ways.{step-refused, step-made, repair-answer, accepted-none, not-ten, not-eleven, row1, row10, open-read, edit-open, open-none}
+use Rattle.gpt_model.proofs.Ways.{step-refused, step-made, repair-answer, refused-row, accepted-none, not-ten, not-eleven, row1, row10, open-read, edit-open, open-none}
 use Rattle.gpt_model.proofs.Accepts.{edit-accepted, slot-rows, rename-rows, resize-rows, new-get, new-make}
 use Rattle.gpt_model.proofs.Steps.{Agrees, Kept, edit-held, keeps-all}
 
@@ -243,6 +243,17 @@ notEmpty g n guid h t f cs =
     subst (λ (es : List ℕ). Serves g n es (run g n cs r))
     (k .1 ∙ ap (λ (es : List ℕ). applied (g .first) (lastUsable g n) es cs (answers g n cs r)) (s .table))
     (serves g n (run g n cs r) (k .0) (f .range))
+
+pub refusedStays : RefusedStays
+refusedStays g n k guid h t c = (λ a. step-refused g n h t c k (refused-row g n h t c k a), formats (option-cases (refusal (formatRows g n guid h t))))
+  where
+    formats : (refusal (formatRows g n guid h t) ≡ none) ⊎ ((j : ℕ) × (refusal (formatRows g n guid h t) ≡ some j))
+        → format g n guid h t .answer ≡ refused k → format g n guid h t ≡ out (refused k) h t
+    formats (inl e) a = let b = ap (λ (o : Out). o .answer) (format-made g n guid h t e) in let z : _≡_ {A = ℕ} 0 1 = cc in absurd (omega arith)
+    formats (inr w) a =
+        let b = ap (λ (o : Out). o .answer) (format-refused g n guid h t (w .0) (w .1)) in
+        let q : w .0 ≡ k = cc in
+        format-refused g n guid h t k (w .1 ∙ ap some q)
 
 pub booksDifference : BooksDifference
 booksDifference l k size reply = (λ h. (omega arith, omega arith), λ h. (omega arith, omega arith))

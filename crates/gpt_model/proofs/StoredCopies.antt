@@ -1,9 +1,9 @@
 -- The two copies by their bytes: when each is good, and what reading answers.
 use mathlib.Core.Path.{_≡_, refl, sym, ap, subst, _∙_}
 use mathlib.Core.Logic.{_≢_, _↔_}
-use mathlib.Core.Bool.{Bool, true, false, not, false≢true}
+use mathlib.Core.Bool.{Bool, true, false, not}
 use mathlib.Core.List.{List, [], _∷_}
-use mathlib.Core.Option.{none, some}
+use mathlib.Core.Option.{none}
 use Prim.Native.Nat.{ℕ, zero, suc, _+_, _-_, _≤_}
 use native.Mathlib.Decide.{ℕ-discrete}
 use native.Mathlib.Omega.{arith}
@@ -16,9 +16,9 @@ use Rattle.octets.proofs.Bools.{and-l, and-r, and-i, clash}
 use Rattle.octets.proofs.Parts.{length-part, part-part}
 use Rattle.octets.proofs.Equal.{same-true, same-refl}
 use Rattle.octets.proofs.Rows.{pick-false, pick-true}
-use Rattle.gpt_model.specs.Disk.{Shape, lastUsable, inRange, Side, primary, backup, other, headerBlock, entriesBlock, lentBytes, headerAt, headerIn, guidIn, entriesIn, header, goodCopy, stateOf, sameCopies, state, tableOf}
+use Rattle.gpt_model.specs.Disk.{Shape, lastUsable, Side, primary, backup, other, headerBlock, entriesBlock, lentBytes, headerAt, headerIn, guidIn, entriesIn, goodCopy, stateOf, sameCopies, state}
 use Rattle.gpt_model.specs.Calls.{read, Answer, refused, accepted, Out, readRows, step}
-use Rattle.gpt_model.specs.Stored.{TableRules, HeaderSays, HeadGood, TailGood, Alike, Lent, GoodByBytes, ReadSays, ReadByBytes}
+use Rattle.gpt_model.specs.Stored.{TableRules, HeaderSays, HeadGood, TailGood, Alike, Lent, GoodByBytes, ReadByBytes}
 use Rattle.gpt_model.proofs.Copies.{header-inside}
 use Rattle.gpt_model.proofs.States.{good-header, good-table, table-four, table-primary}
 use Rattle.gpt_model.proofs.Ways.{step-refused, step-made}

@@ -1,5 +1,5 @@
 -- What an edit writes into the table, by bytes.
-use mathlib.Core.Path.{_≡_, refl, sym, ap, ap₂, subst, subst₂, _∙_}
+use mathlib.Core.Path.{_≡_, refl, sym, ap, subst, _∙_}
 use mathlib.Core.Logic.{_⊎_, inl, inr}
 use mathlib.Core.Bool.{Bool, true, false}
 use mathlib.Core.List.{List, [], _∷_}
@@ -23,7 +23,7 @@ use Rattle.gpt_model.specs.Table.{firstOf, nameBytes, entryWith, unused,
 use Rattle.gpt_model.specs.Disk.{Shape, lastUsable, tableOf}
 use Rattle.gpt_model.specs.Calls.{Edit, add, delete, resize, rename, edit, accepted, Out, tableRows, startOf, change, edited, lengthsOf}
 use Rattle.gpt_model.specs.Claims.{Outside}
-use Rattle.gpt_model.specs.Stored.{UsedAt, firstAt, NameAt, StaysBut, Added, EditSays, EditWrites}
+use Rattle.gpt_model.specs.Stored.{firstAt, NameAt, StaysBut, Added, EditSays, EditWrites}
 use Rattle.gpt_model.proofs.Room.{place-some}
 use Rattle.gpt_model.proofs.Fields.{part-put-at, length-name, length-new, new-type, new-unique, new-first-bytes, new-last-bytes, new-attributes, new-name}
 use Rattle.gpt_model.proofs.Entries.{entryAt}

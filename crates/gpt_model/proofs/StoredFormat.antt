@@ -1,6 +1,6 @@
 -- What formatting writes, by bytes: when it is accepted, both copies, their header tails, block 0.
 use mathlib.Core.Path.{_≡_, refl, sym, ap, subst, _∙_}
-use mathlib.Core.Logic.{_⊎_, inl, inr, _↔_}
+use mathlib.Core.Logic.{_⊎_, inl, inr}
 use mathlib.Core.Bool.{false}
 use mathlib.Core.List.{List, [], _∷_, _++_}
 use mathlib.Core.Option.{none, some}
@@ -16,9 +16,8 @@ use Rattle.octets.proofs.Numbers.{length-le}
 use Rattle.octets.proofs.Parts.{part-here, part-skip, part-part, part-whole, length-zeros, part-zeros}
 use Rattle.octets.proofs.Puts.{length-put, part-put-below, part-put-above}
 use Rattle.gpt_model.specs.Table.{writeAll}
-use Rattle.gpt_model.specs.Disk.{Shape, lastUsable, Side, primary, backup, lentBytes, header, block0, withTable, freshHead, freshTail}
+use Rattle.gpt_model.specs.Disk.{Shape, lastUsable, primary, backup, lentBytes, header, block0, withTable, freshHead, freshTail}
 use Rattle.gpt_model.specs.Calls.{accepted, Out, out, formatRows, format}
-use Rattle.gpt_model.specs.Claims.{Formats}
 use Rattle.gpt_model.specs.Stored.{Lent, Formatted, FormatWrites}
 use Rattle.gpt_model.proofs.Fields.{part-put-at, length-writeAll}
 use Rattle.gpt_model.proofs.Entries.{empty-good}

@@ -1,12 +1,11 @@
 -- A header by its bytes: it is the one that N, side, disk GUID and entries decide exactly when each named field stands at its place.
-use mathlib.Core.Path.{_≡_, refl, sym, ap, subst, _∙_}
+use mathlib.Core.Path.{_≡_, refl, sym, ap, _∙_}
 use mathlib.Core.Logic.{_↔_}
 use mathlib.Core.List.{List, [], _∷_}
 use Prim.Native.Nat.{ℕ, _+_, _≤_}
 use native.Mathlib.Omega.{arith}
 use lib.ListN.{length}
 use Rattle.octets.specs.Tests.{_and_}
-use Rattle.octets.specs.Ascii.{ascii}
 use Rattle.octets.specs.Bytes.{le, part, put, zeros}
 use Rattle.octets.proofs.Numbers.{length-le}
 use Rattle.octets.proofs.Parts.{length-part}

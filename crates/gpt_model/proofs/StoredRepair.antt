@@ -1,7 +1,7 @@
 -- What repair writes, by bytes.
 use mathlib.Core.Path.{_≡_, refl, sym, ap, subst, _∙_}
 use mathlib.Core.Logic.{_≢_}
-use mathlib.Core.List.{List, [], _∷_}
+use mathlib.Core.List.{List}
 use Prim.Native.Nat.{ℕ, _+_, _-_, _*_, _≤_}
 use native.Mathlib.Decide.{ℕ-discrete}
 use native.Mathlib.Omega.{arith}
@@ -11,8 +11,8 @@ use Rattle.octets.specs.Bytes.{part, put, zeros}
 use Rattle.octets.proofs.Parts.{length-zeros, part-zeros}
 use Rattle.octets.proofs.Puts.{part-put-below, part-put-above}
 use Rattle.octets.proofs.Rows.{pick-false, pick-true}
-use Rattle.gpt_model.specs.Disk.{Shape, primary, backup, guidIn, entriesIn, header, state, withTable, withCopy}
-use Rattle.gpt_model.specs.Calls.{repair, refused, accepted, Out, out, repaired, step}
+use Rattle.gpt_model.specs.Disk.{Shape, primary, backup, header, state, withTable, withCopy}
+use Rattle.gpt_model.specs.Calls.{repair, refused, Out, out, repaired, step}
 use Rattle.gpt_model.specs.Stored.{HeadGood, TailGood, Alike, Lent, RepairSays, RepairWrites}
 use Rattle.gpt_model.proofs.Copies.{length-header, length-entries}
 use Rattle.gpt_model.proofs.States.{Holds, four, not-four, one-good, from-backup, from-primary}

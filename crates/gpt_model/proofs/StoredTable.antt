@@ -1,6 +1,6 @@
 -- A table by its bytes: which block lies in which partition, and the entry rules.
-use mathlib.Core.Path.{_≡_, sym, ap, subst, subst₂, _∙_}
-use mathlib.Core.Logic.{_⊎_, inl, inr, _≢_, _↔_}
+use mathlib.Core.Path.{_≡_, sym, ap, subst, _∙_}
+use mathlib.Core.Logic.{_⊎_, inl, inr, _↔_}
 use mathlib.Core.Bool.{true, false}
 use mathlib.Core.List.{List, []}
 use Prim.Native.Nat.{ℕ, _+_, _*_, _≤_, _<_}
@@ -12,7 +12,7 @@ use Rattle.octets.proofs.Equal.{same-false, same-refl}
 use Rattle.octets.proofs.Tests.{any-get, any-make}
 use Rattle.octets.proofs.Chunks.{chunk-part}
 use Rattle.gpt_model.specs.Table.{typeOf, uniqueOf, firstOf, lastOf, unused, Slot, vacant, spans, slotOf, apart, entryOk, slots, goodTable}
-use Rattle.gpt_model.specs.Ranges.{inside, lies}
+use Rattle.gpt_model.specs.Ranges.{inside}
 use Rattle.gpt_model.specs.Stored.{UsedAt, typeAt, uniqueAt, firstAt, lastAt, LiesAt, TableRules, LiesByBytes}
 use Rattle.gpt_model.proofs.Room.{inside-make, inside-get, inside-vacant}
 use Rattle.gpt_model.proofs.Counts.{apart-get}

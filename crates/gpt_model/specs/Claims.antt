@@ -148,6 +148,14 @@ NotEmpty =
     → let r = begun (format g n guid h t) in
     Serves g n (applied (g .first) (lastUsable g n) (zeros tableBytes) cs (answers g n cs r)) (run g n cs r)
 
+-- ---- demand 1. R1: A refusal returns its number alone .. and changes no lent byte.
+
+abbrev pub RefusedStays : Type 0
+RefusedStays =
+    (g : Shape) (n k : ℕ) (guid h t : List ℕ) (c : Call)
+    → (step g n h t c .answer ≡ refused k → step g n h t c ≡ out (refused k) h t)
+    × (format g n guid h t .answer ≡ refused k → format g n guid h t ≡ out (refused k) h t)
+
 -- ---- demand 2: What is written reads back as the same table
 
 abbrev pub EditReadsBack : Type 0

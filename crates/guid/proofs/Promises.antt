@@ -19,7 +19,7 @@ use Rattle.octets.proofs.Tests.{all-append, all-take, all-drop, all-reverse}
 use Rattle.guid.specs.Hex.{isDigit, bytesOf, digitsOf, upper}
 use Rattle.guid.specs.Text.{digitsIn, isGuidText, grouped, reordered, storedOf, textOf}
 use Rattle.guid.specs.Calls.{outcome, readRows, readOf, writeRows, writeOf}
-use Rattle.guid.specs.Promises.{areBytes, WrittenReadsBack, ReadWritesUpper}
+use Rattle.guid.specs.Promises.{areBytes, WrittenReadsBack, ReadWritesUpper, RefusedStays}
 use Rattle.guid.proofs.Hex.{length-digits, digits-are, bytes-digits, length-bytes, digits-bytes}
 use Rattle.guid.proofs.Text.{length-reordered, reordered-twice, digits-grouped, dashes-grouped, length-grouped, upper-grouped, length-digitsIn, grouped-digits}
 use Rattle.guid.proofs.Calls.{text-length, text-dashes, text-all, length-stored, length-text, read-done, write-done}
@@ -108,6 +108,15 @@ module _ (g t : List ℕ) (e : writeOf g t .number ≡ none) where
   write-buffer = buffer-is (refusal (writeRows g t)) (textOf g) t write-rows
 
 -- ---- the promises
+
+stays : (r : Option ℕ) (new old : List ℕ) (k : ℕ) → outcome r new old .number ≡ some k → outcome r new old .buffer ≡ old
+unfolding outcome
+stays none new old k e = absurd (some-none (sym e))
+stays (some j) new old k e = refl
+
+pub refused-stays : RefusedStays
+unfolding readOf writeOf
+refused-stays text guid k = (stays (refusal (readRows text guid)) (storedOf text) guid k, stays (refusal (writeRows guid text)) (textOf guid) text k)
 
 pub written-reads-back : WrittenReadsBack
 written-reads-back guid text buffer b e n =

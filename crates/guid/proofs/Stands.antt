@@ -1,29 +1,28 @@
 -- A text and the bytes that it stands for, character by character.
-use mathlib.Core.Path.{_≡_, refl, sym, ap, ap₂, subst, _∙_}
+use mathlib.Core.Path.{_≡_, refl, sym, ap, subst, _∙_}
 use mathlib.Core.Logic.{_⊎_, inl, inr, _≢_}
 use mathlib.Core.Bool.{Bool, true, false}
 use mathlib.Core.List.{List, [], _∷_, map}
-use mathlib.Core.Option.{Option, none, some}
-use Prim.Native.Nat.{ℕ, suc, _+_, _-_, _*_, _≤_, _<_}
+use mathlib.Core.Option.{none}
+use Prim.Native.Nat.{ℕ, _+_, _-_, _*_, _≤_, _<_}
 use native.Mathlib.Decide.{decLt}
 use native.Mathlib.Omega.{arith}
-use lib.Dec.{leb, ltb}
-use lib.ListN.{length, getD, List·getD-eq-default, length-map}
+use lib.Dec.{leb}
+use lib.ListN.{length, getD, List·getD-eq-default}
 use borrow.Author.Tests.{eqb-true, eq-eqb, leb-true, lt-ltb, ltb-true}
 use Rattle.octets.specs.Ascii.{ascii}
 use Rattle.octets.specs.Bytes.{part, rest, same}
-use Rattle.octets.specs.Rows.{refusal}
 use Rattle.octets.specs.Tests.{_and_, all, findIx}
-use Rattle.octets.proofs.Bools.{and-l, and-r, and-i, bool-cases, not-f, or-false-l, or-false-r, some-none, clash}
-use Rattle.octets.proofs.Equal.{same-refl, same-true, same-false}
-use Rattle.octets.proofs.Filled.{each, each-is}
+use Rattle.octets.proofs.Bools.{and-l, and-r, and-i, bool-cases, not-f, or-false-r}
+use Rattle.octets.proofs.Equal.{same-refl, same-false}
+use Rattle.octets.proofs.Filled.{each-is}
 use Rattle.octets.proofs.Rows.{passes}
 use Rattle.octets.proofs.Tests.{all-get, all-make, getD-map}
 use Rattle.guid.specs.Hex.{valueOf, isDigit, bytesOf, upper}
 use Rattle.guid.specs.Text.{digitsIn, dashesIn, isGuidText, reordered, storedOf, textOf}
 use Rattle.guid.specs.Types.{shortAt, expand}
-use Rattle.guid.specs.Calls.{Outcome, readRows, readOf, writeRows, writeOf}
-use Rattle.guid.specs.Promises.{areBytes, Digit, Pair, inText, inBytes, StandsFor, ReadsText, WritesText, ReadsTypes}
+use Rattle.guid.specs.Calls.{Outcome, readRows, readOf, writeRows}
+use Rattle.guid.specs.Promises.{areBytes, Digit, inText, inBytes, StandsFor, ReadsText, WritesText, ReadsTypes}
 use Rattle.guid.proofs.Hex.{inside, value-decimal, value-upper, value-lower, value-none}
 use Rattle.guid.proofs.Calls.{text-length, text-dashes, text-all, length-stored, read-done, write-done}
 use Rattle.guid.proofs.Promises.{text-is, stored-text, text-stored, read-rows, read-is-text, read-buffer, write-rows, write-length, write-buffer}

@@ -3,7 +3,7 @@ use mathlib.Core.Path.{_≡_}
 use mathlib.Core.Logic.{_⊎_, _≢_, _↔_}
 use mathlib.Core.Bool.{Bool, true}
 use mathlib.Core.List.{List, [], _∷_, map}
-use mathlib.Core.Option.{none}
+use mathlib.Core.Option.{none, some}
 use Prim.Native.Nat.{ℕ, _+_, _-_, _*_, _≤_, _<_}
 use Prim.Native.Char.{code}
 use lib.Dec.{ltb}
@@ -28,6 +28,12 @@ abbrev pub ReadWritesUpper : Type 0
 ReadWritesUpper =
     (text guid buffer : List ℕ) → readOf text guid .number ≡ none → length buffer ≡ 36
     → writeOf (readOf text guid .buffer) buffer ≡ record { number = none; buffer = map upper text }
+
+-- R1: A refusal returns its number alone .. and changes no lent byte.
+abbrev pub RefusedStays : Type 0
+RefusedStays =
+    (text guid : List ℕ) (k : ℕ)
+    → (readOf text guid .number ≡ some k → readOf text guid .buffer ≡ guid) × (writeOf guid text .number ≡ some k → writeOf guid text .buffer ≡ text)
 
 -- ---- what a text and its stored bytes have to do with each other, character by character
 
