@@ -1,4 +1,4 @@
--- Laws that the crates above cite, and the theorems (Demand3, Touches, SameSize).
+-- Laws that the crates above cite, and the theorems (Demand3, Touches, SameSize; over bytes StoredTable to StoredRepair).
 pub mod Room
 pub mod Counts
 pub mod Longest

@@ -1,4 +1,4 @@
--- What follows from the definitions for all GUIDs and all texts; proved in proofs/Promises.antt.
+-- What follows from the definitions for all GUIDs and all texts; proved in proofs/Promises.antt and proofs/Stands.antt.
 use mathlib.Core.Path.{_≡_}
 use mathlib.Core.Logic.{_⊎_, _≢_, _↔_}
 use mathlib.Core.Bool.{Bool, true}
