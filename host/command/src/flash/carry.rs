@@ -26,7 +26,8 @@ pub fn carry(given: &Given) -> Result<Report, Failure> {
         image::write(new.path, &new.image, &after, given.has("--force"))?;
     }
     let done = Done { old: &old, new: &new, after: &after, carried, rows, dry_run, held_back };
-    let none = done.carried.is_empty().then(|| format!("the map of {} marks no area PRESERVE", shown(old.path)));
+    let none =
+        done.carried.is_empty().then(|| format!("the map of {} marks no area PRESERVE", shown(old.path)));
     let report = Report::new(done.text(), done.json(changed, given.has("--strict"), &faults));
     let report = report.warn(none).warn(faults).warn(old.several.clone()).warn(new.several.clone());
     Ok(match held_back {

@@ -9,6 +9,7 @@ use usigrambal::flash::Area;
 use usigrambal::{Refusal, Refused, IMAGE_MAX};
 
 const IMAGE_MIN: usize = 98;
+const SIGNATURE: &[u8] = b"__FMAP__";
 
 /// An image that has no map; `what` it is for the call.
 pub fn of_image(refused: Refused, what: &'static str, path: &Path, image: &[u8]) -> Failure {
@@ -16,21 +17,34 @@ pub fn of_image(refused: Refused, what: &'static str, path: &Path, image: &[u8])
     let failure = Failure::from(refused).on(what, path);
     match refusal {
         Refusal::ImageLength => failure.hint(format!("an image has {IMAGE_MIN} to {IMAGE_MAX} bytes")),
-        Refusal::NoSignature => failure.hint(format!("`usigrambal fmd write LAYOUT {}` writes a map", quoted(path))),
+        Refusal::NoSignature => {
+            failure.hint(format!("`usigrambal fmd write LAYOUT {}` writes a map", quoted(path)))
+        }
         Refusal::NoGoodMap => failure.hint(signatures(image)),
         _ => failure,
     }
 }
 
-/// Why the map at each signature is not good.
+/// Where signatures stand, the first of them.
 fn signatures(image: &[u8]) -> String {
-    String::new()
+    let places = image.windows(SIGNATURE.len()).enumerate().filter(|(_, bytes)| *bytes == SIGNATURE);
+    let lines: Vec<String> =
+        places.map(|(at, _)| format!("a signature stands at {at:#010x}, but no good map")).collect();
+    told(&lines).unwrap_or_default()
 }
 
 /// A carry between two images that have their maps.
 pub fn of_carry(refused: Refused, old: &Mapped, new: &Mapped) -> Failure {
-    let refusal = refused.refusal;
+    let hint = carry_hint(refused.refusal, old, new);
     let failure = Failure::from(refused).on("new", new.path);
+    match hint {
+        Some(hint) => failure.hint(hint),
+        None => failure,
+    }
+}
+
+/// The areas that a carry is refused for.
+pub fn carry_hint(refusal: Refusal, old: &Mapped, new: &Mapped) -> Option<String> {
     let named = |name: &str| new.map.areas.iter().find(|area| area.name == name);
     let marked: Vec<&Area> = old.map.areas.iter().filter(|area| area.preserved()).collect();
     let targets: Vec<&Area> = marked.iter().filter_map(|area| named(&area.name)).collect();
@@ -57,10 +71,7 @@ pub fn of_carry(refused: Refused, old: &Mapped, new: &Mapped) -> Failure {
         }
         _ => Vec::new(),
     };
-    match told(&causes) {
-        Some(hint) => failure.hint(hint),
-        None => failure,
-    }
+    told(&causes)
 }
 
 fn bytes(area: &Area) -> String {

@@ -3,21 +3,21 @@ use super::words::word;
 use super::{causes, counted, drawing, pair, rows as in_json, Mapped};
 use crate::arguments::Given;
 use crate::failure::Failure;
-use crate::paths::{quoted, shown};
+use crate::paths::quoted;
 use crate::report::Report;
 use crate::show::{printable, Side, Table};
 use crate::sizes::human;
 use crate::storage;
 use std::path::Path;
 use usigrambal::flash::{self, Area};
+use usigrambal::Refused;
 
 /// What an update would do, before anything is written.
 pub fn diff(given: &Given) -> Result<Report, Failure> {
     let (old, new) = pair(given.path(0), given.path(1))?;
     let carry = flash::carry(&old.image.bytes, &mut new.image.bytes.clone());
     let rows = rows((&old.map, &old.image.bytes), (&new.map, &new.image.bytes), &carry);
-    let refused = carry.err().map(|refused| causes::of_carry(refused, &old, &new));
-    let seen = Seen { old: &old, new: &new, rows: &rows, refused: refused.as_ref() };
+    let seen = Seen { old: &old, new: &new, rows: &rows, refused: carry.err() };
     let svg = given.value("--svg").map(Path::new);
     let mut report = Report::new(seen.text(), seen.json(svg));
     if let Some(target) = svg {
@@ -40,7 +40,7 @@ pub struct Seen<'a> {
     pub new: &'a Mapped<'a>,
     pub rows: &'a [Row],
     /// Why a carry would be refused.
-    pub refused: Option<&'a Failure>,
+    pub refused: Option<Refused>,
 }
 
 impl Seen<'_> {
@@ -61,12 +61,16 @@ impl Seen<'_> {
         let lost = self.lost();
         let names = || lost.iter().map(|row| row.name.clone()).collect::<Vec<_>>().join(", ");
         match (self.refused, lost.len(), carried) {
-            (Some(failure), 0, _) => format!("{}; nothing is lost", refused_line(failure)),
-            (Some(failure), count, _) => {
-                format!("{} would be lost: {}; {}", counted(count, "area"), names(), refused_line(failure))
+            (Some(refused), 0, _) => format!("{}; nothing is lost", refused_line(refused)),
+            (Some(refused), count, _) => {
+                format!("{} would be lost: {}; {}", counted(count, "area"), names(), refused_line(refused))
             }
-            (None, 0, 0) => "neither map marks an area PRESERVE that the other has: nothing is carried".into(),
-            (None, 0, _) => format!("{} carried ({}), nothing is lost", counted(carried, "area"), human(bytes)),
+            (None, 0, 0) => {
+                "neither map marks an area PRESERVE that the other has: nothing is carried".into()
+            }
+            (None, 0, _) => {
+                format!("{} carried ({}), nothing is lost", counted(carried, "area"), human(bytes))
+            }
             (None, count, _) => format!(
                 "{} would be lost: {}; {} carried ({})",
                 counted(count, "area"),
@@ -77,6 +81,11 @@ impl Seen<'_> {
         }
     }
 
+    /// The areas that a carry is refused for.
+    fn hint(&self) -> Option<String> {
+        causes::carry_hint(self.refused?.refusal, self.old, self.new)
+    }
+
     fn text(&self) -> String {
         let mut text = self.table() + "\n";
         for row in self.lost() {
@@ -84,10 +93,16 @@ impl Seen<'_> {
         }
         for row in self.rows {
             if let Some(around) = row.overwritten() {
-                text += &format!("overwritten: {}, by the carried {around}, which holds it in the new map\n", row.name);
+                text += &format!(
+                    "overwritten: {}, by the carried {around}, which holds it in the new map\n",
+                    row.name
+                );
             }
         }
         text += &format!("{}\n", self.verdict());
+        if let Some(hint) = self.hint() {
+            text += &format!("{hint}\n");
+        }
         if self.carried().0 > 0 {
             let (old, new) = (quoted(self.old.path), quoted(self.new.path));
             text += &format!("`usigrambal fmap carry {old} {new}` carries, before the update is written\n");
@@ -107,7 +122,8 @@ impl Seen<'_> {
             ("PRESERVE", Side::Left),
             ("Update", Side::Left),
         ]);
-        let offset = |area: &Option<Area>| area.as_ref().map_or("-".into(), |area| format!("{:#010x}", area.offset));
+        let offset =
+            |area: &Option<Area>| area.as_ref().map_or("-".into(), |area| format!("{:#010x}", area.offset));
         let size = |area: &Option<Area>| area.as_ref().map_or(String::new(), |area| human(area.size.into()));
         for row in self.rows {
             let bytes = row.equal.map_or("-", |equal| if equal { "equal" } else { "differ" });
@@ -127,13 +143,14 @@ impl Seen<'_> {
     }
 
     fn json(&self, svg: Option<&Path>) -> Vec<(&'static str, crate::json::Json)> {
-        let refused = self.refused.and_then(Failure::refusal).map(|refusal| u64::from(refusal.number()));
+        let refused = self.refused.map(|refused| u64::from(refused.number()));
         vec![
             ("old", self.old.path.into()),
             ("new", self.new.path.into()),
             ("svg", svg.map(crate::json::Json::from).into()),
             ("carry_refused", refused.into()),
-            ("carry_words", self.refused.map(|failure| failure.words.clone()).into()),
+            ("carry_words", self.refused.map(Refused::sentence).into()),
+            ("carry_hint", self.hint().into()),
             ("carried", (self.carried().0 as u64).into()),
             ("lost", self.lost().iter().map(|row| row.name.clone()).collect()),
             ("areas", in_json::json(self.rows)),
@@ -141,9 +158,8 @@ impl Seen<'_> {
     }
 }
 
-fn refused_line(failure: &Failure) -> String {
-    let number = failure.refusal().map_or(0, |refusal| refusal.number());
-    format!("the carry is refused {number}: {}", failure.words)
+fn refused_line(refused: Refused) -> String {
+    format!("the carry is refused {}: {}", refused.number(), refused.sentence())
 }
 
 /// Which map marks it.
@@ -165,12 +181,14 @@ fn told(row: &Row) -> String {
 }
 
 /// Why an area would be lost.
-fn why(row: &Row, refused: Option<&Failure>) -> String {
+fn why(row: &Row, refused: Option<Refused>) -> String {
     let name = printable(&row.name);
     match (&row.fate, refused) {
-        (Fate::Unmarked, _) => format!("{name} is marked PRESERVE in the new map alone; the old map's mark decides"),
+        (Fate::Unmarked, _) => {
+            format!("{name} is marked PRESERVE in the new map alone; the old map's mark decides")
+        }
         (Fate::OnlyOld, _) => format!("{name} is marked PRESERVE and only in the old map"),
-        (_, Some(failure)) => format!("{name} is marked PRESERVE, and {}", refused_line(failure)),
+        (_, Some(refused)) => format!("{name} is marked PRESERVE, and {}", refused_line(refused)),
         _ => format!("{name} is not carried"),
     }
 }

@@ -41,7 +41,14 @@ fn column(which: &str, mapped: &Mapped, rows: &[Row], old: bool) -> Column {
             look: look(row, old),
             name: area.name.clone(),
             marked: area.preserved(),
-            tip: format!("{}: {:#010x}, {} bytes ({}); {}", area.name, area.offset, area.size, human(area.size.into()), becomes(row)),
+            tip: format!(
+                "{}: {:#010x}, {} bytes ({}); {}",
+                area.name,
+                area.offset,
+                area.size,
+                human(area.size.into()),
+                becomes(row)
+            ),
         })
     });
     let about = format!("{}, {}", human(len), counted(areas.len(), "area"));

@@ -103,7 +103,8 @@ pub fn rows(old: (&Map, &[u8]), new: (&Map, &[u8]), carry: &Result<(), Refused>)
         .chain(only_new)
         .map(|area| {
             let (old, new) = (named(old, &area.name), named(new, &area.name));
-            let equal = old.as_ref().zip(new.as_ref()).map(|(old, new)| old.bytes(old_image) == new.bytes(new_image));
+            let equal =
+                old.as_ref().zip(new.as_ref()).map(|(old, new)| old.bytes(old_image) == new.bytes(new_image));
             let fate = fate(old.as_ref(), new.as_ref(), carry.is_ok());
             Row { name: area.name.clone(), old, new, fate, under: None, equal }
         })
@@ -165,11 +166,18 @@ mod tests {
         let (old, new) = (image(old, 1), image(new, 2));
         let carry = flash::carry(&old, &mut new.clone());
         let rows = rows((&flash::map(&old).unwrap(), &old), (&flash::map(&new).unwrap(), &new), &carry);
-        let one = |row: Row| (row.name.clone(), row.change(), row.fate.clone(), row.under.clone(), row.lost());
+        let one =
+            |row: Row| (row.name.clone(), row.change(), row.fate.clone(), row.under.clone(), row.lost());
         rows.into_iter().map(one).filter(|row| row.0 != "FMAP").collect()
     }
 
-    fn of(name: &str, change: Change, fate: Fate, under: Option<&str>, lost: bool) -> (String, Change, Fate, Option<String>, bool) {
+    fn of(
+        name: &str,
+        change: Change,
+        fate: Fate,
+        under: Option<&str>,
+        lost: bool,
+    ) -> (String, Change, Fate, Option<String>, bool) {
         (name.into(), change, fate, under.map(str::to_string), lost)
     }
 
@@ -197,7 +205,10 @@ mod tests {
             of("B", OnlyOld, Fate::OnlyOld, None, true),
             of("C", Resized, Fate::Refused, None, true),
         ];
-        assert_eq!(told("A(PRESERVE)@4K 1K B(PRESERVE)@8K 1K C(PRESERVE)@12K 1K", "A@4K 1K C@12K 2K"), expected);
+        assert_eq!(
+            told("A(PRESERVE)@4K 1K B(PRESERVE)@8K 1K C(PRESERVE)@12K 1K", "A@4K 1K C@12K 2K"),
+            expected
+        );
     }
 
     #[test]

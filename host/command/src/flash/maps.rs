@@ -47,7 +47,10 @@ pub fn several(path: &Path, image: &[u8], first: u64) -> Option<String> {
     (!further.is_empty()).then(|| {
         let count = 1 + further.len();
         let places = places.join(", ");
-        format!("{} has {count}{more} good maps: the lowest, at {first:#010x}, is used; others at {places}", shown(path))
+        format!(
+            "{} has {count}{more} good maps: the lowest, at {first:#010x}, is used; others at {places}",
+            shown(path)
+        )
     })
 }
 
@@ -59,7 +62,9 @@ mod tests {
     /// Maps at these places.
     fn image(places: &[usize]) -> Vec<u8> {
         let mut image = vec![0; 4096];
-        places.iter().for_each(|at| write_map(format!("I 4K {{ FMAP@{at} 98 }}"), &mut image).expect("a map"));
+        places
+            .iter()
+            .for_each(|at| write_map(format!("I 4K {{ FMAP@{at} 98 }}"), &mut image).expect("a map"));
         image
     }
 

@@ -34,7 +34,8 @@ struct Mapped<'a> {
 /// Reads an image; `what` it is for the call.
 fn mapped<'a>(what: &'static str, path: &'a Path) -> Result<Mapped<'a>, Failure> {
     let image = image::read(path)?;
-    let map = flash::map(&image.bytes).map_err(|refused| causes::of_image(refused, what, path, &image.bytes))?;
+    let map =
+        flash::map(&image.bytes).map_err(|refused| causes::of_image(refused, what, path, &image.bytes))?;
     let several = maps::several(path, &image.bytes, map.position);
     Ok(Mapped { path, image, map, several })
 }

@@ -36,13 +36,18 @@ pub fn word(row: &Row) -> &'static str {
 pub fn faults(rows: &[Row]) -> Vec<String> {
     let marked = |row: &&Row| (row.marked_old() || row.marked_new()) && !row.brought();
     let unbrought = rows.iter().filter(marked).map(|row| match row.fate {
-        Fate::OnlyNew => format!("{} is marked PRESERVE and only in the new map: it is not carried", row.name),
+        Fate::OnlyNew => {
+            format!("{} is marked PRESERVE and only in the new map: it is not carried", row.name)
+        }
         Fate::Unmarked => format!("{} is marked PRESERVE in the new map alone: it is not carried", row.name),
         _ => format!("{} is marked PRESERVE: it is not carried", row.name),
     });
     let overwritten = rows.iter().filter_map(|row| {
         let around = row.overwritten()?;
-        Some(format!("{around}, which is carried, holds {} of the new map: its bytes are overwritten", row.name))
+        Some(format!(
+            "{around}, which is carried, holds {} of the new map: its bytes are overwritten",
+            row.name
+        ))
     });
     unbrought.chain(overwritten).collect()
 }

@@ -52,7 +52,10 @@ fn undecided(text: &Text) -> Option<String> {
         let undecided = section.size.is_none() && next.offset.is_none();
         undecided.then(|| {
             let (name, next) = (&section.name, &next.name);
-            format!("line {}: {name} has no size, and {next} behind it no offset that {name} could reach to", section.line)
+            format!(
+                "line {}: {name} has no size, and {next} behind it no offset that {name} could reach to",
+                section.line
+            )
         })
     })
 }
@@ -62,11 +65,13 @@ fn unfit(text: &Text) -> Option<String> {
     let mut placed: Vec<(u64, u64)> = Vec::new();
     for (k, section) in text.sections.iter().enumerate() {
         let around = section.parent.map_or(text.size, |parent| placed[parent].1);
-        let holder = section.parent.map_or("the image".to_string(), |parent| text.sections[parent].name.clone());
+        let holder =
+            section.parent.map_or("the image".to_string(), |parent| text.sections[parent].name.clone());
         let previous = (0..k).rev().find(|other| text.sections[*other].parent == section.parent);
         let free = previous.map_or(0, |previous| placed[previous].0 + placed[previous].1);
         let offset = section.offset.unwrap_or(free);
-        let next = behind(text, k).and_then(|next| Some((&text.sections[next].name, text.sections[next].offset?)));
+        let next =
+            behind(text, k).and_then(|next| Some((&text.sections[next].name, text.sections[next].offset?)));
         let (limit, limiter) = next.map_or((around, &holder), |(name, offset)| (offset, name));
         let size = section.size.unwrap_or(limit.saturating_sub(offset));
         let (line, name, end) = (section.line, &section.name, offset + size);
@@ -93,7 +98,10 @@ fn no_map(text: &Text) -> Option<String> {
     let needed = |sections: usize| HEADER_LEN + AREA_LEN * sections as u64;
     let count = text.sections.len();
     let Some(section) = text.sections.iter().find(|section| section.name == MAP) else {
-        return Some(format!("no section is named {MAP}, where the map is to stand: {} bytes", needed(count + 1)));
+        return Some(format!(
+            "no section is named {MAP}, where the map is to stand: {} bytes",
+            needed(count + 1)
+        ));
     };
     let line = section.line;
     if section.parents {

@@ -124,7 +124,23 @@ mod tests {
         ] {
             assert_eq!(number(word.as_bytes()), Some(value), "{word}");
         }
-        for word in ["", "00", "01", "K", "0x", "0xK", "0X1", "1k", "1KK", "4G", "4294967296", "1.0", "x", "0xg", "-1"] {
+        for word in [
+            "",
+            "00",
+            "01",
+            "K",
+            "0x",
+            "0xK",
+            "0X1",
+            "1k",
+            "1KK",
+            "4G",
+            "4294967296",
+            "1.0",
+            "x",
+            "0xg",
+            "-1",
+        ] {
             assert_eq!(number(word.as_bytes()), None, "{word}");
         }
     }

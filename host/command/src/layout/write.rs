@@ -51,9 +51,8 @@ pub fn write(given: &Given) -> Result<Report, Failure> {
         ("areas", layout.sections.into()),
         ("retired", made.retired.iter().copied().map(Json::from).collect()),
     ];
-    let written = (made.changed && !dry_run).then(|| {
-        format!("the map was written; `usigrambal fmap show {}` shows it", quoted(path))
-    });
+    let written = (made.changed && !dry_run)
+        .then(|| format!("the map was written; `usigrambal fmap show {}` shows it", quoted(path)));
     let report = Report::new(told(given, &layout, position, &made), json).warn(several);
     Ok(report.written(written))
 }

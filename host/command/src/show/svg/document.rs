@@ -84,10 +84,13 @@ fn bar(out: &mut String, measures: &Measures, across: &Across, column: &Column) 
     let (left, middle) = (across.outer.min(across.inner), (across.outer + across.inner) / 2.0);
     text(out, (middle, HEAD - 32.0), "head middle", &column.title);
     text(out, (middle, HEAD - 14.0), "note middle", &column.about);
-    put(out, format_args!(
-        "<rect x=\"{left:.1}\" y=\"{top:.1}\" width=\"{BAR:.1}\" height=\"{:.1}\" class=\"bar\"/>",
-        bottom - top
-    ));
+    put(
+        out,
+        format_args!(
+            "<rect x=\"{left:.1}\" y=\"{top:.1}\" width=\"{BAR:.1}\" height=\"{:.1}\" class=\"bar\"/>",
+            bottom - top
+        ),
+    );
 }
 
 fn area(out: &mut String, measures: &Measures, across: &Across, shape: &Shape) {
@@ -111,9 +114,10 @@ fn labels(out: &mut String, measures: &Measures, across: &Across, column: &Colum
     for (shape, (want, y)) in shapes.iter().zip(wanted.iter().zip(spread(&wanted, LINE, bounds))) {
         let edge = measures.edge(across, shape);
         let (near, far) = (across.outer + across.out * 7.0, across.outer + across.out * (LEADER - 5.0));
-        put(out, format_args!(
-            "<path d=\"M{edge:.1} {want:.1}H{near:.1}L{far:.1} {y:.1}\" class=\"leader\"/>"
-        ));
+        put(
+            out,
+            format_args!("<path d=\"M{edge:.1} {want:.1}H{near:.1}L{far:.1} {y:.1}\" class=\"leader\"/>"),
+        );
         let look = match shape.look {
             Look::Lost => " lost",
             Look::Carried => " carried",
@@ -131,7 +135,8 @@ fn labels(out: &mut String, measures: &Measures, across: &Across, column: &Colum
 fn bands(out: &mut String, measures: &Measures, drawing: &Drawing, old: &Across, new: &Across) {
     let middle = (old.inner + new.inner) / 2.0;
     for (from, to) in &drawing.bands {
-        let ((a, b), (c, d)) = (measures.extent(from.offset, from.end()), measures.extent(to.offset, to.end()));
+        let ((a, b), (c, d)) =
+            (measures.extent(from.offset, from.end()), measures.extent(to.offset, to.end()));
         let (left, right) = (old.inner, new.inner);
         put(out, format_args!(
             "<path d=\"M{left:.1} {a:.1}C{middle:.1} {a:.1} {middle:.1} {c:.1} {right:.1} {c:.1}V{d:.1}C{middle:.1} {d:.1} {middle:.1} {b:.1} {left:.1} {b:.1}Z\" class=\"band\"/>"
@@ -144,16 +149,18 @@ fn stubs(out: &mut String, measures: &Measures, drawing: &Drawing, old: &Across)
     for shape in drawing.old.shapes.iter().filter(|shape| shape.look == Look::Lost) {
         let (top, bottom) = measures.extent(shape.span.offset, shape.span.end());
         let (x, y) = (old.inner + STUB, (top + bottom) / 2.0);
-        put(out, format_args!(
-            "<rect x=\"{:.1}\" y=\"{top:.1}\" width=\"{STUB:.1}\" height=\"{:.1}\" class=\"stub\"/>",
-            old.inner,
-            bottom - top
-        ));
-        put(out, format_args!(
-            "<path d=\"M{:.1} {:.1}l10 10m0 -10l-10 10\" class=\"cross\"/>",
-            x - 5.0,
-            y - 5.0
-        ));
+        put(
+            out,
+            format_args!(
+                "<rect x=\"{:.1}\" y=\"{top:.1}\" width=\"{STUB:.1}\" height=\"{:.1}\" class=\"stub\"/>",
+                old.inner,
+                bottom - top
+            ),
+        );
+        put(
+            out,
+            format_args!("<path d=\"M{:.1} {:.1}l10 10m0 -10l-10 10\" class=\"cross\"/>", x - 5.0, y - 5.0),
+        );
         text(out, (x + 13.0, y + 4.2), "lost", "lost");
     }
 }
@@ -167,15 +174,23 @@ fn legend(out: &mut String, height: f64, width: f64) {
         if x + needed > width - MARGIN && x > MARGIN {
             (x, y) = (MARGIN, y + 22.0);
         }
-        put(out, format_args!(
-            "<rect x=\"{x:.1}\" y=\"{:.1}\" width=\"{SWATCH}\" height=\"{SWATCH}\" class=\"{}\"/>",
-            y - 11.5,
-            look.class()
-        ));
+        put(
+            out,
+            format_args!(
+                "<rect x=\"{x:.1}\" y=\"{:.1}\" width=\"{SWATCH}\" height=\"{SWATCH}\" class=\"{}\"/>",
+                y - 11.5,
+                look.class()
+            ),
+        );
         text(out, (x + SWATCH + 8.0, y), "note", look.legend());
         x += needed;
     }
-    text(out, (MARGIN, y + 24.0), "note", "A name in bold is marked PRESERVE. Both images are drawn to one scale, the lowest byte on top.");
+    text(
+        out,
+        (MARGIN, y + 24.0),
+        "note",
+        "A name in bold is marked PRESERVE. Both images are drawn to one scale, the lowest byte on top.",
+    );
 }
 
 /// Text as XML has it; characters that XML does not allow are left out.

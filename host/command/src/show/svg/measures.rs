@@ -51,7 +51,8 @@ impl Measures {
         let depth = shapes().map(|shape| shape.depth).max().unwrap_or(0);
         let wide = |texts: Vec<usize>| texts.into_iter().max().unwrap_or(0) as f64 * CHARACTER;
         let names = |column: &Column| wide(column.shapes.iter().map(|shape| shape.name.len() + 1).collect());
-        let sizes = |column: &Column| wide(column.shapes.iter().map(|shape| human(shape.span.size).len()).collect());
+        let sizes =
+            |column: &Column| wide(column.shapes.iter().map(|shape| human(shape.span.size).len()).collect());
         Measures {
             bars,
             unit: bars / longest as f64,
