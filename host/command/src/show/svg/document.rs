@@ -1,7 +1,6 @@
 //! The document itself.
 
-use super::labels::spread;
-use super::measures::{Across, Measures, BAR, HEAD, LEADER, LINE, MARGIN};
+use super::measures::{Across, Label, Measures, BAR, HEAD, MARGIN, SWATCH};
 use super::{Column, Drawing, Look, Shape};
 use crate::sizes::human;
 use std::fmt::Write;
@@ -21,19 +20,20 @@ text { font: 12px ui-monospace, 'DejaVu Sans Mono', Menlo, Consolas, monospace; 
 .end { text-anchor: end }
 .middle { text-anchor: middle }
 .bar { fill: #ffffff; stroke: #b9c4d1 }
-.leader { fill: none; stroke: #a9b5c3; stroke-width: .8 }
+.leader { fill: none; stroke: #9aa8b8; stroke-width: .7; stroke-opacity: .8 }
 .band { fill: #1f9d86; fill-opacity: .22; stroke: #1f9d86; stroke-opacity: .55; stroke-width: .8 }
 rect { stroke-width: 1 }
 .carried { fill: #35b39b; stroke: #17705f }
 .along { fill: #a9dfd3; stroke: #4fa996 }
 .lost { fill: url(#hatched); stroke: #b3121d; stroke-width: 1.4 }
 .overwritten { fill: url(#dotted); stroke: #b97309 }
-.left { fill: #e4eaf1; stroke: #9aa9ba }
+.left { fill: #6d8cb0; fill-opacity: .18; stroke: #9aa9ba }
 .alone { fill: #f7f9fb; stroke: #8494a7; stroke-dasharray: 4 2.5 }
 .stub { fill: url(#fading) }
 .cross { stroke: #b3121d; stroke-width: 2; stroke-linecap: round }
-text.lost { fill: #b3121d }
-text.carried { fill: #17705f }
+.good-name { fill: #17705f }
+.bad-name { fill: #b3121d }
+.halo { stroke: #ffffff; stroke-width: 4; paint-order: stroke; font-weight: 700 }
 ";
 
 const PATTERNS: &str = r##"<pattern id="hatched" width="8" height="8" patternUnits="userSpaceOnUse" patternTransform="rotate(45)">
@@ -66,7 +66,7 @@ pub fn drawn(drawing: &Drawing) -> String {
         labels(&mut out, &measures, across, column);
     }
     stubs(&mut out, &measures, drawing, &old);
-    legend(&mut out, height, width);
+    legend(&mut out, &measures);
     out + "</svg>\n"
 }
 
@@ -106,21 +106,20 @@ fn area(out: &mut String, measures: &Measures, across: &Across, shape: &Shape) {
 }
 
 fn labels(out: &mut String, measures: &Measures, across: &Across, column: &Column) {
-    let mut shapes: Vec<&Shape> = column.shapes.iter().collect();
-    shapes.sort_by(|a, b| measures.wanted(a).total_cmp(&measures.wanted(b)));
-    let wanted: Vec<f64> = shapes.iter().map(|shape| measures.wanted(shape)).collect();
-    let bounds = (HEAD + LINE / 2.0, HEAD + measures.bars - LINE / 2.0);
     let end = if across.out < 0.0 { " end" } else { "" };
-    for (shape, (want, y)) in shapes.iter().zip(wanted.iter().zip(spread(&wanted, LINE, bounds))) {
+    for Label { shape, wanted, y } in measures.labels(column) {
         let edge = measures.edge(across, shape);
-        let (near, far) = (across.outer + across.out * 7.0, across.outer + across.out * (LEADER - 5.0));
+        let (near, far) = (across.outer + across.out * 5.0, across.name - across.out * 5.0);
+        let middle = (near + far) / 2.0;
         put(
             out,
-            format_args!("<path d=\"M{edge:.1} {want:.1}H{near:.1}L{far:.1} {y:.1}\" class=\"leader\"/>"),
+            format_args!(
+                "<path d=\"M{edge:.1} {wanted:.1}H{near:.1}C{middle:.1} {wanted:.1} {middle:.1} {y:.1} {far:.1} {y:.1}\" class=\"leader\"/>"
+            ),
         );
         let look = match shape.look {
-            Look::Lost => " lost",
-            Look::Carried => " carried",
+            Look::Lost => " bad-name",
+            Look::Carried | Look::Along => " good-name",
             _ => "",
         };
         let marked = if shape.marked { " marked" } else { "" };
@@ -161,19 +160,13 @@ fn stubs(out: &mut String, measures: &Measures, drawing: &Drawing, old: &Across)
             out,
             format_args!("<path d=\"M{:.1} {:.1}l10 10m0 -10l-10 10\" class=\"cross\"/>", x - 5.0, y - 5.0),
         );
-        text(out, (x + 13.0, y + 4.2), "lost", "lost");
+        text(out, (x + 13.0, y + 4.2), "bad-name halo", "lost");
     }
 }
 
-fn legend(out: &mut String, height: f64, width: f64) {
-    const SWATCH: f64 = 14.0;
-    const CHARACTER: f64 = 6.9;
-    let (mut x, mut y) = (MARGIN, height - 46.0);
-    for look in Look::ALL {
-        let needed = SWATCH + 8.0 + look.legend().len() as f64 * CHARACTER + 20.0;
-        if x + needed > width - MARGIN && x > MARGIN {
-            (x, y) = (MARGIN, y + 22.0);
-        }
+/// What each look means, under the bars.
+fn legend(out: &mut String, measures: &Measures) {
+    for (look, (x, y)) in Look::ALL.into_iter().zip(measures.legend()) {
         put(
             out,
             format_args!(
@@ -183,14 +176,10 @@ fn legend(out: &mut String, height: f64, width: f64) {
             ),
         );
         text(out, (x + SWATCH + 8.0, y), "note", look.legend());
-        x += needed;
     }
-    text(
-        out,
-        (MARGIN, y + 24.0),
-        "note",
-        "A name in bold is marked PRESERVE. Both images are drawn to one scale, the lowest byte on top.",
-    );
+    let line =
+        "A name in bold is marked PRESERVE. Both images are drawn to one scale, the lowest byte on top.";
+    text(out, (MARGIN, measures.height() - 24.0), "note", line);
 }
 
 /// Text as XML has it; characters that XML does not allow are left out.

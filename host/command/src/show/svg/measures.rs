@@ -1,16 +1,25 @@
 //! Where everything stands, in units of the drawing.
 
-use super::{Column, Drawing, Shape};
+use super::labels::spread;
+use super::{Column, Drawing, Look, Shape};
 use crate::sizes::human;
 
 pub const MARGIN: f64 = 36.0;
 pub const HEAD: f64 = 142.0;
-pub const FOOT: f64 = 84.0;
+/// Under the bars: to the legend's first row, from row to row, and from the last one to the end.
+const TO_LEGEND: f64 = 38.0;
+const ROW: f64 = 22.0;
+const FOOT: f64 = 52.0;
+pub const SWATCH: f64 = 14.0;
+/// The width of a character of the legend.
+const LETTER: f64 = 6.7;
 pub const BAR: f64 = 128.0;
 pub const BETWEEN: f64 = 250.0;
-pub const LEADER: f64 = 38.0;
+/// From a bar to its labels, at least and at most; and for each unit that a label stands away from its area.
+const LEADER: (f64, f64) = (38.0, 190.0);
+const LEADER_BY: f64 = 0.2;
 /// From label to label.
-pub const LINE: f64 = 17.0;
+const LINE: f64 = 17.0;
 /// The least height of the bars, and of an area.
 const BARS: f64 = 440.0;
 const THIN: f64 = 1.5;
@@ -28,6 +37,14 @@ pub struct Measures {
     indent: f64,
     names: [f64; 2],
     sizes: [f64; 2],
+    leader: f64,
+}
+
+/// Where an area's label would best stand, and where it does.
+pub struct Label<'a> {
+    pub shape: &'a Shape,
+    pub wanted: f64,
+    pub y: f64,
 }
 
 /// The horizontal places of a side: the labels' parts, and the bar's edges.
@@ -53,20 +70,34 @@ impl Measures {
         let names = |column: &Column| wide(column.shapes.iter().map(|shape| shape.name.len() + 1).collect());
         let sizes =
             |column: &Column| wide(column.shapes.iter().map(|shape| human(shape.span.size).len()).collect());
-        Measures {
+        let mut measures = Measures {
             bars,
             unit: bars / longest as f64,
             indent: INDENT.min((BAR - INNERMOST) / depth.max(1) as f64),
             names: columns.map(names),
             sizes: columns.map(sizes),
-        }
+            leader: LEADER.0,
+        };
+        let away = columns.iter().flat_map(|column| measures.labels(column));
+        let farthest = away.map(|label| (label.y - label.wanted).abs()).fold(0.0, f64::max);
+        measures.leader = (LEADER.0 + LEADER_BY * (farthest - LINE).max(0.0)).min(LEADER.1);
+        measures
+    }
+
+    /// The labels of a column, from its top.
+    pub fn labels<'a>(&self, column: &'a Column) -> Vec<Label<'a>> {
+        let mut shapes: Vec<&Shape> = column.shapes.iter().collect();
+        shapes.sort_by(|a, b| self.wanted(a).total_cmp(&self.wanted(b)));
+        let wanted: Vec<f64> = shapes.iter().map(|shape| self.wanted(shape)).collect();
+        let placed = spread(&wanted, LINE, (HEAD + LINE / 2.0, HEAD + self.bars - LINE / 2.0));
+        let label = |((shape, wanted), y)| Label { shape, wanted, y };
+        shapes.into_iter().zip(wanted).zip(placed).map(label).collect()
     }
 
     pub fn across(&self, new: bool) -> Across {
-        let [before, after] = [0, 1].map(|side| self.names[side] + self.sizes[side] + OFFSET + 2.0 * SPACE);
-        let outer = MARGIN + before + LEADER;
+        let before = self.names[0] + self.sizes[0] + OFFSET + 2.0 * SPACE;
+        let outer = MARGIN + before + self.leader;
         let inner = outer + BAR + BETWEEN;
-        debug_assert!(after > 0.0);
         match new {
             false => Across {
                 offset: MARGIN,
@@ -77,9 +108,9 @@ impl Measures {
                 out: -1.0,
             },
             true => Across {
-                name: inner + BAR + LEADER,
-                offset: inner + BAR + LEADER + self.names[1] + SPACE,
-                size: inner + BAR + LEADER + self.names[1] + 2.0 * SPACE + OFFSET + self.sizes[1],
+                name: inner + BAR + self.leader,
+                offset: inner + BAR + self.leader + self.names[1] + SPACE,
+                size: inner + BAR + self.leader + self.names[1] + 2.0 * SPACE + OFFSET + self.sizes[1],
                 outer: inner + BAR,
                 inner,
                 out: 1.0,
@@ -92,7 +123,21 @@ impl Measures {
     }
 
     pub fn height(&self) -> f64 {
-        HEAD + self.bars + FOOT
+        self.legend().last().map_or(0.0, |(_, y)| y + FOOT)
+    }
+
+    /// Where each entry of the legend stands, in as many rows as they need.
+    pub fn legend(&self) -> Vec<(f64, f64)> {
+        let (mut x, mut y) = (MARGIN, HEAD + self.bars + TO_LEGEND);
+        let place = |look: Look| {
+            let needed = SWATCH + 30.0 + look.legend().len() as f64 * LETTER;
+            if x + needed > self.width() && x > MARGIN {
+                (x, y) = (MARGIN, y + ROW);
+            }
+            x += needed;
+            (x - needed, y)
+        };
+        Look::ALL.into_iter().map(place).collect()
     }
 
     /// Where a byte of an image stands.
@@ -111,11 +156,11 @@ impl Measures {
         across.outer - across.out * self.indent * shape.depth as f64
     }
 
-    /// Where an area's label would best stand: in its middle, or near its top if it holds others.
-    pub fn wanted(&self, shape: &Shape) -> f64 {
+    /// Where an area's label would best stand: in its middle, or at its top if it holds others.
+    fn wanted(&self, shape: &Shape) -> f64 {
         let (top, bottom) = self.extent(shape.span.offset, shape.span.end());
         match shape.parent {
-            true => top + (LINE / 2.0).min((bottom - top) / 2.0),
+            true => top + THIN / 2.0,
             false => (top + bottom) / 2.0,
         }
     }

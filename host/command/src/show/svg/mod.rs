@@ -76,7 +76,7 @@ impl Look {
             Look::Along => "carried with the area around it",
             Look::Lost => "would be lost",
             Look::Overwritten => "overwritten by a carried area",
-            Look::Left => "as each image has it",
+            Look::Left => "not carried: as each image has it",
             Look::Alone => "in one map alone",
         }
     }
