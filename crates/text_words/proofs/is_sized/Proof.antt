@@ -1,20 +1,19 @@
 use borrow.Author.Tests.{lt-leb, le-leb}
 use Rattle.octets.specs.Tests.{_and_}
-use Rattle.fmd_lex.specs.Chars.{isDigit}
-use Rattle.fmd_lex.proofs.is_digit.Statement.{statement}
-use Rattle.fmd_lex.proofs.is_digit.Tie as tie
+use Rattle.text_words.proofs.is_sized.Statement.{statement}
+use Rattle.text_words.proofs.is_sized.Tie as tie
 
 returns : tie.Need-returns
-unfolding isDigit _and_
+unfolding _and_
 returns c = simp (lt-leb _ _ (c .if1 .taken))
 
 returns-2 : tie.Need-returns-2
-unfolding isDigit _and_
+unfolding _and_
 returns-2 c = simp (le-leb _ _ (c .before .if1 .left), lt-leb _ _ (c .if2 .taken))
 
 returns-3 : tie.Need-returns-3
-unfolding isDigit _and_
+unfolding _and_
 returns-3 c = simp (le-leb _ _ (c .before .if1 .left), le-leb _ _ (c .if2 .left))
 
-pub is-digit-spec : {M : Type 1} → statement M
-is-digit-spec = tie.close (tie.spec returns returns-2 returns-3)
+pub is-sized-spec : {M : Type 1} → statement M
+is-sized-spec = tie.close (tie.spec returns returns-2 returns-3)

@@ -1,8 +1,8 @@
 use borrow.Author.Tests.{ne-eqb}
 use Rattle.octets.specs.Tests.{_or_}
-use Rattle.fmd_lex.specs.Chars.{isBlank}
-use Rattle.fmd_lex.proofs.is_blank.Statement.{statement}
-use Rattle.fmd_lex.proofs.is_blank.Tie as tie
+use Rattle.text_words.specs.Classes.{isBlank}
+use Rattle.text_words.proofs.is_blank.Statement.{statement}
+use Rattle.text_words.proofs.is_blank.Tie as tie
 
 returns : tie.Need-returns
 unfolding isBlank _or_

@@ -1,8 +1,8 @@
 use Prim.Native.Nat.{_≤_, _-_}
 use lib.ListN.{length}
 use borrow.Author.Needs.{needs}
-use Rattle.samples_text.proofs.print.hex.Statement.{statement}
-use Rattle.samples_text.proofs.print.hex.Tie as tie
+use Rattle.print_out.proofs.hex.Statement.{statement}
+use Rattle.print_out.proofs.hex.Tie as tie
 
 abbrev Inv-loop : tie.InvT-loop
 Inv-loop s i₀ i = i ≤ length s

@@ -1,6 +1,5 @@
-// The lines of the disk samples.
-use crate::calls::Sums;
-use crate::print;
+// The lines of the disk samples, as the program `samples` describes them.
+// An inner crate: no user calls it.
 use gpt::Added;
 use gpt::Counted;
 use gpt::Done;
@@ -10,15 +9,15 @@ ghost use mathlib.Core.Path.{_≡_};
 ghost use lib.ListN.{length};
 
 pub fn begin(n: u64, call: &[u8]) {
-    print::bytes(b"disk ");
-    print::decimal(n);
-    print::bytes(b" ");
-    print::bytes(call);
+    print_out::bytes(b"disk ");
+    print_out::decimal(n);
+    print_out::bytes(b" ");
+    print_out::bytes(call);
 }
 
 fn named(name: &[u8], x: u64) {
-    print::bytes(name);
-    print::decimal(x);
+    print_out::bytes(name);
+    print_out::decimal(x);
 }
 
 fn refused(r: Refusal) {
@@ -30,7 +29,7 @@ pub fn done(answer: Done) {
         Done::Accepted => (),
         Done::Refused(r) => refused(r),
     }
-    print::bytes(b"\n");
+    print_out::bytes(b"\n");
 }
 
 pub fn added(answer: Added) {
@@ -41,18 +40,18 @@ pub fn added(answer: Added) {
         }
         Added::Refused(r) => refused(r),
     }
-    print::bytes(b"\n");
+    print_out::bytes(b"\n");
 }
 
 fn state(answer: Reading) {
     match answer {
-        Reading::Same => print::bytes(b" 1"),
-        Reading::Different => print::bytes(b" 2"),
-        Reading::PrimaryOnly => print::bytes(b" 3"),
-        Reading::BackupOnly => print::bytes(b" 4"),
+        Reading::Same => print_out::bytes(b" 1"),
+        Reading::Different => print_out::bytes(b" 2"),
+        Reading::PrimaryOnly => print_out::bytes(b" 3"),
+        Reading::BackupOnly => print_out::bytes(b" 4"),
         Reading::Refused(r) => refused(r),
     }
-    print::bytes(b"\n");
+    print_out::bytes(b"\n");
 }
 
 fn free(answer: Counted) {
@@ -63,28 +62,28 @@ fn free(answer: Counted) {
         }
         Counted::Refused(r) => refused(r),
     }
-    print::bytes(b"\n");
+    print_out::bytes(b"\n");
 }
 
-// State, free counts, sums and bytes.
-pub fn close(head: &[u8], tail: &[u8], n: u64, sums: Sums) {
+// State, free counts, what was granted and given back since formatting, and bytes.
+pub fn close(head: &[u8], tail: &[u8], n: u64, granted: u64, back: u64) {
     begin(n, b"state");
     state(gpt::read(head, tail, n));
     begin(n, b"free");
     free(gpt::free_counts(head, tail, n));
     begin(n, b"granted");
-    named(b" ", sums.granted);
-    named(b" back ", sums.back);
-    print::bytes(b"\n");
+    named(b" ", granted);
+    named(b" back ", back);
+    print_out::bytes(b"\n");
     crcs(head, tail, n);
 }
 
 fn crcs(head: &[u8], tail: &[u8], n: u64) {
     begin(n, b"crc32 ");
-    print::hex32(crc32::crc32(head));
-    print::bytes(b" ");
-    print::hex32(crc32::crc32(tail));
-    print::bytes(b"\n");
+    print_out::hex32(crc32::crc32(head));
+    print_out::bytes(b" ");
+    print_out::hex32(crc32::crc32(tail));
+    print_out::bytes(b"\n");
 }
 
 // Of a header's bytes: its own block and the other header's, the usable blocks, where the entries begin.
@@ -92,12 +91,12 @@ fn header(h: &[u8], n: u64)
     requires { ⌜ length (now h) ≡ 92 ⌝ }
 {
     begin(n, b"header ");
-    print::decimal(octets::load64(h, 24));
+    print_out::decimal(octets::load64(h, 24));
     named(b" other ", octets::load64(h, 32));
     named(b" usable ", octets::load64(h, 40));
     named(b" ", octets::load64(h, 48));
     named(b" entries ", octets::load64(h, 72));
-    print::bytes(b"\n");
+    print_out::bytes(b"\n");
 }
 
 pub fn headers(head: &[u8], tail: &[u8], n: u64)

@@ -1,4 +1,5 @@
-// Bytes, and numbers in upper-case hex or decimal, on standard output.
+// Bytes, and numbers in upper-case hex or decimal, on standard output, for the samples programs.
+// An inner crate: no user calls it.
 use libc::STDOUT_FILENO;
 
 pub fn bytes(s: &[u8]) {
@@ -19,6 +20,14 @@ pub fn hex32(x: u32) {
     hex8((x / 65536 % 256) as u8);
     hex8((x / 256 % 256) as u8);
     hex8((x % 256) as u8);
+}
+
+pub fn hex(s: &[u8]) {
+    let mut i = 0;
+    while i < s.len() {
+        hex8(s[i]);
+        i += 1;
+    }
 }
 
 pub fn decimal(x: u64) {
