@@ -5,7 +5,7 @@ use crate::arguments::Given;
 use crate::failure::Failure;
 use crate::image;
 use crate::json::Json;
-use crate::paths::shown;
+use crate::paths::{quoted, shown};
 use crate::report::Report;
 use crate::show::{printable, Side, Table};
 use crate::sizes::human;
@@ -124,7 +124,9 @@ impl Done<'_> {
     }
 
     fn written(&self, changed: bool) -> Option<String> {
-        let what = format!("{} was written", shown(self.new.path));
+        let (old, new) = (quoted(self.old.path), quoted(self.new.path));
+        let what =
+            format!("{} was written; `usigrambal fmap diff {old} {new}` shows it", shown(self.new.path));
         (changed && !self.dry_run).then_some(what)
     }
 }

@@ -53,7 +53,7 @@ pub fn carry_hint(refusal: Refusal, old: &Mapped, new: &Mapped) -> Option<String
         Refusal::AreaMissing => marked
             .iter()
             .filter(|area| named(&area.name).is_none())
-            .map(|area| format!("{new_path} has no {} ({})", area.name, bytes(area)))
+            .map(|area| format!("{new_path} has no {}, which has {} in {old_path}", area.name, bytes(area)))
             .collect(),
         Refusal::AreaOtherSize => marked
             .iter()
@@ -75,7 +75,7 @@ pub fn carry_hint(refusal: Refusal, old: &Mapped, new: &Mapped) -> Option<String
 }
 
 fn bytes(area: &Area) -> String {
-    format!("{} bytes, {}", area.size, human(area.size.into()))
+    format!("{} bytes ({})", area.size, human(area.size.into()))
 }
 
 fn share(a: &Area, b: &Area) -> bool {

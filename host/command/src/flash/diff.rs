@@ -55,30 +55,28 @@ impl Seen<'_> {
         (carried().count(), carried().map(size).sum())
     }
 
-    /// In a line.
-    pub fn verdict(&self) -> String {
-        let (carried, bytes) = self.carried();
+    /// What is lost or carried, and whether a carry is refused: a line each.
+    pub fn verdict(&self) -> Vec<String> {
+        let (count, bytes) = self.carried();
+        let carried = format!("{} ({})", counted(count, "area"), human(bytes));
+        let there =
+            self.rows.iter().filter(|row| row.fate == Fate::Carried).all(|row| row.equal == Some(true));
+        let carried = match (count, there) {
+            (0, _) if self.refused.is_some() => "nothing can be carried".to_string(),
+            (0, _) => "no area is to be carried".to_string(),
+            (_, true) => format!("{carried} to be carried, whose bytes are there already"),
+            (_, false) => format!("{carried} to be carried"),
+        };
         let lost = self.lost();
-        let names = || lost.iter().map(|row| row.name.clone()).collect::<Vec<_>>().join(", ");
-        match (self.refused, lost.len(), carried) {
-            (Some(refused), 0, _) => format!("{}; nothing is lost", refused_line(refused)),
-            (Some(refused), count, _) => {
-                format!("{} would be lost: {}; {}", counted(count, "area"), names(), refused_line(refused))
-            }
-            (None, 0, 0) => {
-                "neither map marks an area PRESERVE that the other has: nothing is carried".into()
-            }
-            (None, 0, _) => {
-                format!("{} carried ({}), nothing is lost", counted(carried, "area"), human(bytes))
-            }
-            (None, count, _) => format!(
-                "{} would be lost: {}; {} carried ({})",
-                counted(count, "area"),
-                names(),
-                counted(carried, "area"),
-                human(bytes)
-            ),
-        }
+        let lost = match (lost.len(), count) {
+            (0, 0) => "nothing is lost".to_string(),
+            (0, _) => "nothing is lost then".to_string(),
+            (count, _) => format!("{} would be lost: {}", counted(count, "area"), names(&lost)),
+        };
+        let refused = self
+            .refused
+            .map(|refused| format!("the carry is refused {}: {}", refused.number(), refused.sentence()));
+        [format!("{carried}; {lost}")].into_iter().chain(refused).collect()
     }
 
     /// The areas that a carry is refused for.
@@ -99,13 +97,11 @@ impl Seen<'_> {
                 );
             }
         }
-        text += &format!("{}\n", self.verdict());
-        if let Some(hint) = self.hint() {
-            text += &format!("{hint}\n");
-        }
+        let lines = self.verdict().into_iter().chain(self.hint());
+        lines.for_each(|line| text += &format!("{line}\n"));
         if self.carried().0 > 0 {
             let (old, new) = (quoted(self.old.path), quoted(self.new.path));
-            text += &format!("`usigrambal fmap carry {old} {new}` carries, before the update is written\n");
+            text += &format!("before {new} is flashed: usigrambal fmap carry {old} {new}\n");
         }
         text
     }
@@ -158,8 +154,12 @@ impl Seen<'_> {
     }
 }
 
-fn refused_line(refused: Refused) -> String {
-    format!("the carry is refused {}: {}", refused.number(), refused.sentence())
+/// The first of them.
+fn names(rows: &[&Row]) -> String {
+    const TOLD: usize = 4;
+    let more = rows.len().saturating_sub(TOLD);
+    let rest = (more > 0).then(|| format!("and {more} more"));
+    rows.iter().take(TOLD).map(|row| printable(&row.name)).chain(rest).collect::<Vec<_>>().join(", ")
 }
 
 /// Which map marks it.
@@ -188,7 +188,9 @@ fn why(row: &Row, refused: Option<Refused>) -> String {
             format!("{name} is marked PRESERVE in the new map alone; the old map's mark decides")
         }
         (Fate::OnlyOld, _) => format!("{name} is marked PRESERVE and only in the old map"),
-        (_, Some(refused)) => format!("{name} is marked PRESERVE, and {}", refused_line(refused)),
+        (_, Some(refused)) => {
+            format!("{name} is marked PRESERVE, and the carry is refused {}", refused.number())
+        }
         _ => format!("{name} is not carried"),
     }
 }

@@ -110,3 +110,34 @@ fn no_map(text: &Text) -> Option<String> {
     let sections = if count == 1 { "1 section".to_string() } else { format!("{count} sections") };
     Some(format!("line {line}: {MAP} is too small: the map of {sections} needs {} bytes", needed(count)))
 }
+
+#[cfg(test)]
+mod tests {
+    use super::*;
+    use testkit::layout::{changed_bytes, changed_numbers, changed_tokens, joined, Layout, Wanted};
+    use testkit::random::Random;
+    use usigrambal::layout;
+
+    /// For every text that is refused, what is read from its words is a cause of the library's number.
+    #[test]
+    fn a_cause_is_found_for_every_number() {
+        let mut random = Random::new(16);
+        let mut seen = std::collections::BTreeMap::new();
+        for k in 0..12_000 {
+            let (sections, coreboot) = (2 + random.below(8), random.below(2) == 0);
+            let tokens = Layout::random(Wanted { sections, coreboot }, &mut random).tokens(&mut random);
+            let text = match k % 4 {
+                0 => changed_tokens(&tokens, &mut random),
+                1 => changed_bytes(&joined(&tokens, &mut random), &mut random),
+                _ => changed_numbers(&tokens, &mut random),
+            };
+            if let Err(refused) = layout::read(&text) {
+                let cause = of(refused.refusal, &text);
+                assert!(cause.is_some(), "{} {}", refused.number(), text.escape_ascii());
+                *seen.entry(refused.number()).or_insert(0) += 1;
+            }
+        }
+        let numbers: Vec<u32> = seen.keys().copied().collect();
+        assert_eq!(numbers, [51, 52, 53, 54, 56, 57, 58, 59]);
+    }
+}

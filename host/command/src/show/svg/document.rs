@@ -27,7 +27,7 @@ rect { stroke-width: 1 }
 .along { fill: #a9dfd3; stroke: #4fa996 }
 .lost { fill: url(#hatched); stroke: #b3121d; stroke-width: 1.4 }
 .overwritten { fill: url(#dotted); stroke: #b97309 }
-.left { fill: #6d8cb0; fill-opacity: .18; stroke: #9aa9ba }
+.left { fill: #6d8cb0; fill-opacity: .16; stroke: #9aa9ba }
 .alone { fill: #f7f9fb; stroke: #8494a7; stroke-dasharray: 4 2.5 }
 .stub { fill: url(#fading) }
 .cross { stroke: #b3121d; stroke-width: 2; stroke-linecap: round }
@@ -56,7 +56,9 @@ pub fn drawn(drawing: &Drawing) -> String {
     put(&mut out, format_args!("<rect width=\"{width:.0}\" height=\"{height:.0}\" fill=\"#ffffff\"/>"));
     let bad = if drawing.bad { " bad" } else { "" };
     text(&mut out, (MARGIN, MARGIN + 8.0), "title", &drawing.title);
-    text(&mut out, (MARGIN, MARGIN + 32.0), &format!("verdict{bad}"), &drawing.verdict);
+    for (k, line) in drawing.verdict.iter().enumerate() {
+        text(&mut out, (MARGIN, MARGIN + 32.0 + 20.0 * k as f64), &format!("verdict{bad}"), line);
+    }
     for (column, across) in [(&drawing.old, &old), (&drawing.new, &new)] {
         bar(&mut out, &measures, across, column);
     }

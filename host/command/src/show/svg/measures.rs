@@ -5,7 +5,7 @@ use super::{Column, Drawing, Look, Shape};
 use crate::sizes::human;
 
 pub const MARGIN: f64 = 36.0;
-pub const HEAD: f64 = 142.0;
+pub const HEAD: f64 = 162.0;
 /// Under the bars: to the legend's first row, from row to row, and from the last one to the end.
 const TO_LEGEND: f64 = 38.0;
 const ROW: f64 = 22.0;

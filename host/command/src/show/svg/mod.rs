@@ -10,8 +10,8 @@ use super::Span;
 
 pub struct Drawing {
     pub title: String,
-    /// What the drawing says, in a line.
-    pub verdict: String,
+    /// What the drawing says, in two lines at most.
+    pub verdict: Vec<String>,
     /// Whether that is bad.
     pub bad: bool,
     pub old: Column,
