@@ -32,8 +32,10 @@ fn several(path: &Path, rest: &str) -> String {
 fn they_are_told() {
     let folder = Folder::new();
     let (path, _) = image(&folder, &[16, 300, 600]);
-    let warning =
-        several(&path, "3 good maps: the lowest, at 0x00000010, is used; others at 0x0000012c, 0x00000258");
+    let warning = several(
+        &path,
+        "3 good maps: the lowest, at 0x00000010, is used; others stand at 0x0000012c, 0x00000258",
+    );
     let line = format!("usigrambal: warning: {warning}\n");
     let other = folder.path("other.bin");
     let single = layout(&folder, 300);
@@ -58,7 +60,7 @@ fn they_are_told() {
 fn what_is_no_good_map_is_not_told() {
     let folder = Folder::new();
     let (path, _) = image(&folder, &[16, 300]);
-    common::spoil(&path, 300 + 9);
+    common::spoil(&path, 300 + 8);
     run!["fmap", "show", path].done();
 }
 

@@ -42,14 +42,15 @@ pub fn retire_before(image: &mut [u8], position: u64) -> Vec<u64> {
 /// A warning where an image has more than one good map.
 pub fn several(path: &Path, image: &[u8], first: u64) -> Option<String> {
     let further = further(image, first);
+    let count = 1 + further.len();
     let more = if further.len() == LOOKED_FOR { " or more" } else { "" };
+    let others = if further.len() == 1 { "another stands" } else { "others stand" };
     let places: Vec<String> = further.iter().map(|position| format!("{position:#010x}")).collect();
-    (!further.is_empty()).then(|| {
-        let count = 1 + further.len();
+    let path = shown(path);
+    (!places.is_empty()).then(|| {
         let places = places.join(", ");
         format!(
-            "{} has {count}{more} good maps: the lowest, at {first:#010x}, is used; others at {places}",
-            shown(path)
+            "{path} has {count}{more} good maps: the lowest, at {first:#010x}, is used; {others} at {places}"
         )
     })
 }

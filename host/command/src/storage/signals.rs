@@ -1,9 +1,11 @@
 //! Ctrl-C, TERM and a closed terminal: a file that is being written beside another one is removed before the call ends.
 
-use std::ffi::{c_char, c_int, CStr, CString};
+use std::ffi::{c_char, c_int, CStr};
 use std::io;
 use std::ptr;
-use std::sync::atomic::{AtomicPtr, Ordering};
+use std::sync::atomic::{AtomicBool, AtomicPtr, Ordering};
+use std::thread;
+use std::time::Duration;
 
 /// signal.h of Linux.
 const SIGHUP: c_int = 1;
@@ -27,18 +29,29 @@ extern "C" {
     fn pthread_sigmask(how: c_int, set: *const Signals, old: *mut Signals) -> c_int;
 }
 
-/// The path of the file that is being written, if there is one; it comes from `CString::into_raw`.
+/// The path of the file that is being written, if there is one. It stays in memory: a handler may be reading it.
 static UNFINISHED: AtomicPtr<c_char> = AtomicPtr::new(ptr::null_mut());
+/// A file is being made, and not noted yet.
+static MAKING: AtomicBool = AtomicBool::new(false);
+/// The call is about to end by a signal.
+static ENDED: AtomicBool = AtomicBool::new(false);
 
-/// Makes a file, and has it removed if the call is ended before `finished`. No signal comes between the two: a file
-/// that was there before is never removed.
+/// Makes a file, and has it removed if the call is ended before `finished`. No signal comes between making and noting: to
+/// this thread none is delivered, and a handler on another one waits. So no file is left, and none that was there before
+/// is removed.
 pub fn unfinished<T>(path: &CStr, make: impl FnOnce() -> io::Result<T>) -> io::Result<T> {
-    ENDING.into_iter().for_each(heed);
     let before = held_back();
+    ENDING.into_iter().for_each(heed);
+    MAKING.store(true, Ordering::SeqCst);
+    while ENDED.load(Ordering::SeqCst) {
+        MAKING.store(false, Ordering::SeqCst);
+        thread::sleep(Duration::from_millis(1));
+    }
     let made = make();
     if made.is_ok() {
-        note(path.to_owned().into_raw());
+        UNFINISHED.store(path.to_owned().into_raw(), Ordering::SeqCst);
     }
+    MAKING.store(false, Ordering::SeqCst);
     // Safety: the set is the one that was taken, whole.
     unsafe { pthread_sigmask(SIG_SETMASK, &before, ptr::null_mut()) };
     made
@@ -46,15 +59,7 @@ pub fn unfinished<T>(path: &CStr, make: impl FnOnce() -> io::Result<T>) -> io::R
 
 /// The file has its name, or is gone.
 pub fn finished() {
-    note(ptr::null_mut());
-}
-
-fn note(path: *mut c_char) {
-    let before = UNFINISHED.swap(path, Ordering::SeqCst);
-    if !before.is_null() {
-        // Safety: what stands there comes from `into_raw`, and was taken out just now.
-        drop(unsafe { CString::from_raw(before) });
-    }
+    UNFINISHED.store(ptr::null_mut(), Ordering::SeqCst);
 }
 
 /// A signal that the caller has ignored (nohup) stays ignored.
@@ -83,6 +88,10 @@ fn held_back() -> Signals {
 
 /// The handler. The call ends by the signal, as it would without one.
 extern "C" fn ended(number: c_int) {
+    ENDED.store(true, Ordering::SeqCst);
+    while MAKING.load(Ordering::SeqCst) {
+        std::hint::spin_loop();
+    }
     let path = UNFINISHED.load(Ordering::SeqCst);
     // Safety: signal, raise and unlink may be called in a handler, and the path ends with a zero.
     unsafe {
