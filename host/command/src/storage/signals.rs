@@ -1,11 +1,9 @@
 //! Ctrl-C, TERM and a closed terminal: a file that is being written beside another one is removed before the call ends.
 
-use std::ffi::{c_char, c_int, CStr};
+use std::ffi::{c_char, c_int, CStr, CString};
 use std::io;
 use std::ptr;
-use std::sync::atomic::{AtomicBool, AtomicPtr, Ordering};
-use std::thread;
-use std::time::Duration;
+use std::sync::atomic::{AtomicPtr, Ordering};
 
 /// signal.h of Linux.
 const SIGHUP: c_int = 1;
@@ -18,7 +16,7 @@ const SIG_BLOCK: c_int = 0;
 const SIG_SETMASK: c_int = 2;
 
 /// A set of signals: 1,024 bits, in glibc and in musl.
-type Signals = [u64; 16];
+pub type Signals = [u64; 16];
 
 extern "C" {
     fn signal(number: c_int, handler: usize) -> usize;
@@ -29,37 +27,33 @@ extern "C" {
     fn pthread_sigmask(how: c_int, set: *const Signals, old: *mut Signals) -> c_int;
 }
 
-/// The path of the file that is being written, if there is one. It stays in memory: a handler may be reading it.
+/// The path of the file that is being written, if there is one; it comes from `CString::into_raw`.
 static UNFINISHED: AtomicPtr<c_char> = AtomicPtr::new(ptr::null_mut());
-/// A file is being made, and not noted yet.
-static MAKING: AtomicBool = AtomicBool::new(false);
-/// The call is about to end by a signal.
-static ENDED: AtomicBool = AtomicBool::new(false);
 
-/// Makes a file, and has it removed if the call is ended before `finished`. No signal comes between making and noting: to
-/// this thread none is delivered, and a handler on another one waits. So no file is left, and none that was there before
-/// is removed.
+/// Makes a file, and has it removed if the call is ended before `finished`. No signal comes between the two: a file
+/// that was there before is never removed.
 pub fn unfinished<T>(path: &CStr, make: impl FnOnce() -> io::Result<T>) -> io::Result<T> {
     let before = held_back();
     ENDING.into_iter().for_each(heed);
-    MAKING.store(true, Ordering::SeqCst);
-    while ENDED.load(Ordering::SeqCst) {
-        MAKING.store(false, Ordering::SeqCst);
-        thread::sleep(Duration::from_millis(1));
-    }
     let made = make();
     if made.is_ok() {
-        UNFINISHED.store(path.to_owned().into_raw(), Ordering::SeqCst);
+        note(path.to_owned().into_raw());
     }
-    MAKING.store(false, Ordering::SeqCst);
-    // Safety: the set is the one that was taken, whole.
-    unsafe { pthread_sigmask(SIG_SETMASK, &before, ptr::null_mut()) };
+    let_through(&before);
     made
 }
 
 /// The file has its name, or is gone.
 pub fn finished() {
-    UNFINISHED.store(ptr::null_mut(), Ordering::SeqCst);
+    note(ptr::null_mut());
+}
+
+fn note(path: *mut c_char) {
+    let before = UNFINISHED.swap(path, Ordering::SeqCst);
+    if !before.is_null() {
+        // Safety: what stands there comes from `into_raw`, and was taken out just now.
+        drop(unsafe { CString::from_raw(before) });
+    }
 }
 
 /// A signal that the caller has ignored (nohup) stays ignored.
@@ -73,7 +67,8 @@ fn heed(number: c_int) {
     }
 }
 
-fn held_back() -> Signals {
+/// Holds back the signals that end the call, on this thread; what was held back before.
+pub fn held_back() -> Signals {
     let (mut set, mut before): (Signals, Signals) = ([0; 16], [0; 16]);
     // Safety: both sets are as long as the C library's.
     unsafe {
@@ -86,12 +81,14 @@ fn held_back() -> Signals {
     before
 }
 
+/// This thread has the signals that are not in the set.
+pub fn let_through(before: &Signals) {
+    // Safety: the set is one that was taken, whole.
+    unsafe { pthread_sigmask(SIG_SETMASK, before, ptr::null_mut()) };
+}
+
 /// The handler. The call ends by the signal, as it would without one.
 extern "C" fn ended(number: c_int) {
-    ENDED.store(true, Ordering::SeqCst);
-    while MAKING.load(Ordering::SeqCst) {
-        std::hint::spin_loop();
-    }
     let path = UNFINISHED.load(Ordering::SeqCst);
     // Safety: signal, raise and unlink may be called in a handler, and the path ends with a zero.
     unsafe {
