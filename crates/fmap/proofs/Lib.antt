@@ -7,3 +7,4 @@ pub mod Letters
 pub mod Promises
 pub mod Named
 pub mod InBytes
+pub mod Kept

@@ -142,6 +142,9 @@ module _ (old : List ℕ) (at : ℕ) (new : List ℕ) (bt : ℕ) (image : List �
   pub new-good : goodMap new bt ≡ true
   new-good = good-there new bt (others-stand .0)
 
+  pub new-stands : refusal (placeRows new bt) ≡ none
+  new-stands = others-stand .0
+
   pub rows-pass : refusal (carryRows (areasOf (rest at old)) (areasOf (rest bt new))) ≡ none
   rows-pass = others-stand .1
 

@@ -141,7 +141,7 @@ module _ (image other : List ℕ) (at : ℕ) (l : length image ≡ length other)
       ∙ pick-false _ 3 _ (ap (λ (x : List ℕ). not (eqb (unle x) 1)) (look 8 1 (omega arith)) ∙ passes 3 (headerRows (length other) o) rows)
       ∙ pick-false _ 4 _ (ap (λ (x : List ℕ). ltb 1 (unle x)) (look 9 1 (omega arith)) ∙ passes 4 (headerRows (length other) o) rows)
       ∙ pick-false _ 5 _
-          (ap₂ (λ (x : List ℕ) (k : ℕ). not (eqb (unle x) k)) (look 18 4 (omega arith)) l ∙ passes 5 (headerRows (length other) o) rows)
+      (ap₂ (λ (x : List ℕ) (k : ℕ). not (eqb (unle x) k)) (look 18 4 (omega arith)) l ∙ passes 5 (headerRows (length other) o) rows)
       ∙ pick-false _ 6 _ (ap (λ (k : ℕ). eqb k 0) same-count ∙ passes 6 (headerRows (length other) o) rows)
       ∙ pick-false _ 7 _ (ap (ltb 128) same-count ∙ passes 7 (headerRows (length other) o) rows)
       ∙ pick-false _ 8 _ (ap₂ (λ (n k : ℕ). ltb n (mapSize k)) same-length same-count ∙ passes 8 (headerRows (length other) o) rows)
