@@ -33,8 +33,12 @@ fn help_and_version() {
             assert!(examples(&help).iter().any(|line| line.contains(&call)), "{help}");
         }
     }
-    run![].sentence("a group is missing");
-    run!["gpt", "show"].sentence("(usigrambal gpt show --help tells more)");
+    assert_eq!(run!["help", "gpt", "add"].done(), run!["gpt", "add", "--help"].done());
+    assert_eq!(run!["help", "fmd"].done(), run!["fmd", "--help"].done());
+    assert_eq!(run!["help"].done(), all);
+    run!["help", "gpt", "wipe"].usage("gpt has no verb wipe");
+    run![].usage("a group is missing");
+    run!["gpt", "show"].usage("usigrambal gpt show --help tells more");
 }
 
 /// In a folder with the files that they name.
@@ -51,7 +55,7 @@ fn examples_run_as_they_stand() {
     folder.file("board.fmd", "BOARD 64K { FMAP 4K RW_CAL(PRESERVE) 4K RW_LOG }");
     let fresh = "rm -f board.bin disk.img; usigrambal fmd write board.fmd board.bin --create; truncate -s 64M disk.img; \
                  usigrambal gpt format disk.img; usigrambal gpt add disk.img --size 21M; \
-                 usigrambal gpt add disk.img --size 1M; usigrambal gpt resize disk.img 1 1M; \
+                 usigrambal gpt add disk.img --size 1M --name pages; usigrambal gpt resize disk.img 1 1M; \
                  cp board.bin running.bin; cp board.bin update.bin";
     let mut run_lines = 0;
     for (group, verbs) in VERBS {
