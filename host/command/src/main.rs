@@ -25,6 +25,7 @@ use std::env;
 use std::ffi::OsString;
 use std::process::ExitCode;
 use std::thread;
+use storage::signals;
 use verbs::Verb;
 
 /// A layout text needs up to 2 MiB of stack, more than a caller may leave to the main thread (`ulimit -s`).
@@ -61,11 +62,25 @@ fn call(verb: &'static Verb, given: &Given) -> u8 {
 
 fn run(verb: &'static Verb, given: &Given) -> Result<Report, Failure> {
     let run = || (verb.run)(given).map_err(|failure| failure.with(verb.always));
-    if verb.group != "fmd" {
-        return run();
+    if verb.group == "fmd" {
+        return roomy(run);
     }
-    thread::scope(|scope| match thread::Builder::new().stack_size(LAYOUT_STACK).spawn_scoped(scope, run) {
-        Ok(thread) => thread.join().unwrap_or_else(|panic| std::panic::resume_unwind(panic)),
-        Err(error) => Err(Failure::input_output(format!("no thread can be had: {}", words(&error)))),
-    })
+    run()
+}
+
+/// On a thread with a stack of its own, which alone has the signals that end the call.
+fn roomy(run: impl FnOnce() -> Result<Report, Failure> + Send) -> Result<Report, Failure> {
+    let before = signals::held_back();
+    let work = || {
+        signals::let_through(&before);
+        run()
+    };
+    let answer = thread::scope(|scope| {
+        match thread::Builder::new().stack_size(LAYOUT_STACK).spawn_scoped(scope, work) {
+            Ok(thread) => thread.join().unwrap_or_else(|panic| std::panic::resume_unwind(panic)),
+            Err(error) => Err(Failure::input_output(format!("no thread can be had: {}", words(&error)))),
+        }
+    });
+    signals::let_through(&before);
+    answer
 }

@@ -38,7 +38,9 @@ fn a_disk_of_100_blocks() {
 fn show_is_a_table_and_a_drawing() {
     let folder = Folder::new();
     let image = folder.sparse("disk.img", 163 * 512);
-    run!["gpt", "format", image, "--guid", GUID].done();
+    let formatted = run!["gpt", "format", image, "--guid", GUID].done();
+    let facts = format!("163 blocks (81.5 KiB) of 512 bytes, usable 34 to 129, disk GUID {GUID}");
+    assert_eq!(formatted, format!("formatted {}: {facts}\n", image.display()));
     let unique = "AAAAAAAA-BBBB-4CCC-8DDD-EEEEEEEEEEEE";
     run!["gpt", "add", image, "--size", "24", "--type", "system", "--guid", unique, "--name", "boot"].done();
     let foreign = "FE3A2A5D-4F32-41A7-B725-ACCC3285A309";
@@ -184,8 +186,9 @@ fn wrong_words_are_told_in_a_sentence() {
     run!["gpt", "add", image, "--size", "1000B"].usage("no whole number of blocks");
     run!["gpt", "add", image, "--size", "18446744073709551616"].usage("too large");
     run!["gpt", "add", image, "--size", "1", "--attributes", "x"].usage("\"x\" is no number");
-    run!["gpt", "delete", image, "one"].usage("\"one\" is no number");
-    run!["gpt", "delete", image].usage("NUMBER is missing");
+    run!["gpt", "delete", image, "one"]
+        .usage("no partition has the number, the name or the unique GUID \"one\"");
+    run!["gpt", "delete", image].usage("PARTITION is missing");
     run!["gpt", "wipe", image].usage("gpt has no verb wipe");
     run!["gpt"].usage("a verb is missing");
     run!["disk"].usage("there is no group disk");
@@ -213,23 +216,6 @@ fn the_number_of_blocks_is_judged() {
     let ragged = folder.sparse("ragged.img", 100 * 512 + 1);
     run!["gpt", "show", ragged].unusable("has 51201 bytes, which is no multiple of the block size, 512");
     run!["gpt", "format", ragged].unusable("no multiple");
-}
-
-#[test]
-fn format_asks_before_it_replaces_partitions() {
-    let folder = Folder::new();
-    let image = disk(&folder, "disk.img", 100);
-    run!["gpt", "format", image].done();
-    add(&image, "1", "a");
-    let before = fs::read(&image).expect("an image");
-    run!["gpt", "format", image].needed("holds a table with 1 partition");
-    spoil(&image, 512);
-    run!["gpt", "format", image].needed("--replace");
-    spoil(&image, 512);
-    assert_eq!(fs::read(&image).expect("an image"), before);
-    let formatted = run!["gpt", "format", image, "--replace", "--guid", GUID].done();
-    assert!(formatted.contains("100 blocks (50 KiB) of 512 bytes, usable 34 to 66, disk GUID 01234567-"));
-    assert!(run!["gpt", "show", image].done().contains("no partitions"));
 }
 
 /// RFC 9562: 122 random bits, version 4, variant 10.
@@ -291,6 +277,17 @@ fn verify_and_repair_by_states() {
         assert!(run!["gpt", "repair", image].done().contains(repaired));
         assert_eq!(fs::read(&image).expect("an image"), good);
     }
+    for at in [450, 510, 511] {
+        spoil(&image, at);
+        let ended = run!["gpt", "verify", image];
+        assert_eq!((ended.status, ended.err.as_str()), (Some(1), ""));
+        assert!(ended.out.contains("block 0 has no protective record (EE at byte 450, 55 AA at byte 510)"));
+        let json = json::parse(&run!["gpt", "verify", image, "--json"].out).expect("JSON");
+        assert_eq!((json.number("state"), json.at("verified")), (1, &Json::Bool(false)));
+        assert_eq!(json.at("protective_record"), &Json::Bool(false));
+        assert!(run!["gpt", "show", image].err.contains("other systems see no table"));
+        spoil(&image, at);
+    }
     spoil(&image, 512);
     spoil(&image, backup_header);
     run!["gpt", "verify", image].refused(10);
@@ -349,7 +346,7 @@ fn between_head_and_tail_nothing_is_written() {
     use std::os::unix::fs::MetadataExt;
     let folder = Folder::new();
     let image = folder.file("disk.img", vec![0xA5; 512 * 512]);
-    run!["gpt", "format", image].done();
+    assert_eq!(run!["gpt", "format", image, "--replace"].status, Some(0));
     add(&image, "100", "a");
     let bytes = fs::read(&image).expect("an image");
     assert!(bytes[17_408..512 * 512 - 16_896].iter().all(|byte| *byte == 0xA5));
