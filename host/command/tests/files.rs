@@ -67,6 +67,7 @@ fn a_read_only_file_is_not_written() {
     let other = folder.file("other.fmd", "CHIP 64K { FMAP 1K A 1K }");
     run!["fmd", "write", other, new].unusable("is read-only");
     run!["fmap", "extract", old, "CAL", "-o", new].unusable("is read-only");
+    run!["fmap", "extract", old, "CAL", "-o", new].unusable("another file can be named");
     assert_eq!((fs::read(&new).unwrap(), fs::read(&image).unwrap()), before);
     // What writes nothing goes on.
     run!["gpt", "show", image].done();

@@ -79,7 +79,8 @@ fn a_map_in_front_needs_a_word() {
         assert_eq!(fs::read(&path).expect("an image"), before);
     }
     let ended = run!["fmd", "write", high, path, "--json"];
-    assert_eq!(ended.status, Some(4));
+    let json = testkit::json::parse(&ended.out).expect("JSON");
+    assert_eq!((ended.status, json.text("image")), (Some(4), path.to_str().expect("UTF-8")));
     // In the place of the lowest there is none in front.
     assert_eq!(run!["fmd", "write", layouts[0], path].status, Some(0));
     assert_eq!(fs::read(&path).expect("an image"), before);

@@ -36,7 +36,7 @@ fn twice(text: &Text) -> Option<String> {
 }
 
 fn parent_with_cbfs(text: &Text) -> Option<String> {
-    let at_fault = |section: &&Section| section.parents && section.flags.iter().any(|flag| flag == "CBFS");
+    let at_fault = |section: &&Section| section.holds && section.flags.iter().any(|flag| flag == "CBFS");
     let section = text.sections.iter().find(at_fault)?;
     Some(format!("line {}: {} has CBFS, and sections in it", section.line, section.name))
 }
@@ -104,7 +104,7 @@ fn no_map(text: &Text) -> Option<String> {
         ));
     };
     let line = section.line;
-    if section.parents {
+    if section.holds {
         return Some(format!("line {line}: {MAP} has sections in it"));
     }
     let sections = if count == 1 { "1 section".to_string() } else { format!("{count} sections") };

@@ -25,7 +25,8 @@ pub struct Section {
     pub size: Option<u64>,
     /// The section that holds it, by its place in the list; none for the image.
     pub parent: Option<usize>,
-    pub parents: bool,
+    /// Whether it has braces.
+    pub holds: bool,
 }
 
 /// The first fault in the text, by its number.
@@ -122,7 +123,7 @@ impl<'a> Reader<'a> {
             sections.push(section);
             if self.sign(b'{') {
                 let last = sections.len() - 1;
-                sections[last].parents = true;
+                sections[last].holds = true;
                 open.push(last);
                 continue;
             }
@@ -148,7 +149,7 @@ impl<'a> Reader<'a> {
         let offset = if self.sign(b'@') { Some(self.number("an offset")?) } else { None };
         let digit = matches!(self.next().kind, Kind::Word(word) if word[0].is_ascii_digit());
         let size = if digit { Some(self.number("a size")?) } else { None };
-        Ok(Section { name, line, flags, offset, size, parent: open.last().copied(), parents: false })
+        Ok(Section { name, line, flags, offset, size, parent: open.last().copied(), holds: false })
     }
 
     fn flags(&mut self, name: &str) -> Result<Vec<String>, Fault> {

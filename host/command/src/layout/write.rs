@@ -81,7 +81,7 @@ fn created(given: &Given, text: &[u8], layout: &Layout) -> Result<Made, Failure>
     let mut bytes = vec![ERASED; layout.size as usize];
     layout::write_map(text, &mut bytes).map_err(|refusal| refused(refusal, source, text))?;
     if fs::symlink_metadata(path).is_ok() {
-        return Err(needed(path, "is already there; --create makes new files only"));
+        return Err(needed(path, "is already there; --create makes new files only").on("image", path));
     }
     if !given.has("--dry-run") {
         storage::create(path, &bytes)?;
@@ -124,7 +124,7 @@ fn in_front(path: &Path, bytes: &[u8], position: u64) -> Result<(), Failure> {
     let what = format!(
         "has another good map at {found:#010x}, in front of {position:#010x}: readers would go by that one; nothing was written"
     );
-    Err(needed(path, &what).hint("--retire overwrites its signature with FF"))
+    Err(needed(path, &what).on("image", path).hint("--retire overwrites its signature with FF"))
 }
 
 fn other_length(refusal: Refused, path: &Path, layout: &Layout) -> Failure {
