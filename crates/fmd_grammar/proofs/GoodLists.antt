@@ -5,7 +5,7 @@ use Prim.Native.Nat.{ℕ, zero, suc, _+_, _≤_}
 use native.Mathlib.Omega.{arith}
 use lib.ListN.{length, length-append}
 use Rattle.fmd_table.specs.declared.Section.{Section}
-use Rattle.fmd_grammar.specs.Grammar.{Item, sign, Sections, noBraces, braces, Lists, one, more}
+use Rattle.fmd_grammar.specs.Grammar.{Lexeme, sign, SectionTree, noBraces, braces, SectionList, one, more}
 use Rattle.fmd_grammar.proofs.Built.{Head}
 use Rattle.fmd_grammar.proofs.Built.{section-of}
 use Rattle.fmd_grammar.proofs.Parsers.{ret, headP, sectionP, listP}
@@ -23,23 +23,23 @@ plus (suc f) k = suc (plus f k)
 abbrev Always : (ℕ → ℕ → Type 0) → Type 0
 Always P = (most deepest : ℕ) → 128 ≤ most → 8 ≤ deepest → P most deepest
 
-abbrev pub SectionSays : ℕ → ℕ → List Section → List Item → List Section → Type 0
+abbrev pub SectionSays : ℕ → ℕ → List Section → List Lexeme → List Section → Type 0
 SectionSays lv par l own m =
-    (n : List Section) × (m ≡ l ++ n) × Always (λ most deepest. Sections most deepest lv par (length l) own n) × (length m ≤ 128)
+    (n : List Section) × (m ≡ l ++ n) × Always (λ most deepest. SectionTree most deepest lv par (length l) own n) × (length m ≤ 128)
 
-abbrev pub SectionOn : ℕ → ℕ → ℕ → List Item → Type 0
-SectionOn lv par k own = (us : List Item) × (n : List Section) × Sections 129 9 lv par k (own ++ us) n
+abbrev pub SectionOn : ℕ → ℕ → ℕ → List Lexeme → Type 0
+SectionOn lv par k own = (us : List Lexeme) × (n : List Section) × SectionTree 129 9 lv par k (own ++ us) n
 
-abbrev pub ListSays : ℕ → ℕ → List Section → List Item → List Section → Type 0
+abbrev pub ListSays : ℕ → ℕ → List Section → List Lexeme → List Section → Type 0
 ListSays lv par l own m =
-    (n : List Section) × (m ≡ l ++ n) × (b : ℕ) × (ts : List Item) × (own ≡ ts ++ (sign b 125 ∷ []))
-    × Always (λ most deepest. Lists most deepest lv par (length l) ts n) × (length m ≤ 128)
+    (n : List Section) × (m ≡ l ++ n) × (b : ℕ) × (ts : List Lexeme) × (own ≡ ts ++ (sign b 125 ∷ []))
+    × Always (λ most deepest. SectionList most deepest lv par (length l) ts n) × (length m ≤ 128)
 
-abbrev pub ListOn : ℕ → ℕ → ℕ → List Item → Type 0
+abbrev pub ListOn : ℕ → ℕ → ℕ → List Lexeme → Type 0
 ListOn lv par k own =
-    (us : List Item) × (b : ℕ) × (ts : List Item) × (n : List Section) × (own ++ us ≡ ts ++ (sign b 125 ∷ [])) × Lists 129 9 lv par k ts n
+    (us : List Lexeme) × (b : ℕ) × (ts : List Lexeme) × (n : List Section) × (own ++ us ≡ ts ++ (sign b 125 ∷ [])) × SectionList 129 9 lv par k ts n
 
-widen : {lv par k most deepest : ℕ} {own : List Item} {h : Section} → Head 128 8 lv par k own h → 128 ≤ most → 8 ≤ deepest → Head most deepest lv par k own h
+widen : {lv par k most deepest : ℕ} {own : List Lexeme} {h : Section} → Head 128 8 lv par k own h → 128 ≤ most → 8 ≤ deepest → Head most deepest lv par k own h
 widen d a b =
     record {
       p = d .p;
@@ -61,65 +61,66 @@ widen d a b =
       says = d .says;
     }
 
-module _ {lv par : ℕ} (l : List Section) (own : List Item) (h : Section) (d : Head 128 8 lv par (length l) own h) where
+module _ {lv par : ℕ} (l : List Section) (own : List Lexeme) (h : Section) (d : Head 128 8 lv par (length l) own h) where
   one-more : length (l ++ (h ∷ [])) ≡ length l + 1
   one-more = length-append l (h ∷ [])
 
   leaf-says : SectionSays lv par l (own ++ []) (l ++ (h ∷ []))
   leaf-says = (h ∷ [], refl, λ m e x y. section-of (widen d x y) noBraces, let q = one-more in let r = d .room in omega arith)
 
-  node-says : (a : ℕ) (us : List Item) (m : List Section) → ListSays (lv + 1) (length l) (l ++ (h ∷ [])) us m → SectionSays lv par l (own ++ (sign a 123 ∷ us)) m
+  node-says : (a : ℕ) (us : List Lexeme) (m : List Section) → ListSays (lv + 1) (length l) (l ++ (h ∷ [])) us m → SectionSays lv par l
+      (own ++ (sign a 123 ∷ us)) m
   node-says a us m s = (
     h ∷ s .0,
     s .1 ∙ append-assoc l (h ∷ []) (s .0),
     λ most deepest x y.
-        subst (λ (r : List Item). Sections most deepest lv par (length l) (own ++ (sign a 123 ∷ r)) (h ∷ s .0)) (sym (s .4))
+        subst (λ (r : List Lexeme). SectionTree most deepest lv par (length l) (own ++ (sign a 123 ∷ r)) (h ∷ s .0)) (sym (s .4))
         (section-of (widen d x y)
-        (braces (s .2) (subst (λ (j : ℕ). Lists most deepest (lv + 1) (length l) j (s .3) (s .0)) one-more (s .5 most deepest x y)))),
+        (braces (s .2) (subst (λ (j : ℕ). SectionList most deepest (lv + 1) (length l) j (s .3) (s .0)) one-more (s .5 most deepest x y)))),
     s .6,
   )
 
-  node-on : (a : ℕ) (us : List Item) → ListOn (lv + 1) (length l) (length (l ++ (h ∷ []))) us → SectionOn lv par (length l) (own ++ (sign a 123 ∷ us))
+  node-on : (a : ℕ) (us : List Lexeme) → ListOn (lv + 1) (length l) (length (l ++ (h ∷ []))) us → SectionOn lv par (length l) (own ++ (sign a 123 ∷ us))
   node-on a us s = (
     s .0,
     h ∷ s .3,
-    subst (λ (r : List Item). Sections 129 9 lv par (length l) r (h ∷ s .3))
-        (ap (λ (r : List Item). own ++ (sign a 123 ∷ r)) (sym (s .4)) ∙ sym (append-assoc own (sign a 123 ∷ us) (s .0)))
+    subst (λ (r : List Lexeme). SectionTree 129 9 lv par (length l) r (h ∷ s .3))
+        (ap (λ (r : List Lexeme). own ++ (sign a 123 ∷ r)) (sym (s .4)) ∙ sym (append-assoc own (sign a 123 ∷ us) (s .0)))
         (section-of (widen d (omega arith) (omega arith))
-        (braces (s .1) (subst (λ (j : ℕ). Lists 129 9 (lv + 1) (length l) j (s .2) (s .3)) one-more (s .5)))),
+        (braces (s .1) (subst (λ (j : ℕ). SectionList 129 9 (lv + 1) (length l) j (s .2) (s .3)) one-more (s .5)))),
   )
 
-module _ {lv par : ℕ} (l m : List Section) (own : List Item) (s : SectionSays lv par l own m) where
+module _ {lv par : ℕ} (l m : List Section) (own : List Lexeme) (s : SectionSays lv par l own m) where
   so-many : length m ≡ length l + length (s .0)
   so-many = ap length (s .1) ∙ length-append l (s .0)
 
-  more-says : (us : List Item) (k : List Section) → ListSays lv par m us k → ListSays lv par l (own ++ us) k
+  more-says : (us : List Lexeme) (k : List Section) → ListSays lv par m us k → ListSays lv par l (own ++ us) k
   more-says us k t = (
     s .0 ++ t .0,
     t .1 ∙ ap (λ (r : List Section). r ++ t .0) (s .1) ∙ append-assoc l (s .0) (t .0),
     t .2,
     own ++ t .3,
-    ap (λ (r : List Item). own ++ r) (t .4) ∙ sym (append-assoc own (t .3) (sign (t .2) 125 ∷ [])),
+    ap (λ (r : List Lexeme). own ++ r) (t .4) ∙ sym (append-assoc own (t .3) (sign (t .2) 125 ∷ [])),
     λ most deepest x y.
-        more (s .2 most deepest x y) (subst (λ (j : ℕ). Lists most deepest lv par j (t .3) (t .0)) so-many (t .5 most deepest x y)),
+        more (s .2 most deepest x y) (subst (λ (j : ℕ). SectionList most deepest lv par j (t .3) (t .0)) so-many (t .5 most deepest x y)),
     t .6,
   )
 
-  more-on : (us : List Item) → ListOn lv par (length m) us → ListOn lv par (length l) (own ++ us)
+  more-on : (us : List Lexeme) → ListOn lv par (length m) us → ListOn lv par (length l) (own ++ us)
   more-on us t = (
     t .0,
     t .1,
     own ++ t .2,
     s .0 ++ t .3,
-    append-assoc own us (t .0) ∙ ap (λ (r : List Item). own ++ r) (t .4) ∙ sym (append-assoc own (t .2) (sign (t .1) 125 ∷ [])),
-    more (s .2 129 9 (omega arith) (omega arith)) (subst (λ (j : ℕ). Lists 129 9 lv par j (t .2) (t .3)) so-many (t .5)),
+    append-assoc own us (t .0) ∙ ap (λ (r : List Lexeme). own ++ r) (t .4) ∙ sym (append-assoc own (t .2) (sign (t .1) 125 ∷ [])),
+    more (s .2 129 9 (omega arith) (omega arith)) (subst (λ (j : ℕ). SectionList 129 9 lv par j (t .2) (t .3)) so-many (t .5)),
   )
 
-head-on : {lv par k : ℕ} (ts : List Item) → HeadOn lv par k ts → SectionOn lv par k ts
+head-on : {lv par k : ℕ} (ts : List Lexeme) → HeadOn lv par k ts → SectionOn lv par k ts
 head-on {lv} {par} {k} ts s =
-    (s .0, s .1 ∷ [], subst (λ (r : List Item). Sections 129 9 lv par k r (s .1 ∷ [])) (append-nil (ts ++ s .0)) (section-of (s .2) noBraces))
+    (s .0, s .1 ∷ [], subst (λ (r : List Lexeme). SectionTree 129 9 lv par k r (s .1 ∷ [])) (append-nil (ts ++ s .0)) (section-of (s .2) noBraces))
 
-section-on : {lv par k : ℕ} (ts : List Item) → SectionOn lv par k ts → ListOn lv par k ts
+section-on : {lv par k : ℕ} (ts : List Lexeme) → SectionOn lv par k ts → ListOn lv par k ts
 section-on ts s = (s .0 ++ (sign 0 125 ∷ []), 0, ts ++ s .0, s .1, sym (append-assoc ts (s .0) (sign 0 125 ∷ [])), one (s .2))
 
 mutual
@@ -135,7 +136,8 @@ mutual
       let n = one-more l own h x in
       let i = x .room in
       let j = x .deep in
-      sign-good 123 (listP f (lv + 1) (length l) (l ++ (h ∷ []))) (λ k. listP (plus f k) (lv + 1) (length l) (l ++ (h ∷ []))) (ret (l ++ (h ∷ []))) (λ k. ret (l ++ (h ∷ [])))
+      sign-good 123 (listP f (lv + 1) (length l) (l ++ (h ∷ []))) (λ k. listP (plus f k) (lv + 1) (length l) (l ++ (h ∷ []))) (ret (l ++ (h ∷ [])))
+      (λ k. ret (l ++ (h ∷ [])))
       (λ a. map-good _ _ (node-says l own h x a) (node-on l own h x a) (list-good f (lv + 1) (length l) (l ++ (h ∷ [])) (omega arith) (omega arith)))
       (ret-good (l ++ (h ∷ [])) (leaf-says l own h x)))
 

@@ -6,7 +6,7 @@ use lib.Dec.{eqb, leb, ltb}
 use lib.ListN.{length, getD}
 use Rattle.octets.specs.Tests.{_and_}
 use Rattle.octets.specs.Rows.{row, refusal}
-use Rattle.fmd_lex.specs.Chars.{isDigit}
+use Rattle.text_words.specs.Classes.{isDigit}
 use Rattle.fmd_lex.specs.Numbers.{numberOf}
 use Rattle.fmd_lex.specs.Names.{goodName, flagOf}
 use Rattle.fmd_lex.specs.declared.Number.{Number}
@@ -20,7 +20,7 @@ use Rattle.fmd_parse.specs.Heads.{judged, setCbfs, setPreserve, setOffset, setS
 use Rattle.fmd_parse.specs.Images.{setAddress, setLength}
 use Rattle.fmd_parse.specs.declared.Address.the-variants.{Omitted}
 use Rattle.fmd_parse.specs.declared.Image.{Image}
-use Rattle.fmd_grammar.specs.Grammar.{Item, word, sign}
+use Rattle.fmd_grammar.specs.Grammar.{Lexeme, word, sign}
 use Rattle.fmd_grammar.specs.Claims.{placeOf}
 
 -- ---- a parser, and the step that looks at one token
@@ -28,10 +28,10 @@ use Rattle.fmd_grammar.specs.Claims.{placeOf}
 -- the first fault, its number and place; or what is read, and the tokens after it
 pub data Got (A : Type 0) : Type 0 where
   no : ℕ → ℕ → Got A
-  ok : A → List Item → Got A
+  ok : A → List Lexeme → Got A
 
 abbrev pub Parser : Type 0 → Type 0
-Parser A = List Item → Got A
+Parser A = List Lexeme → Got A
 
 -- what a token gives: a fault there; a value, and the token is read; a value, and the token stays
 pub data Act (A : Type 0) : Type 0 where
@@ -40,12 +40,12 @@ pub data Act (A : Type 0) : Type 0 where
   leave : A → Act A
 
 module _ {A : Type 0} where
-  abbrev pub acted : Act A → Item → List Item → Got A
+  abbrev pub acted : Act A → Lexeme → List Lexeme → Got A
   acted (stop n) x xs = no n (placeOf x)
   acted (eat a) x xs = ok a xs
   acted (leave a) x xs = ok a (x ∷ xs)
 
-  abbrev pub item : (Item → Act A) → Parser A
+  abbrev pub item : (Lexeme → Act A) → Parser A
   item f [] = no 0 0
   item f (x ∷ xs) = acted (f x) x xs
 
@@ -62,7 +62,7 @@ module _ {A B : Type 0} where
 
 -- ---- what each token gives
 
-abbrev pub isIt : ℕ → Item → Act Bool
+abbrev pub isIt : ℕ → Lexeme → Act Bool
 isIt k (word p w) = leave false
 isIt k (sign p j) = cond (eqb j k) (eat true) (leave false)
 
@@ -70,11 +70,11 @@ abbrev pub valued : {A : Type 0} → Number → (ℕ → Act A) → Act A
 valued (Value n) f = f n
 valued Wrong f = stop 52
 
-abbrev pub numberAct : Item → Act ℕ
+abbrev pub numberAct : Lexeme → Act ℕ
 numberAct (word p w) = valued (numberOf w) eat
 numberAct (sign p k) = stop 51
 
-abbrev pub nameAct : ℕ → ℕ → ℕ → Item → Act Section
+abbrev pub nameAct : ℕ → ℕ → ℕ → Lexeme → Act Section
 nameAct lv par n (word p w) =
     judged (refusal (row (not (goodName w)) 53 ∷ row (leb 128 n) 55 ∷ row (ltb 8 lv) 55 ∷ [])) stop
     (eat (record { offset = OmittedOffset; size = OmittedSize; place = p; length = length w; cbfs = false; preserve = false; parent = par; level = lv }))
@@ -85,24 +85,24 @@ flagAct h Cbfs = cond (h .cbfs) (stop 56) (eat (setCbfs h))
 flagAct h Preserve = cond (h .preserve) (stop 56) (eat (setPreserve h))
 flagAct h Unknown = stop 56
 
-abbrev pub markAct : Section → Item → Act Section
+abbrev pub markAct : Section → Lexeme → Act Section
 markAct h (word p w) = flagAct h (flagOf w)
 markAct h (sign p k) = stop 51
 
-abbrev pub sizeAct : Section → Item → Act Section
+abbrev pub sizeAct : Section → Lexeme → Act Section
 sizeAct h (word p w) = cond (isDigit (getD w 0 0)) (valued (numberOf w) (λ n. eat (setSize n h))) (leave h)
 sizeAct h (sign p k) = leave h
 
-abbrev pub titleAct : Item → Act Image
+abbrev pub titleAct : Lexeme → Act Image
 titleAct (word p w) =
     judged (refusal (row (not (goodName w)) 53 ∷ [])) stop (eat (record { address = Omitted; size = 0; place = p; length = length w }))
 titleAct (sign p k) = stop 51
 
-abbrev pub lengthAct : Image → Item → Act Image
+abbrev pub lengthAct : Image → Lexeme → Act Image
 lengthAct i (word p w) = valued (numberOf w) (λ n. cond (leb 98 n and leb n 16777216) (eat (setLength n i)) (stop 52))
 lengthAct i (sign p k) = stop 51
 
-abbrev pub mustBe : {A : Type 0} → ℕ → A → Item → Act A
+abbrev pub mustBe : {A : Type 0} → ℕ → A → Lexeme → Act A
 mustBe k a (word p w) = stop 51
 mustBe k a (sign p j) = cond (eqb j k) (eat a) (stop 51)
 

@@ -19,7 +19,8 @@ use Rattle.fmd_lex.specs.declared.Number.the-variants.{Value, Wrong}
 use Rattle.fmd_table.specs.declared.Section.{Section}
 use Rattle.fmd_parse.specs.Heads.{next, isKind, counted, amountAt, judged, headAt}
 use Rattle.fmd_parse.specs.Images.{onward, titleAt, setAddress, withAddress, addressAt, setLength, withLength, lengthAt, openAt, imageAt}
-use Rattle.fmd_parse.specs.Layouts.{Parsed, fault, parsed, afterHead, afterSection, sectionFrom, listFrom, Layout, layout, refused, afterImage, afterList, endedBy, layoutOf}
+use Rattle.fmd_parse.specs.Layouts.{Parsed, fault, parsed, afterHead, afterSection, sectionFrom, listFrom, Layout, layout, refused, afterImage, afterList}
+use Rattle.fmd_parse.specs.Layouts.{endedBy, layoutOf}
 use Rattle.fmd_parse.specs.declared.Address.the-variants.{Omitted}
 use Rattle.fmd_parse.specs.declared.Amount.{Amount}
 use Rattle.fmd_parse.specs.declared.Amount.the-variants.{Counted, Uncounted}
@@ -28,9 +29,10 @@ use Rattle.fmd_parse.specs.declared.Part.the-variants.{Read, Fault}
 use Rattle.fmd_parse.specs.declared.Image.{Image}
 use Rattle.fmd_parse.specs.declared.Heading.{Heading}
 use Rattle.fmd_parse.specs.declared.Heading.the-variants.{Read as ReadImage, Fault as FaultImage}
-use Rattle.fmd_grammar.specs.Grammar.{Item, word, sign, itemsOf}
+use Rattle.fmd_grammar.specs.Grammar.{Lexeme, word, sign, lexemesOf}
 use Rattle.fmd_grammar.proofs.Views.{View, view-of, Worded, as-word, as-sign, after-sign, after-end, name-length}
-use Rattle.fmd_grammar.proofs.Parsers.{Got, no, ok, Parser, stop, eat, acted, item, ret, after, bind, valued, numberAct, titleAct, lengthAct, mustBe, headP, sectionP, listP, addressP, imageP, layoutP}
+use Rattle.fmd_grammar.proofs.Parsers.{Got, no, ok, Parser, stop, eat, acted, item, ret, after, bind, valued, numberAct, titleAct, lengthAct}
+use Rattle.fmd_grammar.proofs.Parsers.{mustBe, headP, sectionP, listP, addressP, imageP, layoutP}
 use Rattle.fmd_grammar.proofs.Same.{view-some, Numbers, Parts, same-number, same-sign, same-head}
 
 -- ---- sections
@@ -42,14 +44,14 @@ Listed s (fault n p) (ok m us) = ⊥
 Listed s (fault n p) (no m q) = (n ≡ m) × (p ≡ q)
 
 head-then : {s : List ℕ} (q : Part) (g : Got Section) (f : Section → Token → Parsed) (k : Section → Parser (List Section)) → Parts s q g
-    → ((h : Section) (u : Token) (us : List Item) → View s u us → Listed s (f h u) (k h us)) → Listed s (afterHead q f) (after g k)
+    → ((h : Section) (u : Token) (us : List Lexeme) → View s u us → Listed s (f h u) (k h us)) → Listed s (afterHead q f) (after g k)
 head-then (Read h u) (ok i us) f k w c = rw (w .0) (c i u us (w .1))
 head-then (Read h u) (no m p) f k w c = absurd w
 head-then (Fault n p) (ok i us) f k w c = absurd w
 head-then (Fault n p) (no m q) f k w c = w
 
 list-then : {s : List ℕ} (q : Parsed) (g : Got (List Section)) (f : List Section → Token → Parsed) (k : List Section → Parser (List Section)) → Listed s q g
-    → ((h : List Section) (u : Token) (us : List Item) → View s u us → Listed s (f h u) (k h us)) → Listed s (afterSection q f) (after g k)
+    → ((h : List Section) (u : Token) (us : List Lexeme) → View s u us → Listed s (f h u) (k h us)) → Listed s (afterSection q f) (after g k)
 list-then (parsed h u) (ok i us) f k w c = rw (w .0) (c i u us (w .1))
 list-then (parsed h u) (no m p) f k w c = absurd w
 list-then (fault n p) (ok i us) f k w c = absurd w
@@ -58,7 +60,7 @@ list-then (fault n p) (no m q) f k w c = w
 mutual
   unfolding sectionFrom listFrom sectionP listP
 
-  same-section : (f : ℕ) {s : List ℕ} {t : Token} (ts : List Item) → View s t ts → (lv par : ℕ) (l : List Section)
+  same-section : (f : ℕ) {s : List ℕ} {t : Token} (ts : List Lexeme) → View s t ts → (lv par : ℕ) (l : List Section)
       → Listed s (sectionFrom f s t lv par l) (sectionP f lv par l ts)
   same-section zero ts v lv par l = (refl, refl)
   same-section (suc f) {s} {t} ts v lv par l =
@@ -66,7 +68,7 @@ mutual
       (λ h u us w. same-sign (Listed s) 123 (λ z. omega arith) (λ z. omega arith) us w _ _ (listP f (lv + 1) (length l) (l ++ (h ∷ []))) (ret (l ++ (h ∷ [])))
       (λ xs x. same-list f xs x (lv + 1) (length l) (l ++ (h ∷ []))) (refl, w))
 
-  same-list : (f : ℕ) {s : List ℕ} {t : Token} (ts : List Item) → View s t ts → (lv par : ℕ) (l : List Section)
+  same-list : (f : ℕ) {s : List ℕ} {t : Token} (ts : List Lexeme) → View s t ts → (lv par : ℕ) (l : List Section)
       → Listed s (listFrom f s t lv par l) (listP f lv par l ts)
   same-list zero ts v lv par l = (refl, refl)
   same-list (suc f) {s} {t} ts v lv par l =
@@ -83,7 +85,7 @@ Imaged s (FaultImage n p) (ok j us) = ⊥
 Imaged s (FaultImage n p) (no m q) = (n ≡ m) × (p ≡ q)
 
 image-then : {s : List ℕ} (q : Heading) (g : Got Image) (f : Image → Token → Heading) (k : Image → Parser Image) → Imaged s q g
-    → ((i : Image) (u : Token) (us : List Item) → View s u us → Imaged s (f i u) (k i us)) → Imaged s (onward q f) (after g k)
+    → ((i : Image) (u : Token) (us : List Lexeme) → View s u us → Imaged s (f i u) (k i us)) → Imaged s (onward q f) (after g k)
 image-then (ReadImage h u) (ok i us) f k w c = rw (w .0) (c i u us (w .1))
 image-then (ReadImage h u) (no m p) f k w c = absurd w
 image-then (FaultImage n p) (ok i us) f k w c = absurd w
@@ -93,7 +95,7 @@ abbrev pictured : ℕ → ℕ → Image
 pictured p n = record { address = Omitted; size = 0; place = p; length = n }
 
 module _ {s : List ℕ} where
-  same-title : {t : Token} (ts : List Item) → View s t ts → Imaged s (titleAt s t) (item titleAct ts)
+  same-title : {t : Token} (ts : List Lexeme) → View s t ts → Imaged s (titleAt s t) (item titleAct ts)
   unfolding titleAt pickRow
   same-title [] v = absurd (view-some v)
   same-title {t} (sign p k ∷ xs) v = let a = as-sign v in rw (a .wordless) (refl, a .place)
@@ -105,7 +107,7 @@ module _ {s : List ℕ} where
       by-name a false = (refl, a .place)
       by-name a true = (λ i. pictured (a .place i) ((sym (name-length s t (a .within)) ∙ ap length (a .bytes)) i), a .then)
 
-  same-address : {t : Token} (ts : List Item) → View s t ts → (i : Image) → Imaged s (addressAt s t i) (addressP i ts)
+  same-address : {t : Token} (ts : List Lexeme) → View s t ts → (i : Image) → Imaged s (addressAt s t i) (addressP i ts)
   unfolding addressAt addressP
   same-address {t} ts v i =
       same-sign (Imaged s) 64 (λ z. omega arith) (λ z. omega arith) ts v _ _ (bind (item numberAct) (λ n. ret (setAddress n i))) (ret i)
@@ -117,7 +119,7 @@ module _ {s : List ℕ} where
       go (Uncounted n p) (ok k us) w = absurd w
       go (Uncounted n p) (no k q) w = w
 
-  same-length : {t : Token} (ts : List Item) → View s t ts → (i : Image) → Imaged s (lengthAt s t i) (item (lengthAct i) ts)
+  same-length : {t : Token} (ts : List Lexeme) → View s t ts → (i : Image) → Imaged s (lengthAt s t i) (item (lengthAct i) ts)
   unfolding lengthAt amountAt
   same-length [] v i = absurd (view-some v)
   same-length {t} (sign p k ∷ xs) v i = let a = as-sign v in rw (a .wordless) (refl, a .place)
@@ -133,8 +135,9 @@ module _ {s : List ℕ} where
       by-number a (Value n) = in-range a n (leb 98 n and leb n 16777216)
       by-number a Wrong = (refl, a .place)
 
-  same-must : {A B : Type 0} (M : B → Got A → Type 0) {t : Token} (k : ℕ) → (k ≡ 2 → ⊥) → (ts : List Item) → View s t ts → (x y : B) (a : A)
-      → ((p : ℕ) (xs : List Item) → View s t (sign p k ∷ xs) → M x (ok a xs)) → ((p : ℕ) → t .start ≡ p → M y (no 51 p)) → M (cond (isKind k t) x y) (item (mustBe k a) ts)
+  same-must : {A B : Type 0} (M : B → Got A → Type 0) {t : Token} (k : ℕ) → (k ≡ 2 → ⊥) → (ts : List Lexeme) → View s t ts → (x y : B) (a : A)
+      → ((p : ℕ) (xs : List Lexeme) → View s t (sign p k ∷ xs) → M x (ok a xs)) → ((p : ℕ) → t .start ≡ p → M y (no 51 p)) → M (cond (isKind k t) x y)
+      (item (mustBe k a) ts)
   same-must M k m [] v x y a f g = absurd (view-some v)
   same-must M {t} k m (word p w ∷ xs) v x y a f g =
       let b = as-word v in rw (ne-eqb (t .kind) k (λ e. m (sym e ∙ eqb-true (t .kind) wordKind (b .kind)))) (g p (b .place))
@@ -144,7 +147,7 @@ module _ {s : List ℕ} where
       go true e = f p xs (subst (λ (i : ℕ). View s t (sign p i ∷ xs)) (eqb-true j k e) v)
       go false e = g p (as-sign v .place)
 
-  same-image : {t : Token} (ts : List Item) → View s t ts → Imaged s (imageAt s t) (imageP ts)
+  same-image : {t : Token} (ts : List Lexeme) → View s t ts → Imaged s (imageAt s t) (imageP ts)
   unfolding imageAt imageP openAt
   same-image {t} ts v =
       image-then (titleAt s t) (item titleAct ts) _ (λ i. bind (addressP i) (λ j. bind (item (lengthAct j)) (λ k. item (mustBe 123 k)))) (same-title ts v)
@@ -161,9 +164,9 @@ Whole (refused n p) (ok r us) = ⊥
 Whole (refused n p) (no m q) = (n ≡ m) × (p ≡ q)
 
 -- a text is answered as its tokens are
-pub same-layout : (s : List ℕ) → Whole (layoutOf s) (layoutP (2 * length s + 2) (itemsOf s))
+pub same-layout : (s : List ℕ) → Whole (layoutOf s) (layoutP (2 * length s + 2) (lexemesOf s))
 unfolding layoutOf layoutP
-same-layout s = by-image (imageAt s (tokenAt s 0)) (imageP (itemsOf s)) (same-image (itemsOf s) (view-of s))
+same-layout s = by-image (imageAt s (tokenAt s 0)) (imageP (lexemesOf s)) (same-image (lexemesOf s) (view-of s))
   where
     f : ℕ
     f = 2 * length s + 2
@@ -171,7 +174,8 @@ same-layout s = by-image (imageAt s (tokenAt s 0)) (imageP (itemsOf s)) (same-im
     by-list : (i j : Image) → i ≡ j → (q : Parsed) (g : Got (List Section)) → Listed s q g
         → Whole (afterList q (endedBy i)) (after g (λ l. item (mustBe 0 (j, l))))
     by-list i j e (parsed l u) (ok m us) w =
-        same-must (λ (a : Layout) (g : Got (Image × List Section)). Whole a g) 0 (λ z. omega arith) us (w .1) _ _ (j, m) (λ p os x. (e, w .0, after-end x)) (λ p x. (refl, x))
+        same-must (λ (a : Layout) (g : Got (Image × List Section)). Whole a g) 0 (λ z. omega arith) us (w .1) _ _ (j, m) (λ p os x. (e, w .0, after-end x))
+        (λ p x. (refl, x))
     by-list i j e (parsed l u) (no m p) w = absurd w
     by-list i j e (fault n p) (ok m us) w = absurd w
     by-list i j e (fault n p) (no m q) w = w

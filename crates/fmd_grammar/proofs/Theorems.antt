@@ -15,7 +15,7 @@ use Rattle.fmd_table.specs.declared.Section.{Section}
 use Rattle.fmd_parse.specs.Heads.{next, isKind}
 use Rattle.fmd_parse.specs.Layouts.{Layout, layout, refused, layoutOf}
 use Rattle.fmd_parse.specs.declared.Image.{Image}
-use Rattle.fmd_grammar.specs.Grammar.{Item, itemOf, itemsFrom, itemsOf, Layouts, Derives}
+use Rattle.fmd_grammar.specs.Grammar.{Lexeme, lexemeOf, lexemesFrom, lexemesOf, LayoutText, Derives}
 use Rattle.fmd_grammar.specs.Claims.{Exact, Viable, First}
 use Rattle.fmd_grammar.proofs.Parsers.{Got, no, ok, layoutP}
 use Rattle.fmd_grammar.proofs.SameLists.{Whole, same-layout}
@@ -24,14 +24,15 @@ use Rattle.fmd_grammar.proofs.Good.{same, Stopped}
 use Rattle.fmd_grammar.proofs.GoodLists.{plus}
 use Rattle.fmd_grammar.proofs.GoodWhole.{layout-good}
 
-items-few : (f : ℕ) (s : List ℕ) (t : Token) → length (itemsFrom f s t) ≤ f
-unfolding itemsFrom
+items-few : (f : ℕ) (s : List ℕ) (t : Token) → length (lexemesFrom f s t) ≤ f
+unfolding lexemesFrom
 items-few zero s t = omega arith
 items-few (suc f) s t =
-    choice (λ (r : List Item). length (itemOf s t ∷ r) ≤ suc f) (isKind endKind t) _ _ (λ e. omega arith) (λ e. let h = items-few f s (next s t) in omega arith)
+    choice (λ (r : List Lexeme). length (lexemeOf s t ∷ r) ≤ suc f) (isKind endKind t) _ _ (λ e. omega arith)
+    (λ e. let h = items-few f s (next s t) in omega arith)
 
-few : (s : List ℕ) → 2 * length (itemsOf s) ≤ 2 * length s + 2
-unfolding itemsOf
+few : (s : List ℕ) → 2 * length (lexemesOf s) ≤ 2 * length s + 2
+unfolding lexemesOf
 few s = let h = items-few (length s + 1) s (tokenAt s 0) in omega arith
 
 whole-layout : (a : Layout) (i : Image) (l : List Section) → Whole a (ok (i, l) []) → a ≡ layout i l
@@ -52,10 +53,10 @@ layout-ok a g i l e w = go g (rw e at w)
 sound : (s : List ℕ) {i : Image} {l : List Section} → layoutOf s ≡ layout i l → Derives s i l
 sound s {i} {l} e =
     let f = 2 * length s + 2 in
-    let t = layout-good f .passes (itemsOf s) (i, l) [] (layout-ok (layoutOf s) (layoutP f (itemsOf s)) i l e (same-layout s)) in
-    subst (λ (ts : List Item). Layouts 128 8 ts i l) (sym (t .list ∙ append-nil (t .own))) (t .says)
+    let t = layout-good f .passes (lexemesOf s) (i, l) [] (layout-ok (layoutOf s) (layoutP f (lexemesOf s)) i l e (same-layout s)) in
+    subst (λ (ts : List Lexeme). LayoutText 128 8 ts i l) (sym (t .list ∙ append-nil (t .own))) (t .says)
 
--- (1)
+-- the reader accepts exactly what derives
 pub exact : Exact
 exact s i l = (λ e. sound s e, λ d. complete s d)
 
@@ -82,52 +83,51 @@ some-number : (s : List ℕ) (n p : ℕ) → layoutOf s ≡ refused n p → n �
 unfolding _or_
 some-number s n p e z = clash (rw z at (subst (LayoutFacts s) e (layout-facts s) .0)) refl
 
-stopped : (s : List ℕ) (n p : ℕ) → layoutOf s ≡ refused n p → Stopped Viable (λ k. layoutP (plus (2 * length s + 2) k)) (itemsOf s) n p
+stopped : (s : List ℕ) (n p : ℕ) → layoutOf s ≡ refused n p → Stopped Viable (λ k. layoutP (plus (2 * length s + 2) k)) (lexemesOf s) n p
 stopped s n p e =
     let f = 2 * length s + 2 in
-    layout-good f .stops (itemsOf s) n p (refused-no (layoutOf s) (layoutP f (itemsOf s)) n p e (same-layout s)) (some-number s n p e)
+    layout-good f .stops (lexemesOf s) n p (refused-no (layoutOf s) (layoutP f (lexemesOf s)) n p e (same-layout s)) (some-number s n p e)
 
 module _ (s : List ℕ) (n p : ℕ) (e : layoutOf s ≡ refused n p) where
   -- with any fuel that is enough
-  always : (g : ℕ) → 2 * length s + 2 ≤ g → (xs : List Item) → layoutP g (stopped s n p e .own ++ (stopped s n p e .it ∷ xs)) ≡ no n p
+  always : (g : ℕ) → 2 * length s + 2 ≤ g → (xs : List Lexeme) → layoutP g (stopped s n p e .own ++ (stopped s n p e .it ∷ xs)) ≡ no n p
   always g h xs =
       let t = stopped s n p e in
       let f = 2 * length s + 2 in
       subst (λ (k : ℕ). layoutP k (t .own ++ (t .it ∷ xs)) ≡ no n p) (plus-sub f g h) (t .again (g - f) xs)
 
-  lasting : (g : ℕ) → 2 * length s + 2 ≤ g → layoutP g (itemsOf s) ≡ no n p
+  lasting : (g : ℕ) → 2 * length s + 2 ≤ g → layoutP g (lexemesOf s) ≡ no n p
   lasting g h = let t = stopped s n p e in ap (layoutP g) (t .list) ∙ always g h (t .rest)
 
-  never : (ts : List Item) (i : Image) (l : List Section) → Layouts 128 8 (stopped s n p e .own ++ (stopped s n p e .it ∷ ts)) i l → ⊥
+  never : (ts : List Lexeme) (i : Image) (l : List Section) → LayoutText 128 8 (stopped s n p e .own ++ (stopped s n p e .it ∷ ts)) i l → ⊥
   never ts i l d =
       let t = stopped s n p e in
       let g = 2 * length s + 2 + 2 * length (t .own ++ (t .it ∷ ts)) in
       same (sym (always g (omega arith) ts) ∙ layout-complete d g (omega arith))
 
-again : (s : List ℕ) (n p : ℕ) (e : layoutOf s ≡ refused n p) (r : List ℕ) (ts : List Item) → itemsOf r ≡ stopped s n p e .own ++ (stopped s n p e .it ∷ ts) → layoutOf r ≡ refused n p
+again : (s : List ℕ) (n p : ℕ) (e : layoutOf s ≡ refused n p) (r : List ℕ) (ts : List Lexeme) → lexemesOf r ≡ stopped s n p e .own ++
+    (stopped s n p e .it ∷ ts) → layoutOf r ≡ refused n p
 again s n p e r ts q = go (layoutOf r) refl
   where
     go : (a : Layout) → layoutOf r ≡ a → layoutOf r ≡ refused n p
-    go (layout i l) x = absurd (never s n p e ts i l (subst (λ (us : List Item). Layouts 128 8 us i l) q (sound r x)))
+    go (layout i l) x = absurd (never s n p e ts i l (subst (λ (us : List Lexeme). LayoutText 128 8 us i l) q (sound r x)))
     go (refused m k) x =
         let g = 2 * length s + 2 + (2 * length r + 2) in
         let d = same (sym (lasting r m k x g (omega arith)) ∙ ap (layoutP g) q ∙ always s n p e g (omega arith) ts) in
         x ∙ (λ i. refused (d .0 i) (d .1 i))
 
--- (2)
+-- a refused text's fault is its first
 pub first : First
 first s n p e =
     let t = stopped s n p e in
     record {
-      own = t .own;
-      it = t .it;
-      rest = t .rest;
-      list = t .list;
+      before = t .own;
+      token = t .it;
+      after = t .rest;
+      tokens = t .list;
       place = t .place;
-      blame = t .blame;
       viable = t .viable;
-      wide = t .wide;
-      instead = t .instead;
+      fault = t .fault;
       never = never s n p e;
-      again = again s n p e;
+      always = again s n p e;
     }

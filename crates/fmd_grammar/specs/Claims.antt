@@ -1,56 +1,78 @@
--- The statements of the theorems (proofs/Theorems).
+-- What is claimed of the reading of layout texts (proofs/Theorems): `layoutOf`, which the reader's contract cites, is the grammar's.
 use mathlib.Core.Path.{_≡_}
 use mathlib.Core.List.{List, [], _∷_, _++_}
-use mathlib.Core.Logic.{_↔_}
+use mathlib.Core.Logic.{_↔_, _⊎_}
 use mathlib.Core.Bool.{true, false}
+use Prim.Native.Char.{code}
 use Prim.Native.Nat.{ℕ, _≤_}
+use Rattle.octets.specs.Ascii.{ascii}
+use Rattle.fmd_lex.specs.Tokens.{endKind}
 use Rattle.fmd_lex.specs.Numbers.{numberOf}
-use Rattle.fmd_lex.specs.Names.{goodName}
+use Rattle.fmd_lex.specs.Names.{goodName, cbfs}
 use Rattle.fmd_lex.specs.declared.Number.the-variants.{Value, Wrong}
 use Rattle.fmd_table.specs.declared.Section.{Section}
 use Rattle.fmd_parse.specs.Layouts.{layout, refused, layoutOf}
 use Rattle.fmd_parse.specs.declared.Image.{Image}
-use Rattle.fmd_grammar.specs.Grammar.{Item, word, sign, itemsOf, Layouts, Derives}
+use Rattle.fmd_grammar.specs.Grammar.{Lexeme, word, sign, lexemesOf, LayoutText, Derives}
 
--- (1) The reader accepts exactly what derives, with what derives. So no text derives two things.
+-- The reader accepts exactly the texts that derive, with what they say. So no text says two things.
 abbrev pub Exact : Type 0
 Exact = (s : List ℕ) (i : Image) (l : List Section) → (layoutOf s ≡ layout i l) ↔ Derives s i l
 
--- R33: a word's fault stands at its first byte, .. an unfit sign or byte at itself, an early end after the last byte
-abbrev pub placeOf : Item → ℕ
+-- ---- the first fault
+
+-- R33: a word's fault stands at its first byte, 55 at the name .., an unfit sign or byte at itself, an early end after the last byte
+abbrev pub placeOf : Lexeme → ℕ
 placeOf (word p w) = p
-placeOf (sign p k) = p
+placeOf (sign p b) = p
 
--- why a token has a fault of this number; at one place the lowest number
-pub data Blame : ℕ → Item → Type 0 where
-  unfit : {x : Item} → Blame 51 x
-  badNumber : {p : ℕ} {w : List ℕ} → numberOf w ≡ Wrong → Blame 52 (word p w)
-  badLength : {p n : ℕ} {w : List ℕ} → numberOf w ≡ Value n → (98 ≤ n → n ≤ 16777216 → ⊥) → Blame 52 (word p w)
-  badName : {p : ℕ} {w : List ℕ} → goodName w ≡ false → Blame 53 (word p w)
-  tooMuch : {p : ℕ} {w : List ℕ} → goodName w ≡ true → Blame 55 (word p w)
-  badFlag : {p : ℕ} {w : List ℕ} → Blame 56 (word p w)
+-- the tokens ts can be continued to a layout text, if one section and one level more than the limits are allowed:
+-- after { on level 8 no text within the limits goes on, yet a } there is 51
+abbrev pub Viable : List Lexeme → Type 0
+Viable ts = (us : List Lexeme) × (i : Image) × (l : List Section) × LayoutText 129 9 (ts ++ us) i l
 
--- these tokens begin a layout, where one section and one level more are allowed
-abbrev pub Viable : List Item → Type 0
-Viable ts = (us : List Item) × (i : Image) × (l : List Section) × Layouts 129 9 (ts ++ us) i l
+-- Why a token has a fault of this number; `May us`: the tokens us may stand in its place.
+-- Where a size or a name may stand, a word that is neither fits 52 and 53; by L7 one that begins with a digit has 52.
+pub data Fault (May : List Lexeme → Type 0) : ℕ → Lexeme → Type 0 where
+  -- text out of grammar (R18): a sign or another byte, or the text's end
+  unfitSign : {p b : ℕ} → Fault May 51 (sign p b)
+  -- a word before the image's braces: there { A } and the text's end may stand
+  wordBeforeBraces : {p : ℕ} {w : List ℕ}
+      → May (sign p (code "{") ∷ word 0 (ascii "A") ∷ sign 0 (code "}") ∷ sign 0 endKind ∷ []) → Fault May 51 (word p w)
+  -- L10: After the last brace only blanks and comments.
+  -- So a word there is 51; the text's end may stand.
+  wordAfterBraces : {p : ℕ} {w : List ℕ} → May (sign p endKind ∷ []) → Fault May 51 (word p w)
+  -- L9: Where a number must stand (after @, the image's size), any other word is 52.
+  -- So is a section's size that is no number (L7).
+  badNumber : {p : ℕ} {w : List ℕ} → numberOf w ≡ Wrong → May (word p (ascii "98") ∷ []) → Fault May 52 (word p w)
+  -- L1: size (an image length in range, else 52)
+  badLength : {p n : ℕ} {w : List ℕ} → numberOf w ≡ Value n → (98 ≤ n → n ≤ 16777216 → ⊥) → May (word p (ascii "98") ∷ []) → Fault May 52 (word p w)
+  -- L6: .. (else 53).
+  -- Every name may stand there.
+  badName : {p : ℕ} {w : List ℕ} → goodName w ≡ false → ((v : List ℕ) → goodName v ≡ true → May (word p v ∷ [])) → Fault May 53 (word p w)
+  -- R33: 55 at the name of the section too many or too deep
+  -- It is a name, and were one more allowed, every name might stand there.
+  tooMany : {p : ℕ} {w : List ℕ} → goodName w ≡ true → ((v : List ℕ) → goodName v ≡ true → May (word p v ∷ [])) → Fault May 55 (word p w)
+  -- R20: 56: unknown or repeated flag
+  -- There ) may stand, or one flag and ).
+  badFlag : {p : ℕ} {w : List ℕ} → May (sign p (code ")") ∷ []) ⊎ May (word p cbfs ∷ sign 0 (code ")") ∷ []) → Fault May 56 (word p w)
 
--- the fault n at the place p: of the token `it`, which `own` come before
+-- R33: .. left to right, the first fault in the text ..
+-- Its number is n, its place p.
 pub record FirstFault (s : List ℕ) (n p : ℕ) : Type 0 where
-  pub own : List Item
-  pub it : Item
-  pub rest : List Item
-  pub list : itemsOf s ≡ own ++ (it ∷ rest)
-  pub place : placeOf it ≡ p
-  pub blame : Blame n it
-  -- what comes before can be continued; with `it` too, if only too many or too deep
-  pub viable : Viable own
-  pub wide : n ≡ 55 → Viable (own ++ (it ∷ []))
-  -- 52, 53, 55: a word may stand there
-  pub instead : (n ≡ 51 → ⊥) → (n ≡ 56 → ⊥) → (v : List ℕ) × Viable (own ++ (word p v ∷ []))
-  -- but with `it` nothing derives, and every text that begins so has this fault
-  pub never : (ts : List Item) (i : Image) (l : List Section) → Layouts 128 8 (own ++ (it ∷ ts)) i l → ⊥
-  pub again : (r : List ℕ) (ts : List Item) → itemsOf r ≡ own ++ (it ∷ ts) → layoutOf r ≡ refused n p
+  -- the token at fault, the tokens before and after it
+  pub before : List Lexeme
+  pub token : Lexeme
+  pub after : List Lexeme
+  pub tokens : lexemesOf s ≡ before ++ (token ∷ after)
+  pub place : placeOf token ≡ p
+  -- up to it nothing is at fault
+  pub viable : Viable before
+  pub fault : Fault (λ us. Viable (before ++ us)) n token
+  -- with it no continuation derives, and every text that begins so has the same fault, whatever follows
+  pub never : (ts : List Lexeme) (i : Image) (l : List Section) → LayoutText 128 8 (before ++ (token ∷ ts)) i l → ⊥
+  pub always : (r : List ℕ) (ts : List Lexeme) → lexemesOf r ≡ before ++ (token ∷ ts) → layoutOf r ≡ refused n p
 
--- (2) The fault of a refused text is its first.
+-- The fault of a refused text is its first.
 abbrev pub First : Type 0
 First = (s : List ℕ) (n p : ℕ) → layoutOf s ≡ refused n p → FirstFault s n p

@@ -1,8 +1,11 @@
--- The grammar of a layout text. `X ts v`: the tokens ts are an X, and v is what it says.
+-- The grammar of a layout text: what is to be believed of its reading. Each relation stands under the sentence that it renders (docs/TRACE.md).
+-- `X ts v`: the tokens ts, all of them and in this order, are an X, and v is what they say. No rule looks ahead, none is tried before another.
 use mathlib.Core.Path.{_≡_}
 use mathlib.Core.Bool.{Bool, true, false, cond}
 use mathlib.Core.List.{List, [], _∷_, _++_}
+use Prim.Native.Char.{code}
 use Prim.Native.Nat.{ℕ, zero, suc, _+_, _≤_, _<_}
+use lib.Dec.{eqb}
 use lib.ListN.{length}
 use Rattle.fmd_lex.specs.Tokens.{endKind, wordKind, tokenAt, bytesOf}
 use Rattle.fmd_lex.specs.Numbers.{numberOf}
@@ -14,86 +17,101 @@ use Rattle.fmd_table.specs.declared.Offset.the-variants.{Given as GivenOffset, 
 use Rattle.fmd_table.specs.declared.Size.{Size}
 use Rattle.fmd_table.specs.declared.Size.the-variants.{Given as GivenSize, Omitted as OmittedSize}
 use Rattle.fmd_table.specs.declared.Section.{Section}
-use Rattle.fmd_parse.specs.Heads.{next, isKind}
 use Rattle.fmd_parse.specs.declared.Address.{Address}
 use Rattle.fmd_parse.specs.declared.Address.the-variants.{Given, Omitted}
 use Rattle.fmd_parse.specs.declared.Image.{Image}
 
 -- ---- tokens
 
--- a word, by its place and its bytes; a sign, by its place and its byte: ( is 40, ) 41, @ 64, { 123, } 125, the text's end 0, any other byte 1
-pub data Item : Type 0 where
-  word : ℕ → List ℕ → Item
-  sign : ℕ → ℕ → Item
+-- A word has a place, that of its first byte in the text, and its bytes. A sign has a place and its byte, one of ( ) @ { };
+-- the text's end stands as the sign 0, and any other byte that is no part of a word as the sign 1.
+pub data Lexeme : Type 0 where
+  word : ℕ → List ℕ → Lexeme
+  sign : ℕ → ℕ → Lexeme
 
-unfoldable pub itemOf : List ℕ → Token → Item
-itemOf s t = cond (isKind wordKind t) (word (t .start) (bytesOf s t)) (sign (t .start) (t .kind))
+-- the token t of the text s; `tokenAt` of fmd_lex finds it (L4, L5): past blanks and comments, as many bytes of a word as there are
+unfoldable pub lexemeOf : List ℕ → Token → Lexeme
+lexemeOf s t = cond (eqb (t .kind) wordKind) (word (t .start) (bytesOf s t)) (sign (t .start) (t .kind))
 
--- the token t and those after it, f at most
-unfoldable pub itemsFrom : ℕ → List ℕ → Token → List Item
-itemsFrom zero s t = []
-itemsFrom (suc f) s t = itemOf s t ∷ cond (isKind endKind t) [] (itemsFrom f s (next s t))
+-- the token t and those after it up to the text's end, f at most
+unfoldable pub lexemesFrom : ℕ → List ℕ → Token → List Lexeme
+lexemesFrom zero s t = []
+lexemesFrom (suc f) s t = lexemeOf s t ∷ cond (eqb (t .kind) endKind) [] (lexemesFrom f s (tokenAt s (t .end)))
 
--- the tokens of a text; each but the end has a byte
-unfoldable pub itemsOf : List ℕ → List Item
-itemsOf s = itemsFrom (length s + 1) s (tokenAt s 0)
+-- the tokens of a text; each but the end has a byte of its own, so they are no more than the bytes and one
+unfoldable pub lexemesOf : List ℕ → List Lexeme
+lexemesOf s = lexemesFrom (length s + 1) s (tokenAt s 0)
+
+-- ---- the parts of a section
+
+-- L2: optional flags in parentheses (CBFS, PRESERVE, at least one, blanks between)
+-- No other flag, and none twice (R20).
+pub data OptionalFlags : List Lexeme → Bool → Bool → Type 0 where
+  noFlags : OptionalFlags [] false false
+  onlyCbfs : {a b c : ℕ} → OptionalFlags (sign a (code "(") ∷ word b cbfs ∷ sign c (code ")") ∷ []) true false
+  onlyPreserve : {a b c : ℕ} → OptionalFlags (sign a (code "(") ∷ word b preserve ∷ sign c (code ")") ∷ []) false true
+  cbfsPreserve : {a b c d : ℕ} → OptionalFlags (sign a (code "(") ∷ word b cbfs ∷ word c preserve ∷ sign d (code ")") ∷ []) true true
+  preserveCbfs : {a b c d : ℕ} → OptionalFlags (sign a (code "(") ∷ word b preserve ∷ word c cbfs ∷ sign d (code ")") ∷ []) true true
+
+-- L2: optional @offset from its parent
+-- `numberOf` of fmd_lex is the number that a word is (L8).
+pub data OptionalOffset : List Lexeme → Offset → Type 0 where
+  noOffset : OptionalOffset [] OmittedOffset
+  offset : {a b n : ℕ} {w : List ℕ} → numberOf w ≡ Value n → OptionalOffset (sign a (code "@") ∷ word b w ∷ []) (GivenOffset (record { 0 = n }))
+
+-- L2: optional size
+-- L7: .. a word beginning with a digit is its size.
+-- (Every number begins with a digit, and no name does.)
+pub data OptionalSize : List Lexeme → Size → Type 0 where
+  noSize : OptionalSize [] OmittedSize
+  size : {a n : ℕ} {w : List ℕ} → numberOf w ≡ Value n → OptionalSize (word a w ∷ []) (GivenSize n)
 
 -- ---- sections
 
--- L2: optional flags in parentheses (CBFS, PRESERVE, at least one, blanks between); R20: no repeated flag
-pub data Flags : List Item → Bool → Bool → Type 0 where
-  unflagged : Flags [] false false
-  onlyCbfs : {a b c : ℕ} → Flags (sign a 40 ∷ word b cbfs ∷ sign c 41 ∷ []) true false
-  onlyPreserve : {a b c : ℕ} → Flags (sign a 40 ∷ word b preserve ∷ sign c 41 ∷ []) false true
-  cbfsPreserve : {a b c d : ℕ} → Flags (sign a 40 ∷ word b cbfs ∷ word c preserve ∷ sign d 41 ∷ []) true true
-  preserveCbfs : {a b c d : ℕ} → Flags (sign a 40 ∷ word b preserve ∷ word c cbfs ∷ sign d 41 ∷ []) true true
-
--- L2: optional @offset from its parent
-pub data Offsets : List Item → Offset → Type 0 where
-  noOffset : Offsets [] OmittedOffset
-  offset : {a b n : ℕ} {w : List ℕ} → numberOf w ≡ Value n → Offsets (sign a 64 ∷ word b w ∷ []) (GivenOffset (record { 0 = n }))
-
--- L2: optional size
-pub data Sizes : List Item → Size → Type 0 where
-  noSize : Sizes [] OmittedSize
-  size : {a n : ℕ} {w : List ℕ} → numberOf w ≡ Value n → Sizes (word a w ∷ []) (GivenSize n)
-
--- Q5: A layout text has at most .. 128 sections, 8 levels: these are `most` and `deepest`.
--- Then the level, the parent's index in the text's order (128: the image), how many sections stand before.
+-- Q5: A layout text has at most .. 128 sections, 8 levels below the image.
+-- These are `most` and `deepest`. Then come the level; the parent's index in the text's order, 128 for the image; and how many sections stand before.
 mutual
   -- L2: A section: name, optional flags .., optional @offset .., optional size, optional braces.
-  pub data Sections (most deepest : ℕ) : ℕ → ℕ → ℕ → List Item → List Section → Type 0 where
-    section : {lv par k p : ℕ} {w : List ℕ} {fs os zs bs : List Item} {c v : Bool} {o : Offset} {z : Size} {l : List Section}
-        → goodName w ≡ true → k < most → lv ≤ deepest → Flags fs c v → Offsets os o → Sizes zs z → Braces most deepest (lv + 1) k (k + 1) bs l
-        → Sections most deepest lv par k (word p w ∷ (fs ++ (os ++ (zs ++ bs))))
-        (record { offset = o; size = z; place = p; length = length w; cbfs = c; preserve = v; parent = par; level = lv } ∷ l)
+  -- `goodName` of fmd_lex says which words are names (L6). A section says itself and, after it, the sections in its braces.
+  pub data SectionTree (most deepest : ℕ) : ℕ → ℕ → ℕ → List Lexeme → List Section → Type 0 where
+    section : {level parent before place : ℕ} {name : List ℕ} {fs os zs bs : List Lexeme} {c p : Bool} {o : Offset} {z : Size} {l : List Section}
+        → goodName name ≡ true → before < most → level ≤ deepest → OptionalFlags fs c p → OptionalOffset os o → OptionalSize zs z
+        → OptionalBraces most deepest (level + 1) before (before + 1) bs l
+        → SectionTree most deepest level parent before (word place name ∷ (fs ++ (os ++ (zs ++ bs))))
+        (record { offset = o; size = z; place = place; length = length name; cbfs = c; preserve = p; parent = parent; level = level } ∷ l)
 
-  -- L3: a section may hold sections to any allowed depth
-  pub data Braces (most deepest : ℕ) : ℕ → ℕ → ℕ → List Item → List Section → Type 0 where
-    noBraces : {lv par k : ℕ} → Braces most deepest lv par k [] []
-    braces : {lv par k a : ℕ} (b : ℕ) {ts : List Item} {l : List Section} → Lists most deepest lv par k ts l
-        → Braces most deepest lv par k (sign a 123 ∷ (ts ++ (sign b 125 ∷ []))) l
+  -- L2: optional braces
+  -- L3: .. a section may hold sections to any allowed depth.
+  pub data OptionalBraces (most deepest : ℕ) : ℕ → ℕ → ℕ → List Lexeme → List Section → Type 0 where
+    noBraces : {level parent before : ℕ} → OptionalBraces most deepest level parent before [] []
+    braces : {level parent before a : ℕ} (b : ℕ) {ts : List Lexeme} {l : List Section} → SectionList most deepest level parent before ts l
+        → OptionalBraces most deepest level parent before (sign a (code "{") ∷ (ts ++ (sign b (code "}") ∷ []))) l
 
   -- L3: Braces hold at least one section
-  pub data Lists (most deepest : ℕ) : ℕ → ℕ → ℕ → List Item → List Section → Type 0 where
-    one : {lv par k : ℕ} {ts : List Item} {l : List Section} → Sections most deepest lv par k ts l → Lists most deepest lv par k ts l
-    more : {lv par k : ℕ} {ts us : List Item} {l m : List Section} → Sections most deepest lv par k ts l
-        → Lists most deepest lv par (k + length l) us m → Lists most deepest lv par k (ts ++ us) (l ++ m)
+  pub data SectionList (most deepest : ℕ) : ℕ → ℕ → ℕ → List Lexeme → List Section → Type 0 where
+    one : {level parent before : ℕ} {ts : List Lexeme} {l : List Section}
+        → SectionTree most deepest level parent before ts l → SectionList most deepest level parent before ts l
+    more : {level parent before : ℕ} {ts us : List Lexeme} {l m : List Section} → SectionTree most deepest level parent before ts l
+        → SectionList most deepest level parent (before + length l) us m → SectionList most deepest level parent before (ts ++ us) (l ++ m)
 
 -- ---- the image
 
 -- L1: optional @address
-pub data Addresses : List Item → Address → Type 0 where
-  noAddress : Addresses [] Omitted
-  address : {a b n : ℕ} {w : List ℕ} → numberOf w ≡ Value n → Addresses (sign a 64 ∷ word b w ∷ []) (Given n)
+pub data OptionalAddress : List Lexeme → Address → Type 0 where
+  noAddress : OptionalAddress [] Omitted
+  address : {a b n : ℕ} {w : List ℕ} → numberOf w ≡ Value n → OptionalAddress (sign a (code "@") ∷ word b w ∷ []) (Given n)
 
--- L1: An image: name, optional @address, size (an image length in range), braces. L10: After the last brace only blanks and comments.
-pub data Layouts (most deepest : ℕ) : List Item → Image → List Section → Type 0 where
-  image : {p n : ℕ} (q a b c : ℕ) {w : List ℕ} (v : List ℕ) {os ts : List Item} {d : Address} {l : List Section}
-      → goodName w ≡ true → Addresses os d → numberOf v ≡ Value n → 98 ≤ n → n ≤ 16777216 → Lists most deepest 1 128 0 ts l
-      → Layouts most deepest (word p w ∷ (os ++ (word q v ∷ sign a 123 ∷ (ts ++ (sign b 125 ∷ sign c 0 ∷ [])))))
-      (record { address = d; size = n; place = p; length = length w }) l
+-- L1: An image: name, optional @address, size (an image length in range ..), braces.
+-- Q4: A flash image is 98 to 16,777,216 bytes.
+-- L10: After the last brace only blanks and comments.
+-- So the text's end is the next token.
+pub data LayoutText (most deepest : ℕ) : List Lexeme → Image → List Section → Type 0 where
+  image : {place n : ℕ} (a b c d : ℕ) {name : List ℕ} (w : List ℕ) {os ts : List Lexeme} {at : Address} {l : List Section}
+      → goodName name ≡ true → OptionalAddress os at → numberOf w ≡ Value n → 98 ≤ n → n ≤ 16777216 → SectionList most deepest 1 128 0 ts l
+      → LayoutText most deepest
+      (word place name ∷ (os ++ (word a w ∷ sign b (code "{") ∷ (ts ++ (sign c (code "}") ∷ sign d endKind ∷ [])))))
+      (record { address = at; size = n; place = place; length = length name }) l
 
--- what a text says
+-- the text s says the image i and the sections l
 abbrev pub Derives : List ℕ → Image → List Section → Type 0
-Derives s i l = Layouts 128 8 (itemsOf s) i l
+Derives s i l = LayoutText 128 8 (lexemesOf s) i l

@@ -4,12 +4,10 @@ use mathlib.Core.Bool.{true}
 use mathlib.Core.List.{List}
 use Prim.Native.Nat.{ℕ, _-_, _≤_}
 use native.Mathlib.Omega.{arith}
-use lib.Dec.{leb}
 use lib.ListN.{length}
-use borrow.Author.Tests.{leb-true}
-use Rattle.octets.specs.Tests.{_and_}
-use Rattle.octets.proofs.Bools.{and-l, and-r}
+use Rattle.octets.proofs.Bools.{and-l}
 use Rattle.octets.proofs.Parts.{length-part}
+use Rattle.text_words.proofs.Names.{sized-range}
 use Rattle.fmd_lex.specs.Names.{goodName}
 use Rattle.fmd_lex.specs.Tokens.{bytesOf}
 use Rattle.fmd_lex.specs.declared.Token.{Token}
@@ -20,6 +18,5 @@ pub name-size : (s : List ℕ) (t : Token) → t .start ≤ t .end → t .end �
 unfolding goodName
 name-size s t o i e =
     let n = length-part s (t .start) (t .end - t .start) (omega arith) in
-    let w = bytesOf s t in
-    let a : (leb 1 (length w) and leb (length w) 31) ≡ true = and-l _ _ e in
-    (omega (arith, leb-true 1 (length w) (and-l _ _ a)), omega (arith, leb-true (length w) 31 (and-r _ _ a)))
+    let z = sized-range 31 (bytesOf s t) (and-l _ _ e) in
+    (omega arith, omega arith)

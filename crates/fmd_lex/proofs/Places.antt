@@ -11,8 +11,10 @@ use borrow.Author.Tests.{ltb-true}
 use Rattle.octets.specs.Tests.{_or_, all}
 use Rattle.octets.specs.Bytes.{part}
 use Rattle.octets.proofs.Bools.{and-i, choice}
-use Rattle.fmd_lex.specs.Chars.{isBlank, isSign, isWord}
-use Rattle.fmd_lex.specs.Tokens.{wordKind, skipFrom, wordFrom, tokenHere, tokenAt, bytesOf, Within}
+use Rattle.text_words.specs.Classes.{isBlank}
+use Rattle.fmd_lex.specs.Chars.{isSign, isWord}
+use Rattle.fmd_lex.specs.Tokens.{wordKind, skipFrom, wordFrom, tokenHere, tokenAt, bytesOf}
+use Rattle.fmd_lex.specs.Invariants.{Within}
 use Rattle.fmd_lex.specs.declared.Token.{Token}
 use Rattle.fmd_lex.proofs.Tokens.{word-in}
 

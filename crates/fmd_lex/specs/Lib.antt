@@ -3,3 +3,4 @@ pub mod Chars
 pub mod Tokens
 pub mod Numbers
 pub mod Names
+pub mod Invariants

@@ -1,12 +1,12 @@
 -- The tokens of a layout text. A place is a byte position in the text.
 use mathlib.Core.Bool.{Bool, true, false, cond}
 use mathlib.Core.List.{List, [], _∷_}
-use Prim.Native.Nat.{ℕ, suc, _+_, _-_, _≤_, _<_}
-use mathlib.Core.Path.{_≡_}
+use Prim.Native.Nat.{ℕ, suc, _+_, _-_}
 use lib.Dec.{ltb, eqb}
 use lib.ListN.{length, getD, drop}
 use Rattle.octets.specs.Bytes.{part}
-use Rattle.fmd_lex.specs.Chars.{isBlank, isSign, isWord}
+use Rattle.text_words.specs.Classes.{isBlank}
+use Rattle.fmd_lex.specs.Chars.{isSign, isWord}
 use Rattle.fmd_lex.specs.declared.Token.{Token}
 
 -- the kinds of tokens; a sign's kind is its own byte
@@ -52,10 +52,3 @@ tokenAt s at = tokenHere s (skipFrom false (drop at s) at)
 -- the bytes of a token
 abbrev pub bytesOf : List ℕ → Token → List ℕ
 bytesOf s t = part (t .start) (t .end - t .start) s
-
--- a token lies in a text of n bytes, at or after the place `at`; a word has one byte at least
-pub record Within (n at : ℕ) (t : Token) : Type 0 where
-  pub after : at ≤ t .start
-  pub ordered : t .start ≤ t .end
-  pub inside : t .end ≤ n
-  pub filled : t .kind ≡ wordKind → t .start < t .end

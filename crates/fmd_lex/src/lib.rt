@@ -4,10 +4,16 @@ ghost use mathlib.Core.Bool.{false};
 ghost use mathlib.Core.Path.{_≡_};
 ghost use Prim.Native.Nat.{_≤_, _<_};
 ghost use lib.ListN.{length, drop, getD};
-ghost use Rattle.fmd_lex.specs.Chars.{isBlank, isSign, isWord, isDigit};
-ghost use Rattle.fmd_lex.specs.Tokens.{skipFrom, wordFrom, tokenAt, bytesOf, Within};
+ghost use Rattle.text_words.specs.Classes.{isDigit};
+ghost use Rattle.fmd_lex.specs.Chars.{isSign, isWord};
+ghost use Rattle.fmd_lex.specs.Tokens.{skipFrom, wordFrom, tokenAt, bytesOf};
+ghost use Rattle.fmd_lex.specs.Invariants.{Within};
 ghost use Rattle.fmd_lex.specs.Numbers.{numberOf};
 ghost use Rattle.fmd_lex.specs.Names.{goodName, flagOf};
+use text_words::is_blank;
+use text_words::is_digit;
+use text_words::is_graphic;
+use text_words::is_sized;
 
 mod digits; // digits.rt: the number that a word is
 
@@ -48,18 +54,6 @@ pub enum Flag {
 
 // ---- bytes
 
-fn is_blank(b: u8) -> bool
-    ensures { λ r. ⌜ r ≡ isBlank b ⌝ }
-{
-    match b {
-        32 => true,
-        9 => true,
-        13 => true,
-        10 => true,
-        _ => false,
-    }
-}
-
 fn is_sign(b: u8) -> bool
     ensures { λ r. ⌜ r ≡ isSign b ⌝ }
 {
@@ -76,31 +70,16 @@ fn is_sign(b: u8) -> bool
 fn is_word(b: u8) -> bool
     ensures { λ r. ⌜ r ≡ isWord b ⌝ }
 {
-    if b < 33 {
-        return false;
+    if is_graphic(b) {
+        if is_sign(b) {
+            return false;
+        }
+        if b == 35 {
+            return false;
+        }
+        return true;
     }
-    if 126 < b {
-        return false;
-    }
-    if is_sign(b) {
-        return false;
-    }
-    if b == 35 {
-        return false;
-    }
-    true
-}
-
-fn is_digit(b: u8) -> bool
-    ensures { λ r. ⌜ r ≡ isDigit b ⌝ }
-{
-    if b < 48 {
-        return false;
-    }
-    if 57 < b {
-        return false;
-    }
-    true
+    false
 }
 
 // ---- tokens
@@ -188,16 +167,13 @@ pub fn next_token(text: &[u8], at: usize) -> Token
 fn is_name(w: &[u8]) -> bool
     ensures { λ r. ⌜ r ≡ goodName (now (w .entry)) ⌝ }
 {
-    if w.len() < 1 {
-        return false;
+    if is_sized(w, 31) {
+        if is_digit(w[0]) {
+            return false;
+        }
+        return true;
     }
-    if 31 < w.len() {
-        return false;
-    }
-    if is_digit(w[0]) {
-        return false;
-    }
-    true
+    false
 }
 
 fn flag_of(w: &[u8]) -> Flag

@@ -1,7 +1,7 @@
 -- Laws of the parts of a section.
 use Prim.Native.Nat.{ℕ, _≤_, _<_}
 use Rattle.fmd_lex.proofs.Tokens.{earlier}
-use Rattle.fmd_parse.specs.Heads.{PartIn, HeadIn}
+use Rattle.fmd_parse.specs.Invariants.{PartIn, HeadIn}
 use Rattle.fmd_parse.specs.declared.Part.{Part}
 use Rattle.fmd_parse.specs.declared.Part.the-variants.{Read, Fault}
 

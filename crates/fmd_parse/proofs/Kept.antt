@@ -11,8 +11,10 @@ use borrow.Author.Tests.{leb-false, ltb-false, eqb-true}
 use Rattle.octets.specs.Tests.{_or_, all}
 use Rattle.octets.specs.Rows.{pickRow}
 use Rattle.octets.proofs.Bools.{choice, not-f}
-use Rattle.fmd_lex.specs.Chars.{isDigit, isWord}
-use Rattle.fmd_lex.specs.Tokens.{wordKind, tokenAt, bytesOf, Within}
+use Rattle.text_words.specs.Classes.{isDigit}
+use Rattle.fmd_lex.specs.Chars.{isWord}
+use Rattle.fmd_lex.specs.Tokens.{wordKind, tokenAt, bytesOf}
+use Rattle.fmd_lex.specs.Invariants.{Within}
 use Rattle.fmd_lex.specs.Numbers.{numberOf}
 use Rattle.fmd_lex.specs.Names.{goodName, flagOf}
 use Rattle.fmd_lex.specs.declared.Token.{Token}
@@ -23,7 +25,8 @@ use Rattle.fmd_lex.specs.declared.Flag.the-variants.{Cbfs, Preserve, Unknown}
 use Rattle.fmd_lex.proofs.Numbers.{NumberFits, number-fits}
 use Rattle.fmd_lex.proofs.Tokens.{earlier}
 use Rattle.fmd_lex.proofs.Places.{token-within, word-bytes}
-use Rattle.fmd_parse.specs.Heads.{next, isKind, counted, amountAt, onward, judged, namedAt, marked, markAt, lastAt, otherAt, flagsAt, withOffset, offsetAt, withSize, sizeAt, headAt}
+use Rattle.fmd_parse.specs.Heads.{next, isKind, counted, amountAt, onward, judged, namedAt, marked, markAt, lastAt, otherAt, flagsAt, withOffset}
+use Rattle.fmd_parse.specs.Heads.{offsetAt, withSize, sizeAt, headAt}
 use Rattle.fmd_parse.specs.Trees.{Numbered, Named}
 use Rattle.fmd_table.specs.declared.Section.{Section}
 use Rattle.fmd_parse.specs.declared.Amount.{Amount}
@@ -114,8 +117,10 @@ module _ {s : List ℕ} {a : ℕ} {t : Token} (w : From s a t) (h : Section) whe
   flag-keeps = choice (Keeps s (t .end) h) (isKind wordKind t) _ _ (λ e. by-flag (flagOf (bytesOf s t))) (λ e. fault-here w 51 refl)
     where
       by-flag : (f : Flag) → Keeps s (t .end) h (marked s t h f)
-      by-flag Cbfs = choice (Keeps s (t .end) h) (h .cbfs) _ _ (λ e. fault-here w 56 refl) (λ e. (next-from w, record { place = refl; length = refl; parent = refl; level = refl }))
-      by-flag Preserve = choice (Keeps s (t .end) h) (h .preserve) _ _ (λ e. fault-here w 56 refl) (λ e. (next-from w, record { place = refl; length = refl; parent = refl; level = refl }))
+      by-flag Cbfs = choice (Keeps s (t .end) h) (h .cbfs) _ _ (λ e. fault-here w 56 refl)
+          (λ e. (next-from w, record { place = refl; length = refl; parent = refl; level = refl }))
+      by-flag Preserve = choice (Keeps s (t .end) h) (h .preserve) _ _ (λ e. fault-here w 56 refl)
+          (λ e. (next-from w, record { place = refl; length = refl; parent = refl; level = refl }))
       by-flag Unknown = fault-here w 56 refl
 
   last-keeps : Keeps s (t .end) h (lastAt s t h)

@@ -5,14 +5,16 @@ use Prim.Native.Nat.{ℕ, zero, suc, _+_, _*_, _-_, _≤_, _<_}
 use native.Mathlib.Omega.{arith}
 use lib.ListN.{length}
 use borrow.Author.Tests.{eq-eqb, ne-eqb}
-use Rattle.fmd_lex.specs.Tokens.{tokenAt, Within}
+use Rattle.fmd_lex.specs.Tokens.{tokenAt}
+use Rattle.fmd_lex.specs.Invariants.{Within}
 use Rattle.fmd_lex.specs.declared.Token.{Token}
 use Rattle.fmd_lex.proofs.Tokens.{earlier}
 use Rattle.fmd_table.specs.Table.{sectionsIn}
 use Rattle.fmd_table.specs.declared.Section.{Section}
 use Rattle.fmd_table.proofs.Table.{length-sections}
 use Rattle.fmd_parse.specs.Heads.{headAt}
-use Rattle.fmd_parse.specs.Layouts.{sectionFrom, listFrom, stepOf, StepIn, SectionRead, ListRead}
+use Rattle.fmd_parse.specs.Layouts.{sectionFrom, listFrom}
+use Rattle.fmd_parse.specs.Invariants.{stepOf, StepIn, SectionRead, ListRead}
 use Rattle.fmd_parse.specs.declared.Part.the-variants.{Read, Fault}
 use Rattle.fmd_parse.specs.declared.Step.{Step}
 use Rattle.fmd_parse.specs.declared.Step.the-variants.{Onward, Stopped}

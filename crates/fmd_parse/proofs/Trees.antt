@@ -28,7 +28,8 @@ use Rattle.fmd_parse.specs.declared.Amount.the-variants.{Counted, Uncoun
 use Rattle.fmd_parse.specs.declared.Image.{Image}
 use Rattle.fmd_parse.specs.declared.Heading.{Heading}
 use Rattle.fmd_parse.specs.declared.Heading.the-variants.{Read as ReadImage, Fault as FaultImage}
-use Rattle.fmd_parse.proofs.Kept.{From, token-from, from-earlier, own-from, Faulty, next-from, fault-here, name-here, AmountFrom, amount-from, Headed, Heads, row-choice, head-heads}
+use Rattle.fmd_parse.proofs.Kept.{From, token-from, from-earlier, own-from, Faulty, next-from, fault-here, name-here, AmountFrom, amount-from}
+use Rattle.fmd_parse.proofs.Kept.{Headed, Heads, row-choice, head-heads}
 
 -- ---- a list that grows
 
@@ -37,7 +38,11 @@ pub record Grown (l m : List Section) : Type 0 where
   pub same : (k : ℕ) → k < length l → getD m k blank ≡ getD l k blank
 
 grown-on : {l m n : List Section} → Grown l m → Grown m n → Grown l n
-grown-on p q = record { longer = let a = p .longer in let b = q .longer in omega arith; same = λ k h. q .same k (let a = p .longer in omega arith) ∙ p .same k h }
+grown-on p q = record {
+  longer = let a = p .longer in let b = q .longer in omega arith;
+  same = λ k h. q .same k (let a = p .longer in omega arith) ∙ p .same
+      k h;
+}
 
 under-grown : {l m : List Section} {lv par : ℕ} → Grown l m → Under l (length l) lv par → Under m (length m) lv par
 under-grown g (inl x) = inl x
@@ -81,7 +86,8 @@ module _ {s : List ℕ} {lv par : ℕ} {l : List Section} {h : Section} (r : Tre
       up (inr x) =
           inr (
             rw (d .parent) (x .0),
-            ap (λ (p : ℕ). getD (l ++ (h ∷ [])) p blank .level + 1) (d .parent) ∙ ap (λ (g : Section). g .level + 1) (before par (x .0)) ∙ x .1 ∙ sym (d .level),
+            ap (λ (p : ℕ). getD (l ++ (h ∷ [])) p blank .level + 1) (d .parent) ∙ ap (λ (g : Section). g .level + 1) (before par (x .0)) ∙ x .1 ∙ sym
+                (d .level),
           )
 
       by-place : (k : ℕ) → k < length (l ++ (h ∷ [])) → (b : Bool) → ltb k (length l) ≡ b → Standing s (l ++ (h ∷ [])) k (getD (l ++ (h ∷ [])) k blank)
@@ -168,7 +174,8 @@ module _ {s : List ℕ} {a : ℕ} {t : Token} (w : From s a t) where
     address-facts : Titled s (addressAt s t i)
     unfolding addressAt
     address-facts =
-        choice (Titled s) (isKind 64 t) _ _ (λ e. by-amount (amountAt s (next s t)) (amount-from (next-from w))) (λ e. (from-earlier (own-from w) (omega arith), d, f))
+        choice (Titled s) (isKind 64 t) _ _ (λ e. by-amount (amountAt s (next s t)) (amount-from (next-from w)))
+        (λ e. (from-earlier (own-from w) (omega arith), d, f))
       where
         by-amount : (m : Amount) → AmountFrom s (next s t .end) m → Titled s (withAddress i m)
         by-amount (Counted n u) v = (from-earlier (v .0) (omega arith), d, v .1)
@@ -181,7 +188,16 @@ module _ {s : List ℕ} {a : ℕ} {t : Token} (w : From s a t) where
         by-amount : (m : Amount) → AmountFrom s (t .end) m → Measured s (withLength i t m)
         by-amount (Counted n u) v =
             choice (Measured s) (leb 98 n and leb n 16777216) _ _
-            (λ e. (from-earlier (v .0) (omega arith), record { named = d; address = f; low = leb-true 98 n (and-l _ _ e); high = leb-true n 16777216 (and-r _ _ e) }))
+            (λ e. (
+              from-earlier (v .0) (omega arith),
+              record {
+                named = d;
+                address = f;
+                low = leb-true 98 n (and-l _ _ e);
+                high = leb-true n 16777216
+                    (and-r _ _ e);
+              },
+            ))
             (λ e. fault-here w 52 refl)
         by-amount (Uncounted k p) v = v
 
@@ -190,7 +206,8 @@ module _ {s : List ℕ} {a : ℕ} {t : Token} (w : From s a t) where
   open-facts i d = choice (Measured s) (isKind 123 t) _ _ (λ e. (from-earlier (next-from w) (omega arith), d)) (λ e. fault-here w 51 refl)
 
 titled-on : (s : List ℕ) (P : Heading → Type 0) (p : Heading) (f : Image → Token → Heading) → Titled s p
-    → ((n k : ℕ) → Faulty s n k → P (FaultImage n k)) → ((i : Image) (u : Token) → From s 0 u → Named s (i .place) (i .length) → AddressFits (i .address) → P (f i u)) → P (onward p f)
+    → ((n k : ℕ) → Faulty s n k → P (FaultImage n k)) → ((i : Image) (u : Token) → From s 0 u → Named s (i .place) (i .length) → AddressFits (i .address) →
+    P (f i u)) → P (onward p f)
 titled-on s P (ReadImage i u) f w k g = g i u (w .0) (w .1) (w .2)
 titled-on s P (FaultImage n p) f w k g = k n p w
 

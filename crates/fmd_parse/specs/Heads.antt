@@ -1,14 +1,15 @@
--- A section up to its braces. Each reader is given the token that stands there, and answers with the token after what it read, or with the
--- first fault: its number and its place, the token's first byte.
+-- A section up to its braces, read token by token: means of proof, which the contracts cite. What is to be believed is the grammar (fmd_grammar).
+-- Each reader is given the token that stands there, and answers with the token after what it read, or with the first fault: its number and
+-- its place, the token's first byte.
 use mathlib.Core.Bool.{Bool, true, false, cond, not}
 use mathlib.Core.List.{List, [], _∷_}
 use mathlib.Core.Option.{Option, none, some}
-use Prim.Native.Nat.{ℕ, _-_, _≤_, _<_}
+use Prim.Native.Nat.{ℕ, _-_}
 use lib.Dec.{ltb, leb, eqb}
 use lib.ListN.{getD}
 use Rattle.octets.specs.Rows.{row, refusal}
-use Rattle.fmd_lex.specs.Chars.{isDigit}
-use Rattle.fmd_lex.specs.Tokens.{wordKind, tokenAt, bytesOf, Within}
+use Rattle.text_words.specs.Classes.{isDigit}
+use Rattle.fmd_lex.specs.Tokens.{wordKind, tokenAt, bytesOf}
 use Rattle.fmd_lex.specs.Numbers.{numberOf}
 use Rattle.fmd_lex.specs.Names.{goodName, flagOf}
 use Rattle.fmd_lex.specs.declared.Token.{Token}
@@ -60,7 +61,16 @@ judged none f k = k
 -- the section of a name alone
 abbrev pub bare : Token → ℕ → ℕ → Section
 bare t lv par =
-    record { offset = OmittedOffset; size = OmittedSize; place = t .start; length = t .end - t .start; cbfs = false; preserve = false; parent = par; level = lv }
+    record {
+      offset = OmittedOffset;
+      size = OmittedSize;
+      place = t .start;
+      length = t .end - t .start;
+      cbfs = false;
+      preserve = false;
+      parent = par;
+      level = lv;
+    }
 
 -- Q5: A layout text has at most .. 128 sections, 8 levels below the image. n sections stand before this one, of level lv.
 -- R33: 55 at the name of the section too many or too deep
@@ -74,16 +84,58 @@ namedAt s t lv par n =
 
 -- the section with one part more
 abbrev pub setCbfs : Section → Section
-setCbfs h = record { offset = h .offset; size = h .size; place = h .place; length = h .length; cbfs = true; preserve = h .preserve; parent = h .parent; level = h .level }
+setCbfs h =
+    record {
+      offset = h .offset;
+      size = h .size;
+      place = h .place;
+      length = h .length;
+      cbfs = true;
+      preserve = h .preserve;
+      parent = h .parent;
+      level = h .level;
+    }
 
 abbrev pub setPreserve : Section → Section
-setPreserve h = record { offset = h .offset; size = h .size; place = h .place; length = h .length; cbfs = h .cbfs; preserve = true; parent = h .parent; level = h .level }
+setPreserve h =
+    record {
+      offset = h .offset;
+      size = h .size;
+      place = h .place;
+      length = h .length;
+      cbfs = h .cbfs;
+      preserve = true;
+      parent = h .parent;
+      level = h .level;
+    }
 
 abbrev pub setOffset : ℕ → Section → Section
-setOffset n h = record { offset = GivenOffset (record { 0 = n }); size = h .size; place = h .place; length = h .length; cbfs = h .cbfs; preserve = h .preserve; parent = h .parent; level = h .level }
+setOffset n h =
+    record {
+      offset = GivenOffset (record { 0 = n });
+      size = h .size;
+      place = h .place;
+      length = h .length;
+      cbfs = h .cbfs;
+      preserve = h .preserve;
+      parent = h
+          .parent;
+      level = h .level;
+    }
 
 abbrev pub setSize : ℕ → Section → Section
-setSize n h = record { offset = h .offset; size = GivenSize n; place = h .place; length = h .length; cbfs = h .cbfs; preserve = h .preserve; parent = h .parent; level = h .level }
+setSize n h =
+    record {
+      offset = h .offset;
+      size = GivenSize n;
+      place = h .place;
+      length = h .length;
+      cbfs = h .cbfs;
+      preserve = h .preserve;
+      parent = h .parent;
+      level = h
+          .level;
+    }
 
 -- R20: 56: unknown or repeated flag
 abbrev pub marked : List ℕ → Token → Section → Flag → Part
@@ -130,18 +182,3 @@ headAt s t lv par n =
     (λ h u. onward (flagsAt s u h)
     (λ i v. onward (offsetAt s v i)
     (λ j w. sizeAt s w j)))
-
--- ---- where the token after a part stands: in the text of n bytes, at or after `at`
-
-abbrev pub AmountIn : ℕ → ℕ → Amount → Type 0
-AmountIn n at (Counted m u) = Within n at u
-AmountIn n at (Uncounted k p) = Unit {0}
-
-abbrev pub PartIn : ℕ → ℕ → Part → Type 0
-PartIn n at (Read h u) = Within n at u
-PartIn n at (Fault k p) = Unit {0}
-
--- and a section that is read is neither too deep, at the level lv, nor one too many, after k others
-abbrev pub HeadIn : ℕ → ℕ → ℕ → ℕ → Part → Type 0
-HeadIn n at lv k (Read h u) = Within n at u × (lv ≤ 8) × (k < 128)
-HeadIn n at lv k (Fault m p) = Unit {0}

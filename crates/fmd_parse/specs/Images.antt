@@ -1,11 +1,11 @@
--- The image of a layout text, up to its opening brace. Readers as in Heads.
+-- The image of a layout text, up to its opening brace. Readers as in Heads, means of proof.
 use mathlib.Core.Bool.{cond, not}
 use mathlib.Core.List.{List, [], _∷_}
 use Prim.Native.Nat.{ℕ, _-_}
 use lib.Dec.{leb}
 use Rattle.octets.specs.Tests.{_and_}
 use Rattle.octets.specs.Rows.{row, refusal}
-use Rattle.fmd_lex.specs.Tokens.{wordKind, bytesOf, Within}
+use Rattle.fmd_lex.specs.Tokens.{wordKind, bytesOf}
 use Rattle.fmd_lex.specs.Names.{goodName}
 use Rattle.fmd_lex.specs.declared.Token.{Token}
 use Rattle.fmd_parse.specs.Heads.{next, isKind, amountAt, judged}
@@ -56,8 +56,3 @@ openAt s t i = cond (isKind 123 t) (Read i (next s t)) (Fault 51 (t .start))
 
 unfoldable pub imageAt : List ℕ → Token → Heading
 imageAt s t = onward (titleAt s t) (λ i u. onward (addressAt s u i) (λ j v. onward (lengthAt s v j) (λ k w. openAt s w k)))
-
--- where the token after it stands
-abbrev pub HeadingIn : ℕ → Heading → Type 0
-HeadingIn n (Read i u) = Within n 0 u
-HeadingIn n (Fault k p) = Unit {0}

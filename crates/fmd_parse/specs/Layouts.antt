@@ -1,10 +1,10 @@
--- Sections in braces, and a whole layout text.
+-- Sections in braces, and a whole layout text, read token by token: means of proof, which the contracts cite.
+-- What is to be believed is the grammar: the theorem Exact of fmd_grammar says that `layoutOf` accepts what derives, and nothing else.
 use mathlib.Core.Bool.{cond}
 use mathlib.Core.List.{List, [], _∷_, _++_}
-use mathlib.Core.Path.{_≡_}
-use Prim.Native.Nat.{ℕ, zero, suc, _+_, _*_, _-_, _≤_, _<_}
+use Prim.Native.Nat.{ℕ, zero, suc, _+_, _*_}
 use lib.ListN.{length}
-use Rattle.fmd_lex.specs.Tokens.{endKind, tokenAt, Within}
+use Rattle.fmd_lex.specs.Tokens.{endKind, tokenAt}
 use Rattle.fmd_lex.specs.declared.Token.{Token}
 use Rattle.fmd_table.specs.Table.{sectionsIn}
 use Rattle.fmd_parse.specs.Heads.{next, isKind, headAt}
@@ -12,8 +12,6 @@ use Rattle.fmd_parse.specs.Images.{imageAt}
 use Rattle.fmd_table.specs.declared.Section.{Section}
 use Rattle.fmd_parse.specs.declared.Part.{Part}
 use Rattle.fmd_parse.specs.declared.Part.the-variants.{Read, Fault}
-use Rattle.fmd_parse.specs.declared.Step.{Step}
-use Rattle.fmd_parse.specs.declared.Step.the-variants.{Onward, Stopped}
 use Rattle.fmd_parse.specs.declared.Image.{Image}
 use Rattle.fmd_parse.specs.declared.Heading.{Heading}
 use Rattle.fmd_parse.specs.declared.Heading.the-variants.{Read as ReadImage, Fault as FaultImage}
@@ -78,26 +76,8 @@ layoutOf s =
     afterImage (imageAt s (tokenAt s 0))
     (λ i t. afterList (listFrom (2 * length s + 2) s t 1 128 []) (endedBy i))
 
--- ---- what the values of the code say, with the table that was lent
-
-abbrev pub stepOf : Step → List ℕ → Parsed
-stepOf (Onward u n) rows = parsed (sectionsIn n rows) u
-stepOf (Stopped n p) rows = fault n p
+-- ---- what the answer says, with the table that was lent
 
 abbrev pub answerOf : Answer → List ℕ → Layout
 answerOf (Accepted i n) rows = layout i (sectionsIn n rows)
 answerOf (Refused n p) rows = refused n p
-
--- ---- the contracts of the two readers: the sections l before, the table rows after
-
-abbrev pub StepIn : ℕ → ℕ → Step → Type 0
-StepIn n at (Onward u k) = Within n at u × (k ≤ 128)
-StepIn n at (Stopped k p) = Unit {0}
-
-pub record SectionRead (s : List ℕ) (t : Token) (lv par : ℕ) (l : List Section) (rows : List ℕ) (r : Step) : Type 0 where
-  pub within : StepIn (length s) (t .start + 1) r
-  pub same : (f : ℕ) → 2 * (length s - t .start) < f → stepOf r rows ≡ sectionFrom f s t lv par l
-
-pub record ListRead (s : List ℕ) (t : Token) (lv par : ℕ) (l : List Section) (rows : List ℕ) (r : Step) : Type 0 where
-  pub within : StepIn (length s) (t .start + 1) r
-  pub same : (f : ℕ) → 2 * (length s - t .start) + 1 < f → stepOf r rows ≡ listFrom f s t lv par l

@@ -1,5 +1,6 @@
--- The grammar of a layout text: what its image and its sections are, or its first fault.
+-- The reading of a layout text, token by token: its image and its sections, or its first fault. Its grammar stands in fmd_grammar.
 pub mod Heads
 pub mod Images
 pub mod Layouts
 pub mod Trees
+pub mod Invariants

@@ -2,9 +2,9 @@
 ghost use mathlib.Core.Path.{_≡_};
 ghost use Prim.Native.Nat.{_≤_};
 ghost use lib.ListN.{length};
-ghost use Rattle.fmd_lex.specs.Tokens.{Within};
+ghost use Rattle.fmd_lex.specs.Invariants.{Within};
 ghost use Rattle.fmd_table.specs.Table.{sectionsIn, HasRows};
-ghost use Rattle.fmd_parse.specs.Layouts.{SectionRead, ListRead};
+ghost use Rattle.fmd_parse.specs.Invariants.{SectionRead, ListRead};
 use super::Part;
 use super::Step;
 use super::head::head_at;

@@ -2,8 +2,9 @@
 ghost use mathlib.Core.Path.{_≡_};
 ghost use Prim.Native.Nat.{_≤_};
 ghost use lib.ListN.{length};
-ghost use Rattle.fmd_lex.specs.Tokens.{Within};
-ghost use Rattle.fmd_parse.specs.Images.{titleAt, addressAt, lengthAt, openAt, imageAt, setAddress, setLength, HeadingIn};
+ghost use Rattle.fmd_lex.specs.Invariants.{Within};
+ghost use Rattle.fmd_parse.specs.Images.{titleAt, addressAt, lengthAt, openAt, imageAt, setAddress, setLength};
+ghost use Rattle.fmd_parse.specs.Invariants.{HeadingIn};
 use super::Address;
 use super::Amount;
 use super::Heading;

@@ -2,8 +2,9 @@
 ghost use mathlib.Core.Path.{_≡_};
 ghost use Prim.Native.Nat.{_+_, _≤_};
 ghost use lib.ListN.{length};
-ghost use Rattle.fmd_lex.specs.Tokens.{Within};
-ghost use Rattle.fmd_parse.specs.Heads.{amountAt, namedAt, markAt, lastAt, otherAt, flagsAt, offsetAt, sizeAt, headAt, setOffset, setSize, AmountIn, PartIn, HeadIn};
+ghost use Rattle.fmd_lex.specs.Invariants.{Within};
+ghost use Rattle.fmd_parse.specs.Heads.{amountAt, namedAt, markAt, lastAt, otherAt, flagsAt, offsetAt, sizeAt, headAt, setOffset, setSize};
+ghost use Rattle.fmd_parse.specs.Invariants.{AmountIn, PartIn, HeadIn};
 use super::Amount;
 use super::Part;
 use fmd_lex::AT;

@@ -10,10 +10,9 @@
 //     disk N granted COUNT back COUNT         sums over the calls since formatting
 //     disk N crc32 HEAD TAIL                  of all bytes of head and tail
 mod calls;
-mod lines;
-mod print;
+mod ledger;
 
-use calls::Sums;
+use ledger::Sums;
 ghost use mathlib.Core.Path.{_≡_};
 ghost use lib.ListN.{length};
 
@@ -31,10 +30,10 @@ fn smallest(head: &mut [u8], tail: &mut [u8])
     requires { ⌜ (length (now head) ≡ 17408) × (length (now tail) ≡ 16896) ⌝ }
 {
     let formatted = calls::format(head, tail, 68);
-    lines::headers(&head[..], &tail[..], 68);
+    sample_lines::headers(&head[..], &tail[..], 68);
     let filled = calls::add(head, tail, 68, formatted, 1, 1);
     let sums = calls::add(head, tail, 68, filled, 2, 1);
-    lines::close(&head[..], &tail[..], 68, sums);
+    sample_lines::close(&head[..], &tail[..], 68, sums.granted, sums.back);
 }
 
 // S3.
@@ -42,7 +41,7 @@ fn hundred(head: &mut [u8], tail: &mut [u8]) -> Sums
     requires { ⌜ (length (now head) ≡ 17408) × (length (now tail) ≡ 16896) ⌝ }
 {
     let formatted = calls::format(head, tail, 100);
-    lines::headers(&head[..], &tail[..], 100);
+    sample_lines::headers(&head[..], &tail[..], 100);
     formatted
 }
 
@@ -70,7 +69,7 @@ fn largest_size(head: &mut [u8], tail: &mut [u8], n: u64, usable: u64) {
     let formatted = calls::format(head, tail, n);
     let same = calls::add(head, tail, n, formatted, 1, 18446744073709551615);
     let sums = calls::add(head, tail, n, same, 2, usable);
-    lines::close(&head[..], &tail[..], n, sums);
+    sample_lines::close(&head[..], &tail[..], n, sums.granted, sums.back);
 }
 
 fn on_68_blocks() {
@@ -86,9 +85,9 @@ fn on_100_blocks() {
     let formatted = hundred(&mut head, &mut tail);
     let deleted = adds_and_delete(&mut head, &mut tail, formatted);
     let edited = adds_again(&mut head, &mut tail, deleted);
-    lines::close(&head, &tail, 100, edited);
+    sample_lines::close(&head, &tail, 100, edited.granted, edited.back);
     let resized = resizes(&mut head, &mut tail, edited);
-    lines::close(&head, &tail, 100, resized);
+    sample_lines::close(&head, &tail, 100, resized.granted, resized.back);
 }
 
 fn with_largest_size(n: u64, usable: u64) {

@@ -6,16 +6,14 @@
 //     text BYTES TEXT     stored bytes and the text written for them
 //
 // The lines of `disk` follow. A second program that shares no code with this one prints the same lines (host/second).
-mod print;
-
 use guid::Answer;
 
 fn crc(label: &[u8], input: &[u8]) {
-    print::bytes(b"crc32 ");
-    print::bytes(label);
-    print::bytes(b" ");
-    print::hex32(crc32::crc32(input));
-    print::bytes(b"\n");
+    print_out::bytes(b"crc32 ");
+    print_out::bytes(label);
+    print_out::bytes(b" ");
+    print_out::hex32(crc32::crc32(input));
+    print_out::bytes(b"\n");
 }
 
 fn crc_samples() {
@@ -48,39 +46,39 @@ fn more_crc_samples() {
 // The stored bytes, or the refusal.
 fn print_read(answer: Answer, guid: &[u8]) {
     match answer {
-        Answer::Done => print::hex(guid),
-        Answer::WrongLength => print::bytes(b"refused 1"),
-        Answer::NotGuidText => print::bytes(b"refused 30"),
+        Answer::Done => print_out::hex(guid),
+        Answer::WrongLength => print_out::bytes(b"refused 1"),
+        Answer::NotGuidText => print_out::bytes(b"refused 30"),
     }
-    print::bytes(b"\n");
+    print_out::bytes(b"\n");
 }
 
 fn guid_line(text: &[u8]) {
-    print::bytes(b"guid ");
-    print::bytes(text);
-    print::bytes(b" ");
+    print_out::bytes(b"guid ");
+    print_out::bytes(text);
+    print_out::bytes(b" ");
     let mut stored = [0u8; 16];
     let answer = guid::read(text, &mut stored);
     print_read(answer, &stored);
 }
 
 fn type_line(text: &[u8]) {
-    print::bytes(b"type ");
-    print::bytes(text);
-    print::bytes(b" ");
+    print_out::bytes(b"type ");
+    print_out::bytes(text);
+    print_out::bytes(b" ");
     let mut stored = [0u8; 16];
     let answer = guid::read_type(text, &mut stored);
     print_read(answer, &stored);
 }
 
 fn text_line(stored: &[u8]) {
-    print::bytes(b"text ");
-    print::hex(stored);
-    print::bytes(b" ");
+    print_out::bytes(b"text ");
+    print_out::hex(stored);
+    print_out::bytes(b" ");
     let mut text = [0u8; 36];
     guid::write(stored, &mut text);
-    print::bytes(&text);
-    print::bytes(b"\n");
+    print_out::bytes(&text);
+    print_out::bytes(b"\n");
 }
 
 fn guid_samples() {

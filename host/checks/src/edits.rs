@@ -114,6 +114,14 @@ pub fn faults(rows: &[Row], wanted: &[(String, usize)], known: &dyn Fn(&str) -> 
     found
 }
 
+/// The subjects that more edits name than must: an edit costs a check of its crate.
+pub fn abundant(rows: &[Row], wanted: &[(String, usize)]) -> Vec<String> {
+    let counted = wanted.iter().map(|(subject, least)| (subject, naming(rows, subject).len(), least));
+    let more = counted.filter(|(_, count, least)| count > least);
+    more.map(|(subject, count, least)| format!("{subject}: {count} edits name it, {least} are enough"))
+        .collect()
+}
+
 const HEAD: &str = "# Edits that the prover refuses
 
 `rt ci` makes each of these edits in a copy of its crate, and the prover must refuse the copy. `edits --write` (host/checks) writes this
@@ -197,6 +205,14 @@ mod tests {
         let facts = facts(&text);
         assert_eq!(facts["k/one"], "`p`, `returns`: a | b");
         assert_eq!(facts["k/two"], "`p`, `returns`: c");
+    }
+
+    #[test]
+    fn tells_where_there_are_more_than_needed() {
+        assert!(abundant(&good(), &needs()).is_empty());
+        let third = "# rules out: k::f: w\nfile: src/lib.rt\nold: x | 1\nnew: x\n";
+        let rows: Vec<Row> = good().into_iter().chain([row("three", third, "`p`, `q`: r")]).collect();
+        assert_eq!(abundant(&rows, &needs()), ["k::f: 3 edits name it, 2 are enough"]);
     }
 
     #[test]

@@ -1,6 +1,7 @@
 //! The repository's own text, as the programs of this package read it. Paths are relative to its root.
 
 pub mod contract;
+pub mod cost;
 pub mod crates;
 pub mod edit;
 pub mod edits;

@@ -2,7 +2,8 @@
 
 use crate::failure::Failure;
 use crate::help;
-use crate::verbs::{Verb, GROUPS, VERBS};
+use crate::paths::shown;
+use crate::verbs::{self, Verb, GROUPS};
 use std::ffi::{OsStr, OsString};
 use std::os::unix::ffi::OsStrExt;
 use std::path::Path;
@@ -16,7 +17,7 @@ pub struct Choice {
 }
 
 /// A call's arguments, as its verb has them.
-#[derive(Debug)]
+#[derive(Clone, Debug)]
 pub struct Given {
     pub operands: Vec<OsString>,
     chosen: Vec<(&'static str, Option<OsString>)>,
@@ -37,6 +38,11 @@ impl Given {
         utf8(&self.operands[place], what)
     }
 
+    /// The same call with one of its operands.
+    pub fn alone(&self, place: usize) -> Given {
+        Given { operands: vec![self.operands[place].clone()], chosen: self.chosen.clone() }
+    }
+
     pub fn has(&self, option: &str) -> bool {
         self.chosen.iter().any(|(name, _)| *name == option)
     }
@@ -52,7 +58,7 @@ impl Given {
 }
 
 fn utf8<'a>(value: &'a OsStr, what: &str) -> Result<&'a str, Failure> {
-    value.to_str().ok_or_else(|| Failure::sentence(format!("{what} is not UTF-8")))
+    value.to_str().ok_or_else(|| Failure::usage(format!("{what} is not UTF-8")))
 }
 
 /// Reads the words after the command's own name.
@@ -60,32 +66,54 @@ pub fn read(words: &[OsString]) -> Result<Request, Failure> {
     let word = |place: usize| words.get(place).and_then(|word| word.to_str());
     match word(0) {
         None if words.is_empty() => Err(wrong("a group is missing: fmd, fmap or gpt", "")),
-        Some("--help" | "-h" | "help") => Ok(Request::Say(help::command())),
+        Some("help") => asked(&words[1..]),
+        Some("--help" | "-h") => Ok(Request::Say(help::command())),
         Some("--version" | "-V") => Ok(Request::Say(help::version())),
-        Some(group) if GROUPS.iter().any(|(name, _)| *name == group) => read_verb(group, &words[1..]),
-        _ => Err(wrong(&format!("there is no group {}", words[0].display()), "")),
+        _ => {
+            let group = group(&words[0])?;
+            match word(1) {
+                Some("--help" | "-h") => Ok(Request::Say(help::group(group))),
+                Some("help") => asked(&[&words[..1], &words[2..]].concat()),
+                _ => read_call(verb(group, words.get(1))?, &words[2..]),
+            }
+        }
     }
 }
 
-fn read_verb(group: &str, words: &[OsString]) -> Result<Request, Failure> {
-    let said = words.first().and_then(|word| word.to_str());
-    if let Some("--help" | "-h" | "help") = said {
-        return Ok(Request::Say(help::group(group)));
-    }
-    let of_group = || VERBS.iter().filter(|verb| verb.group == group);
-    let Some(verb) = of_group().find(|verb| Some(verb.name) == said) else {
-        let names: Vec<_> = of_group().map(|verb| verb.name).collect();
-        let found = words
-            .first()
-            .map_or("a verb is missing".into(), |word| format!("{group} has no verb {}", word.display()));
-        return Err(wrong(&format!("{found}: {}", names.join(", ")), group));
+/// `help`, `help GROUP` and `help GROUP VERB`.
+fn asked(words: &[OsString]) -> Result<Request, Failure> {
+    let said = match words {
+        [] => help::command(),
+        [one] => help::group(group(one)?),
+        [one, name] => help::verb(verb(group(one)?, Some(name))?),
+        [_, _, more, ..] => return Err(wrong(&format!("{} is one word too many", told(more)), "")),
     };
-    read_call(verb, &words[1..])
+    Ok(Request::Say(said))
+}
+
+fn group(word: &OsStr) -> Result<&'static str, Failure> {
+    let found = GROUPS.iter().find(|(name, _)| word == *name);
+    found.map(|(name, _)| *name).ok_or_else(|| wrong(&format!("there is no group {}", told(word)), ""))
+}
+
+fn verb(group: &str, word: Option<&OsString>) -> Result<&'static Verb, Failure> {
+    let said = word.and_then(|word| word.to_str());
+    verbs::of_group(group).find(|verb| Some(verb.name) == said).ok_or_else(|| {
+        let names: Vec<_> = verbs::of_group(group).map(|verb| verb.name).collect();
+        let found =
+            word.map_or("a verb is missing".into(), |word| format!("{group} has no verb {}", told(word)));
+        wrong(&format!("{found}: {}", names.join(", ")), group)
+    })
+}
+
+/// A word as it may stand in a sentence.
+fn told(word: &OsStr) -> String {
+    shown(Path::new(word))
 }
 
 fn read_call(verb: &'static Verb, words: &[OsString]) -> Result<Request, Failure> {
     let of = format!("{} {}", verb.group, verb.name);
-    let wrong = |what: String| wrong(&what, &of);
+    let wrong = |what: String| wrong(&what, &of).with(verb.always);
     let mut given = Given { operands: Vec::new(), chosen: Vec::new() };
     let mut words = words.iter();
     let mut options_end = false;
@@ -103,7 +131,7 @@ fn read_call(verb: &'static Verb, words: &[OsString]) -> Result<Request, Failure
             return Ok(Request::Say(help::verb(verb)));
         }
         let choice = verb.options.iter().find(|choice| name == choice.name);
-        let choice = choice.ok_or_else(|| wrong(format!("there is no option {}", name.display())))?;
+        let choice = choice.ok_or_else(|| wrong(format!("there is no option {}", told(name))))?;
         if given.has(choice.name) {
             return Err(wrong(format!("{} stands twice", choice.name)));
         }
@@ -121,12 +149,13 @@ fn read_call(verb: &'static Verb, words: &[OsString]) -> Result<Request, Failure
     if let Some(choice) = verb.options[..verb.required].iter().find(|choice| !given.has(choice.name)) {
         return Err(wrong(format!("{} {} is missing", choice.name, choice.value.unwrap_or_default())));
     }
-    match (given.operands.len(), verb.operands) {
-        (few, names) if few < names.len() => Err(wrong(format!("{} is missing", names[few]))),
-        (many, names) if many > names.len() => {
-            Err(wrong(format!("{} is one operand too many", given.operands[names.len()].display())))
-        }
-        _ => Ok(Request::Call(verb, given)),
+    let names = verb.operands;
+    if let Some(missing) = names.get(given.operands.len()) {
+        return Err(wrong(format!("{} is missing", missing.trim_end_matches("..."))));
+    }
+    match given.operands.get(names.len()).filter(|_| !verb.takes_several()) {
+        Some(more) => Err(wrong(format!("{} is one operand too many", told(more)))),
+        None => Ok(Request::Call(verb, given)),
     }
 }
 
@@ -143,7 +172,7 @@ fn split(word: &OsStr) -> (&OsStr, Option<&OsStr>) {
 
 fn wrong(what: &str, of: &str) -> Failure {
     let space = if of.is_empty() { "" } else { " " };
-    Failure::sentence(format!("{what} (usigrambal{space}{of} --help tells more)"))
+    Failure::usage(what).hint(format!("usigrambal{space}{of} --help tells more"))
 }
 
 #[cfg(test)]
@@ -155,14 +184,14 @@ mod tests {
         match read(&words) {
             Ok(Request::Call(_, given)) => given,
             Ok(Request::Say(said)) => panic!("{said}"),
-            Err(failure) => panic!("{}", failure.line),
+            Err(failure) => panic!("{:?}", failure.lines()),
         }
     }
 
     fn refused(words: &[&str]) -> String {
         let words: Vec<OsString> = words.iter().map(OsString::from).collect();
         match read(&words) {
-            Err(failure) => failure.line,
+            Err(failure) => failure.lines().remove(0),
             Ok(_) => panic!("{words:?}"),
         }
     }
@@ -190,12 +219,36 @@ mod tests {
     }
 
     #[test]
+    fn help_has_three_forms() {
+        let said = |words: &[&str]| match read(&words.iter().map(OsString::from).collect::<Vec<_>>()) {
+            Ok(Request::Say(said)) => said,
+            _ => panic!("{words:?}"),
+        };
+        assert_eq!(said(&["help"]), said(&["--help"]));
+        assert_eq!(said(&["help", "gpt"]), said(&["gpt", "--help"]));
+        for words in [["help", "gpt", "add"], ["gpt", "help", "add"], ["gpt", "add", "--help"]] {
+            assert!(said(&words).starts_with("Usage: usigrambal gpt add"));
+        }
+    }
+
+    #[test]
+    fn several_disks() {
+        let given = given(&["gpt", "show", "a", "--json", "b"]);
+        assert_eq!(given.operands, ["a", "b"]);
+        assert_eq!(given.alone(1).path(0), Path::new("b"));
+        assert!(given.alone(1).has("--json"));
+    }
+
+    #[test]
     fn wrong_words_are_named() {
         assert!(refused(&[]).contains("a group is missing"));
         assert!(refused(&["mbr"]).contains("there is no group mbr"));
         assert!(refused(&["gpt", "wipe"]).contains("gpt has no verb wipe: show, free"));
         assert!(refused(&["gpt", "show"]).contains("DISK is missing"));
-        assert!(refused(&["gpt", "show", "a", "b"]).contains("b is one operand too many"));
+        assert!(refused(&["gpt", "repair", "a", "b"]).contains("b is one operand too many"));
+        assert!(refused(&["help", "gpt", "add", "now"]).contains("now is one word too many"));
+        assert!(refused(&["help", "gpt", "wipe"]).contains("gpt has no verb wipe"));
+        assert!(refused(&["a\u{1b}[2J"]).contains("there is no group a\\u{1b}[2J"));
         assert!(refused(&["gpt", "show", "a", "--jsn"]).contains("there is no option --jsn"));
         assert!(refused(&["gpt", "show", "a", "--json", "--json"]).contains("--json stands twice"));
         assert!(refused(&["gpt", "show", "a", "--json=1"]).contains("--json takes no value"));

@@ -1,6 +1,7 @@
 //! A disk by its head and tail: read, changed in memory, and written back.
 
-use crate::failure::Failure;
+use crate::failure::{Failure, On};
+use crate::paths::quoted;
 use crate::sizes::BLOCK_LEN;
 use crate::storage::{about, open, put, unusable, Access, Opened, Unwritten};
 use std::fs::File;
@@ -8,11 +9,16 @@ use std::os::unix::fs::FileExt;
 use std::path::Path;
 use usigrambal::{Disk, HEAD_LEN, TAIL_LEN};
 
+/// On the heap: the stack may be small.
 #[derive(Clone, PartialEq, Eq)]
 pub struct Ends {
-    head: [u8; HEAD_LEN],
-    tail: [u8; TAIL_LEN],
+    head: Box<[u8; HEAD_LEN]>,
+    tail: Box<[u8; TAIL_LEN]>,
     pub n: u64,
+}
+
+fn zeros<const LEN: usize>() -> Box<[u8; LEN]> {
+    vec![0; LEN].into_boxed_slice().try_into().expect("as long")
 }
 
 /// How an edit is to be made.
@@ -40,11 +46,11 @@ impl Ends {
             return Err(about(path, &fault));
         }
         let n = opened.facts.bytes / BLOCK_LEN;
-        let mut ends = Ends { head: [0; HEAD_LEN], tail: [0; TAIL_LEN], n };
+        let mut ends = Ends { head: zeros(), tail: zeros(), n };
         if opened.facts.bytes >= (HEAD_LEN + TAIL_LEN) as u64 {
             let tail_at = ends.tail_at();
-            let read = opened.file.read_exact_at(&mut ends.head, 0);
-            let read = read.and_then(|()| opened.file.read_exact_at(&mut ends.tail, tail_at));
+            let read = opened.file.read_exact_at(&mut ends.head[..], 0);
+            let read = read.and_then(|()| opened.file.read_exact_at(&mut ends.tail[..], tail_at));
             read.map_err(|error| unusable(path, "cannot be read", &error))?;
         }
         Ok(ends)
@@ -56,7 +62,7 @@ impl Ends {
 }
 
 pub fn read(path: &Path) -> Result<Ends, Failure> {
-    Ends::read(path, &open(path, Access::Read)?)
+    open(path, Access::Read).and_then(|opened| Ends::read(path, &opened)).on("disk", path)
 }
 
 /// Makes an edit. It is first tried on a disk that is open for reading only: so a refusal, a dry run and an edit
@@ -86,12 +92,12 @@ fn write(path: &Path, file: &File, before: &Ends, after: &Ends) -> Result<(), Fa
     let (tail_changed, head_changed) = (before.tail != after.tail, before.head != after.head);
     let failed = |copy, other, unwritten| about(path, &told(path, copy, other, &unwritten));
     if tail_changed {
-        let written = put(file, &after.tail, after.tail_at(), &[(0, TAIL_LEN)]);
+        let written = put(file, &after.tail[..], after.tail_at(), &[(0, TAIL_LEN)]);
         written
             .map_err(|unwritten| failed("the backup copy", "the primary copy was not touched", unwritten))?;
     }
     if head_changed {
-        let written = put(file, &after.head, 0, &[(0, HEAD_LEN)]);
+        let written = put(file, &after.head[..], 0, &[(0, HEAD_LEN)]);
         let backup =
             if tail_changed { "the backup copy was written" } else { "the backup copy was not touched" };
         written.map_err(|unwritten| failed("the primary copy", backup, unwritten))?;
@@ -102,6 +108,6 @@ fn write(path: &Path, file: &File, before: &Ends, after: &Ends) -> Result<(), Fa
 /// What was written, and what was not.
 fn told(path: &Path, copy: &str, other: &str, unwritten: &Unwritten) -> String {
     let (words, was) = (unwritten.words(), if unwritten.written == 0 { "was not" } else { "was not wholly" });
-    let repair = format!("`usigrambal gpt repair {}` makes both alike", path.display());
+    let repair = format!("`usigrambal gpt repair {}` makes both alike", quoted(path));
     format!("could not be written: {other}, {copy} {was}: {words}; {repair}")
 }

@@ -1,29 +1,28 @@
 //! The verbs on flash images.
 
 use crate::arguments::Given;
-use crate::failure::Failure;
+use crate::failure::{Failure, On};
 use crate::image;
 use crate::json::Json;
+use crate::paths::shown as path_shown;
 use crate::report::{self, Report};
 use crate::show::{area_table, areas_json, gaps_json, tree, Area, Side, Span, Table};
 use crate::sizes::human;
-use crate::storage::{self, about, same_file, Kind};
+use crate::storage::{self, same_file, Kind};
 use std::fs::{self, OpenOptions};
 use std::io::{self, IsTerminal, Write};
 use std::os::unix::ffi::OsStrExt;
 use std::path::Path;
 use usigrambal::flash::{self, Carried};
 
-const NO_AREA: u32 = usigrambal::Refusal::NoSuchArea.number();
-
 pub fn show(given: &Given) -> Result<Report, Failure> {
     let path = given.path(0);
     let image = image::read(path)?.bytes;
-    let map = flash::map(&image)?;
+    let map = flash::map(&image).on("image", path)?;
     let len = image.len() as u64;
     let areas: Vec<Area> = map.areas.into_iter().map(shown).collect();
     let rows = tree(&areas.iter().map(|area| area.span).collect::<Vec<_>>(), len);
-    let mut text = format!("{}: {len} bytes ({})\n", path.display(), human(len));
+    let mut text = format!("{}: {len} bytes ({})\n", path_shown(path), human(len));
     text += &format!(
         "map {} at {:#010x}, version {}.{}, base {:#x}, {} areas\n\n",
         map.name,
@@ -56,8 +55,7 @@ pub fn carry(given: &Given) -> Result<Report, Failure> {
     let (old_path, new_path) = (given.path(0), given.path(1));
     let (old, new) = (image::read(old_path)?, image::read(new_path)?);
     if same_file(&old.metadata, &new.metadata) {
-        let both = format!("and {} are the same file", new_path.display());
-        return Err(about(old_path, &both));
+        return Err(storage::same(old_path, new_path));
     }
     let mut after = new.bytes.clone();
     flash::carry(&old.bytes, &mut after)?;
@@ -76,8 +74,8 @@ pub fn carry(given: &Given) -> Result<Report, Failure> {
     text += &format!(
         "{} {noun} {verb} from {} into {}, {total} bytes ({}){what}\n",
         carried.len(),
-        old_path.display(),
-        new_path.display(),
+        path_shown(old_path),
+        path_shown(new_path),
         human(total)
     );
     let one = |one: &Carried| {
@@ -97,8 +95,8 @@ pub fn carry(given: &Given) -> Result<Report, Failure> {
         ("carried", carried.iter().map(one).collect()),
     ];
     let none =
-        carried.is_empty().then(|| format!("note: the map of {} marks no area PRESERVE", old_path.display()));
-    Ok(Report { notes: none.into_iter().collect(), ..Report::new(text, json) })
+        carried.is_empty().then(|| format!("the map of {} marks no area PRESERVE", path_shown(old_path)));
+    Ok(Report::new(text, json).warn(none))
 }
 
 /// The bytes of a carried area in the new image.
@@ -133,14 +131,18 @@ pub fn extract(given: &Given) -> Result<Report, Failure> {
     let target = given.value("-o").map(Path::new);
     if target.is_none() && io::stdout().is_terminal() {
         let what = "standard output is a terminal, which raw bytes would spoil; -o FILE or a pipe takes them";
-        return Err(Failure::sentence(what));
+        return Err(Failure::usage(what));
     }
     let (path, name) = (given.path(0), given.operands[1].as_os_str());
     let image = image::read(path)?;
     let found = flash::area_named(&image.bytes, name.as_bytes())?;
     let area = found.map(|k| flash::area(&image.bytes, k)).transpose()?.flatten();
-    let area =
-        area.ok_or_else(|| Failure::refused(NO_AREA, format!("no area has that name: {}", name.display())))?;
+    let area = area.ok_or_else(|| {
+        Failure::refused(
+            usigrambal::Refusal::NoSuchArea,
+            format!("no area has that name: {}", name.display()),
+        )
+    })?;
     let bytes = area.bytes(&image.bytes);
     match target {
         Some(target) => save(path, &image, target, bytes)?,
@@ -154,7 +156,7 @@ fn save(path: &Path, image: &image::Image, target: &Path, bytes: &[u8]) -> Resul
         return storage::create(target, bytes);
     };
     if same_file(&image.metadata, &metadata) {
-        return Err(about(path, &format!("and {} are the same file", target.display())));
+        return Err(storage::same(path, target));
     }
     if storage::kind(&metadata) == Kind::Regular {
         storage::open(target, storage::Access::Write { force: false })?;

@@ -1,6 +1,6 @@
 //! What `--help` and `--version` print.
 
-use crate::verbs::{Verb, GROUPS, VERBS};
+use crate::verbs::{self, Verb, GROUPS};
 
 const WIDTH: usize = 100;
 
@@ -13,7 +13,8 @@ DISK, IMAGE: a file or a block device. Of a disk only the first 34 and the last 
 ";
 
 const STATUS: &str = "\
-Exit status: 0 done; 1 refused (`refused NUMBER: words` on standard error); 2 usage, input or output.
+Exit status: 0 done; 1 refused (`refused NUMBER: FILE: words` on standard error), or a check found something;
+      2 usage; 3 input and output; 4 in use, or something is there that needs a word (--force, --replace, --retire).
 ";
 
 pub fn version() -> String {
@@ -28,14 +29,14 @@ pub fn command() -> String {
         text += "\n";
     }
     text += &format!("{SIZES}\n{STATUS}");
-    text += "\nusigrambal GROUP VERB --help tells the options of a verb, with examples:\n";
-    text + &examples(VERBS.iter().filter(|verb| ["write", "show", "add"].contains(&verb.name)))
+    text += "\nusigrambal help GROUP VERB tells the options of a verb, with examples:\n";
+    text + &examples(verbs::all().filter(|verb| ["write", "show", "add"].contains(&verb.name)))
 }
 
 pub fn group(group: &str) -> String {
     let about = GROUPS.iter().find(|(name, _)| *name == group).map_or("", |(_, about)| about);
-    let verbs = VERBS.iter().filter(|verb| verb.group == group);
-    format!("usigrambal {group}: {about}\n\n{}\nExamples:\n{}\n{STATUS}", usages(group), examples(verbs))
+    let examples = examples(verbs::of_group(group));
+    format!("usigrambal {group}: {about}\n\n{}\nExamples:\n{examples}\n{STATUS}", usages(group))
 }
 
 pub fn verb(verb: &Verb) -> String {
@@ -59,8 +60,7 @@ pub fn verb(verb: &Verb) -> String {
 }
 
 fn usages(group: &str) -> String {
-    let verbs = VERBS.iter().filter(|verb| verb.group == group);
-    verbs.map(|verb| format!("  {}\n", wrapped(&usage(verb), 6))).collect()
+    verbs::of_group(group).map(|verb| format!("  {}\n", wrapped(&usage(verb), 6))).collect()
 }
 
 fn usage(verb: &Verb) -> String {
@@ -116,7 +116,7 @@ mod tests {
 
     #[test]
     fn every_verb_tells_its_options_and_an_example_of_itself() {
-        for verb in VERBS {
+        for verb in verbs::all() {
             let text = super::verb(verb);
             let call = format!("usigrambal {} {}", verb.group, verb.name);
             assert!(verb.examples.iter().any(|example| example.contains(&call)), "{call}");
@@ -127,7 +127,7 @@ mod tests {
 
     #[test]
     fn lines_fit() {
-        let all = VERBS.iter().map(verb).chain([command()]).chain(GROUPS.iter().map(|(name, _)| group(name)));
+        let all = verbs::all().map(verb).chain([command()]).chain(GROUPS.iter().map(|(name, _)| group(name)));
         for line in all.flat_map(|text| text.lines().map(str::to_string).collect::<Vec<_>>()) {
             assert!(line.len() <= 116, "{line}");
         }

@@ -2,7 +2,9 @@
 
 use crate::failure::Failure;
 use crate::show::Progress;
-use crate::storage::{self, about, changed_runs, open, put_told, same_file, unusable, Access, Kind, Opened};
+use crate::storage::{
+    self, about, changed_runs, needed, open, put_told, same_file, unusable, Access, Kind, Opened,
+};
 use std::fs::Metadata;
 use std::io::{Read, Seek};
 use std::path::Path;
@@ -33,7 +35,7 @@ pub fn write(path: &Path, image: &Image, after: &[u8], force: bool) -> Result<()
     let opened = open(path, Access::Write { force })?;
     let replaced = !same_file(&storage::metadata(path)?, &opened.metadata);
     if replaced || contents(path, &opened)? != image.bytes {
-        return Err(about(path, "was changed by another program meanwhile; nothing was written"));
+        return Err(needed(path, "was changed by another program meanwhile; nothing was written"));
     }
     if opened.facts.kind == Kind::Regular {
         return storage::replace(path, &opened.metadata, after);

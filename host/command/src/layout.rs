@@ -3,10 +3,11 @@
 use crate::arguments::Given;
 use crate::failure::{words, Failure};
 use crate::image;
+use crate::paths::shown as path_shown;
 use crate::report::Report;
 use crate::show::{area_table, areas_json, gaps_json, tree, Area, Span};
 use crate::sizes::human;
-use crate::storage::{self, about, same_file, unusable};
+use crate::storage::{self, about, needed, same_file, unusable};
 use std::fs::{self, File};
 use std::io::{self, Read};
 use std::path::Path;
@@ -59,7 +60,7 @@ pub fn write(given: &Given) -> Result<Report, Failure> {
     let position = sections.iter().find(|section| section.name == "FMAP").map(|section| section.position);
     let position = u64::from(position.unwrap_or_default());
     let map = format!("the map of {} with {} areas", layout.name, layout.sections);
-    let (verb, image_path) = (if dry_run { "would write" } else { "wrote" }, path.display());
+    let (verb, image_path) = (if dry_run { "would write" } else { "wrote" }, path_shown(path));
     let text = match (create, changed) {
         (true, _) => {
             let size = format!("{} bytes ({})", layout.size, human(layout.size));
@@ -82,8 +83,8 @@ pub fn write(given: &Given) -> Result<Report, Failure> {
     let mut report = Report::new(text, json);
     match flash::find(&image) {
         Ok(found) if found != position => report
-            .notes
-            .push(format!("note: another good map stands lower, at {found:#010x}; readers find that one")),
+            .warnings
+            .push(format!("another good map stands lower, at {found:#010x}; readers find that one")),
         _ => {}
     }
     Ok(report)
@@ -93,7 +94,7 @@ fn made(text: &[u8], size: u64, path: &Path, dry_run: bool) -> Result<Vec<u8>, F
     let mut image = vec![ERASED; size as usize];
     layout::write_map(text, &mut image)?;
     if fs::symlink_metadata(path).is_ok() {
-        return Err(about(path, "is already there; --create makes new files only"));
+        return Err(needed(path, "is already there; --create makes new files only"));
     }
     if !dry_run {
         storage::create(path, &image)?;
@@ -109,7 +110,7 @@ fn rewritten(given: &Given, text: &[u8]) -> Result<(Vec<u8>, bool), Failure> {
     }
     let image = image::read(path)?;
     if fs::metadata(source).is_ok_and(|text| same_file(&text, &image.metadata)) {
-        return Err(about(source, &format!("and {} are the same file", path.display())));
+        return Err(storage::same(source, path));
     }
     let mut after = image.bytes.clone();
     layout::write_map(text, &mut after)?;
@@ -126,7 +127,9 @@ fn read(path: &Path) -> Result<Vec<u8>, Failure> {
     let mut text = Vec::new();
     if path == Path::new("-") {
         let read = io::stdin().lock().take(limit).read_to_end(&mut text);
-        read.map_err(|error| Failure::sentence(format!("standard input cannot be read: {}", words(&error))))?;
+        read.map_err(|error| {
+            Failure::input_output(format!("standard input cannot be read: {}", words(&error)))
+        })?;
     } else {
         let read = File::open(path).and_then(|file| file.take(limit).read_to_end(&mut text));
         read.map_err(|error| unusable(path, "cannot be read", &error))?;

@@ -1,5 +1,6 @@
 //! The command `usigrambal`: layout texts, flash images and GPT disks, on files and block devices.
 
+mod answers;
 mod arguments;
 mod disk;
 mod failure;
@@ -9,44 +10,62 @@ mod help;
 mod image;
 mod json;
 mod layout;
+mod paths;
 mod report;
 mod show;
 mod sizes;
 mod storage;
 mod verbs;
 
-use arguments::Request;
-use failure::Failure;
+use answers::Answers;
+use arguments::{Given, Request};
+use failure::{words, Failure};
+use report::Report;
 use std::env;
 use std::ffi::OsString;
 use std::process::ExitCode;
+use std::thread;
+use verbs::Verb;
+
+/// A layout text needs up to 2 MiB of stack, more than a caller may leave to the main thread (`ulimit -s`).
+const LAYOUT_STACK: usize = 4 << 20;
 
 fn main() -> ExitCode {
     let words: Vec<OsString> = env::args_os().skip(1).collect();
-    let request = arguments::read(&words);
-    let json = match &request {
-        Ok(Request::Call(_, given)) => given.has("--json"),
-        Ok(Request::Say(_)) => false,
-        Err(_) => words.iter().any(|word| word == "--json"),
+    let status = match arguments::read(&words) {
+        Ok(Request::Say(text)) => {
+            report::print(text.as_bytes()).map_or_else(|failure| told(false, failure), |()| 0)
+        }
+        Ok(Request::Call(verb, given)) => call(verb, &given),
+        Err(failure) => told(words.iter().any(|word| word == "--json"), failure),
     };
-    match request.and_then(|request| answer(request, json)) {
-        Ok(()) => ExitCode::SUCCESS,
-        Err(failure) => failed(&failure, json),
+    ExitCode::from(status)
+}
+
+fn told(json: bool, failure: Failure) -> u8 {
+    let mut answers = Answers::new(json, false);
+    answers.tell(Err(failure));
+    answers.end()
+}
+
+/// Each of several disks is a call of its own.
+fn call(verb: &'static Verb, given: &Given) -> u8 {
+    let several = verb.takes_several() && given.operands.len() > 1;
+    let mut answers = Answers::new(given.has("--json"), several);
+    match several {
+        true => (0..given.operands.len()).for_each(|place| answers.tell(run(verb, &given.alone(place)))),
+        false => answers.tell(run(verb, given)),
     }
+    answers.end()
 }
 
-fn answer(request: Request, json: bool) -> Result<(), Failure> {
-    let report = match request {
-        Request::Say(text) => return report::print(text.as_bytes()),
-        Request::Call(verb, given) => (verb.run)(&given)?,
-    };
-    report.notes.iter().for_each(|note| report::say(&format!("usigrambal: {note}")));
-    let text = if json { format!("{}\n", report.json) } else { report.text };
-    report::print(text.as_bytes())
-}
-
-fn failed(failure: &Failure, json: bool) -> ExitCode {
-    report::say(&failure.line);
-    let printed = if json { report::print(format!("{}\n", failure.json).as_bytes()) } else { Ok(()) };
-    ExitCode::from(if printed.is_ok() { failure.status } else { 2 })
+fn run(verb: &'static Verb, given: &Given) -> Result<Report, Failure> {
+    let run = || (verb.run)(given).map_err(|failure| failure.with(verb.always));
+    if verb.group != "fmd" {
+        return run();
+    }
+    thread::scope(|scope| match thread::Builder::new().stack_size(LAYOUT_STACK).spawn_scoped(scope, run) {
+        Ok(thread) => thread.join().unwrap_or_else(|panic| std::panic::resume_unwind(panic)),
+        Err(error) => Err(Failure::input_output(format!("no thread can be had: {}", words(&error)))),
+    })
 }

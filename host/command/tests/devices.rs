@@ -42,16 +42,15 @@ fn a_device_in_use() {
     run!["gpt", "format", path].done();
     let held = File::options().read(true).custom_flags(O_EXCL).open(path).expect("a device");
     let before = fs::read(path).expect("a device");
-    run!["gpt", "add", path, "--size", "1"]
-        .sentence("is in use (mounted, or held by another program); --force");
-    run!["gpt", "format", path].sentence("is in use");
+    run!["gpt", "add", path, "--size", "1"].needed("is in use (mounted, or held by another program)");
+    run!["gpt", "format", path].needed("is in use");
     assert_eq!(fs::read(path).expect("a device"), before);
     run!["gpt", "show", path].done();
     run!["gpt", "add", path, "--size", "1", "--dry-run"].done();
     // The kernel does not read the table of a device in use.
     let forced = run!["gpt", "add", path, "--size", "1", "--force"];
     assert_eq!(forced.status, Some(0), "{}", forced.err);
-    assert!(forced.err.is_empty() || forced.err.contains("note: the kernel still goes by the old table"));
+    assert!(forced.err.is_empty() || forced.err.contains("warning: the kernel still goes by the old table"));
     drop(held);
     run!["gpt", "add", path, "--size", "1"].done();
     assert_eq!(run!["gpt", "show", path, "--json"].json().list("partitions").len(), 2);
@@ -63,7 +62,7 @@ fn logical_blocks_of_4096_bytes() {
     let file = folder.sparse("disk.img", 1 << 20);
     let Some(device) = Loop::new(&file, &["-b", "4096"]) else { return };
     for verb in ["show", "free", "verify", "format", "repair"] {
-        run!["gpt", verb, device.0].sentence("has logical blocks of 4096 bytes; only 512 can be used");
+        run!["gpt", verb, device.0].unusable("has logical blocks of 4096 bytes; only 512 can be used");
     }
     assert!(fs::read(&file).expect("a file").iter().all(|byte| *byte == 0));
 }
@@ -73,7 +72,7 @@ fn a_read_only_device() {
     let folder = Folder::new();
     let file = common::disk(&folder, "disk.img", 2048);
     let Some(device) = Loop::new(&file, &["-r"]) else { return };
-    run!["gpt", "add", device.0, "--size", "1"].sentence("is read-only");
+    run!["gpt", "add", device.0, "--size", "1"].unusable("is read-only");
     run!["gpt", "show", device.0].done();
 }
 
@@ -113,7 +112,7 @@ fn a_flash_image_on_a_device() {
     let path = &device.0;
     run!["fmd", "write", new_layout, path].done();
     run!["fmap", "carry", old, path, "--dry-run"].done();
-    run!["fmap", "carry", path, path].sentence("are the same file");
+    run!["fmap", "carry", path, path].usage("are the same file");
     run!["fmap", "carry", old, path].done();
     assert!(run!["fmap", "carry", old, path].done().contains("the same already"));
     let after = fs::read(path).expect("a device");

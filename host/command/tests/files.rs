@@ -36,17 +36,17 @@ fn what_is_no_file_or_device_is_not_opened() {
         ("/dev/null".as_ref(), "is a character device"),
         (missing.as_path(), "does not exist"),
     ] {
-        run!["gpt", "show", path].sentence(words);
-        run!["gpt", "format", path].sentence(words);
-        run!["gpt", "add", path, "--size", "1"].sentence(words);
-        run!["fmap", "show", path].sentence(words);
-        run!["fmap", "carry", path, old].sentence(words);
-        run!["fmap", "carry", old, path].sentence(words);
-        run!["fmap", "extract", path, "FMAP"].sentence(words);
-        run!["fmd", "write", layout, path].sentence(words);
+        run!["gpt", "show", path].unusable(words);
+        run!["gpt", "format", path].unusable(words);
+        run!["gpt", "add", path, "--size", "1"].unusable(words);
+        run!["fmap", "show", path].unusable(words);
+        run!["fmap", "carry", path, old].unusable(words);
+        run!["fmap", "carry", old, path].unusable(words);
+        run!["fmap", "extract", path, "FMAP"].unusable(words);
+        run!["fmd", "write", layout, path].unusable(words);
     }
-    run!["fmd", "list", missing].sentence("does not exist");
-    run!["fmd", "list", folder.0].sentence("cannot be read: Is a directory");
+    run!["fmd", "list", missing].unusable("does not exist");
+    run!["fmd", "list", folder.0].unusable("cannot be read: Is a directory");
     assert!(!missing.exists());
 }
 
@@ -61,12 +61,12 @@ fn a_read_only_file_is_not_written() {
         fs::set_permissions(path, Permissions::from_mode(0o444)).expect("a mode");
     }
     let before = (fs::read(&new).unwrap(), fs::read(&image).unwrap());
-    run!["gpt", "add", image, "--size", "1"].sentence("is read-only");
-    run!["gpt", "format", image].sentence("is read-only");
-    run!["fmap", "carry", old, new].sentence("is read-only");
+    run!["gpt", "add", image, "--size", "1"].unusable("is read-only");
+    run!["gpt", "format", image].unusable("is read-only");
+    run!["fmap", "carry", old, new].unusable("is read-only");
     let other = folder.file("other.fmd", "CHIP 64K { FMAP 1K A 1K }");
-    run!["fmd", "write", other, new].sentence("is read-only");
-    run!["fmap", "extract", old, "CAL", "-o", new].sentence("is read-only");
+    run!["fmd", "write", other, new].unusable("is read-only");
+    run!["fmap", "extract", old, "CAL", "-o", new].unusable("is read-only");
     assert_eq!((fs::read(&new).unwrap(), fs::read(&image).unwrap()), before);
     // What writes nothing goes on.
     run!["gpt", "show", image].done();
@@ -84,10 +84,10 @@ fn one_file_by_two_paths() {
     symlink(&old, &link).expect("a link");
     fs::hard_link(&old, &hard).expect("a link");
     for other in [&old, &link, &hard] {
-        run!["fmap", "carry", old, other].sentence("are the same file");
-        run!["fmap", "carry", other, old, "--dry-run"].sentence("are the same file");
+        run!["fmap", "carry", old, other].usage("are the same file");
+        run!["fmap", "carry", other, old, "--dry-run"].usage("are the same file");
     }
-    run!["fmd", "write", layout, layout].sentence("are the same file");
+    run!["fmd", "write", layout, layout].usage("are the same file");
 }
 
 #[test]
@@ -135,13 +135,13 @@ fn a_new_file_that_cannot_be_written() {
         bash.output().expect("bash").into()
     };
     let carry = ["fmap".as_ref(), "carry".as_ref(), old.as_os_str(), new.as_os_str()];
-    limited(&carry).sentence("is as it was: the new file beside it could not be written: File too large");
+    limited(&carry).unusable("is as it was: the new file beside it could not be written: File too large");
     assert_eq!(fs::read(&new).unwrap(), before);
     let made = folder.path("made.bin");
     let layout = folder.path("old.fmd");
     let create =
         ["fmd".as_ref(), "write".as_ref(), layout.as_os_str(), made.as_os_str(), "--create".as_ref()];
-    limited(&create).sentence("was not made: File too large");
+    limited(&create).unusable("was not made: File too large");
     assert_eq!(folder.names(), ["new.bin", "new.fmd", "old.bin", "old.fmd"]);
 }
 
@@ -189,7 +189,7 @@ fn carries_at_once_lose_nothing() {
             assert_eq!(run!["fmap", "extract", new, name].bytes, [0xFF; 1024], "{name}");
             done += 1;
         } else {
-            ended.sentence("was changed by another program meanwhile; nothing was written");
+            ended.needed("was changed by another program meanwhile; nothing was written");
         }
     }
     assert!(done > 0);
@@ -204,7 +204,7 @@ fn a_lock_of_another_program_is_heeded() {
     std::thread::scope(|scope| {
         scope.spawn(|| run!["gpt", "show", image].done());
         scope.spawn(|| {
-            run!["gpt", "add", image, "--size", "1"].sentence("is in use (locked by another program)")
+            run!["gpt", "add", image, "--size", "1"].needed("is in use (locked by another program)")
         });
     });
     run!["gpt", "add", image, "--size", "1", "--force"].done();
@@ -228,7 +228,7 @@ fn standard_output_that_is_gone_or_full() {
     let full = File::options().write(true).open("/dev/full").expect("/dev/full");
     let output =
         common::command().args(["gpt".as_ref(), "show".as_ref(), image.as_os_str()]).stdout(full).output();
-    Ended::from(output.expect("the command")).sentence("standard output cannot be written: No space left");
+    Ended::from(output.expect("the command")).unusable("standard output cannot be written: No space left");
 }
 
 /// util-linux's `script` runs a command on a terminal.

@@ -182,10 +182,10 @@ fn extract_gives_the_bytes() {
     run!["fmap", "extract", old, "RW_CAL", "-o", "/dev/null"].done();
     for name in ["RW_CA", "", "rw_cal"] {
         let said = run!["fmap", "extract", old, name].refused(255);
-        assert_eq!(said, format!("no area has that name: {name}").trim_end());
+        assert_eq!(said, format!("no area has that name: {name}"));
     }
     let before = fs::read(&old).unwrap();
-    run!["fmap", "extract", old, "RW_CAL", "-o", old].sentence("are the same file");
+    run!["fmap", "extract", old, "RW_CAL", "-o", old].usage("are the same file");
     assert_eq!(fs::read(&old).unwrap(), before);
     assert_eq!(folder.names(), ["cal.bin", "new.bin", "old.bin"]);
 }

@@ -137,7 +137,7 @@ fn a_new_image_is_made() {
     let folder = Folder::new();
     let layout = folder.file("board.fmd", SAMPLE);
     let image = folder.path("image.bin");
-    run!["fmd", "write", layout, image].sentence("does not exist; --create makes a new image");
+    run!["fmd", "write", layout, image].unusable("does not exist; --create makes a new image");
     let told = run!["fmd", "write", layout, image, "--create", "--dry-run"].done();
     assert!(told.contains("a new image of 8388608 bytes (8 MiB)") && !image.exists(), "{told}");
     assert_eq!(
@@ -148,11 +148,10 @@ fn a_new_image_is_made() {
     assert_eq!(bytes.len(), 8 << 20);
     assert_eq!(bytes[..8], *b"__FMAP__");
     assert!(bytes[56 + 4 * 42..].iter().all(|byte| *byte == 0xFF));
-    run!["fmd", "write", layout, image, "--create"]
-        .sentence("is already there; --create makes new files only");
+    run!["fmd", "write", layout, image, "--create"].needed("is already there; --create makes new files only");
     assert_eq!(fs::read(&image).expect("an image"), bytes);
     run!["fmd", "write", layout, folder.path("no/image.bin"), "--create"]
-        .sentence("its folder does not exist");
+        .unusable("its folder does not exist");
 }
 
 #[test]
@@ -166,6 +165,6 @@ fn a_lower_map_is_noted() {
     assert_eq!(ended.status, Some(0));
     assert_eq!(
         ended.err,
-        "usigrambal: note: another good map stands lower, at 0x00000000; readers find that one\n"
+        "usigrambal: warning: another good map stands lower, at 0x00000000; readers find that one\n"
     );
 }

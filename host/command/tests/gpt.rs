@@ -22,13 +22,16 @@ fn a_disk_of_100_blocks() {
     assert_eq!(placed(add(&image, "11", "c")), (1, 49, 59));
     assert_eq!(placed(add(&image, "10", "d")), (3, 34, 43));
     let free = run!["gpt", "free", image].done();
-    assert_eq!(free, "free:        7 blocks (3.5 KiB)\nlongest run: 7 blocks (3.5 KiB)\n");
+    let runs = "Free  First  Last  Blocks     Size\n         60    66       7  3.5 KiB\n";
+    let expected = "free:        7 blocks (3.5 KiB)\nlongest run: 7 blocks (3.5 KiB)\n";
+    assert_eq!(free, format!("{}:\n{expected}\n{runs}", image.display()));
     let words = run!["gpt", "resize", image, "1", "19"].refused(25);
-    assert_eq!(words, "no room: slot 1 cannot have 19 blocks");
+    assert_eq!(words, format!("{}: no room: slot 1 cannot have 19 blocks", image.display()));
     let resized = run!["gpt", "resize", image, "1", "9K"].done();
     assert!(resized.contains("blocks 49 to 66, 18 blocks (9 KiB)") && resized.contains("before: 11 blocks"));
     let free = run!["gpt", "free", image, "--json"].json();
     assert_eq!((free.number("free_blocks"), free.number("longest_run")), (0, 0));
+    assert!(free.list("free_runs").is_empty());
 }
 
 #[test]
@@ -54,6 +57,9 @@ Number  First  Last  Blocks    Size  Type                                  Uniqu
      1     34    57      24  12 KiB  system                                {unique}  0x0         boot
      2     58    81      24  12 KiB  {foreign}  {GUID}  0x5
 
+Free  First  Last  Blocks    Size
+         82   129      48  24 KiB
+
 1{part}2{part}{free}
 ",
         path = image.display(),
@@ -63,7 +69,7 @@ Number  First  Last  Blocks    Size  Type                                  Uniqu
     assert_eq!(shown, expected);
     let narrow = run!["gpt", "show", image, "--width", "8"].done();
     assert_eq!(narrow.lines().last(), Some("1=2=...."));
-    run!["gpt", "show", image, "--width", "0"].sentence("--width must be 1 to");
+    run!["gpt", "show", image, "--width", "0"].usage("--width must be 1 to");
 
     let json = run!["gpt", "show", image, "--json"].json();
     assert_eq!((json.number("blocks"), json.number("state")), (163, 1));
@@ -117,8 +123,8 @@ fn names_come_through() {
     assert!(renamed.ends_with("linux, \"--json\"\n"), "{renamed}");
     let long = "x".repeat(36);
     run!["gpt", "rename", image, "1", long].done();
-    run!["gpt", "rename", image, "1", format!("{long}x")].sentence("the name has 37 UTF-16 units");
-    run!["gpt", "add", image, "--size", "1", "--name", format!("{long}x")].sentence("at most 36");
+    run!["gpt", "rename", image, "1", format!("{long}x")].usage("the name has 37 UTF-16 units");
+    run!["gpt", "add", image, "--size", "1", "--name", format!("{long}x")].usage("at most 36");
     assert_eq!(run!["gpt", "show", image, "--json"].json().list("partitions")[0].text("name"), long);
 }
 
@@ -157,7 +163,9 @@ fn every_refusal_is_told_and_writes_nothing() {
             if extra == ["--json"] {
                 let json = json::parse(&ended.out).expect("JSON");
                 assert_eq!(json.number("refused"), u64::from(number), "{line:?}");
-                assert_eq!(ended.err, format!("refused {number}: {}\n", json.text("words")));
+                assert_eq!(json.text("disk"), image.to_str().expect("UTF-8"));
+                let line = format!("refused {number}: {}: {}", image.display(), json.text("words"));
+                assert_eq!(ended.err.lines().next(), Some(line.as_str()));
                 ended.out.clear();
             }
             ended.refused(number);
@@ -171,21 +179,19 @@ fn wrong_words_are_told_in_a_sentence() {
     let folder = Folder::new();
     let image = disk(&folder, "disk.img", 100);
     let before = fs::read(&image).expect("an image");
-    run!["gpt", "add", image].sentence("--size SIZE is missing");
-    run!["gpt", "add", image, "--size", "1.5M"].sentence("\"1.5M\" is no size");
-    run!["gpt", "add", image, "--size", "1000B"].sentence("no whole number of blocks");
-    run!["gpt", "add", image, "--size", "18446744073709551616"].sentence("too large");
-    run!["gpt", "add", image, "--size", "1", "--attributes", "x"].sentence("\"x\" is no number");
-    run!["gpt", "delete", image, "one"].sentence("\"one\" is no number");
-    run!["gpt", "delete", image].sentence("NUMBER is missing");
-    run!["gpt", "wipe", image].sentence("gpt has no verb wipe");
-    run!["gpt"].sentence("a verb is missing");
-    run!["disk"].sentence("there is no group disk");
+    run!["gpt", "add", image].usage("--size SIZE is missing");
+    run!["gpt", "add", image, "--size", "1.5M"].usage("\"1.5M\" is no size");
+    run!["gpt", "add", image, "--size", "1000B"].usage("no whole number of blocks");
+    run!["gpt", "add", image, "--size", "18446744073709551616"].usage("too large");
+    run!["gpt", "add", image, "--size", "1", "--attributes", "x"].usage("\"x\" is no number");
+    run!["gpt", "delete", image, "one"].usage("\"one\" is no number");
+    run!["gpt", "delete", image].usage("NUMBER is missing");
+    run!["gpt", "wipe", image].usage("gpt has no verb wipe");
+    run!["gpt"].usage("a verb is missing");
+    run!["disk"].usage("there is no group disk");
     let ended = run!["gpt", "delete", image, "--json", "one"];
-    assert_eq!(
-        json::parse(&ended.out).expect("JSON").text("error"),
-        ended.err.trim_end().replace("usigrambal: ", "")
-    );
+    let line = format!("usigrambal: {}", json::parse(&ended.out).expect("JSON").text("error"));
+    assert_eq!(ended.err.lines().next(), Some(line.as_str()));
     assert_eq!(fs::read(&image).expect("an image"), before);
 }
 
@@ -205,8 +211,8 @@ fn the_number_of_blocks_is_judged() {
         }
     }
     let ragged = folder.sparse("ragged.img", 100 * 512 + 1);
-    run!["gpt", "show", ragged].sentence("has 51201 bytes, which is no multiple of the block size, 512");
-    run!["gpt", "format", ragged].sentence("no multiple");
+    run!["gpt", "show", ragged].unusable("has 51201 bytes, which is no multiple of the block size, 512");
+    run!["gpt", "format", ragged].unusable("no multiple");
 }
 
 #[test]
@@ -216,12 +222,12 @@ fn format_asks_before_it_replaces_partitions() {
     run!["gpt", "format", image].done();
     add(&image, "1", "a");
     let before = fs::read(&image).expect("an image");
-    run!["gpt", "format", image].sentence("holds a table with 1 partition; --force replaces it");
+    run!["gpt", "format", image].needed("holds a table with 1 partition");
     spoil(&image, 512);
-    run!["gpt", "format", image].sentence("--force");
+    run!["gpt", "format", image].needed("--replace");
     spoil(&image, 512);
     assert_eq!(fs::read(&image).expect("an image"), before);
-    let formatted = run!["gpt", "format", image, "--force", "--guid", GUID].done();
+    let formatted = run!["gpt", "format", image, "--replace", "--guid", GUID].done();
     assert!(formatted.contains("100 blocks (50 KiB) of 512 bytes, usable 34 to 66, disk GUID 01234567-"));
     assert!(run!["gpt", "show", image].done().contains("no partitions"));
 }
@@ -233,7 +239,7 @@ fn guids_that_are_not_given_are_random() {
     let image = folder.sparse("disk.img", 51_200);
     let mut seen = Vec::new();
     for _ in 0..8 {
-        seen.push(run!["gpt", "format", image, "--force", "--json"].json().text("guid").to_string());
+        seen.push(run!["gpt", "format", image, "--replace", "--json"].json().text("guid").to_string());
         seen.push(add(&image, "1", "a").text("guid").to_string());
     }
     for guid in &seen {
@@ -272,8 +278,8 @@ fn verify_and_repair_by_states() {
     ] {
         spoil(&image, at);
         let ended = run!["gpt", "verify", image];
-        assert_eq!((ended.status, ended.out.as_str()), (Some(1), ""));
-        assert!(ended.err.contains(words), "{}", ended.err);
+        assert_eq!((ended.status, ended.err.as_str()), (Some(1), ""));
+        assert!(ended.out.contains(words), "{}", ended.out);
         let json = json::parse(&run!["gpt", "verify", image, "--json"].out).expect("JSON");
         assert_eq!((json.number("state"), json.at("verified")), (state, &Json::Bool(false)));
         run!["gpt", "add", image, "--size", "1"].refused(11);
@@ -297,7 +303,7 @@ fn copies_that_differ() {
     let image = two_tables(&folder);
     let ended = run!["gpt", "verify", image];
     assert_eq!(ended.status, Some(1));
-    assert!(ended.err.contains("both copies are good, but they differ"), "{}", ended.err);
+    assert!(ended.out.contains("both copies are good, but they differ"), "{}", ended.out);
     let json = run!["gpt", "repair", image, "--json"].json();
     assert_eq!((json.number("state_found"), json.at("changed")), (2, &Json::Bool(true)));
     run!["gpt", "verify", image].done();
@@ -310,7 +316,7 @@ fn a_dry_run_tells_the_same_and_writes_nothing() {
     let image = disk(&folder, "disk.img", 1000);
     add(&image, "10", "a");
     for words in [
-        &["format", "--force", "--guid", GUID][..],
+        &["format", "--replace", "--guid", GUID][..],
         &["add", "--size", "10", "--guid", GUID],
         &["delete", "1"],
         &["resize", "1", "20"],
@@ -351,4 +357,46 @@ fn between_head_and_tail_nothing_is_written() {
     add(&large, "1T", "a");
     assert!(fs::metadata(&large).expect("a file").blocks() < 256);
     assert_eq!(run!["gpt", "show", large, "--json"].json().list("partitions")[0].number("blocks"), 1 << 31);
+}
+
+/// Each disk has its own answer; the exit status is the worst.
+#[test]
+fn several_disks_in_one_call() {
+    let folder = Folder::new();
+    let (good, spoiled) = (disk(&folder, "good.img", 100), disk(&folder, "spoiled.img", 100));
+    let (empty, missing) = (folder.sparse("empty.img", 51_200), folder.path("missing.img"));
+    spoil(&spoiled, 512);
+    let ended = run!["gpt", "verify", good, spoiled];
+    let lines: Vec<&str> = ended.out.lines().collect();
+    assert_eq!((ended.status, lines.len(), ended.err.as_str()), (Some(1), 3, ""), "{}", ended.out);
+    assert_eq!(lines[0], format!("{}: both copies are good and the same", good.display()));
+    assert!(lines[1].starts_with(&format!("{}: the primary copy is not good", spoiled.display())));
+    let ended = run!["gpt", "verify", "--json", good, spoiled, empty, missing, good];
+    assert_eq!(ended.status, Some(3));
+    let Json::List(answers) = json::parse(&ended.out).expect("JSON") else { panic!("{}", ended.out) };
+    let told = |answer: &Json| (answer.at("verified").clone(), answer.at("state").clone());
+    let (yes, no) = (Json::Bool(true), Json::Bool(false));
+    let expected = [
+        (yes.clone(), Json::Number(1)),
+        (no.clone(), Json::Number(4)),
+        (no.clone(), Json::Null),
+        (no, Json::Null),
+        (yes, Json::Number(1)),
+    ];
+    assert_eq!(answers.iter().map(told).collect::<Vec<_>>(), expected);
+    let disks: Vec<&str> = answers.iter().map(|answer| answer.text("disk")).collect();
+    let paths = [&good, &spoiled, &empty, &missing, &good].map(|path| path.to_str().expect("UTF-8"));
+    assert_eq!(disks, paths);
+    assert_eq!(answers[2].number("refused"), 10);
+    assert!(answers[3].text("error").ends_with("missing.img does not exist"));
+    for verb in ["show", "free"] {
+        let ended = run!["gpt", verb, good, missing, spoiled];
+        assert_eq!(ended.status, Some(3), "{}", ended.err);
+        assert_eq!(ended.err, format!("usigrambal: {} does not exist\n", missing.display()));
+        let first = run!["gpt", verb, good].done();
+        let second = run!["gpt", verb, spoiled].done();
+        assert_eq!(ended.out, format!("{first}\n{second}"));
+    }
+    assert_eq!(run!["gpt", "verify", good, empty].status, Some(1));
+    run!["gpt", "repair", good, spoiled].usage("is one operand too many");
 }

@@ -33,8 +33,12 @@ fn help_and_version() {
             assert!(examples(&help).iter().any(|line| line.contains(&call)), "{help}");
         }
     }
-    run![].sentence("a group is missing");
-    run!["gpt", "show"].sentence("(usigrambal gpt show --help tells more)");
+    assert_eq!(run!["help", "gpt", "add"].done(), run!["gpt", "add", "--help"].done());
+    assert_eq!(run!["help", "fmd"].done(), run!["fmd", "--help"].done());
+    assert_eq!(run!["help"].done(), all);
+    run!["help", "gpt", "wipe"].usage("gpt has no verb wipe");
+    run![].usage("a group is missing");
+    run!["gpt", "show"].usage("usigrambal gpt show --help tells more");
 }
 
 /// In a folder with the files that they name.

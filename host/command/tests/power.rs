@@ -110,7 +110,7 @@ fn killed_while_it_formats() {
 #[test]
 fn no_space_for_the_primary() {
     let tried = disturbed_add("full:2");
-    assert_eq!((tried.ended.status, tried.ended.out.as_str()), (Some(2), ""));
+    assert_eq!((tried.ended.status, tried.ended.out.as_str()), (Some(3), ""));
     let said = "could not be written: the backup copy was written, the primary copy was not: No space left on device";
     let path = tried.path.display();
     let line = format!("usigrambal: {path} {said}; `usigrambal gpt repair {path}` makes both alike\n");
@@ -125,7 +125,7 @@ fn a_short_write_of_the_primary() {
     let tried = disturbed_add("short:2");
     let said = "the backup copy was written, the primary copy was not wholly: 600 of 17408 bytes were written, then: No space";
     assert!(tried.ended.err.contains(said), "{}", tried.ended.err);
-    assert_eq!(tried.ended.status, Some(2));
+    assert_eq!(tried.ended.status, Some(3));
     assert!(tried.head_changed());
     assert_eq!(tried.repaired(4), 2);
 }
@@ -145,7 +145,7 @@ fn nothing_is_taken() {
     let tried = disturbed_add("none:1");
     let said = "the primary copy was not touched, the backup copy was not: ";
     assert!(tried.ended.err.contains(said), "{}", tried.ended.err);
-    assert_eq!((tried.ended.status, tried.before == tried.after), (Some(2), true));
+    assert_eq!((tried.ended.status, tried.before == tried.after), (Some(3), true));
 }
 
 #[test]
@@ -172,7 +172,7 @@ fn the_order_of_writes() {
     let tail = format!("write {} 16896\nflush 0 0\n", 967 * 512);
     let head = "write 0 17408\nflush 0 0\n";
     assert_eq!(written(&["gpt", "add", text, "--size", "20"]), format!("{tail}{head}"));
-    assert_eq!(written(&["gpt", "format", text, "--force"]), format!("{tail}{head}"));
+    assert_eq!(written(&["gpt", "format", text, "--replace"]), format!("{tail}{head}"));
     common::spoil(&path, 512);
     assert_eq!(written(&["gpt", "repair", text, "--dry-run"]), "");
     assert_eq!(written(&["gpt", "repair", text]), head);
@@ -196,7 +196,7 @@ fn a_short_write_of_a_flash_device() {
     let words = ["fmap", "carry", old.to_str().expect("UTF-8"), device.0.to_str().expect("UTF-8")];
     let ended = disturbed("short:1", &folder.path("log"), &words);
     let said = "could not be written: 600 of 1024 bytes were, then: No space left on device; the same call again writes what is missing";
-    assert_eq!(ended.status, Some(2));
+    assert_eq!(ended.status, Some(3));
     assert!(ended.err.contains(said), "{}", ended.err);
     let bytes = fs::read(&device.0).expect("a device");
     assert_eq!((bytes[2047], bytes[2048], bytes[2647], bytes[2648]), (0, 0xFF, 0xFF, 0));

@@ -22,7 +22,11 @@ same-requires-2 c κs = search needs
 
 returns-2 : tie.Need-returns-2
 unfolding flagOf
-returns-2 c = rw (sym (c .before .before .before .before .same .ensures) ∙ c .before .before .before .if1 .left, sym (c .before .same2 .ensures) ∙ c .if2 .taken)
+returns-2 c = rw (
+  sym (c .before .before .before .before .same .ensures) ∙ c .before .before .before .if1 .left,
+  sym (c .before .same2 .ensures) ∙ c .if2
+      .taken,
+)
 
 returns-3 : tie.Need-returns-3
 unfolding flagOf

@@ -26,7 +26,17 @@ word-end-requires c κs = search needs
 
 returns-2 : tie.Need-returns-2
 unfolding tokenAt tokenHere
-returns-2 c = (simp (sym (c .before .before .before .before .before .skip .ensures .0), lt-ltb _ _ (c .before .before .before .before .if1 .left), sym (c .before .before .is-word .ensures), c .before .if2 .taken, sym (c .word-end .ensures .0)), search needs)
+returns-2 c = (
+  simp (
+    sym (c .before .before .before .before .before .skip .ensures .0),
+    lt-ltb _ _ (c .before .before .before .before .if1 .left),
+    sym
+        (c .before .before .is-word .ensures),
+    c .before .if2 .taken,
+    sym (c .word-end .ensures .0),
+  ),
+  search needs,
+)
 
 is-sign-requires : tie.Need-is-sign-requires
 is-sign-requires c κs = search needs
@@ -40,8 +50,18 @@ returns-3 c =
     let s1 = c .before .before in
     let s2 = s1 .before in
     let s3 = s2 .before .before in
-    let s4 = s3 .before in
-    (simp (sym (s4 .skip .ensures .0), lt-ltb _ _ (s3 .if1 .left), sym (s2 .is-word .ensures), s1 .if2 .left, sym (c .before .is-sign .ensures), c .if3 .taken), search needs)
+    let s4 = s3 .before in (
+      simp (
+        sym (s4 .skip .ensures .0),
+        lt-ltb _ _ (s3 .if1 .left),
+        sym (s2 .is-word .ensures),
+        s1 .if2 .left,
+        sym (c .before .is-sign .ensures),
+        c .if3
+            .taken,
+      ),
+      search needs,
+    )
 
 add-t6 : tie.Need-add-t6
 add-t6 c = search needs
@@ -52,8 +72,18 @@ returns-4 c =
     let s1 = c .before .before in
     let s2 = s1 .before in
     let s3 = s2 .before .before in
-    let s4 = s3 .before in
-    (simp (sym (s4 .skip .ensures .0), lt-ltb _ _ (s3 .if1 .left), sym (s2 .is-word .ensures), s1 .if2 .left, sym (c .before .is-sign .ensures), c .if3 .left), search needs)
+    let s4 = s3 .before in (
+      simp (
+        sym (s4 .skip .ensures .0),
+        lt-ltb _ _ (s3 .if1 .left),
+        sym (s2 .is-word .ensures),
+        s1 .if2 .left,
+        sym (c .before .is-sign .ensures),
+        c .if3
+            .left,
+      ),
+      search needs,
+    )
 
 pub next-token-spec : {M : Type 1} → statement M
 next-token-spec =

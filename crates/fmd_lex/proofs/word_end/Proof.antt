@@ -30,8 +30,12 @@ loop-less c = search needs
 
 loop-again : tie.Need-loop-again Inv-loop μ-loop
 loop-again c =
-    let turn = c .before .before .before .before in
-    (search needs, search needs, word-in (c .before .before .before .before .before .before .args .text .now) (turn .loop .i) (search needs) (cc) ∙ turn .loop .inv .2)
+    let turn = c .before .before .before .before in (
+      search needs,
+      search needs,
+      word-in (c .before .before .before .before .before .before .args .text .now) (turn .loop .i) (search needs) (cc) ∙ turn
+          .loop .inv .2,
+    )
 
 returns : tie.Need-returns Inv-loop μ-loop
 returns c =

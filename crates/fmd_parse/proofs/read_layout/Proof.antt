@@ -18,7 +18,13 @@ enum-known-i : tie.Need-enum-known-i
 enum-known-i c = search needs
 
 read-list-requires : tie.Need-read-list-requires
-read-list-requires c κs = (c .before .before .before .before .before .before .before .before .pre .0, rw (c .before .before .i .given .1) at (c .before .before .before .before .image-at .ensures .1), c .before .before .before .before .before .before .before .before .pre .1, omega arith)
+read-list-requires c κs = (
+  c .before .before .before .before .before .before .before .before .pre .0,
+  rw (c .before .before .i .given .1) at
+      (c .before .before .before .before .image-at .ensures .1),
+  c .before .before .before .before .before .before .before .before .pre .1,
+  omega arith,
+)
 
 ended-requires : tie.Need-ended-requires
 ended-requires c κs = search needs
@@ -33,11 +39,22 @@ returns : tie.Need-returns
 unfolding layoutOf
 returns c =
     let s = c .before .before .before .before .before .before .before .before .before .before .before .before .args .text .now in
-    rw (sym (c .before .before .before .before .before .before .before .before .before .next-token .ensures .0), sym (c .before .before .before .before .before .before .before .before .image-at .ensures .0) ∙ c .before .before .before .before .before .before .i .given .1, sym (no-sections (c .before .before .before .before .before .before .before .before .before .before .before .before .args .rows .now)), sym (c .before .before .before .read-list .ensures .same (2 * length s + 2) (omega arith))) (c .ended .ensures _)
+    rw (
+      sym (c .before .before .before .before .before .before .before .before .before .next-token .ensures .0),
+      sym
+          (c .before .before .before .before .before .before .before .before .image-at .ensures .0) ∙ c .before .before .before .before .before .before .i
+          .given .1,
+      sym (no-sections (c .before .before .before .before .before .before .before .before .before .before .before .before .args .rows .now)),
+      sym (c .before .before .before .read-list .ensures .same (2 * length s + 2) (omega arith)),
+    ) (c .ended .ensures _)
 
 returns-2 : tie.Need-returns-2
 unfolding layoutOf
-returns-2 c = rw (sym (c .before .before .before .before .next-token .ensures .0), sym (c .before .before .before .image-at .ensures .0) ∙ c .before .k .given .1)
+returns-2 c = rw (
+  sym (c .before .before .before .before .next-token .ensures .0),
+  sym (c .before .before .before .image-at .ensures .0) ∙ c .before .k
+      .given .1,
+)
 
 pub read-layout-spec : {M : Type 1} → statement M
 read-layout-spec =

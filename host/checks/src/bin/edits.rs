@@ -1,9 +1,9 @@
-//! Holds docs/EDITS.md to the must-fail edits and to the logs that `rt must-fail` or `rt ci` left of them, and says what no edit covers.
+//! Holds docs/EDITS.md to the must-fail edits and to the logs that `rt must-fail` or `rt ci` left of them, and says what no edit covers, and what more cover than must.
 //!
 //! usage, from the repository's root: edits [--write]
 
 use checks::edit::Edit;
-use checks::edits::{document, facts, faults, wanted, Row, IMPOSTERS, UNTRIED};
+use checks::edits::{abundant, document, facts, faults, wanted, Row, IMPOSTERS, UNTRIED};
 use checks::{contract::Definitions, crates::Crates, face, fail, files, log, read, settle, tables, write};
 use std::collections::BTreeMap;
 use std::path::Path;
@@ -83,6 +83,7 @@ fn main() {
     let definitions = Definitions::of_repository();
     let known = |path: &str| is_there(path, &crates, &definitions);
     found.extend(faults(&rows, &wanted, &known));
+    abundant(&rows, &wanted).iter().for_each(|line| println!("{line}"));
     let new = document(&rows, &wanted);
     if writes {
         write(DOCUMENT, &new);

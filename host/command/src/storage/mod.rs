@@ -12,6 +12,7 @@ pub use put::{changed_runs, put, put_told, Unwritten};
 pub use replace::{create, folder, replace};
 
 use crate::failure::Failure;
+use crate::paths::shown;
 use std::fs::{self, Metadata};
 use std::io;
 use std::os::unix::fs::{FileTypeExt, MetadataExt};
@@ -103,8 +104,19 @@ pub fn same_file(a: &Metadata, b: &Metadata) -> bool {
     }
 }
 
+/// A file that does not suit, or can't be read or written.
 pub fn about(path: &Path, what: &str) -> Failure {
-    Failure::sentence(format!("{} {what}", path.display()))
+    Failure::input_output(format!("{} {what}", shown(path)))
+}
+
+/// Something is there, or in use, that is kept unless a word says otherwise.
+pub fn needed(path: &Path, what: &str) -> Failure {
+    Failure::needed(format!("{} {what}", shown(path)))
+}
+
+/// Two paths of a call that may not lead to one file.
+pub fn same(path: &Path, other: &Path) -> Failure {
+    Failure::usage(format!("{} and {} are the same file", shown(path), shown(other)))
 }
 
 /// A sentence for an error of the operating system.

@@ -1,4 +1,4 @@
-use super::{about, device, kind, metadata, unusable, Facts, Kind};
+use super::{about, device, kind, metadata, needed, unusable, Facts, Kind};
 use crate::failure::{words, Failure};
 use std::fs::{File, Metadata, OpenOptions, TryLockError};
 use std::io::{self, Seek, SeekFrom};
@@ -35,7 +35,7 @@ pub struct Opened {
 }
 
 impl Opened {
-    /// After the table of a block device was written: a note if the kernel still goes by the old one.
+    /// After the table of a block device was written: a warning if the kernel still goes by the old one.
     pub fn reread(&self) -> Option<String> {
         if self.facts.kind != Kind::BlockDevice {
             return None;
@@ -46,7 +46,7 @@ impl Opened {
             answer.as_ref().err().and_then(io::Error::raw_os_error) != Some(EBUSY)
         });
         let error = answer.err().filter(|error| error.kind() != io::ErrorKind::InvalidInput)?;
-        Some(format!("note: the kernel still goes by the old table: {}", words(&error)))
+        Some(format!("the kernel still goes by the old table: {}", words(&error)))
     }
 }
 
@@ -77,7 +77,7 @@ fn opened(path: &Path, access: Access, kind: Kind) -> Result<File, Failure> {
     let file = options.open(path).map_err(|error| match (access, error.raw_os_error()) {
         (Access::Read, _) => unusable(path, "cannot be read", &error),
         (_, Some(EBUSY)) => {
-            about(path, "is in use (mounted, or held by another program); --force writes anyway")
+            needed(path, "is in use (mounted, or held by another program)").hint("--force writes anyway")
         }
         _ => unusable(path, "cannot be written", &error),
     })?;
@@ -90,7 +90,7 @@ fn opened(path: &Path, access: Access, kind: Kind) -> Result<File, Failure> {
     };
     match alone {
         true => Ok(file),
-        false => Err(about(path, "is in use (locked by another program); --force writes anyway")),
+        false => Err(needed(path, "is in use (locked by another program)").hint("--force writes anyway")),
     }
 }
 

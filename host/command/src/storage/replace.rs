@@ -1,7 +1,7 @@
 //! Whole files: a new one beside the old takes its place, so that at every moment one of the two is there.
 
 use super::beside::Beside;
-use super::{about, unusable};
+use super::{about, needed, unusable};
 use crate::failure::{words, Failure};
 use std::fs::{self, File, Metadata};
 use std::io;
@@ -25,7 +25,7 @@ pub fn replace(path: &Path, old: &Metadata, bytes: &[u8]) -> Result<(), Failure>
 pub fn create(path: &Path, bytes: &[u8]) -> Result<(), Failure> {
     let written = filled(path, 0o666, bytes).and_then(|beside| beside.name(path));
     written.map_err(|error| match error.kind() {
-        io::ErrorKind::AlreadyExists => about(path, "is already there, and is kept"),
+        io::ErrorKind::AlreadyExists => needed(path, "is already there, and is kept"),
         io::ErrorKind::NotFound => about(path, "cannot be made: its folder does not exist"),
         _ => about(path, &format!("was not made: {}", words(&error))),
     })?;

@@ -86,22 +86,60 @@ impl Ended {
         json::parse(&self.done()).expect("JSON")
     }
 
-    /// The library refused with that number, on one line of standard error; nothing else was printed.
+    /// The library refused with that number; the file and the words, as its line on standard error has them. Nothing else
+    /// was printed but hints.
     #[track_caller]
     pub fn refused(self, number: u32) -> String {
         assert_eq!((self.status, self.out.as_str()), (Some(1), ""), "{}", self.err);
-        let words = self.err.strip_prefix(&format!("refused {number}: ")).map(str::trim_end);
-        let words = words.unwrap_or_else(|| panic!("not {number}: {}", self.err)).to_string();
-        assert!(!words.is_empty() && self.err.lines().count() == 1, "{}", self.err);
-        words
+        let (line, _) = self.told();
+        let words = line.strip_prefix(&format!("refused {number}: ")).map(str::to_string);
+        words.filter(|words| !words.is_empty()).unwrap_or_else(|| panic!("not {number}: {}", self.err))
     }
 
-    /// Usage or input and output: a sentence with these words on standard error, nothing else.
+    /// Usage: a sentence with these words on standard error, nothing else but a hint.
     #[track_caller]
-    pub fn sentence(self, words: &str) {
-        assert_eq!((self.status, self.out.as_str()), (Some(2), ""), "{}", self.err);
-        let one_line = self.err.starts_with("usigrambal: ") && self.err.lines().count() == 1;
-        assert!(one_line && self.err.contains(words), "not \"{words}\": {}", self.err);
+    pub fn usage(self, words: &str) {
+        self.sentence(2, words);
+    }
+
+    /// Input and output: such a sentence.
+    #[track_caller]
+    pub fn unusable(self, words: &str) {
+        self.sentence(3, words);
+    }
+
+    /// In use, or something is there that needs a word: such a sentence.
+    #[track_caller]
+    pub fn needed(self, words: &str) {
+        self.sentence(4, words);
+    }
+
+    #[track_caller]
+    fn sentence(self, status: i32, words: &str) {
+        assert_eq!((self.status, self.out.as_str()), (Some(status), ""), "{}", self.err);
+        let (line, hint) = self.told();
+        let said = line.strip_prefix("usigrambal: ").unwrap_or_else(|| panic!("no sentence: {}", self.err));
+        let hint = hint.unwrap_or_default();
+        assert!(said.contains(words) || hint.contains(words), "not \"{words}\": {}", self.err);
+    }
+
+    /// The hint on standard error.
+    #[track_caller]
+    pub fn hint(&self) -> String {
+        self.told().1.unwrap_or_else(|| panic!("no hint: {}", self.err))
+    }
+
+    /// The one line of standard error, and the hint that may follow it.
+    #[track_caller]
+    fn told(&self) -> (String, Option<String>) {
+        let lines: Vec<&str> = self.err.lines().collect();
+        match lines[..] {
+            [line] => (line.to_string(), None),
+            [line, hint] if hint.starts_with("hint: ") => {
+                (line.to_string(), Some(hint["hint: ".len()..].to_string()))
+            }
+            _ => panic!("not one line and a hint: {}", self.err),
+        }
     }
 }
 

@@ -1,51 +1,49 @@
-use mathlib.Core.Path.{_∙_}
-use native.Mathlib.Omega.{arith}
+use mathlib.Core.Path.{sym, _∙_}
 use borrow.Author.Needs.{needs}
-use Rattle.fmd_lex.proofs.Numbers.{num-none, num-plain, num-zero, num-hex, num-unit}
+use Rattle.text_words.proofs.Numerals.{value-in}
+use Rattle.fmd_lex.specs.Numbers.{numberOf}
 use Rattle.fmd_lex.proofs.digits.number_of.Statement.{statement}
 use Rattle.fmd_lex.proofs.digits.number_of.Tie as tie
 
-returns : tie.Need-returns
-returns c = num-none (c .before .before .args .w .now) (c .if1 .taken)
+numeral-of-requires : tie.Need-numeral-of-requires
+numeral-of-requires c κs = search needs
 
-shared-slice-read-if2 : tie.Need-shared-slice-read-if2
-shared-slice-read-if2 c = search needs
-
-some-digits-requires : tie.Need-some-digits-requires
-some-digits-requires c κs = search needs
-
-returns-2 : tie.Need-returns-2
-returns-2 c = c .some-digits .ensures ∙ num-plain (c .before .before .before .before .before .args .w .now) (c .before .before .before .if1 .left) (c .before .if2 .taken)
-
-returns-3 : tie.Need-returns-3
-returns-3 c = num-zero (c .before .before .before .before .before .args .w .now) (c .if3 .taken) (c .before .if2 .left)
-
-shared-slice-read-if4 : tie.Need-shared-slice-read-if4
-shared-slice-read-if4 c = search needs
-
-some-digits-requires-2 : tie.Need-some-digits-requires-2
-some-digits-requires-2 c κs = search needs
-
-returns-4 : tie.Need-returns-4
-returns-4 c = c .some-digits2 .ensures ∙ num-hex (c .before .before .before .before .before .before .before .before .args .w .now) (omega arith) (c .before .before .before .before .if2 .left) (c .before .if4 .taken)
+enum-known-n : tie.Need-enum-known-n
+enum-known-n c = search needs
 
 with-unit-requires : tie.Need-with-unit-requires
-with-unit-requires c κs = search needs
+with-unit-requires c κs =
+    let v = value-in 4294967295 (c .before .before .before .before .before .args .w .now) (c .before .before .before .numeral-of .ensures)
+    (c .before .n .given .1) in
+    (v .1, v .0)
 
-returns-5 : tie.Need-returns-5
-returns-5 c = c .with-unit .ensures ∙ num-unit (c .before .before .before .before .before .before .before .before .args .w .now) (omega arith) (c .before .before .before .before .if2 .left) (c .before .if4 .left)
+enum-told : tie.Need-enum-told
+enum-told c = search needs
+
+enum-told-2 : tie.Need-enum-told-2
+enum-told-2 c = search needs
+
+returns : tie.Need-returns
+unfolding numberOf
+returns c = rw (sym (c .before .before .before .before .numeral-of .ensures) ∙ c .before .before .n .given .1) (c .with-unit .ensures)
+
+returns-2 : tie.Need-returns-2
+unfolding numberOf
+returns-2 c = rw (sym (c .before .before .numeral-of .ensures) ∙ c .enum-told .given .1)
+
+returns-3 : tie.Need-returns-3
+unfolding numberOf
+returns-3 c = rw (sym (c .before .before .numeral-of .ensures) ∙ c .enum-told2 .given .1)
 
 pub number-of-spec : {M : Type 1} → statement M
 number-of-spec =
     tie.close
     (tie.spec
-    returns
-    shared-slice-read-if2
-    some-digits-requires
-    returns-2
-    returns-3
-    shared-slice-read-if4
-    some-digits-requires-2
-    returns-4
+    numeral-of-requires
+    enum-known-n
     with-unit-requires
-    returns-5)
+    enum-told
+    enum-told-2
+    returns
+    returns-2
+    returns-3)

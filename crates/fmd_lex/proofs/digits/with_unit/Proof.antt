@@ -43,12 +43,22 @@ cast-t13 c = search needs
 returns-4 : tie.Need-returns-4
 returns-4 c =
     let start = c .before .before .before .before .before .before .before in
-    rw (sym (scaled-one (start .args .w .now) (start .args .at) (start .args .n) (omega arith)), sym (c .before .before .unit .ensures .0), ne-eqb _ _ (c .before .if3 .left)) (capped-in _ (c .if4 .taken))
+    rw (
+      sym (scaled-one (start .args .w .now) (start .args .at) (start .args .n) (omega arith)),
+      sym (c .before .before .unit .ensures .0),
+      ne-eqb _ _
+          (c .before .if3 .left),
+    ) (capped-in _ (c .if4 .taken))
 
 returns-5 : tie.Need-returns-5
 returns-5 c =
     let start = c .before .before .before .before .before .before .before in
-    rw (sym (scaled-one (start .args .w .now) (start .args .at) (start .args .n) (omega arith)), sym (c .before .before .unit .ensures .0), ne-eqb _ _ (c .before .if3 .left)) (capped-out _ (c .if4 .left))
+    rw (
+      sym (scaled-one (start .args .w .now) (start .args .at) (start .args .n) (omega arith)),
+      sym (c .before .before .unit .ensures .0),
+      ne-eqb _ _
+          (c .before .if3 .left),
+    ) (capped-out _ (c .if4 .left))
 
 pub with-unit-spec : {M : Type 1} → statement M
 with-unit-spec =

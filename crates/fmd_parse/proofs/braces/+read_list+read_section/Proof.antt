@@ -3,10 +3,10 @@ use mathlib.Core.List.{List}
 use native.Mathlib.Omega.{arith}
 use lib.ListN.{length}
 use borrow.Author.Needs.{needs}
-use Rattle.fmd_lex.specs.Tokens.{Within}
+use Rattle.fmd_lex.specs.Invariants.{Within}
 use Rattle.fmd_lex.proofs.Tokens.{earlier}
 use Rattle.fmd_table.specs.Table.{sectionsIn}
-use Rattle.fmd_parse.specs.Layouts.{ListRead}
+use Rattle.fmd_parse.specs.Invariants.{ListRead}
 use Rattle.fmd_parse.specs.declared.Step.{Step}
 use Rattle.fmd_parse.proofs.Layouts.{section-stopped, section-shut, section-open, list-stopped, here, list-closed, list-more}
 use Prim.Native.Nat.{ℕ, _+_, _*_, _-_, _≤_, _<_}
@@ -54,8 +54,17 @@ abbrev read-list-calls : ℕ → read-list-lts.Claims
 read-list-calls t = (read-section-below t, read-section.Post, next-token-reads.Asked, next-token-reads.Learnt)
 
 abbrev read-section-calls : ℕ → read-section-lts.Claims
-read-section-calls t =
-    (head-at-reads.Asked, head-at-reads.Learnt, put-row-reads.Asked, put-row-reads.Learnt, next-token-reads.Asked, next-token-reads.Learnt, read-list-below t, read-list.Post)
+read-section-calls t = (
+  head-at-reads.Asked,
+  head-at-reads.Learnt,
+  put-row-reads.Asked,
+  put-row-reads.Learnt,
+  next-token-reads.Asked,
+  next-token-reads.Learnt,
+  read-list-below
+      t,
+  read-list.Post,
+)
 
 abbrev read-list-Inv-loop : read-list-lts.InvT-loop
 read-list-Inv-loop text level parent rows₀ n now₀ m₀ rows now m =
@@ -68,9 +77,18 @@ read-list-μ-loop text level parent rows₀ n now₀ m₀ rows now m = length te
 read-list-loop-holds : (t : ℕ) → read-list-lts.Need-loop-holds (read-list-calls t) (read-list-at t) read-list.Post read-list-Inv-loop read-list-μ-loop
 read-list-loop-holds t c = (search needs, search needs, c .before .before .pre .1 .3, λ after r g. g)
 
-read-list-read-section-requires : (t : ℕ) → read-list-lts.Need-read-section-requires (read-list-calls t) (read-list-at t) read-list.Post read-list-Inv-loop read-list-μ-loop
-read-list-read-section-requires t c κs = let v = c .before .loop .inv in
-    (omega arith, (c .before .before .before .before .pre .1 .0, earlier (v .0) (omega arith), omega (arith, v .1, c .before .before .before .before .pre .1 .2), v .2))
+read-list-read-section-requires : (t : ℕ) → read-list-lts.Need-read-section-requires (read-list-calls t) (read-list-at t) read-list.Post read-list-Inv-loop
+    read-list-μ-loop
+read-list-read-section-requires t c κs = let v = c .before .loop .inv in (
+  omega arith,
+  (
+    c .before .before .before .before .pre .1 .0,
+    earlier (v .0) (omega arith),
+    omega
+        (arith, v .1, c .before .before .before .before .pre .1 .2),
+    v .2,
+  ),
+)
 
 read-list-enum-known-k : (t : ℕ) → read-list-lts.Need-enum-known-k (read-list-calls t) (read-list-at t) read-list.Post read-list-Inv-loop read-list-μ-loop
 read-list-enum-known-k t c = search needs
@@ -79,30 +97,42 @@ read-list-same-length : (t : ℕ) → read-list-lts.Need-same-length (read-list-
 read-list-same-length t c = search needs
 
 read-list-returns : (t : ℕ) → read-list-lts.Need-returns (read-list-calls t) (read-list-at t) read-list.Post read-list-Inv-loop read-list-μ-loop
-read-list-returns t c = c .before .before .before .before .before .before .before .loop .inv .3 _ _ (list-stopped (c .before .before .before .before .before .read-section .ensures) (c .before .k .given .1))
+read-list-returns t c = c .before .before .before .before .before .before .before .loop .inv .3 _ _
+    (list-stopped (c .before .before .before .before .before .read-section .ensures) (c .before .k .given .1))
 
 read-list-enum-known-u : (t : ℕ) → read-list-lts.Need-enum-known-u (read-list-calls t) (read-list-at t) read-list.Post read-list-Inv-loop read-list-μ-loop
 read-list-enum-known-u t c = search needs
 
-read-list-next-token-requires : (t : ℕ) → read-list-lts.Need-next-token-requires (read-list-calls t) (read-list-at t) read-list.Post read-list-Inv-loop read-list-μ-loop
-read-list-next-token-requires t c κs = let w = here (c .before .before .before .before .before .before .before .read-section .ensures) (c .before .before .before .u .given .1) in
+read-list-next-token-requires : (t : ℕ) → read-list-lts.Need-next-token-requires (read-list-calls t) (read-list-at t) read-list.Post read-list-Inv-loop
+    read-list-μ-loop
+read-list-next-token-requires t c κs = let w = here (c .before .before .before .before .before .before .before .read-section .ensures)
+    (c .before .before .before .u .given .1) in
     w .0 .inside
 
 read-list-same-length-2 : (t : ℕ) → read-list-lts.Need-same-length-2 (read-list-calls t) (read-list-at t) read-list.Post read-list-Inv-loop read-list-μ-loop
 read-list-same-length-2 t c = search needs
 
 read-list-returns-2 : (t : ℕ) → read-list-lts.Need-returns-2 (read-list-calls t) (read-list-at t) read-list.Post read-list-Inv-loop read-list-μ-loop
-read-list-returns-2 t c = c .before .before .before .before .before .before .before .before .before .before .loop .inv .3 _ _ (list-closed (c .before .before .before .before .before .before .before .before .read-section .ensures) (c .before .before .before .before .u .given .1) (c .before .if1 .taken) (c .next-token .ensures .0) (c .next-token .ensures .1))
+read-list-returns-2 t c = c .before .before .before .before .before .before .before .before .before .before .loop .inv .3 _ _
+    (list-closed (c .before .before .before .before .before .before .before .before .read-section .ensures) (c .before .before .before .before .u .given .1)
+    (c .before .if1 .taken) (c .next-token .ensures .0) (c .next-token .ensures .1))
 
 read-list-loop-less : (t : ℕ) → read-list-lts.Need-loop-less (read-list-calls t) (read-list-at t) read-list.Post read-list-Inv-loop read-list-μ-loop
-read-list-loop-less t c = let w = here (c .before .before .before .before .before .before .before .read-section .ensures) (c .before .before .before .u .given .1) in
+read-list-loop-less t c = let w = here (c .before .before .before .before .before .before .before .read-section .ensures)
+    (c .before .before .before .u .given .1) in
     omega arith
 
 read-list-loop-again : (t : ℕ) → read-list-lts.Need-loop-again (read-list-calls t) (read-list-at t) read-list.Post read-list-Inv-loop read-list-μ-loop
 read-list-loop-again t c =
     let w = here (c .before .before .before .before .before .before .before .read-section .ensures) (c .before .before .before .u .given .1) in
-    let v = c .before .before .before .before .before .before .before .before .before .loop .inv in
-    (earlier (w .0) (omega arith), omega arith, w .1, λ after r g. v .3 after r (list-more (c .before .before .before .before .before .before .before .read-section .ensures) (c .before .before .before .u .given .1) (c .if1 .left) g))
+    let v = c .before .before .before .before .before .before .before .before .before .loop .inv in (
+      earlier (w .0) (omega arith),
+      omega arith,
+      w .1,
+      λ after r g. v .3 after r
+          (list-more (c .before .before .before .before .before .before .before .read-section .ensures) (c .before .before .before .u .given .1)
+          (c .if1 .left) g),
+    )
 
 read-section-head-at-requires : (t : ℕ) → read-section-lts.Need-head-at-requires (read-section-calls t) (read-section-at t) read-section.Post
 read-section-head-at-requires t c κs = search needs
@@ -115,7 +145,8 @@ read-section-put-row-requires t c κs = let w = rw (c .before .before .h .given 
     omega arith
 
 read-section-add-more : (t : ℕ) → read-section-lts.Need-add-more (read-section-calls t) (read-section-at t) read-section.Post
-read-section-add-more t c = let w = rw (c .before .before .before .before .before .h .given .1) at (c .before .before .before .before .before .before .before .head-at .ensures .1) in
+read-section-add-more t c = let w = rw (c .before .before .before .before .before .h .given .1) at
+    (c .before .before .before .before .before .before .before .head-at .ensures .1) in
     omega arith
 
 read-section-same-length : (t : ℕ) → read-section-lts.Need-same-length (read-section-calls t) (read-section-at t) read-section.Post
@@ -123,15 +154,19 @@ read-section-same-length t c = search needs
 
 read-section-returns : (t : ℕ) → read-section-lts.Need-returns (read-section-calls t) (read-section-at t) read-section.Post
 read-section-returns t c =
-    let w = rw (c .before .before .before .before .before .before .before .h .given .1) at (c .before .before .before .before .before .before .before .before .before .head-at .ensures .1) in
-    section-shut _ _ _ (sym (c .before .before .before .before .before .before .before .before .before .head-at .ensures .0) ∙ c .before .before .before .before .before .before .before .h .given .1) (w .0) (c .before .before .before .before .put-row .ensures) (w .2) (c .if1 .taken)
+    let w = rw (c .before .before .before .before .before .before .before .h .given .1) at
+    (c .before .before .before .before .before .before .before .before .before .head-at .ensures .1) in
+    section-shut _ _ _ (sym (c .before .before .before .before .before .before .before .before .before .head-at .ensures .0) ∙ c .before .before .before
+    .before .before .before .before .h .given .1) (w .0) (c .before .before .before .before .put-row .ensures) (w .2) (c .if1 .taken)
 
 read-section-next-token-requires : (t : ℕ) → read-section-lts.Need-next-token-requires (read-section-calls t) (read-section-at t) read-section.Post
-read-section-next-token-requires t c κs = let w = rw (c .before .before .before .before .before .before .before .h .given .1) at (c .before .before .before .before .before .before .before .before .before .head-at .ensures .1) in
+read-section-next-token-requires t c κs = let w = rw (c .before .before .before .before .before .before .before .h .given .1) at
+    (c .before .before .before .before .before .before .before .before .before .head-at .ensures .1) in
     w .0 .inside
 
 read-section-add-read-list : (t : ℕ) → read-section-lts.Need-add-read-list (read-section-calls t) (read-section-at t) read-section.Post
-read-section-add-read-list t c = let w = rw (c .before .before .before .before .before .before .before .before .h .given .1) at (c .before .before .before .before .before .before .before .before .before .before .head-at .ensures .1) in
+read-section-add-read-list t c = let w = rw (c .before .before .before .before .before .before .before .before .h .given .1) at
+    (c .before .before .before .before .before .before .before .before .before .before .head-at .ensures .1) in
     omega arith
 
 read-section-cast-own : (t : ℕ) → read-section-lts.Need-cast-own (read-section-calls t) (read-section-at t) read-section.Post
@@ -139,8 +174,17 @@ read-section-cast-own t c = search needs
 
 read-section-read-list-requires : (t : ℕ) → read-section-lts.Need-read-list-requires (read-section-calls t) (read-section-at t) read-section.Post
 read-section-read-list-requires t c κs =
-    let w = rw (c .before .before .before .before .before .before .before .before .before .h .given .1) at (c .before .before .before .before .before .before .before .before .before .before .before .head-at .ensures .1) in
-    (omega arith, (c .before .before .before .before .before .before .before .before .before .before .before .before .before .before .pre .1 .0, earlier (c .before .next-token .ensures .1) (omega arith), omega arith, omega arith))
+    let w = rw (c .before .before .before .before .before .before .before .before .before .h .given .1) at
+    (c .before .before .before .before .before .before .before .before .before .before .before .head-at .ensures .1) in (
+      omega arith,
+      (
+        c .before .before .before .before .before .before .before .before .before .before .before .before .before .before .pre .1 .0,
+        earlier
+            (c .before .next-token .ensures .1) (omega arith),
+        omega arith,
+        omega arith,
+      ),
+    )
 
 read-section-enum-known-k : (t : ℕ) → read-section-lts.Need-enum-known-k (read-section-calls t) (read-section-at t) read-section.Post
 read-section-enum-known-k t c = search needs
@@ -150,8 +194,13 @@ read-section-same-length-2 t c = search needs
 
 read-section-returns-2 : (t : ℕ) → read-section-lts.Need-returns-2 (read-section-calls t) (read-section-at t) read-section.Post
 read-section-returns-2 t c =
-    let w = rw (c .before .before .before .before .before .before .before .before .before .before .before .before .h .given .1) at (c .before .before .before .before .before .before .before .before .before .before .before .before .before .before .head-at .ensures .1) in
-    section-open _ _ _ (sym (c .before .before .before .before .before .before .before .before .before .before .before .before .before .before .head-at .ensures .0) ∙ c .before .before .before .before .before .before .before .before .before .before .before .before .h .given .1) (w .0) (c .before .before .before .before .before .before .before .before .before .put-row .ensures) (c .before .before .before .before .before .if1 .left) (c .before .before .before .before .next-token .ensures .0) (c .before .before .before .before .next-token .ensures .1) (c .before .before .read-list .ensures)
+    let w = rw (c .before .before .before .before .before .before .before .before .before .before .before .before .h .given .1) at
+    (c .before .before .before .before .before .before .before .before .before .before .before .before .before .before .head-at .ensures .1) in
+    section-open _ _ _ (sym (c .before .before .before .before .before .before .before .before .before .before .before .before .before .before .head-at
+    .ensures .0) ∙ c .before .before .before .before .before .before .before .before .before .before .before .before .h .given .1) (w .0)
+    (c .before .before .before .before .before .before .before .before .before .put-row .ensures) (c .before .before .before .before .before .if1 .left)
+    (c .before .before .before .before .next-token .ensures .0) (c .before .before .before .before .next-token .ensures .1)
+    (c .before .before .read-list .ensures)
 
 read-section-returns-3 : (t : ℕ) → read-section-lts.Need-returns-3 (read-section-calls t) (read-section-at t) read-section.Post
 read-section-returns-3 t c = section-stopped _ _ (sym (c .before .before .before .head-at .ensures .0) ∙ c .before .k .given .1)

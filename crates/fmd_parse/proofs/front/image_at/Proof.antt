@@ -42,8 +42,15 @@ returns c =
     let s3 = s2 .before .before in
     let s4 = s3 .before .before in
     let s5 = s4 .before .before in
-    let s6 = s5 .before .before in
-    (rw (sym (s6 .title-at .ensures .0) ∙ s5 .i .given .1, sym (s4 .address-at .ensures .0) ∙ s3 .j .given .1, sym (s2 .length-at .ensures .0) ∙ s1 .k .given .1) (c .open-at .ensures .0), c .open-at .ensures .1)
+    let s6 = s5 .before .before in (
+      rw (
+        sym (s6 .title-at .ensures .0) ∙ s5 .i .given .1,
+        sym (s4 .address-at .ensures .0) ∙ s3 .j .given .1,
+        sym (s2 .length-at .ensures .0) ∙ s1 .k
+            .given .1,
+      ) (c .open-at .ensures .0),
+      c .open-at .ensures .1,
+    )
 
 returns-2 : tie.Need-returns-2
 unfolding imageAt
@@ -52,8 +59,15 @@ returns-2 c =
     let s2 = s1 .before .before in
     let s3 = s2 .before .before in
     let s4 = s3 .before .before in
-    let s5 = s4 .before .before in
-    (rw (sym (s5 .title-at .ensures .0) ∙ s4 .i .given .1, sym (s3 .address-at .ensures .0) ∙ s2 .j .given .1, sym (s1 .length-at .ensures .0) ∙ c .before .n .given .1), tt)
+    let s5 = s4 .before .before in (
+      rw (
+        sym (s5 .title-at .ensures .0) ∙ s4 .i .given .1,
+        sym (s3 .address-at .ensures .0) ∙ s2 .j .given .1,
+        sym (s1 .length-at .ensures .0) ∙ c .before
+            .n .given .1,
+      ),
+      tt,
+    )
 
 returns-3 : tie.Need-returns-3
 unfolding imageAt

@@ -20,7 +20,15 @@ returns c = (rw (sym (c .before .before .before .before .amount-at .ensures .0) 
 
 returns-2 : tie.Need-returns-2
 unfolding lengthAt _and_
-returns-2 c = (rw (sym (c .before .before .before .before .before .amount-at .ensures .0) ∙ c .before .before .before .n .given .1, le-leb _ _ (c .before .if1 .left), lt-leb _ _ (c .if2 .taken)), tt)
+returns-2 c = (
+  rw (
+    sym (c .before .before .before .before .before .amount-at .ensures .0) ∙ c .before .before .before .n .given .1,
+    le-leb _ _
+        (c .before .if1 .left),
+    lt-leb _ _ (c .if2 .taken),
+  ),
+  tt,
+)
 
 with-length-requires : tie.Need-with-length-requires
 with-length-requires c κs = search needs
@@ -34,8 +42,11 @@ returns-3 c =
     let s1 = c .before .before in
     let s2 = s1 .before .before in
     let s3 = s2 .before .before in
-    let w = rw (s2 .n .given .1) at (s3 .amount-at .ensures .1) in
-    (rw (sym (s3 .amount-at .ensures .0) ∙ s2 .n .given .1, le-leb _ _ (s1 .if1 .left), le-leb _ _ (c .before .if2 .left), c .with-length .ensures), earlier w (omega arith))
+    let w = rw (s2 .n .given .1) at (s3 .amount-at .ensures .1) in (
+      rw (sym (s3 .amount-at .ensures .0) ∙ s2 .n .given .1, le-leb _ _ (s1 .if1 .left), le-leb _ _ (c .before .if2 .left), c .with-length .ensures),
+      earlier
+          w (omega arith),
+    )
 
 returns-4 : tie.Need-returns-4
 unfolding lengthAt _and_

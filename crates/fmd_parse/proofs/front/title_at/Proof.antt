@@ -28,13 +28,22 @@ sub-t9 c = search needs
 cast-t10 : tie.Need-cast-t10
 cast-t10 c =
     let start = c .before .before .before .before .before .before .before .before in
-    omega (arith, name-size (start .args .text .now) (start .args .t) (start .pre .1 .ordered) (start .pre .1 .inside) (sym (c .before .before .before .before .name-at .ensures) ∙ c .before .before .before .if2 .taken))
+    omega (
+      arith,
+      name-size (start .args .text .now) (start .args .t) (start .pre .1 .ordered) (start .pre .1 .inside)
+          (sym (c .before .before .before .before .name-at .ensures) ∙ c .before .before .before .if2 .taken),
+    )
 
 returns-2 : tie.Need-returns-2
 unfolding titleAt pickRow
 returns-2 c =
     let s1 = c .before .before in (
-      rw (eq-eqb _ _ (s1 .before .before .before .if1 .left), sym (s1 .before .before .name-at .ensures) ∙ c .before .before .before .if2 .taken, sym (s1 .next-token .ensures .0)),
+      rw (
+        eq-eqb _ _ (s1 .before .before .before .if1 .left),
+        sym (s1 .before .before .name-at .ensures) ∙ c .before .before .before .if2 .taken,
+        sym
+            (s1 .next-token .ensures .0),
+      ),
       earlier (s1 .next-token .ensures .1) (omega arith),
     )
 

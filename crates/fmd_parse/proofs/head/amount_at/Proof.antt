@@ -23,7 +23,15 @@ enum-told c = search needs
 
 returns-2 : tie.Need-returns-2
 unfolding amountAt
-returns-2 c = (rw (eq-eqb _ _ (c .before .before .before .before .before .if1 .left), sym (c .before .before .before .before .number-at .ensures) ∙ c .before .before .n .given .1, sym (c .next-token .ensures .0)), c .next-token .ensures .1)
+returns-2 c = (
+  rw (
+    eq-eqb _ _ (c .before .before .before .before .before .if1 .left),
+    sym (c .before .before .before .before .number-at .ensures) ∙ c
+        .before .before .n .given .1,
+    sym (c .next-token .ensures .0),
+  ),
+  c .next-token .ensures .1,
+)
 
 returns-3 : tie.Need-returns-3
 unfolding amountAt

@@ -49,7 +49,12 @@ returns c =
     let a = rw (s5 .h .given .1) at (s6 .named-at .ensures .1) in
     let b = rw (s3 .i .given .1) at (s4 .flags-at .ensures .1) in
     let d = rw (s1 .j .given .1) at (s2 .offset-at .ensures .1) in (
-      rw (sym (s6 .named-at .ensures .0) ∙ s5 .h .given .1, sym (s4 .flags-at .ensures .0) ∙ s3 .i .given .1, sym (s2 .offset-at .ensures .0) ∙ s1 .j .given .1) (c .size-at .ensures .0),
+      rw (
+        sym (s6 .named-at .ensures .0) ∙ s5 .h .given .1,
+        sym (s4 .flags-at .ensures .0) ∙ s3 .i .given .1,
+        sym (s2 .offset-at .ensures .0) ∙ s1 .j .given
+            .1,
+      ) (c .size-at .ensures .0),
       head-in _ _ _ _ _ (c .size-at .result) (c .size-at .ensures .1) (omega arith) (a .1) (a .2),
     )
 
@@ -60,8 +65,15 @@ returns-2 c =
     let s2 = s1 .before .before in
     let s3 = s2 .before .before in
     let s4 = s3 .before .before in
-    let s5 = s4 .before .before in
-    (rw (sym (s5 .named-at .ensures .0) ∙ s4 .h .given .1, sym (s3 .flags-at .ensures .0) ∙ s2 .i .given .1, sym (s1 .offset-at .ensures .0) ∙ c .before .n .given .1), tt)
+    let s5 = s4 .before .before in (
+      rw (
+        sym (s5 .named-at .ensures .0) ∙ s4 .h .given .1,
+        sym (s3 .flags-at .ensures .0) ∙ s2 .i .given .1,
+        sym (s1 .offset-at .ensures .0) ∙ c .before .n
+            .given .1,
+      ),
+      tt,
+    )
 
 returns-3 : tie.Need-returns-3
 unfolding headAt

@@ -17,7 +17,15 @@ enum-told c = search needs
 
 returns-2 : tie.Need-returns-2
 unfolding markAt
-returns-2 c = (rw (eq-eqb _ _ (c .before .before .before .before .if1 .left), sym (c .before .before .before .flag-at .ensures) ∙ c .before .enum-told .given .1, c .if2 .taken), tt)
+returns-2 c = (
+  rw (
+    eq-eqb _ _ (c .before .before .before .before .if1 .left),
+    sym (c .before .before .before .flag-at .ensures) ∙ c .before .enum-told
+        .given .1,
+    c .if2 .taken,
+  ),
+  tt,
+)
 
 next-token-requires : tie.Need-next-token-requires
 next-token-requires c κs = search needs
@@ -27,7 +35,15 @@ enum-told-2 c = search needs
 
 returns-3 : tie.Need-returns-3
 unfolding markAt
-returns-3 c = (rw (eq-eqb _ _ (c .before .before .before .before .if1 .left), sym (c .before .before .before .flag-at .ensures) ∙ c .before .enum-told2 .given .1, c .if3 .taken), tt)
+returns-3 c = (
+  rw (
+    eq-eqb _ _ (c .before .before .before .before .if1 .left),
+    sym (c .before .before .before .flag-at .ensures) ∙ c .before .enum-told2
+        .given .1,
+    c .if3 .taken,
+  ),
+  tt,
+)
 
 next-token-requires-2 : tie.Need-next-token-requires-2
 next-token-requires-2 c κs = search needs
@@ -37,11 +53,29 @@ enum-told-3 c = search needs
 
 returns-4 : tie.Need-returns-4
 unfolding markAt
-returns-4 c = (rw (eq-eqb _ _ (c .before .before .before .before .before .if1 .left), sym (c .before .before .before .before .flag-at .ensures) ∙ c .before .before .enum-told .given .1, c .before .if2 .left, sym (c .next-token .ensures .0)), c .next-token .ensures .1)
+returns-4 c = (
+  rw (
+    eq-eqb _ _ (c .before .before .before .before .before .if1 .left),
+    sym (c .before .before .before .before .flag-at .ensures) ∙ c .before
+        .before .enum-told .given .1,
+    c .before .if2 .left,
+    sym (c .next-token .ensures .0),
+  ),
+  c .next-token .ensures .1,
+)
 
 returns-5 : tie.Need-returns-5
 unfolding markAt
-returns-5 c = (rw (eq-eqb _ _ (c .before .before .before .before .before .if1 .left), sym (c .before .before .before .before .flag-at .ensures) ∙ c .before .before .enum-told2 .given .1, c .before .if3 .left, sym (c .next-token2 .ensures .0)), c .next-token2 .ensures .1)
+returns-5 c = (
+  rw (
+    eq-eqb _ _ (c .before .before .before .before .before .if1 .left),
+    sym (c .before .before .before .before .flag-at .ensures) ∙ c .before
+        .before .enum-told2 .given .1,
+    c .before .if3 .left,
+    sym (c .next-token2 .ensures .0),
+  ),
+  c .next-token2 .ensures .1,
+)
 
 returns-6 : tie.Need-returns-6
 unfolding markAt

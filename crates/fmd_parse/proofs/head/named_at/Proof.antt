@@ -18,11 +18,28 @@ name-at-requires c κs = search needs
 
 returns-2 : tie.Need-returns-2
 unfolding namedAt pickRow
-returns-2 c = (rw (eq-eqb _ _ (c .before .before .before .if1 .left), sym (c .before .before .name-at .ensures) ∙ c .before .if2 .taken, le-leb _ _ (c .if3 .taken)), tt)
+returns-2 c = (
+  rw (
+    eq-eqb _ _ (c .before .before .before .if1 .left),
+    sym (c .before .before .name-at .ensures) ∙ c .before .if2 .taken,
+    le-leb _ _
+        (c .if3 .taken),
+  ),
+  tt,
+)
 
 returns-3 : tie.Need-returns-3
 unfolding namedAt pickRow
-returns-3 c = (rw (eq-eqb _ _ (c .before .before .before .before .if1 .left), sym (c .before .before .before .name-at .ensures) ∙ c .before .before .if2 .taken, lt-leb _ _ (c .before .if3 .left), lt-ltb _ _ (c .if4 .taken)), tt)
+returns-3 c = (
+  rw (
+    eq-eqb _ _ (c .before .before .before .before .if1 .left),
+    sym (c .before .before .before .name-at .ensures) ∙ c .before .before .if2
+        .taken,
+    lt-leb _ _ (c .before .if3 .left),
+    lt-ltb _ _ (c .if4 .taken),
+  ),
+  tt,
+)
 
 next-token-requires : tie.Need-next-token-requires
 next-token-requires c κs = search needs
@@ -36,7 +53,11 @@ sub-t14 c = search needs
 cast-t15 : tie.Need-cast-t15
 cast-t15 c =
     let start = c .before .before .before .before .before .before .before .before .before .before in
-    omega (arith, name-size (start .args .text .now) (start .args .t) (start .pre .1 .ordered) (start .pre .1 .inside) (sym (c .before .before .before .before .before .before .name-at .ensures) ∙ c .before .before .before .before .before .if2 .taken))
+    omega (
+      arith,
+      name-size (start .args .text .now) (start .args .t) (start .pre .1 .ordered) (start .pre .1 .inside)
+          (sym (c .before .before .before .before .before .before .name-at .ensures) ∙ c .before .before .before .before .before .if2 .taken),
+    )
 
 returns-4 : tie.Need-returns-4
 unfolding namedAt pickRow
@@ -48,7 +69,14 @@ returns-4 c =
     let s5 = s4 .before in
     let s6 = s5 .before in
     let s7 = s6 .before .before .before in (
-      rw (eq-eqb _ _ (s6 .if1 .left), sym (s5 .name-at .ensures) ∙ s4 .if2 .taken, lt-leb _ _ (s3 .if3 .left), le-ltb _ _ (s2 .if4 .left), sym (s1 .next-token .ensures .0)),
+      rw (
+        eq-eqb _ _ (s6 .if1 .left),
+        sym (s5 .name-at .ensures) ∙ s4 .if2 .taken,
+        lt-leb _ _ (s3 .if3 .left),
+        le-ltb _ _ (s2 .if4 .left),
+        sym
+            (s1 .next-token .ensures .0),
+      ),
       (
         earlier (s1 .next-token .ensures .1) (omega (arith, s7 .pre .1 .filled (s6 .if1 .left))),
         s2 .if4 .left,

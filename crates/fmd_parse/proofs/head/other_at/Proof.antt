@@ -32,12 +32,22 @@ unfolding otherAt
 returns-2 c =
     let s1 = c .before .before in
     let s2 = s1 .before .before in
-    let w = rw (s1 .k .given .1) at (s2 .mark-at .ensures .1) in
-    (rw (ne-eqb _ _ (s2 .before .if1 .left), sym (s2 .mark-at .ensures .0) ∙ s1 .k .given .1) (c .last-at .ensures .0), part-earlier _ _ _ (c .last-at .result) (c .last-at .ensures .1) (omega arith))
+    let w = rw (s1 .k .given .1) at (s2 .mark-at .ensures .1) in (
+      rw (ne-eqb _ _ (s2 .before .if1 .left), sym (s2 .mark-at .ensures .0) ∙ s1 .k .given .1) (c .last-at .ensures .0),
+      part-earlier _ _ _
+          (c .last-at .result) (c .last-at .ensures .1) (omega arith),
+    )
 
 returns-3 : tie.Need-returns-3
 unfolding otherAt
-returns-3 c = (rw (ne-eqb _ _ (c .before .before .before .before .if1 .left), sym (c .before .before .before .mark-at .ensures .0) ∙ c .before .n .given .1), tt)
+returns-3 c = (
+  rw (
+    ne-eqb _ _ (c .before .before .before .before .if1 .left),
+    sym (c .before .before .before .mark-at .ensures .0) ∙ c .before .n .given
+        .1,
+  ),
+  tt,
+)
 
 pub other-at-spec : {M : Type 1} → statement M
 other-at-spec =

@@ -34,8 +34,16 @@ returns-2 c =
     let s3 = s2 .before in
     let s4 = s3 .before in
     let s5 = s4 .before in
-    let w = rw (s1 .n .given .1) at (s2 .amount-at .ensures .1) in
-    (rw (eq-eqb _ _ (s5 .if1 .left), sym (s4 .digit-at .ensures) ∙ s3 .if2 .taken, sym (s2 .amount-at .ensures .0) ∙ s1 .n .given .1, c .with-size .ensures), earlier w (omega arith))
+    let w = rw (s1 .n .given .1) at (s2 .amount-at .ensures .1) in (
+      rw (
+        eq-eqb _ _ (s5 .if1 .left),
+        sym (s4 .digit-at .ensures) ∙ s3 .if2 .taken,
+        sym (s2 .amount-at .ensures .0) ∙ s1 .n .given .1,
+        c .with-size
+            .ensures,
+      ),
+      earlier w (omega arith),
+    )
 
 returns-3 : tie.Need-returns-3
 unfolding sizeAt

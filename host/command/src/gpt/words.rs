@@ -1,0 +1,119 @@
+//! Partitions, free runs and states, in words, in tables and in JSON.
+
+use crate::json::Json;
+use crate::show::{bar, printable, Item, Side, Table};
+use crate::sizes::{human, of_blocks, BLOCK_LEN};
+use usigrambal::{Guid, Name, Partition, Run, State};
+
+pub fn copies(state: State) -> &'static str {
+    match state {
+        State::Same => "both copies are good and the same",
+        State::Different => "both copies are good, but they differ; the primary is used",
+        State::PrimaryOnly => "the backup copy is not good; the primary is used",
+        State::BackupOnly => "the primary copy is not good; the backup is used",
+    }
+}
+
+fn kind(guid: Guid) -> String {
+    guid.short_name().map_or_else(|| guid.to_string(), str::to_string)
+}
+
+pub fn in_words(partition: &Partition) -> String {
+    let Partition { slot, first, last, .. } = partition;
+    let size = of_blocks(partition.run().blocks());
+    let name = printable(&partition.name.to_text());
+    format!("partition {slot}: blocks {first} to {last}, {size}, {}, \"{name}\"", kind(partition.kind))
+}
+
+pub fn described(partition: &Partition) -> Vec<(&'static str, Json)> {
+    let name = partition.name.to_text();
+    let exact = Name::new(&name) == Some(partition.name);
+    let mut fields = vec![("number", partition.slot.into())];
+    fields.extend(blocks_of(partition.run()));
+    fields.extend([
+        ("type", partition.kind.to_string().into()),
+        ("type_name", partition.kind.short_name().into()),
+        ("guid", partition.unique.to_string().into()),
+        ("attributes", format!("{:#x}", partition.attributes).into()),
+        ("name", name.into()),
+    ]);
+    if !exact {
+        fields.push(("name_units", partition.name.0.iter().map(|unit| u64::from(*unit)).collect()));
+    }
+    fields
+}
+
+fn blocks_of(run: Run) -> Vec<(&'static str, Json)> {
+    let blocks = run.blocks();
+    vec![
+        ("first", run.first.into()),
+        ("last", run.last.into()),
+        ("blocks", blocks.into()),
+        ("bytes", (blocks * BLOCK_LEN).into()),
+    ]
+}
+
+pub fn runs_json(runs: &[Run]) -> Json {
+    runs.iter().map(|run| Json::Object(blocks_of(*run))).collect()
+}
+
+pub fn partition_table(partitions: &[Partition]) -> String {
+    let mut table = Table::new([
+        ("Number", Side::Right),
+        ("First", Side::Right),
+        ("Last", Side::Right),
+        ("Blocks", Side::Right),
+        ("Size", Side::Right),
+        ("Type", Side::Left),
+        ("Unique GUID", Side::Left),
+        ("Attributes", Side::Left),
+        ("Name", Side::Left),
+    ]);
+    for partition in partitions {
+        let blocks = partition.run().blocks();
+        table.row([
+            partition.slot.to_string(),
+            partition.first.to_string(),
+            partition.last.to_string(),
+            blocks.to_string(),
+            human(blocks * BLOCK_LEN),
+            kind(partition.kind),
+            partition.unique.to_string(),
+            format!("{:#x}", partition.attributes),
+            printable(&partition.name.to_text()),
+        ]);
+    }
+    table.text()
+}
+
+/// The free runs in the order of their blocks.
+pub fn run_table(runs: &[Run]) -> String {
+    let mut table = Table::new([
+        ("Free", Side::Right),
+        ("First", Side::Right),
+        ("Last", Side::Right),
+        ("Blocks", Side::Right),
+        ("Size", Side::Right),
+    ]);
+    for run in runs {
+        let blocks = run.blocks();
+        table.row([
+            String::new(),
+            run.first.to_string(),
+            run.last.to_string(),
+            blocks.to_string(),
+            human(blocks * BLOCK_LEN),
+        ]);
+    }
+    table.text()
+}
+
+/// Partitions and free runs in the order of their blocks.
+pub fn drawing(partitions: &[Partition], runs: &[Run], width: usize) -> String {
+    let used = partitions.iter().map(|partition| (partition.run(), Some(partition.slot)));
+    let mut items: Vec<(Run, Option<u64>)> = used.chain(runs.iter().map(|run| (*run, None))).collect();
+    items.sort_by_key(|(run, _)| run.first);
+    let items: Vec<Item> =
+        items.into_iter().map(|(run, number)| Item { number, blocks: run.blocks() }).collect();
+    bar(&items, width)
+}
