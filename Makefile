@@ -52,7 +52,8 @@ command: $(ARCHIVE)
 # The command writes its man pages and its completion, from the texts of its help.
 pages: command
 	@echo 'writing man pages and completion'
-	$(COMMAND) --pages $(PAGES)
+	mkdir -p $(PAGES)
+	for page in $$($(COMMAND) --page); do $(COMMAND) --page $$page >$(PAGES)/$$page || exit 1; done
 
 # Everything stands below this folder; the files know only of PREFIX.
 to = $(DESTDIR)$(PREFIX)
