@@ -1,4 +1,5 @@
--- What C is told of a GPT call: the result, head and tail afterwards, and the number answers afterwards. Definitions, and the statement that an accepted call can't be taken for a refused one.
+-- What C is told of a GPT call: the result, head and tail afterwards, and the number answers afterwards. Definitions, and the statement that an
+-- accepted call can't be taken for a refused one.
 use mathlib.Core.Path.{_≡_}
 use mathlib.Core.List.{List, [], _∷_}
 use Prim.Native.Nat.{ℕ}

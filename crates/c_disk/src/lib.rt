@@ -7,7 +7,8 @@ ghost use mathlib.Core.Path.{_≡_};
 ghost use mathlib.Core.List.{[], _∷_};
 ghost use lib.ListN.{length};
 ghost use Rattle.gpt_model.specs.Disk.{disk512};
-ghost use Rattle.gpt_model.specs.Calls.{step, format as formatOn, read as readCall, freeCounts, repair as repairCall, edit, delete as deleteCall, resize as resizeCall, rename as renameCall, add as addCall};
+ghost use Rattle.gpt_model.specs.Calls.{step, format as formatOn, read as readCall, freeCounts, repair as repairCall, edit, delete as deleteCall};
+ghost use Rattle.gpt_model.specs.Calls.{resize as resizeCall, rename as renameCall, add as addCall};
 ghost use Rattle.gpt.specs.Answers.{doneOf, readingOf, countedOf, addedOf};
 ghost use Rattle.c_disk.specs.Told.{resultOf, valuesOf, gptTold, placeOf, placed};
 
@@ -45,7 +46,8 @@ fn reading(a: Reading, state: &mut u64) -> u32
 }
 
 fn counted(a: Counted, free: &mut u64, longest: &mut u64) -> u32
-    ensures { λ r. ⌜ (r ≡ resultOf (countedOf a)) × ((now (free .exit) ∷ now (longest .exit) ∷ []) ≡ valuesOf (now (free .entry) ∷ now (longest .entry) ∷ []) (countedOf a)) ⌝ }
+    ensures { λ r. ⌜ (r ≡ resultOf (countedOf a))
+        × ((now (free .exit) ∷ now (longest .exit) ∷ []) ≡ valuesOf (now (free .entry) ∷ now (longest .entry) ∷ []) (countedOf a)) ⌝ }
 {
     match a {
         Counted::Free {
@@ -61,7 +63,8 @@ fn counted(a: Counted, free: &mut u64, longest: &mut u64) -> u32
 }
 
 fn added(a: Added, slot: &mut u64, first: &mut u64) -> u32
-    ensures { λ r. ⌜ (r ≡ resultOf (addedOf a)) × ((now (slot .exit) ∷ now (first .exit) ∷ []) ≡ valuesOf (now (slot .entry) ∷ now (first .entry) ∷ []) (addedOf a)) ⌝ }
+    ensures { λ r. ⌜ (r ≡ resultOf (addedOf a))
+        × ((now (slot .exit) ∷ now (first .exit) ∷ []) ≡ valuesOf (now (slot .entry) ∷ now (first .entry) ∷ []) (addedOf a)) ⌝ }
 {
     match a {
         Added::At { slot: s, first: f } => {
@@ -74,7 +77,8 @@ fn added(a: Added, slot: &mut u64, first: &mut u64) -> u32
 }
 
 fn place(a: Reading, in_tail: &mut u64, offset: &mut u64) -> u32
-    ensures { λ r. ⌜ (r ≡ resultOf (placeOf (readingOf a))) × ((now (in_tail .exit) ∷ now (offset .exit) ∷ []) ≡ valuesOf (now (in_tail .entry) ∷ now (offset .entry) ∷ []) (placeOf (readingOf a))) ⌝ }
+    ensures { λ r. ⌜ (r ≡ resultOf (placeOf (readingOf a)))
+        × ((now (in_tail .exit) ∷ now (offset .exit) ∷ []) ≡ valuesOf (now (in_tail .entry) ∷ now (offset .entry) ∷ []) (placeOf (readingOf a))) ⌝ }
 {
     match a {
         Reading::Same => {
@@ -224,7 +228,8 @@ pub extern "C" fn usi_gpt_add(
 ) -> u32
     ensures { λ r. ⌜ record { result = r; head = now (head .exit); tail = now (tail .exit); values = now (slot .exit) ∷ now (first .exit) ∷ [] }
         ≡ gptTold (now (slot .entry) ∷ now (first .entry) ∷ [])
-        (step disk512 n (now (head .entry)) (now (tail .entry)) (edit (addCall (now (kind .entry)) (now (unique .entry)) size attributes (now (name .entry))))) ⌝ }
+        (step disk512 n (now (head .entry)) (now (tail .entry))
+        (edit (addCall (now (kind .entry)) (now (unique .entry)) size attributes (now (name .entry))))) ⌝ }
 {
     if kind.len() != 16 {
         return 1;

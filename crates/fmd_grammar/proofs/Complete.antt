@@ -56,7 +56,7 @@ digit-is b =
     (λ i. choice P (ltb b 103) _ _ (λ j z. absurd (let x = ltb-false b 97 i in let y = ltb-true (b - 87) 10 z in omega arith))
     (λ j z. absurd (clash z refl)))))))
 
-number-digit : (w : List ℕ) {n : ℕ} → numberOf w ≡ Value n → isDigit (getD w 0 0) ≡ true
+pub number-digit : (w : List ℕ) {n : ℕ} → numberOf w ≡ Value n → isDigit (getD w 0 0) ≡ true
 unfolding numberOf numeralOf someDigits isDigit _and_
 number-digit [] e = absurd (wrong-value e)
 number-digit (x ∷ xs) {n} e = go e
@@ -69,7 +69,7 @@ number-digit (x ∷ xs) {n} e = go e
         choice P (eqb x 48) _ _ (λ f z. rw (eqb-true x 48 f))
         (λ f. choice P (ltb (digitOf x) 10) _ _ (λ g z. digit-is x g) (λ g z. absurd (wrong-value z)))
 
-name-digit : (w : List ℕ) → goodName w ≡ true → isDigit (getD w 0 0) ≡ false
+pub name-digit : (w : List ℕ) → goodName w ≡ true → isDigit (getD w 0 0) ≡ false
 unfolding goodName
 name-digit w e = not-t _ (and-r _ _ e)
 

@@ -22,6 +22,7 @@ use Rattle.fmd_lex.specs.Names.{goodName, cbfs, preserve, flagOf}
 use Rattle.fmd_lex.specs.declared.Number.{Number}
 use Rattle.fmd_lex.specs.declared.Number.the-variants.{Value, Wrong}
 use Rattle.fmd_lex.specs.declared.Flag.{Flag}
+use Rattle.fmd_lex.specs.declared.Flag.the-variants.{Cbfs, Preserve, Unknown}
 use Rattle.fmd_table.specs.declared.Offset.{Offset}
 use Rattle.fmd_table.specs.declared.Offset.the-variants.{Given as GivenOffset, Omitted as OmittedOffset}
 use Rattle.fmd_table.specs.declared.Size.{Size}
@@ -34,7 +35,7 @@ use Rattle.fmd_grammar.specs.Claims.{unfitSign, badNumber, badName, tooM
 use Rattle.fmd_grammar.proofs.Built.{built, Flagged, Placed, Sized, Head}
 use Rattle.fmd_grammar.proofs.Parsers.{Parser, Act, stop, eat, leave, item, ret, bind, valued, numberAct, nameAct, flagAct, markAct, sizeAct, lastP}
 use Rattle.fmd_grammar.proofs.Parsers.{otherP, flagsP, offsetP, headP}
-use Rattle.fmd_grammar.proofs.Good.{Good, Fine, map-good, ret-good, item-good, bind-good, sign-good}
+use Rattle.fmd_grammar.proofs.Good.{digital, Exchange, noNumber, noName, Follow, Steady, Good, Fine, map-good, ret-good, item-good, bind-good, sign-good}
 
 -- ---- numbers
 
@@ -53,7 +54,41 @@ number-fine W g i (word p w) = go (numberOf w) refl
     go (Value n) e = (p, w, refl, e)
     go Wrong e = (badNumber e (i p), g)
 
+-- for a fault that no other word need have
+pub no-exchange : {n : ℕ} {v : List ℕ} {A : Type 0} → (n ≡ 52 → ⊥) → (n ≡ 53 → ⊥) → Exchange n v → A
+no-exchange a b (noNumber e) = absurd (a refl)
+no-exchange a b (noName e) = absurd (b refl)
+
+-- a number that must stand there
+pub wrong-follows : {A : Type 0} (f : ℕ → Act A) (v : List ℕ) → Exchange 52 v → valued (numberOf v) f ≡ stop 52
+wrong-follows {A} f v c = go c refl
+  where
+    go : {n : ℕ} → Exchange n v → n ≡ 52 → valued (numberOf v) f ≡ stop 52
+    go (noNumber e) z = ap (λ (m : Number). valued m f) e
+    go (noName e) z = absurd (omega arith)
+
+pub number-steady : Steady numberAct
+number-steady p w v d = go (numberOf w)
+  where
+    go : (n : Number) → Follow (valued n eat) v (numberAct (word p v))
+    go (Value n) = tt
+    go Wrong = wrong-follows eat v
+
 -- ---- flags
+
+mark-steady : (h : Section) → Steady (markAct h)
+mark-steady h p w v d = go (flagOf w)
+  where
+    P : Act Section → Type 0
+    P a = Follow a v (markAct h (word p v))
+
+    bad : P (stop 56)
+    bad = no-exchange (λ e. omega arith) (λ e. omega arith)
+
+    go : (f : Flag) → P (flagAct h f)
+    go Cbfs = choice P (h .cbfs) _ _ (λ z. bad) (λ z. tt)
+    go Preserve = choice P (h .preserve) _ _ (λ z. bad) (λ z. tt)
+    go Unknown = bad
 
 mark-fine : (F : List Lexeme → Section → Type 0) (W : List Lexeme → Type 0) (h : Section)
     → W [] → ((p : ℕ) → W (sign p 41 ∷ []) ⊎ W (word p cbfs ∷ sign 0 41 ∷ [])) → (h .cbfs ≡ false → (p : ℕ) → F (word p cbfs ∷ []) (setCbfs h))
@@ -91,7 +126,7 @@ module _ (p n lv par : ℕ) where
   last-good o g =
       sign-good 41 (ret (h true true)) (λ e. ret (h true true)) (item (markAct (h true true))) (λ e. item (markAct (h true true)))
       (λ c. ret-good (h true true) (true, true, g c, refl))
-      (item-good (markAct (h true true))
+      (item-good (markAct (h true true)) (mark-steady (h true true))
       (mark-fine _ (λ (us : List Lexeme). FlagsOn (o ++ us)) (h true true)
       (sign 0 41 ∷ [], true, true, subst (λ (r : List Lexeme). OptionalFlags (r ++ (sign 0 41 ∷ [])) true true) (sym (append-nil o)) (g 0))
       (λ q. inl ([], true, true, subst (λ (r : List Lexeme). OptionalFlags r true true) (sym (append-nil (o ++ (sign q 41 ∷ [])))) (g q)))
@@ -112,7 +147,7 @@ module _ (p n lv par : ℕ) where
         sign-good 41 (ret (h c v)) (λ e. ret (h c v)) (bind (item (markAct (h c v))) lastP) (λ e. bind (item (markAct (h c v))) lastP)
         (λ d. ret-good (h c v) (c, v, g d, refl))
         (bind-good {F = Other} (item (markAct (h c v))) (λ e. item (markAct (h c v))) lastP (λ e. lastP)
-        (item-good (markAct (h c v))
+        (item-good (markAct (h c v)) (mark-steady (h c v))
         (mark-fine Other (λ (us : List Lexeme). FlagsOn (sign a 40 ∷ word b u ∷ us)) (h c v) (sign 0 41 ∷ [], c, v, g 0) (λ q. inl ([], c, v, g q))
         (λ z q. (q, ap (λ (t : List ℕ). word q t ∷ []) (sym (i z .0)), i z .1)) (λ z q. (q, ap (λ (t : List ℕ). word q t ∷ []) (sym (j z .0)), j z .1))))
         (λ own x f.
@@ -128,7 +163,7 @@ module _ (p n lv par : ℕ) where
       (λ e. ret (h false false))
       (λ a.
       bind-good {F = One} (item (markAct (h false false))) (λ e. item (markAct (h false false))) otherP (λ e. otherP)
-      (item-good (markAct (h false false))
+      (item-good (markAct (h false false)) (mark-steady (h false false))
       (mark-fine One (λ (us : List Lexeme). FlagsOn (sign a 40 ∷ us)) (h false false) (word 0 cbfs ∷ sign 0 41 ∷ [], true, false, onlyCbfs)
       (λ q. inr ([], true, false, onlyCbfs))
       (λ z q. (q, inl (refl, refl))) (λ z q. (q, inr (refl, refl)))))
@@ -154,6 +189,15 @@ OffsetsOn own = (us : List Lexeme) × (o : Offset) × OptionalOffset (own ++ us)
 abbrev pub SizesOn : List Lexeme → Type 0
 SizesOn own = (us : List Lexeme) × (z : Size) × OptionalSize (own ++ us) z
 
+-- L7: .. a word beginning with a digit is its size.
+size-steady : (h : Section) → Steady (sizeAct h)
+size-steady h p w v d = go (digital w) refl (numberOf w)
+  where
+    go : (b : Bool) → digital w ≡ b → (m : Number) → Follow (cond b (valued m (λ k. eat (setSize k h))) (leave h)) v (sizeAct h (word p v))
+    go false e m = rw (sym d ∙ e)
+    go true e (Value m) = tt
+    go true e Wrong = λ c. rw (sym d ∙ e) (wrong-follows (λ k. eat (setSize k h)) v c)
+
 module _ (p n lv par : ℕ) (c v : Bool) where
   pub offset-good : Good (Placed p n lv par c v) OffsetsOn (offsetP (built p n lv par c v OmittedOffset OmittedSize))
       (λ e. offsetP (built p n lv par c v OmittedOffset OmittedSize))
@@ -163,14 +207,14 @@ module _ (p n lv par : ℕ) (c v : Bool) where
       let q : Parser Section = bind (item numberAct) (λ m. ret (setOffset m h)) in
       sign-good 64 q (λ e. q) (ret h) (λ e. ret h)
       (λ a. bind-good {F = Numbered} (item numberAct) (λ e. item numberAct) (λ m. ret (setOffset m h)) (λ e. λ m. ret (setOffset m h))
-      (item-good numberAct (number-fine (λ (us : List Lexeme). OffsetsOn (sign a 64 ∷ us))
+      (item-good numberAct number-steady (number-fine (λ (us : List Lexeme). OffsetsOn (sign a 64 ∷ us))
       (word 0 (ascii "98") ∷ [], GivenOffset (record { 0 = 98 }), offset ninety-eight) (λ q. ([], GivenOffset (record { 0 = 98 }), offset ninety-eight))))
       (λ own m f. rw (f .2) (ret-good (setOffset m h) (GivenOffset (record { 0 = m }), offset (f .3), refl))))
       (ret-good h (OmittedOffset, noOffset, refl))
 
   pub size-good : (o : Offset) → Good (Sized p n lv par c v o) SizesOn (item (sizeAct (built p n lv par c v o OmittedSize)))
       (λ e. item (sizeAct (built p n lv par c v o OmittedSize)))
-  size-good o = item-good (sizeAct (built p n lv par c v o OmittedSize)) fine
+  size-good o = item-good (sizeAct (built p n lv par c v o OmittedSize)) (size-steady (built p n lv par c v o OmittedSize)) fine
     where
       h : Section
       h = built p n lv par c v o OmittedSize
@@ -226,6 +270,27 @@ module _ (lv par k : ℕ) where
   unfolding goodName _and_ isDigit
   letter = refl
 
+  name-steady : Steady (nameAct lv par k)
+  unfolding pickRow
+  name-steady p w v d = go (goodName w) (leb 128 k) (ltb 8 lv)
+    where
+      P : Act Section → Type 0
+      P a = Follow a v (nameAct lv par k (word p v))
+
+      many : P (stop 55)
+      many = no-exchange (λ e. omega arith) (λ e. omega arith)
+
+      bad : {n : ℕ} → n ≡ 53 → Exchange n v → nameAct lv par k (word p v) ≡ stop 53
+      bad z (noNumber e) = absurd (omega arith)
+      bad z (noName e) = rw e
+
+      go : (b e f : Bool)
+          → P (judged (pickRow (not b) 53 (pickRow e 55 (pickRow f 55 none))) stop (eat (built p (length w) lv par false false OmittedOffset OmittedSize)))
+      go false e f = bad refl
+      go true true f = many
+      go true false true = many
+      go true false false = tt
+
   name-fine : k < 129 → lv ≤ 9 → (x : Lexeme) → Fine (Named lv par k) (HeadOn lv par k) x (nameAct lv par k x)
   unfolding pickRow
   name-fine r d (sign p j) = (unfitSign, (word 0 (ascii "A") ∷ [], _, headed letter r d noFlags noOffset noSize))
@@ -248,7 +313,7 @@ module _ (lv par k : ℕ) where
   pub head-good : k < 129 → lv ≤ 9 → Good (Head 128 8 lv par k) (HeadOn lv par k) (headP lv par k) (λ e. headP lv par k)
   unfolding headP
   head-good r d =
-      bind-good {F = Named lv par k} (item (nameAct lv par k)) (λ e. item (nameAct lv par k)) _ _ (item-good (nameAct lv par k) (name-fine r d))
+      bind-good {F = Named lv par k} (item (nameAct lv par k)) (λ e. item (nameAct lv par k)) _ _ (item-good (nameAct lv par k) name-steady (name-fine r d))
       (λ own x f. rw (f .2, f .6) (named (f .0) (f .1) (f .3) (f .4) (f .5)))
     where
       K : Section → Parser Section

@@ -10,7 +10,7 @@ use lib.ListN.{length}
 use borrow.Author.Tests.{eqb-true, leb-true, le-leb}
 use Rattle.octets.specs.Tests.{_and_}
 use Rattle.octets.specs.Rows.{pickRow}
-use Rattle.octets.proofs.Bools.{and-l, and-r, clash, and-i}
+use Rattle.octets.proofs.Bools.{and-l, and-r, clash, and-i, choice}
 use Rattle.octets.specs.Ascii.{ascii}
 use Rattle.fmd_lex.specs.Numbers.{numberOf}
 use Rattle.fmd_lex.specs.Names.{goodName}
@@ -18,7 +18,7 @@ use Rattle.fmd_lex.specs.declared.Number.{Number}
 use Rattle.fmd_lex.specs.declared.Number.the-variants.{Value, Wrong}
 use Rattle.fmd_table.specs.declared.Section.{Section}
 use Rattle.fmd_parse.specs.Heads.{judged}
-use Rattle.fmd_parse.specs.Images.{setAddress}
+use Rattle.fmd_parse.specs.Images.{setAddress, setLength}
 use Rattle.fmd_parse.specs.declared.Address.{Address}
 use Rattle.fmd_parse.specs.declared.Address.the-variants.{Given, Omitted}
 use Rattle.fmd_parse.specs.declared.Image.{Image}
@@ -31,8 +31,8 @@ use Rattle.fmd_grammar.proofs.Built.{built}
 use Rattle.fmd_grammar.proofs.Built.{pictured, Addressed}
 use Rattle.fmd_grammar.proofs.Parsers.{Parser, Act, stop, eat, item, ret, bind, valued, numberAct, titleAct, lengthAct, mustBe, listP, addressP}
 use Rattle.fmd_grammar.proofs.Parsers.{imageP, layoutP}
-use Rattle.fmd_grammar.proofs.Good.{Good, Fine, map-good, ret-good, item-good, bind-good, sign-good}
-use Rattle.fmd_grammar.proofs.GoodHeads.{ninety-eight, Numbered, number-fine, letter}
+use Rattle.fmd_grammar.proofs.Good.{Exchange, noNumber, noName, Follow, Steady, Good, Fine, map-good, ret-good, item-good, bind-good, sign-good}
+use Rattle.fmd_grammar.proofs.GoodHeads.{ninety-eight, Numbered, number-fine, letter, no-exchange, wrong-follows, number-steady}
 use Rattle.fmd_grammar.proofs.GoodLists.{plus, ListSays, ListOn, list-good}
 
 -- ---- a layout that ends so: 98 { A }
@@ -108,6 +108,28 @@ an-image p v h = image 0 0 0 0 (ascii "98") h noAddress ninety-eight (omega arit
 titled : Viable []
 titled = (word 0 (ascii "A") ∷ word 0 (ascii "98") ∷ sign 0 123 ∷ tail, _, _, an-image 0 (ascii "A") (letter 0 0 0))
 
+title-steady : Steady titleAct
+unfolding pickRow
+title-steady p w v d = go (goodName w)
+  where
+    bad : {n : ℕ} → n ≡ 53 → Exchange n v → titleAct (word p v) ≡ stop 53
+    bad z (noNumber e) = absurd (omega arith)
+    bad z (noName e) = rw e
+
+    go : (b : Bool) → Follow (judged (pickRow (not b) 53 none) stop (eat (pictured p (length w) Omitted 0))) v (titleAct (word p v))
+    go true = tt
+    go false = bad refl
+
+length-steady : (i : Image) → Steady (lengthAct i)
+length-steady i p w v d = go (numberOf w)
+  where
+    P : Act Image → Type 0
+    P a = Follow a v (lengthAct i (word p v))
+
+    go : (n : Number) → P (valued n (λ m. cond (leb 98 m and leb m 16777216) (eat (setLength m i)) (stop 52)))
+    go (Value n) = choice P (leb 98 n and leb n 16777216) _ _ (λ e. tt) (λ e. wrong-follows _ v)
+    go Wrong = wrong-follows _ v
+
 title-fine : (x : Lexeme) → Fine Titled Viable x (titleAct x)
 unfolding pickRow
 title-fine (sign p k) = (unfitSign, titled)
@@ -126,7 +148,7 @@ module _ (p : ℕ) (w : List ℕ) (g : goodName w ≡ true) where
       let q : Parser Image = bind (item numberAct) (λ m. ret (setAddress m i)) in
       sign-good 64 q (λ e. q) (ret i) (λ e. ret i)
       (λ a. bind-good {F = Numbered} (item numberAct) (λ e. item numberAct) (λ m. ret (setAddress m i)) (λ e m. ret (setAddress m i))
-      (item-good numberAct
+      (item-good numberAct number-steady
       (number-fine (λ (us : List Lexeme). Viable (word p w ∷ (sign a 64 ∷ us)))
       (address-on g (address {a = a} {b = 0} ninety-eight) (sign a 64 ∷ []) (word 0 (ascii "98") ∷ []) refl)
       (λ q. address-on g (address {a = a} {b = q} ninety-eight) (sign a 64 ∷ word q (ascii "98") ∷ []) [] refl)))
@@ -163,12 +185,12 @@ must-fine F W k a f m g (sign p j) = go (eqb j k) refl
 
 must-good : {A : Type 0} {F : List Lexeme → A → Type 0} {W : List Lexeme → Type 0} (k : ℕ) (a : A)
     → ((p : ℕ) → F (sign p k ∷ []) a) → ((p : ℕ) (w : List ℕ) → Fault W 51 (word p w)) → W [] → Good F W (item (mustBe k a)) (λ e. item (mustBe k a))
-must-good {A} {F} {W} k a f m g = item-good (mustBe k a) (must-fine F W k a f m g)
+must-good {A} {F} {W} k a f m g = item-good (mustBe k a) (λ p w v d. no-exchange (λ e. omega arith) (λ e. omega arith)) (must-fine F W k a f m g)
 
 image-good : Good Front Viable imageP (λ e. imageP)
 unfolding imageP
 image-good =
-    bind-good {F = Titled} (item titleAct) (λ e. item titleAct) _ _ (item-good titleAct title-fine)
+    bind-good {F = Titled} (item titleAct) (λ e. item titleAct) _ _ (item-good titleAct title-steady title-fine)
     (λ own i f. rw (f .2, f .4) (titled (f .0) (f .1) (f .3)))
   where
     J : Image → Parser Image
@@ -179,7 +201,7 @@ image-good =
         (J (pictured p (length w) d 0)) (λ e. J (pictured p (length w) d 0))
     addressed p w g os d o =
         bind-good {F = Long p (length w) d} (item (lengthAct (pictured p (length w) d 0))) (λ e. item (lengthAct (pictured p (length w) d 0))) _ _
-        (item-good (lengthAct (pictured p (length w) d 0)) (length-fine p w g o))
+        (item-good (lengthAct (pictured p (length w) d 0)) (length-steady (pictured p (length w) d 0)) (length-fine p w g o))
         (λ own i f.
         rw (f .3, f .7)
         (must-good 123 (pictured p (length w) d (f .2))

@@ -1,6 +1,7 @@
 -- The theorems.
 use mathlib.Core.Path.{_≡_, refl, sym, ap, subst, _∙_}
-use mathlib.Core.List.{List, [], _∷_, _++_, append-nil}
+use mathlib.Core.Bool.{Bool, true, false}
+use mathlib.Core.List.{List, [], _∷_, _++_, append-nil, append-assoc}
 use Prim.Native.Nat.{ℕ, zero, suc, _+_, _*_, _-_, _≤_}
 use native.Mathlib.Nat.{not-suc-le-zero}
 use native.Mathlib.Omega.{arith}
@@ -10,17 +11,21 @@ use Rattle.octets.specs.Tests.{_or_}
 use Rattle.fmd_parse.specs.Trees.{LayoutFacts}
 use Rattle.fmd_parse.proofs.Trees.{layout-facts}
 use Rattle.fmd_lex.specs.Tokens.{endKind, tokenAt}
+use Rattle.fmd_lex.specs.Numbers.{numberOf}
+use Rattle.fmd_lex.specs.Names.{goodName}
+use Rattle.fmd_lex.specs.declared.Number.{Number}
+use Rattle.fmd_lex.specs.declared.Number.the-variants.{Value, Wrong}
 use Rattle.fmd_lex.specs.declared.Token.{Token}
 use Rattle.fmd_table.specs.declared.Section.{Section}
 use Rattle.fmd_parse.specs.Heads.{next, isKind}
 use Rattle.fmd_parse.specs.Layouts.{Layout, layout, refused, layoutOf}
 use Rattle.fmd_parse.specs.declared.Image.{Image}
-use Rattle.fmd_grammar.specs.Grammar.{Lexeme, lexemeOf, lexemesFrom, lexemesOf, LayoutText, Derives}
-use Rattle.fmd_grammar.specs.Claims.{Exact, Viable, First}
+use Rattle.fmd_grammar.specs.Grammar.{Lexeme, word, lexemeOf, lexemesFrom, lexemesOf, LayoutText, Derives}
+use Rattle.fmd_grammar.specs.Claims.{Exact, Viable, NoText, First}
 use Rattle.fmd_grammar.proofs.Parsers.{Got, no, ok, layoutP}
 use Rattle.fmd_grammar.proofs.SameLists.{Whole, same-layout}
-use Rattle.fmd_grammar.proofs.Complete.{layout-complete}
-use Rattle.fmd_grammar.proofs.Good.{same, Stopped}
+use Rattle.fmd_grammar.proofs.Complete.{number-digit, name-digit, layout-complete}
+use Rattle.fmd_grammar.proofs.Good.{digital, Exchange, noNumber, noName, same, Stopped}
 use Rattle.fmd_grammar.proofs.GoodLists.{plus}
 use Rattle.fmd_grammar.proofs.GoodWhole.{layout-good}
 
@@ -105,6 +110,16 @@ module _ (s : List ℕ) (n p : ℕ) (e : layoutOf s ≡ refused n p) where
       let g = 2 * length s + 2 + 2 * length (t .own ++ (t .it ∷ ts)) in
       same (sym (always g (omega arith) ts) ∙ layout-complete d g (omega arith))
 
+  -- nor with another word that has the same fault there
+  swapped : (w v : List ℕ) → stopped s n p e .it ≡ word p w → digital w ≡ digital v → Exchange n v → NoText (stopped s n p e .own ++ (word p v ∷ []))
+  swapped w v z d c ts i l x =
+      let t = stopped s n p e in
+      let f = 2 * length s + 2 in
+      let y = subst (λ (us : List Lexeme). LayoutText 128 8 us i l) (append-assoc (t .own) (word p v ∷ []) ts) x in
+      let g = f + 2 * length (t .own ++ (word p v ∷ ts)) in
+      let q = subst (λ (k : ℕ). layoutP k (t .own ++ (word p v ∷ ts)) ≡ no n p) (plus-sub f g (omega arith)) (t .swap w v z d c (g - f) ts) in
+      same (sym q ∙ layout-complete y g (omega arith))
+
 again : (s : List ℕ) (n p : ℕ) (e : layoutOf s ≡ refused n p) (r : List ℕ) (ts : List Lexeme) → lexemesOf r ≡ stopped s n p e .own ++
     (stopped s n p e .it ∷ ts) → layoutOf r ≡ refused n p
 again s n p e r ts q = go (layoutOf r) refl
@@ -115,6 +130,22 @@ again s n p e r ts q = go (layoutOf r) refl
         let g = 2 * length s + 2 + (2 * length r + 2) in
         let d = same (sym (lasting r m k x g (omega arith)) ∙ ap (layoutP g) q ∙ always s n p e g (omega arith) ts) in
         x ∙ (λ i. refused (d .0 i) (d .1 i))
+
+-- a word that begins with a digit is no name
+digit-unnamed : (v : List ℕ) → digital v ≡ true → goodName v ≡ false
+digit-unnamed v b = go (goodName v) refl
+  where
+    go : (g : Bool) → goodName v ≡ g → g ≡ false
+    go true e = absurd (clash b (name-digit v e))
+    go false e = refl
+
+-- and a name is no number
+name-unnumbered : (v : List ℕ) → goodName v ≡ true → numberOf v ≡ Wrong
+name-unnumbered v g = go (numberOf v) refl
+  where
+    go : (m : Number) → numberOf v ≡ m → m ≡ Wrong
+    go (Value m) e = absurd (clash (number-digit v e) (name-digit v g))
+    go Wrong e = refl
 
 -- a refused text's fault is its first
 pub first : First
@@ -128,6 +159,9 @@ first s n p e =
       place = t .place;
       viable = t .viable;
       fault = t .fault;
-      never = never s n p e;
+      digit = λ m w v z a b. swapped s n p e w v z (a ∙ sym b) (subst (λ (j : ℕ). Exchange j v) (sym m) (noName (digit-unnamed v b)));
+      letter = λ m w v z a g.
+          swapped s n p e w v z (a ∙ sym (name-digit v g)) (subst (λ (j : ℕ). Exchange j v) (sym m) (noNumber (name-unnumbered v g)));
+      never = λ ts i l d. never s n p e ts i l (subst (λ (us : List Lexeme). LayoutText 128 8 us i l) (append-assoc (t .own) (t .it ∷ []) ts) d);
       always = again s n p e;
     }

@@ -5,7 +5,9 @@ use mathlib.Core.Logic.{_↔_, _⊎_}
 use mathlib.Core.Bool.{true, false}
 use Prim.Native.Char.{code}
 use Prim.Native.Nat.{ℕ, _≤_}
+use lib.ListN.{getD}
 use Rattle.octets.specs.Ascii.{ascii}
+use Rattle.text_words.specs.Classes.{isDigit}
 use Rattle.fmd_lex.specs.Tokens.{endKind}
 use Rattle.fmd_lex.specs.Numbers.{numberOf}
 use Rattle.fmd_lex.specs.Names.{goodName, cbfs}
@@ -31,8 +33,11 @@ placeOf (sign p b) = p
 abbrev pub Viable : List Lexeme → Type 0
 Viable ts = (us : List Lexeme) × (i : Image) × (l : List Section) × LayoutText 129 9 (ts ++ us) i l
 
--- Why a token has a fault of this number; `May us`: the tokens us may stand in its place.
--- Where a size or a name may stand, a word that is neither fits 52 and 53; by L7 one that begins with a digit has 52.
+-- no layout text begins with the tokens ts
+abbrev pub NoText : List Lexeme → Type 0
+NoText ts = (us : List Lexeme) (i : Image) (l : List Section) → LayoutText 128 8 (ts ++ us) i l → ⊥
+
+-- why a token has a fault of this number; `May us`: the tokens us may stand in its place
 pub data Fault (May : List Lexeme → Type 0) : ℕ → Lexeme → Type 0 where
   -- text out of grammar (R18): a sign or another byte, or the text's end
   unfitSign : {p b : ℕ} → Fault May 51 (sign p b)
@@ -69,8 +74,12 @@ pub record FirstFault (s : List ℕ) (n p : ℕ) : Type 0 where
   -- up to it nothing is at fault
   pub viable : Viable before
   pub fault : Fault (λ us. Viable (before ++ us)) n token
-  -- with it no continuation derives, and every text that begins so has the same fault, whatever follows
-  pub never : (ts : List Lexeme) (i : Image) (l : List Section) → LayoutText 128 8 (before ++ (token ∷ ts)) i l → ⊥
+  -- L7: After a section's name, flags or offset, a word beginning with a digit is its size.
+  -- So 53 at such a word stands where no word beginning with a digit may, and 52 at any other word where no name may.
+  pub digit : n ≡ 53 → (w v : List ℕ) → token ≡ word p w → isDigit (getD w 0 0) ≡ true → isDigit (getD v 0 0) ≡ true → NoText (before ++ (word p v ∷ []))
+  pub letter : n ≡ 52 → (w v : List ℕ) → token ≡ word p w → isDigit (getD w 0 0) ≡ false → goodName v ≡ true → NoText (before ++ (word p v ∷ []))
+  -- with it no text derives, and every text that begins so has the same fault, whatever follows
+  pub never : NoText (before ++ (token ∷ []))
   pub always : (r : List ℕ) (ts : List Lexeme) → lexemesOf r ≡ before ++ (token ∷ ts) → layoutOf r ≡ refused n p
 
 -- The fault of a refused text is its first.

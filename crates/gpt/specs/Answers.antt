@@ -11,7 +11,8 @@ use Rattle.gpt_model.specs.Disk.{disk512, usedSide, state, tableOf}
 use Rattle.gpt_model.specs.Calls.{Answer, refused, accepted, read, rowsOf}
 use Rattle.gpt_copies.specs.States.{behind, entriesPlace}
 use Rattle.gpt.specs.declared.Refusal.{Refusal}
-use Rattle.gpt.specs.declared.Refusal.the-variants.{WrongLength, BlockCount, NoDiskGuid, NeitherGood, NotTheSame, NoSuchSlot, SlotUnused, NoSize, NoType, NoUniqueGuid, BadName, NoUnusedSlot, NoRoom}
+use Rattle.gpt.specs.declared.Refusal.the-variants.{WrongLength, BlockCount, NoDiskGuid, NeitherGood, NotTheSame, NoSuchSlot, SlotUnused}
+use Rattle.gpt.specs.declared.Refusal.the-variants.{NoSize, NoType, NoUniqueGuid, BadName, NoUnusedSlot, NoRoom}
 use Rattle.gpt.specs.declared.Done.{Done}
 use Rattle.gpt.specs.declared.Done.the-variants as done
 use Rattle.gpt.specs.declared.Reading.{Reading}

@@ -13,7 +13,8 @@ ghost use lib.ListN.{length};
 ghost use Rattle.gpt_model.specs.Ranges.{freeCount, longestFree};
 ghost use Rattle.gpt_model.specs.Table.{tableBytes, slots};
 ghost use Rattle.gpt_model.specs.Disk.{disk512, lastUsable};
-ghost use Rattle.gpt_model.specs.Calls.{accepted, out, step, format as formatOn, read as readCall, freeCounts, repair as repairCall, edit, add as addCall, delete as deleteCall, resize as resizeCall, rename as renameCall};
+ghost use Rattle.gpt_model.specs.Calls.{accepted, out, step, format as formatOn, read as readCall, freeCounts, repair as repairCall, edit};
+ghost use Rattle.gpt_model.specs.Calls.{add as addCall, delete as deleteCall, resize as resizeCall, rename as renameCall};
 ghost use Rattle.gpt.specs.Answers.{numberOf, Numbered, doneOf, readingOf, addedOf, countedOf, part, handedPart};
 
 // Why a call is refused; specs/Answers gives each its number.
@@ -132,7 +133,8 @@ pub fn read(head: &[u8], tail: &[u8], n: u64) -> Reading
 
 // Gives a partition's slot back.
 pub fn delete(head: &mut [u8], tail: &mut [u8], n: u64, slot: u64) -> Done
-    ensures { λ r. ⌜ out (doneOf r) (now (head .exit)) (now (tail .exit)) ≡ step disk512 n (now (head .entry)) (now (tail .entry)) (edit (deleteCall slot)) ⌝ }
+    ensures { λ r. ⌜ out (doneOf r) (now (head .exit)) (now (tail .exit))
+        ≡ step disk512 n (now (head .entry)) (now (tail .entry)) (edit (deleteCall slot)) ⌝ }
 {
     match gpt_checks::delete(&head[..], &tail[..], n, slot) {
         Check::Stop(k) => Done::Refused(refusal_of(k)),
@@ -178,7 +180,8 @@ pub fn add(
 
 // Sets a partition's last block, for the size asked.
 pub fn resize(head: &mut [u8], tail: &mut [u8], n: u64, slot: u64, size: u64) -> Done
-    ensures { λ r. ⌜ out (doneOf r) (now (head .exit)) (now (tail .exit)) ≡ step disk512 n (now (head .entry)) (now (tail .entry)) (edit (resizeCall slot size)) ⌝ }
+    ensures { λ r. ⌜ out (doneOf r) (now (head .exit)) (now (tail .exit))
+        ≡ step disk512 n (now (head .entry)) (now (tail .entry)) (edit (resizeCall slot size)) ⌝ }
 {
     match gpt_checks::resize(&head[..], &tail[..], n, slot, size) {
         Check::Stop(k) => Done::Refused(refusal_of(k)),
@@ -191,7 +194,8 @@ pub fn resize(head: &mut [u8], tail: &mut [u8], n: u64, slot: u64, size: u64) ->
 
 // Sets a partition's name.
 pub fn rename(head: &mut [u8], tail: &mut [u8], n: u64, slot: u64, name: [u16; 36]) -> Done
-    ensures { λ r. ⌜ out (doneOf r) (now (head .exit)) (now (tail .exit)) ≡ step disk512 n (now (head .entry)) (now (tail .entry)) (edit (renameCall slot name)) ⌝ }
+    ensures { λ r. ⌜ out (doneOf r) (now (head .exit)) (now (tail .exit))
+        ≡ step disk512 n (now (head .entry)) (now (tail .entry)) (edit (renameCall slot name)) ⌝ }
 {
     match gpt_checks::rename(&head[..], &tail[..], n, slot, &name) {
         Check::Stop(k) => Done::Refused(refusal_of(k)),
@@ -239,7 +243,8 @@ pub fn table<'a>(head: &'a [u8], tail: &'a [u8], n: u64) -> &'a [u8]
 
 fn count_in(table: &[u8], n: u64) -> Counted
     requires { ⌜ (length (now table) ≡ tableBytes) × (2 * disk512 .first ≤ n) × (n ≤ 4294967296) ⌝ }
-    ensures { λ r. ⌜ countedOf r ≡ accepted (freeCount (slots (now (table .entry))) (disk512 .first) (lastUsable disk512 n) ∷ longestFree (slots (now (table .entry))) (disk512 .first) (lastUsable disk512 n) ∷ []) ⌝ }
+    ensures { λ r. ⌜ countedOf r ≡ accepted (freeCount (slots (now (table .entry))) (disk512 .first) (lastUsable disk512 n)
+        ∷ longestFree (slots (now (table .entry))) (disk512 .first) (lastUsable disk512 n) ∷ []) ⌝ }
 {
     let free = gpt_table::room::free_counts(
         table,

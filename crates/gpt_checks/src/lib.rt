@@ -15,7 +15,8 @@ ghost use Rattle.octets.specs.Rows.{refusal};
 ghost use Rattle.gpt_model.specs.Ranges.{place};
 ghost use Rattle.gpt_model.specs.Table.{tableBytes, slots};
 ghost use Rattle.gpt_model.specs.Disk.{disk512, lastUsable, tableOf};
-ghost use Rattle.gpt_model.specs.Calls.{formatRows, slotRows, addRows, tableRows, rowsOf, edit, add as addCall, delete as deleteCall, resize as resizeCall, rename as renameCall};
+ghost use Rattle.gpt_model.specs.Calls.{formatRows, slotRows, addRows, tableRows, rowsOf, edit, add as addCall, delete as deleteCall};
+ghost use Rattle.gpt_model.specs.Calls.{resize as resizeCall, rename as renameCall};
 ghost use Rattle.gpt_checks.specs.Checks.{stopOf, stopBy, startBy, lentRows, openFor};
 
 // No row holds, or the number of the first that does.
@@ -186,7 +187,8 @@ fn new(table: &[u8], kind: &[u8], unique: &[u8], size: u64, name: &[u16]) -> Che
 // 20 to 25.
 fn place(table: &[u8], n: u64, kind: &[u8], unique: &[u8], size: u64, name: &[u16]) -> Start
     requires { ⌜ (length (now table) ≡ tableBytes) × (2 * disk512 .first ≤ n) × (n ≤ 4294967296) ⌝ }
-    ensures { λ r. ⌜ ((attributes : ℕ) → stopBy r ≡ refusal (tableRows (disk512 .first) (lastUsable disk512 n) (now (table .entry)) (addCall (now (kind .entry)) (now (unique .entry)) size attributes (now (name .entry)))))
+    ensures { λ r. ⌜ ((attributes : ℕ) → stopBy r ≡ refusal (tableRows (disk512 .first) (lastUsable disk512 n) (now (table .entry))
+        (addCall (now (kind .entry)) (now (unique .entry)) size attributes (now (name .entry)))))
         × ((b : ℕ) → startBy r ≡ some b → place (slots (now (table .entry))) (disk512 .first) (lastUsable disk512 n) size ≡ some b) ⌝ }
 {
     match new(table, kind, unique, size, name) {
@@ -214,8 +216,10 @@ pub fn add(
     name: &[u16],
 ) -> Start
     requires { ⌜ (length (now kind) ≡ 16) × (length (now unique) ≡ 16) × (length (now name) ≡ 36) ⌝ }
-    ensures { λ r. ⌜ ((attributes : ℕ) → stopBy r ≡ refusal (rowsOf disk512 n (now (head .entry)) (now (tail .entry)) (edit (addCall (now (kind .entry)) (now (unique .entry)) size attributes (now (name .entry))))))
-        × ((b : ℕ) → startBy r ≡ some b → place (slots (tableOf disk512 n (now (head .entry)) (now (tail .entry)))) (disk512 .first) (lastUsable disk512 n) size ≡ some b) ⌝ }
+    ensures { λ r. ⌜ ((attributes : ℕ) → stopBy r ≡ refusal (rowsOf disk512 n (now (head .entry)) (now (tail .entry)) (edit
+        (addCall (now (kind .entry)) (now (unique .entry)) size attributes (now (name .entry))))))
+        × ((b : ℕ) → startBy r ≡ some b → place (slots (tableOf disk512 n (now (head .entry)) (now (tail .entry))))
+        (disk512 .first) (lastUsable disk512 n) size ≡ some b) ⌝ }
 {
     match opened(head, tail, n) {
         Check::Stop(k) => Start::Stop(k),

@@ -6,7 +6,8 @@ ghost use lib.ListN.{length};
 ghost use Rattle.octets.specs.Bytes.{put, zeros, putChunk};
 ghost use Rattle.crc_lanes.specs.Crc.{crc32 as crcOf};
 ghost use Rattle.gpt_model.specs.Table.{writeAll, entryBytes, slotCount, tableBytes};
-ghost use Rattle.gpt_model.specs.Disk.{disk512, primary, backup, lentBytes, headerAt, entriesAt, guidIn, entriesIn, header, withTable, withCopy, block0, freshHead, freshTail};
+ghost use Rattle.gpt_model.specs.Disk.{disk512, primary, backup, lentBytes, headerAt, entriesAt, guidIn, entriesIn, header, withTable, withCopy};
+ghost use Rattle.gpt_model.specs.Disk.{block0, freshHead, freshTail};
 ghost use Rattle.gpt_copies.specs.Sides.{sideOf};
 use super::BLOCK;
 use super::ENTRY;
@@ -28,7 +29,8 @@ fn put_header(b: &mut [u8], side: Side, n: u64, guid: &[u8], crc: u32)
 fn renew_header(b: &mut [u8], side: Side, n: u64, crc: u32)
     requires { ⌜ (length (now b) ≡ lentBytes disk512 (sideOf side)) × (2 * disk512 .first ≤ n) ⌝ }
     ensures { λ _. ⌜ ((es : List ℕ) → crc ≡ crcOf es
-        → now (b .exit) ≡ put (headerAt disk512 (sideOf side)) (header disk512 n (sideOf side) (guidIn disk512 (sideOf side) (now (b .entry))) es) (now (b .entry))) ⌝ }
+        → now (b .exit) ≡ put (headerAt disk512 (sideOf side))
+        (header disk512 n (sideOf side) (guidIn disk512 (sideOf side) (now (b .entry))) es) (now (b .entry))) ⌝ }
 {
     let mut guid = [0u8; 16];
     octets::copy(&mut guid, 0, super::guid_in(&b[..], side));
@@ -38,7 +40,8 @@ fn renew_header(b: &mut [u8], side: Side, n: u64, crc: u32)
 fn set_entry(b: &mut [u8], side: Side, i: usize, e: &[u8])
     requires { ⌜ (length (now b) ≡ lentBytes disk512 (sideOf side)) × (i < slotCount) × (length (now e) ≡ entryBytes) ⌝ }
     ensures { λ _. ⌜ now (b .exit)
-        ≡ put (entriesAt disk512 (sideOf side)) (putChunk entryBytes i (now (e .entry)) (entriesIn disk512 (sideOf side) (now (b .entry)))) (now (b .entry)) ⌝ }
+        ≡ put (entriesAt disk512 (sideOf side))
+        (putChunk entryBytes i (now (e .entry)) (entriesIn disk512 (sideOf side) (now (b .entry)))) (now (b .entry)) ⌝ }
 {
     let at = super::entries_at(side) + i * ENTRY;
     octets::copy(b, at, e);
@@ -69,7 +72,8 @@ pub fn crc_with(table: &[u8], i: usize, e: &[u8]) -> u32
 
 // The same entry in both copies, whose tables hold the same bytes: one CRC serves both.
 pub fn put_both(head: &mut [u8], tail: &mut [u8], n: u64, i: usize, e: &[u8])
-    requires { ⌜ (length (now head) ≡ lentBytes disk512 primary) × (length (now tail) ≡ lentBytes disk512 backup) × (2 * disk512 .first ≤ n) × (i < slotCount) × (length (now e) ≡ entryBytes)
+    requires { ⌜ (length (now head) ≡ lentBytes disk512 primary)
+        × (length (now tail) ≡ lentBytes disk512 backup) × (2 * disk512 .first ≤ n) × (i < slotCount) × (length (now e) ≡ entryBytes)
         × (entriesIn disk512 primary (now head) ≡ entriesIn disk512 backup (now tail)) ⌝ }
     ensures { λ _. ⌜ (now (head .exit) ≡ withTable disk512 n primary (guidIn disk512 primary (now (head .entry)))
         (putChunk entryBytes i (now (e .entry)) (entriesIn disk512 primary (now (head .entry)))) (now (head .entry)))
@@ -92,7 +96,8 @@ fn clear_header(b: &mut [u8], side: Side)
 
 // D24: the other copy's 33 blocks from the good one, header tail zero.
 pub fn put_copy(b: &mut [u8], side: Side, n: u64, guid: &[u8], table: &[u8])
-    requires { ⌜ (length (now b) ≡ lentBytes disk512 (sideOf side)) × (2 * disk512 .first ≤ n) × (length (now guid) ≡ 16) × (length (now table) ≡ tableBytes) ⌝ }
+    requires { ⌜ (length (now b) ≡ lentBytes disk512 (sideOf side)) × (2 * disk512 .first ≤ n)
+        × (length (now guid) ≡ 16) × (length (now table) ≡ tableBytes) ⌝ }
     ensures { λ _. ⌜ now (b .exit) ≡ withCopy disk512 n (sideOf side) (now (guid .entry)) (now (table .entry)) (now (b .entry)) ⌝ }
 {
     clear_header(b, side);

@@ -16,7 +16,8 @@ ghost use Rattle.gpt_model.specs.Calls.{accepted, out, step, rowsOf, edit, add 
 
 pub fn delete(head: &mut [u8], tail: &mut [u8], n: u64, slot: u64)
     requires { ⌜ refusal (rowsOf disk512 n (now head) (now tail) (edit (deleteCall slot))) ≡ none ⌝ }
-    ensures { λ _. ⌜ out (accepted []) (now (head .exit)) (now (tail .exit)) ≡ step disk512 n (now (head .entry)) (now (tail .entry)) (edit (deleteCall slot)) ⌝ }
+    ensures { λ _. ⌜ out (accepted []) (now (head .exit)) (now (tail .exit))
+        ≡ step disk512 n (now (head .entry)) (now (tail .entry)) (edit (deleteCall slot)) ⌝ }
 {
     let none = [0u8; ENTRY];
     gpt_copies::writing::put_both(head, tail, n, (slot - 1) as usize, &none);
@@ -24,7 +25,8 @@ pub fn delete(head: &mut [u8], tail: &mut [u8], n: u64, slot: u64)
 
 pub fn rename(head: &mut [u8], tail: &mut [u8], n: u64, slot: u64, name: &[u16])
     requires { ⌜ refusal (rowsOf disk512 n (now head) (now tail) (edit (renameCall slot (now name)))) ≡ none ⌝ }
-    ensures { λ _. ⌜ out (accepted []) (now (head .exit)) (now (tail .exit)) ≡ step disk512 n (now (head .entry)) (now (tail .entry)) (edit (renameCall slot (now (name .entry)))) ⌝ }
+    ensures { λ _. ⌜ out (accepted []) (now (head .exit)) (now (tail .exit))
+        ≡ step disk512 n (now (head .entry)) (now (tail .entry)) (edit (renameCall slot (now (name .entry)))) ⌝ }
 {
     let i = (slot - 1) as usize;
     let new = gpt_entry::renamed(
@@ -36,7 +38,8 @@ pub fn rename(head: &mut [u8], tail: &mut [u8], n: u64, slot: u64, name: &[u16])
 
 pub fn resize(head: &mut [u8], tail: &mut [u8], n: u64, slot: u64, size: u64)
     requires { ⌜ refusal (rowsOf disk512 n (now head) (now tail) (edit (resizeCall slot size))) ≡ none ⌝ }
-    ensures { λ _. ⌜ out (accepted []) (now (head .exit)) (now (tail .exit)) ≡ step disk512 n (now (head .entry)) (now (tail .entry)) (edit (resizeCall slot size)) ⌝ }
+    ensures { λ _. ⌜ out (accepted []) (now (head .exit)) (now (tail .exit))
+        ≡ step disk512 n (now (head .entry)) (now (tail .entry)) (edit (resizeCall slot size)) ⌝ }
 {
     let i = (slot - 1) as usize;
     let new = gpt_entry::resized(
@@ -61,7 +64,8 @@ pub fn add(
     requires { ⌜ (refusal (rowsOf disk512 n (now head) (now tail) (edit (addCall (now kind) (now unique) size attributes (now name)))) ≡ none)
         × (place (slots (tableOf disk512 n (now head) (now tail))) (disk512 .first) (lastUsable disk512 n) size ≡ some (first .0)) ⌝ }
     ensures { λ r. ⌜ out (accepted (r ∷ first .0 ∷ [])) (now (head .exit)) (now (tail .exit))
-        ≡ step disk512 n (now (head .entry)) (now (tail .entry)) (edit (addCall (now (kind .entry)) (now (unique .entry)) size attributes (now (name .entry)))) ⌝ }
+        ≡ step disk512 n (now (head .entry)) (now (tail .entry))
+        (edit (addCall (now (kind .entry)) (now (unique .entry)) size attributes (now (name .entry)))) ⌝ }
 {
     let i = gpt_table::first_unused(gpt_copies::entries_in(&head[..], Side::Primary));
     let new = gpt_entry::added(kind, unique, first.0, size, attributes, name);
@@ -72,7 +76,8 @@ pub fn add(
 // Repair writes the other copy from the good one.
 pub fn repair_tail(head: &[u8], tail: &mut [u8], n: u64)
     requires { ⌜ (length (now head) ≡ lentBytes disk512 primary) × (length (now tail) ≡ lentBytes disk512 backup) × (2 * disk512 .first ≤ n) ⌝ }
-    ensures { λ _. ⌜ now (tail .exit) ≡ withCopy disk512 n backup (guidIn disk512 primary (now (head .entry))) (entriesIn disk512 primary (now (head .entry))) (now (tail .entry)) ⌝ }
+    ensures { λ _. ⌜ now (tail .exit) ≡ withCopy disk512 n backup (guidIn disk512 primary (now (head .entry)))
+        (entriesIn disk512 primary (now (head .entry))) (now (tail .entry)) ⌝ }
 {
     gpt_copies::writing::put_copy(
         tail,
@@ -85,7 +90,8 @@ pub fn repair_tail(head: &[u8], tail: &mut [u8], n: u64)
 
 pub fn repair_head(head: &mut [u8], tail: &[u8], n: u64)
     requires { ⌜ (length (now head) ≡ lentBytes disk512 primary) × (length (now tail) ≡ lentBytes disk512 backup) × (2 * disk512 .first ≤ n) ⌝ }
-    ensures { λ _. ⌜ now (head .exit) ≡ withCopy disk512 n primary (guidIn disk512 backup (now (tail .entry))) (entriesIn disk512 backup (now (tail .entry))) (now (head .entry)) ⌝ }
+    ensures { λ _. ⌜ now (head .exit) ≡ withCopy disk512 n primary (guidIn disk512 backup (now (tail .entry)))
+        (entriesIn disk512 backup (now (tail .entry))) (now (head .entry)) ⌝ }
 {
     gpt_copies::writing::put_copy(
         head,

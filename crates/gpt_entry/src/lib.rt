@@ -40,7 +40,8 @@ pub fn added(
     name: &[u16],
 ) -> [u8; ENTRY]
     requires { ⌜ (length (now kind) ≡ 16) × (length (now unique) ≡ 16) × (length (now name) ≡ 36) × (0 < size) × (first + size < 18446744073709551616) ⌝ }
-    ensures { λ r. ⌜ (r ≡ entryWith (now (kind .entry)) (now (unique .entry)) first (first + size - 1) attributes (now (name .entry))) × (length r ≡ entryBytes) ⌝ }
+    ensures { λ r. ⌜ (r ≡ entryWith (now (kind .entry)) (now (unique .entry)) first (first + size - 1) attributes (now (name .entry)))
+        × (length r ≡ entryBytes) ⌝ }
 {
     let mut e = [0u8; ENTRY];
     octets::copy(&mut e, 0, kind);

@@ -68,7 +68,8 @@ fn look(
     a: u64,
     last: u64,
 ) -> Ahead
-    requires { ⌜ (count ≤ slotCount) × Ascending 1 count (now firsts) × Next (now firsts) (now lasts) count a i × (a ≤ last) × (last < 18446744073709551615) ⌝ }
+    requires { ⌜ (count ≤ slotCount) × Ascending 1 count (now firsts)
+        × Next (now firsts) (now lasts) count a i × (a ≤ last) × (last < 18446744073709551615) ⌝ }
     ensures { λ r. ⌜ Stands (ranges (now (firsts .entry)) (now (lasts .entry)) count) a last r ⌝ }
 {
     if i == count {
