@@ -104,6 +104,50 @@ static inline const char *usi_words(uint32_t number)
     }
 }
 
+/* The rules of a map, in the order in which they are judged; usi_fmap_fault answers the first that a map at a position breaks. */
+enum usi_rule {
+    USI_RULE_NONE = 0,
+    USI_RULE_SIGNATURE = 1,
+    USI_RULE_HEADER_END = 2,
+    USI_RULE_MAJOR = 3,
+    USI_RULE_MINOR = 4,
+    USI_RULE_IMAGE_SIZE = 5,
+    USI_RULE_NO_AREA = 6,
+    USI_RULE_TOO_MANY_AREAS = 7,
+    USI_RULE_MAP_END = 8,
+    USI_RULE_NAME = 9,
+    USI_RULE_AREA_SIZE = 10,
+    USI_RULE_AREA_END = 11,
+    USI_RULE_AREA_NAME = 12,
+    USI_RULE_MAP_AREA = 13,
+    USI_RULE_SAME_NAME = 14,
+    USI_RULE_CROSSING = 15
+};
+
+/* What the number of a rule says, for a person: how it is broken. */
+static inline const char *usi_rule_words(uint64_t rule)
+{
+    switch (rule) {
+    case USI_RULE_NONE: return "a good map";
+    case USI_RULE_SIGNATURE: return "the eight signature bytes do not stand there";
+    case USI_RULE_HEADER_END: return "the header does not end in the image";
+    case USI_RULE_MAJOR: return "the major version is not 1";
+    case USI_RULE_MINOR: return "the minor version is neither 0 nor 1";
+    case USI_RULE_IMAGE_SIZE: return "the image size in the map is not the length of the image";
+    case USI_RULE_NO_AREA: return "the map has no area";
+    case USI_RULE_TOO_MANY_AREAS: return "the map has more than 128 areas";
+    case USI_RULE_MAP_END: return "the map does not end in the image";
+    case USI_RULE_NAME: return "the name of the map is not 1 to 31 bytes of 21 to 7E hex and then zeros";
+    case USI_RULE_AREA_SIZE: return "an area has no byte";
+    case USI_RULE_AREA_END: return "an area does not end in the image";
+    case USI_RULE_AREA_NAME: return "the name of an area is not 1 to 31 bytes of 21 to 7E hex and then zeros";
+    case USI_RULE_MAP_AREA: return "no area FMAP starts at the map and holds all of it";
+    case USI_RULE_SAME_NAME: return "two areas have one name";
+    case USI_RULE_CROSSING: return "two areas share bytes, and neither lies in the other";
+    default: return "no rule has this number";
+    }
+}
+
 /* A GUID, as stored and as text. */
 #define USI_GUID_LEN 16
 #define USI_GUID_TEXT_LEN 36
@@ -192,6 +236,11 @@ uint32_t usi_guid_write(const uint8_t *guid, size_t guid_len, uint8_t *text, siz
 
 /* Answers the position of the map. Refusals in order: 40, 41, 42. */
 uint32_t usi_fmap_find(const uint8_t *image, size_t image_len, uint64_t *position);
+
+/* Answers the first rule (enum usi_rule) that a map at a position breaks, 0 where a good map stands there. Any number may be asked for:
+ * where the signature does not stand, and behind the image's end, it is rule 1. So of an image that usi_fmap_find refuses by 42, each signature's reason.
+ * Refusal: 40. */
+uint32_t usi_fmap_fault(const uint8_t *image, size_t image_len, uint64_t position, uint64_t *rule);
 
 /* Writes the 42 bytes of area k of the map, counted from 0, as the map has them: offset (4), size (4), name (32), flags (2), numbers little-endian.
  * Refusals in order: 1 area_len is not 42; 40, 41, 42; 255 the map has no area k. */

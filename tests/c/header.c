@@ -83,6 +83,12 @@ static uint32_t find(size_t len) {
     return usi_fmap_find(image, len, &position);
 }
 
+static uint64_t fault(size_t len, uint64_t position) {
+    uint64_t rule = USI_RULE_CROSSING + 1;
+    HOLDS(usi_fmap_fault(image, len, position, &rule) == USI_ACCEPTED);
+    return rule;
+}
+
 static void flash(void) {
     static const char layout[] = "I 98K { A(PRESERVE)@1K 2K FMAP }";
     uint8_t area[USI_AREA_LEN + 1], image_name[USI_IMAGE_NAME_LEN + 1];
@@ -92,6 +98,10 @@ static void flash(void) {
     HOLDS(usi_fmd_read(TEXT(layout), image_name, USI_IMAGE_NAME_LEN + 1, &size, &address, &count) == USI_WRONG_LENGTH);
     HOLDS(usi_fmd_read(TEXT(layout), image_name, USI_IMAGE_NAME_LEN, &size, &address, &count) == USI_ACCEPTED);
     HOLDS(usi_fmd_write(TEXT(layout), image, size) == USI_ACCEPTED && usi_fmap_find(image, size, &position) == USI_ACCEPTED);
+    HOLDS(fault(size, position) == USI_RULE_NONE && fault(size, position + 1) == USI_RULE_SIGNATURE && fault(size, UINT64_MAX) == USI_RULE_SIGNATURE);
+    HOLDS(fault(size - 1, position) == USI_RULE_IMAGE_SIZE && fault(position + 50, position) == USI_RULE_HEADER_END);
+    HOLDS(strcmp(usi_rule_words(fault(size - 1, position)), "the image size in the map is not the length of the image") == 0);
+    HOLDS(usi_fmap_fault(image, USI_IMAGE_MIN - 1, 0, &position) == USI_IMAGE_LENGTH);
     HOLDS(usi_fmap_area(image, size, 0, area, USI_AREA_LEN + 1) == USI_WRONG_LENGTH);
     HOLDS(usi_fmap_area(image, size, 0, area, USI_AREA_LEN) == USI_ACCEPTED);
     HOLDS(memcmp(area, image + position + USI_MAP_HEADER_LEN, USI_AREA_LEN) == 0);

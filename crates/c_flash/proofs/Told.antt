@@ -1,34 +1,58 @@
 -- Laws of what C is told of a flash map call.
 use mathlib.Core.Path.{_≡_, refl, sym, ap, _∙_}
 use mathlib.Core.List.{List}
-use mathlib.Core.Logic.{_≢_}
+use mathlib.Core.Logic.{_≢_, _⊎_, inl, inr}
+use mathlib.Core.Bool.{true, false}
 use mathlib.Core.Option.{Option, none}
-use Prim.Native.Nat.{ℕ}
+use Prim.Native.Nat.{ℕ, _≤_, _<_}
 use native.Mathlib.Omega.{arith}
 use lib.ListN.{length}
-use borrow.Author.Tests.{eq-eqb, ne-eqb}
+use lib.Dec.{ltb}
+use borrow.Author.Tests.{eq-eqb, ne-eqb, lt-ltb, le-ltb, ltb-true, ltb-false}
+use Rattle.octets.proofs.Bools.{bool-cases}
 use Rattle.octets.specs.Rows.{codeOf}
 use Rattle.octets.specs.Bytes.{put}
 use Rattle.octets.proofs.Puts.{put-all}
 use Rattle.fmap_rules.specs.Written.{areaBytes}
 use Rattle.fmap_carry.specs.Carry.{Outcome}
 use Rattle.fmap.specs.Find.{Reply, accepted, refused, foundReply}
+use Rattle.fmap.specs.Faults.{faultReply, faultAt}
 use Rattle.fmap.specs.Carry.{carriedNumber}
+use Rattle.fmap.proofs.Places.{rule-some, fault-behind}
 use Rattle.fmap.specs.Areas.{Looked, looked, lookupReply, indexReply}
 use Rattle.fmap.specs.declared.Found.{Found}
 use Rattle.fmap.specs.declared.AreaIndex.{AreaIndex}
 use Rattle.fmap.specs.declared.AreaFound.{AreaFound}
 use Rattle.fmap.specs.declared.Lookup.{Lookup}
 use Rattle.fmap.specs.declared.Carried.{Carried}
+use Rattle.fmap.specs.declared.Fault.{Fault}
 use Rattle.fmap.specs.declared.Found.the-variants as found
+use Rattle.fmap.specs.declared.Fault.the-variants as fault
 use Rattle.fmap.specs.declared.Lookup.the-variants as lookup
 use Rattle.fmap.specs.declared.AreaIndex.the-variants as index
 use Rattle.fmap.specs.declared.Carried.the-variants as carried
-use Rattle.c_flash.specs.Told.{BufferTold, answerTold, lookedTold, areaTold, carryTold, NoneIsZero}
+use Rattle.c_flash.specs.Told.{BufferTold, positionOf, faultTold, answerTold, lookedTold, areaTold, carryTold, NoneIsZero}
 
 -- an answer a that is x, and whose reply is r
 pub tells : {A B C : Type 0} (told : B → C) (reply : A → B) {a x : A} {r : B} → a ≡ x → reply a ≡ r → told (reply x) ≡ told r
 tells told reply p q = ap told (sym (ap reply p) ∙ q)
+
+pub position-low : (n : ℕ) → n < 4294967295 → n ≡ positionOf n
+unfolding positionOf
+position-low n h = rw (lt-ltb n 4294967295 h)
+
+pub position-high : (n : ℕ) → 4294967295 ≤ n → 4294967295 ≡ positionOf n
+unfolding positionOf
+position-high n h = rw (le-ltb n 4294967295 h)
+
+-- an answer f that is x, of the position r that n stands for
+pub fault-tells : (old : ℕ) (image : List ℕ) (n r : ℕ) {f x : Fault} → r ≡ positionOf n → f ≡ x → faultReply f ≡ faultAt image r
+    → faultTold old (faultReply x) ≡ faultTold old (faultAt image n)
+fault-tells old image n r {f} {x} p q e = tells (faultTold old) faultReply q (e ∙ go (bool-cases (ltb n 4294967295)))
+  where
+    go : (ltb n 4294967295 ≡ true) ⊎ (ltb n 4294967295 ≡ false) → faultAt image r ≡ faultAt image n
+    go (inl w) = ap (faultAt image) (p ∙ sym (position-low n (ltb-true _ _ w)))
+    go (inr w) = let h : 4294967295 ≤ n = ltb-false _ _ w in fault-behind image r n (omega (arith, p, position-high n h)) (omega arith)
 
 -- an area's answer x, and the bytes of an area that is there
 pub looked-tells : (old : List ℕ) (a : AreaFound) (x : Lookup) → a .answer ≡ x → answerTold old (a .area) (lookupReply x) ≡ lookedTold old (looked a)
@@ -63,6 +87,11 @@ found-none found.WrongLength e = omega (arith, ap number-in e)
 found-none found.NoSignature e = omega (arith, ap number-in e)
 found-none found.NoGoodMap e = omega (arith, ap number-in e)
 
+fault-refused : (f : Fault) → faultReply f ≡ refused 0 → ⊥
+fault-refused fault.Good e = omega (arith, ap number-in e)
+fault-refused (fault.Breaks k) e = omega (arith, ap number-in e)
+fault-refused fault.WrongLength e = omega (arith, ap number-in e)
+
 lookup-none : (a : Lookup) → lookupReply a ≡ refused 0 → ⊥
 lookup-none lookup.There e = omega (arith, ap number-in e)
 lookup-none lookup.Nothing e = omega (arith, ap number-in e)
@@ -88,4 +117,4 @@ carried-none carried.Shared e = absurd (omega arith)
 carried-none carried.OnMap e = absurd (omega arith)
 
 pub none-is-zero : NoneIsZero
-none-is-zero = record { find = found-none; area = lookup-none; named = index-none; carry = carried-none }
+none-is-zero = record { find = found-none; fault = fault-refused; rule = rule-some; area = lookup-none; named = index-none; carry = carried-none }

@@ -4,7 +4,7 @@ use mathlib.Core.Bool.{Bool, true, false, cond}
 use mathlib.Core.List.{List}
 use mathlib.Core.Option.{Option, none, some}
 use Prim.Native.Nat.{ℕ}
-use lib.Dec.{eqb}
+use lib.Dec.{eqb, ltb}
 use lib.ListN.{length}
 use Rattle.octets.specs.Rows.{codeOf}
 use Rattle.fmap_rules.specs.declared.ImagePosition.{ImagePosition}
@@ -12,9 +12,11 @@ use Rattle.fmap_rules.specs.declared.Area.{Area}
 use Rattle.fmap_rules.specs.Written.{areaBytes}
 use Rattle.fmap_carry.specs.Carry.{Outcome}
 use Rattle.fmap.specs.Find.{Reply, accepted, refused, foundReply}
+use Rattle.fmap.specs.Faults.{faultReply, faultAt}
 use Rattle.fmap.specs.Areas.{Looked, lookupReply, indexReply}
 use Rattle.fmap.specs.Carry.{carriedNumber}
 use Rattle.fmap.specs.declared.Found.{Found}
+use Rattle.fmap.specs.declared.Fault.{Fault}
 use Rattle.fmap.specs.declared.Lookup.{Lookup}
 use Rattle.fmap.specs.declared.AreaIndex.{AreaIndex}
 use Rattle.fmap.specs.declared.Carried.{Carried}
@@ -34,6 +36,15 @@ pub record BufferTold : Type 0 where
 abbrev pub findTold : ℕ → Reply ImagePosition → NumberTold
 findTold old (accepted p) = record { result = 0; value = p .0 }
 findTold old (refused k) = record { result = k; value = old }
+
+-- ---- a position of 32 bits: a larger number stands for the last one, which lies behind every image too
+unfoldable pub positionOf : ℕ → ℕ
+positionOf n = cond (ltb n 4294967295) n 4294967295
+
+-- ---- the first rule that a map at a position breaks, where old stood; 0 where the map is good
+abbrev pub faultTold : ℕ → Reply (Option ℕ) → NumberTold
+faultTold old (accepted o) = record { result = 0; value = codeOf o }
+faultTold old (refused k) = record { result = k; value = old }
 
 -- ---- an area by its number: its 42 bytes, where old stood
 -- 255: no such area, to which the rules give no number
@@ -59,9 +70,11 @@ namedTold old (refused n) = record { result = n; value = old }
 abbrev pub carryTold : Outcome → BufferTold
 carryTold o = record { result = codeOf (o .answer); buffer = o .image }
 
--- no refusal's number is 0
+-- no refusal's number is 0, and no rule's
 pub record NoneIsZero : Type 0 where
   pub find : (f : Found) → foundReply f ≡ refused 0 → ⊥
+  pub fault : (f : Fault) → faultReply f ≡ refused 0 → ⊥
+  pub rule : (image : List ℕ) (at : ℕ) → faultAt image at ≡ accepted (some 0) → ⊥
   pub area : (a : Lookup) → lookupReply a ≡ refused 0 → ⊥
   pub named : (a : AreaIndex) → indexReply a ≡ refused 0 → ⊥
   pub carry : (c : Carried) → codeOf (carriedNumber c) ≡ 0 → carriedNumber c ≡ none

@@ -3,14 +3,17 @@ ghost use mathlib.Core.Path.{_≡_};
 ghost use lib.ListN.{length};
 ghost use Rattle.octets.specs.Rows.{codeOf};
 ghost use Rattle.fmap.specs.Find.{findMap};
+ghost use Rattle.fmap.specs.Faults.{faultAt};
 ghost use Rattle.fmap.specs.Areas.{looked, areaNumbered, indexNamed};
 ghost use Rattle.fmap.specs.Carry.{carriedNumber, carryImages};
-ghost use Rattle.c_flash.specs.Told.{findTold, areaTold, lookedTold, namedTold, carryTold};
+ghost use Rattle.c_flash.specs.Told.{findTold, positionOf, faultTold, areaTold, lookedTold, namedTold, carryTold};
 use fmap::AreaFound;
 use fmap::AreaIndex;
 use fmap::Carried;
+use fmap::Fault;
 use fmap::Found;
 use fmap::Lookup;
+use fmap_rules::ImagePosition;
 
 #[no_mangle]
 pub extern "C" fn usi_fmap_find(image: &[u8], position: &mut u64) -> u32
@@ -24,6 +27,33 @@ pub extern "C" fn usi_fmap_find(image: &[u8], position: &mut u64) -> u32
         Found::WrongLength => 40,
         Found::NoSignature => 41,
         Found::NoGoodMap => 42,
+    }
+}
+
+// The position that a number stands for; 2^32 - 1 and all above it lie behind every image.
+fn position_of(n: u64) -> ImagePosition
+    ensures { λ r. ⌜ r .0 ≡ positionOf n ⌝ }
+{
+    if n < 4294967295 {
+        return ImagePosition(n as u32);
+    }
+    ImagePosition(4294967295)
+}
+
+#[no_mangle]
+pub extern "C" fn usi_fmap_fault(image: &[u8], position: u64, rule: &mut u64) -> u32
+    ensures { λ r. ⌜ record { result = r; value = now (rule .exit) } ≡ faultTold (now (rule .entry)) (faultAt (now (image .entry)) position) ⌝ }
+{
+    match fmap::fault_at(image, position_of(position)) {
+        Fault::Good => {
+            *rule = 0;
+            0
+        }
+        Fault::Breaks(k) => {
+            *rule = k as u64;
+            0
+        }
+        Fault::WrongLength => 40,
     }
 }
 

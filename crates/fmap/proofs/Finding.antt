@@ -215,7 +215,7 @@ finds image at a b s h e =
 
 -- ---- what is found is a good map, and none below it is
 
-reply-accepted : {A : Type 0} (o : Option ℕ) (a b : A) → reply o a ≡ accepted b → (o ≡ none) × (a ≡ b)
+pub reply-accepted : {A : Type 0} (o : Option ℕ) (a b : A) → reply o a ≡ accepted b → (o ≡ none) × (a ≡ b)
 reply-accepted none a b e = (refl, cc)
 reply-accepted (some k) a b e = let z : _≡_ {A = ℕ} 0 1 = cc in absurd (omega arith)
 

@@ -1,6 +1,7 @@
 -- Laws of finding and of the areas found.
 pub mod Lowest
 pub mod Finding
+pub mod Places
 pub mod Reading
 pub mod Letters
 pub mod Promises

@@ -13,12 +13,11 @@ use borrow.Author.Tests.{ltb-true, leb-true}
 use Rattle.octets.specs.Tests.{findIx}
 use Rattle.octets.specs.Bytes.{part, rest}
 use Rattle.octets.proofs.Bools.{and-l, and-r, bool-cases}
-use Rattle.octets.proofs.Tests.{all-get}
 use Rattle.octets.proofs.Equal.{same-true}
 use Rattle.fmap_rules.specs.declared.ImagePosition.{ImagePosition}
 use Rattle.fmap_rules.specs.declared.Area.{Area}
-use Rattle.fmap_rules.specs.Map.{areasOf, blank, nameLength, legalName, goodArea}
-use Rattle.fmap_rules.proofs.Good.{good-areas, each}
+use Rattle.fmap_rules.specs.Map.{areasOf, blank, nameLength, legalName}
+use Rattle.fmap_rules.proofs.Good.{good-areas, legal}
 use Rattle.fmap.specs.Find.{Reply, accepted, refused, findMap}
 use Rattle.fmap.specs.Areas.{called, areaIn, areaBy, areaNumbered, areaNamed, indexBy, indexNamed}
 use Rattle.fmap.specs.Promises.{LongNameIsNothing, IndexIsNamed}
@@ -34,10 +33,10 @@ first-passes p (a ∷ areas) h = go (bool-cases (p a)) h (first-passes p areas)
     go (inl q) h ih = rw (q, findIx) q
     go (inr q) h ih = rw (q, findIx) (ih (le-of-suc-le-suc (rw (q, findIx) at h)))
 
-short : (len : ℕ) (name : List ℕ) (a : Area) → goodArea len a ≡ true → called name a ≡ true → length name ≤ 31
-unfolding goodArea legalName called part
-short len name a g e =
-    let k : nameLength (a .name) ≤ 31 = leb-true _ _ (and-l _ _ (and-r _ _ (and-r _ _ (and-r _ _ g)))) in
+short : (name : List ℕ) (a : Area) → legalName (a .name) ≡ true → called name a ≡ true → length name ≤ 31
+unfolding legalName called part
+short name a g e =
+    let k : nameLength (a .name) ≤ 31 = leb-true _ _ (and-l _ _ (and-r _ _ g)) in
     let q = ap length (same-true (part 0 (nameLength (a .name)) (a .name)) name e) in
     let l = length-take (nameLength (a .name)) (drop 0 (a .name)) in
     omega arith
@@ -48,9 +47,8 @@ module _ (image name : List ℕ) where
       let areas = areasOf (rest (p .0) image) in
       let t : ltb (findIx (called name) areas) (length areas) ≡ true = cc in
       let i : findIx (called name) areas < length areas = ltb-true _ _ t in
-      let a = each (length image) (p .0) areas (good-areas image (p .0) (found-good image p f)) in
-      short (length image) name (getD areas (findIx (called name) areas) blank) (all-get (goodArea (length image)) areas blank a (findIx (called name) areas) i)
-      (first-passes (called name) areas i)
+      let a = legal (length image) (p .0) areas (good-areas image (p .0) (found-good image p f)) (findIx (called name) areas) i in
+      short name (getD areas (findIx (called name) areas) blank) a (first-passes (called name) areas i)
   by-find (refused k) f e = let z : _≡_ {A = ℕ} 0 1 = cc in absurd (omega arith)
 
 pub long-name-is-nothing : LongNameIsNothing

@@ -16,33 +16,33 @@ use Rattle.fmap_rules.specs.Map.{position, areasOf, goodMap}
 use Rattle.fmap_rules.specs.Written.{mapBytes}
 use Rattle.fmap_rules.proofs.Good.{good-within, good-header, header-signed}
 use Rattle.fmap_rules.proofs.Written.{written-is-good}
-use Rattle.fmap_carry.specs.Carry.{Outcome, carryAreas}
+use Rattle.fmap_carry.specs.Carry.{Outcome}
+use Rattle.fmap_carry.specs.Arrived.{Arrived}
 use Rattle.fmap_carry.proofs.Passed.{good-ends-of}
 use Rattle.fmap_carry.proofs.Accepted.{accepted as accepted-areas}
 use Rattle.fmap.specs.Lowest.{firstFrom, lowest, someBelow}
 use Rattle.fmap.specs.Find.{Reply, accepted, refused, signedAt, findMap}
-use Rattle.fmap.specs.Carry.{carryTo, carryFrom, carryImages}
+use Rattle.fmap.specs.Carry.{carryAt, carryTo, carryFrom, carryImages}
 use Rattle.fmap.specs.Promises.{FindsLowest, CarriedOver, CarryArrives, WrittenIsFound}
 use Rattle.fmap.proofs.Lowest.{first-skip, first-stop, first-before}
 use Rattle.fmap.proofs.Finding.{found-good, found-lowest, finds}
+use Rattle.fmap.proofs.Places.{old-good, new-good, by-the-areas}
 
 pub finds-lowest : FindsLowest
 finds-lowest image p e = record { good = found-good image p e; none-lower = found-lowest image p e }
 
 -- ---- carrying
 
+arrives : (old : List ℕ) (at : ℕ) (new : List ℕ) (bt : ℕ) (image : List ℕ) → carryAt old at new bt ≡ record { answer = none; image = image }
+    → Arrived old (areasOf (rest at old)) new (areasOf (rest bt new)) image
+arrives old at new bt image e =
+    accepted-areas old (areasOf (rest at old)) new (areasOf (rest bt new)) image
+    (good-ends-of old at (old-good old at new bt image e)) (good-ends-of new bt (new-good old at new bt image e)) (by-the-areas old at new bt image e)
+
 module _ (old new image : List ℕ) where
-  two : (p q : ImagePosition) → findMap old ≡ accepted p → findMap new ≡ accepted q
-      → carryAreas old (areasOf (rest (p .0) old)) new (areasOf (rest (q .0) new)) ≡ record { answer = none; image = image } → CarriedOver old new image
-  two p q a b e =
-      record {
-        from = p;
-        to = q;
-        old-found = a;
-        new-found = b;
-        arrived = accepted-areas old (areasOf (rest (p .0) old)) new (areasOf (rest (q .0) new)) image
-            (good-ends-of old (p .0) (found-good old p a)) (good-ends-of new (q .0) (found-good new q b)) e;
-      }
+  two : (p q : ImagePosition) → findMap old ≡ accepted p → findMap new ≡ accepted q → carryAt old (p .0) new (q .0) ≡ record { answer = none; image = image }
+      → CarriedOver old new image
+  two p q a b e = record { from = p; to = q; old-found = a; new-found = b; arrived = arrives old (p .0) new (q .0) image e }
 
   one : (p : ImagePosition) → findMap old ≡ accepted p → (g : Reply ImagePosition) → findMap new ≡ g → carryTo old p new g ≡ record { answer = none; image = image }
       → CarriedOver old new image

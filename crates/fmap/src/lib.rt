@@ -1,15 +1,17 @@
 // The flash map of an image: finding it, reading its areas, carrying preserved areas to another image.
 ghost use mathlib.Core.Path.{_≡_};
-ghost use mathlib.Core.Bool.{true};
+ghost use mathlib.Core.Option.{none};
 ghost use Prim.Native.Nat.{_-_, _≤_};
 ghost use lib.ListN.{length};
 ghost use lib.Dec.{eqb};
 ghost use Rattle.octets.specs.Tests.{any, findIx};
-ghost use Rattle.fmap_rules.specs.Map.{signature, areaOf, areasIn, blank, goodMap};
+ghost use Rattle.octets.specs.Rows.{refusal};
+ghost use Rattle.fmap_rules.specs.Map.{signature, areaOf, areasIn, blank};
 ghost use Rattle.fmap.specs.Lowest.{firstFrom};
 ghost use Rattle.fmap.specs.Find.{accepted, foundReply, signedAt, findMap};
 ghost use Rattle.fmap_carry.specs.Carry.{judgedNumber};
-ghost use Rattle.fmap.specs.Carry.{carriedNumber, carryTo, carryImages};
+ghost use Rattle.fmap.specs.Faults.{faultReply, faultAt};
+ghost use Rattle.fmap.specs.Carry.{carriedNumber, standingNumber, placeRows, carryAt, carryTo, carryImages};
 ghost use Rattle.fmap.specs.Areas.{countReply, lookupReply, indexReply, looked, countAreas, areaIn, areaNumbered, areaNamed, called, indexIn, indexNamed};
 use fmap_carry::Judged;
 use fmap_rules::Area;
@@ -22,6 +24,13 @@ pub enum Found {
     WrongLength,
     NoSignature,
     NoGoodMap,
+}
+
+// What a map at a position is; a rule by its number.
+pub enum Fault {
+    Good,
+    Breaks(u32),
+    WrongLength,
 }
 
 pub enum AreaCount {
@@ -52,6 +61,14 @@ pub enum AreaIndex {
 pub struct AreaFound {
     pub answer: Lookup,
     pub area: Area,
+}
+
+// What stands at a position that is given.
+enum Standing {
+    GoodMap,
+    WrongLength,
+    NoSignature,
+    NoGoodMap,
 }
 
 // What a carry answers. The first three refusals are of the old image, or else of the new one.
@@ -117,6 +134,23 @@ pub fn find(image: &[u8]) -> Found
         at = next_signed(image, ImagePosition(at.0 + 6));
     }
     Found::NoGoodMap
+}
+
+// The first rule that a map at a position breaks. Any position may be asked for.
+pub fn fault_at(image: &[u8], at: ImagePosition) -> Fault
+    ensures { λ r. ⌜ faultReply r ≡ faultAt (now (image .entry)) (at .0) ⌝ }
+{
+    if image.len() < 98 {
+        return Fault::WrongLength;
+    }
+    if 16777216 < image.len() {
+        return Fault::WrongLength;
+    }
+    let k = fmap_rules::map_rule(image, at);
+    if k == 0 {
+        return Fault::Good;
+    }
+    Fault::Breaks(k)
 }
 
 // How many areas the map has.
@@ -262,20 +296,74 @@ fn carried_of(j: Judged) -> Carried
     }
 }
 
-// Carries by the good map of the old image at a position.
+// The signature stands at a position.
+fn is_signed_at(image: &[u8], at: ImagePosition) -> bool
+    ensures { λ r. ⌜ r ≡ signedAt (now (image .entry)) (at .0) ⌝ }
+{
+    let a = at.0 as usize;
+    if image.len() < a + 8 {
+        return false;
+    }
+    fmap_rules::is_signed(&image[a..])
+}
+
+// What stands at a position.
+fn standing_at(image: &[u8], at: ImagePosition) -> Standing
+    ensures { λ r. ⌜ standingNumber r ≡ refusal (placeRows (now (image .entry)) (at .0)) ⌝ }
+{
+    if image.len() < 98 {
+        return Standing::WrongLength;
+    }
+    if 16777216 < image.len() {
+        return Standing::WrongLength;
+    }
+    if !is_signed_at(image, at) {
+        return Standing::NoSignature;
+    }
+    if !fmap_rules::good_at(image, at) {
+        return Standing::NoGoodMap;
+    }
+    Standing::GoodMap
+}
+
+// Carries by the good map of the old image at one position to what stands in the new image at another.
+fn carry_onto(old: &[u8], at: ImagePosition, new: &mut [u8], bt: ImagePosition) -> Carried
+    requires { ⌜ refusal (placeRows (now old) (at .0)) ≡ none ⌝ }
+    ensures { λ r. ⌜ record { answer = carriedNumber r; image = now (new .exit) } ≡ carryAt (now (old .entry)) (at .0) (now (new .entry)) (bt .0) ⌝ }
+{
+    match standing_at(&new[..], bt) {
+        Standing::WrongLength => Carried::WrongLength,
+        Standing::NoSignature => Carried::NoSignature,
+        Standing::NoGoodMap => Carried::NoGoodMap,
+        Standing::GoodMap => carried_of(fmap_carry::carry_by(old, at, new, bt)),
+    }
+}
+
+// Carries the preserved areas of the old image to the new one, by the maps at two positions.
+pub fn carry_at(old: &[u8], at: ImagePosition, new: &mut [u8], bt: ImagePosition) -> Carried
+    ensures { λ r. ⌜ record { answer = carriedNumber r; image = now (new .exit) } ≡ carryAt (now (old .entry)) (at .0) (now (new .entry)) (bt .0) ⌝ }
+{
+    match standing_at(old, at) {
+        Standing::WrongLength => Carried::WrongLength,
+        Standing::NoSignature => Carried::NoSignature,
+        Standing::NoGoodMap => Carried::NoGoodMap,
+        Standing::GoodMap => carry_onto(old, at, new, bt),
+    }
+}
+
+// Carries by the map of the old image at a position to the map that is found in the new one.
 fn carry_from(old: &[u8], at: ImagePosition, new: &mut [u8]) -> Carried
-    requires { ⌜ goodMap (now old) (at .0) ≡ true ⌝ }
     ensures { λ r. ⌜ record { answer = carriedNumber r; image = now (new .exit) } ≡ carryTo (now (old .entry)) at (now (new .entry)) (findMap (now (new .entry))) ⌝ }
 {
     match find(&new[..]) {
         Found::WrongLength => Carried::WrongLength,
         Found::NoSignature => Carried::NoSignature,
         Found::NoGoodMap => Carried::NoGoodMap,
-        Found::At(bt) => carried_of(fmap_carry::carry_by(old, at, new, bt)),
+        Found::At(bt) => carry_at(old, at, new, bt),
     }
 }
 
-// Carries the preserved areas of the old image to the new one.
+// Carries the preserved areas of the old image to the new one, by the maps that are found.
 pub fn carry(old: &[u8], new: &mut [u8]) -> Carried
     ensures { λ r. ⌜ record { answer = carriedNumber r; image = now (new .exit) } ≡ carryImages (now (old .entry)) (now (new .entry)) ⌝ }
 {

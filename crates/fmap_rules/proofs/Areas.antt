@@ -12,7 +12,10 @@ use Rattle.octets.proofs.Tests.{getD-map, all-on, all-stop, all-done, any-on, a
 use Rattle.octets.proofs.Parts.{length-part}
 use Rattle.octets.proofs.Chunks.{length-chunks, chunk-part}
 use Rattle.fmap_rules.specs.declared.Area.{Area}
+use Rattle.fmap_rules.specs.declared.AreaRule.{AreaRule}
+use Rattle.fmap_rules.specs.declared.PairRule.{PairRule}
 use Rattle.fmap_rules.specs.Map.{areaOf, areasIn, blank, countOf, mapSize}
+use Rattle.fmap_rules.specs.Invariants.{broken, goodPair}
 
 pub length-areas : (xs : List ℕ) → length (areasIn xs) ≡ length xs / 42
 unfolding areasIn
@@ -91,3 +94,11 @@ module _ (xs : List ℕ) (i : ℕ) (h : i < length xs / 42) (q : Area → Area �
 
   pub pairs-fails : all (q (getD (areasIn xs) i blank)) (drop (i + 1) (areasIn xs)) ≡ false → pairs q (drop i (areasIn xs)) ≡ r → false ≡ r
   pairs-fails e f = sym (pairs-stop q (areasIn xs) blank i (omega (arith, length-areas xs)) e) ∙ f
+
+-- ---- by the case of a rule
+
+pub by-rule : {rule x : AreaRule} (len : ℕ) (a : Area) {t : Bool} → rule ≡ x → t ≡ broken x len a → t ≡ broken rule len a
+by-rule len a e f = f ∙ ap (λ (r : AreaRule). broken r len a) (sym e)
+
+pub by-pair : {rule x : PairRule} (a b : Area) {t : Bool} → rule ≡ x → t ≡ goodPair x a b → t ≡ goodPair rule a b
+by-pair a b e f = f ∙ ap (λ (r : PairRule). goodPair r a b) (sym e)

@@ -1,18 +1,23 @@
 -- What a good map gives.
 use mathlib.Core.Path.{_≡_, refl, sym, ap, _∙_}
-use mathlib.Core.Bool.{Bool, true, false}
+use mathlib.Core.Bool.{Bool, true, false, not}
 use mathlib.Core.List.{List}
+use mathlib.Core.Option.{none, some}
 use Prim.Native.Nat.{ℕ, _+_, _-_, _*_, _≤_, _<_}
 use native.Mathlib.Omega.{arith}
 use lib.ListN.{length, getD, take, drop}
-use borrow.Author.Tests.{leb-true}
-use Rattle.octets.specs.Tests.{all, any, pairs}
+use borrow.Author.Tests.{ltb-false, eqb-false, ne-eqb, le-ltb}
+use Rattle.octets.specs.Tests.{any, pairs}
+use Rattle.octets.specs.Rows.{refusal, codeOf}
 use Rattle.octets.specs.Bytes.{part, rest}
-use Rattle.octets.proofs.Bools.{and-l, and-r, and-t, and-f}
-use Rattle.octets.proofs.Tests.{all-get}
+use Rattle.octets.proofs.Bools.{not-t, not-f}
+use Rattle.octets.proofs.Rows.{passes, pick-true, pick-false, refusal-before, refusal-append}
+use Rattle.octets.proofs.Tests.{any-none, any-false, pairs-get, pairs-make}
 use Rattle.octets.proofs.Parts.{length-rest, rest-slice}
 use Rattle.fmap_rules.specs.declared.Area.{Area}
-use Rattle.fmap_rules.specs.Map.{signed, countOf, mapSize, areasIn, areasOf, blank, endOf, goodHeader, goodArea, goodPair, goodAreas, goodMap, holdsMap}
+use Rattle.fmap_rules.specs.Map.{signed, countOf, mapSize, areasIn, areasOf, blank, endOf, legalName, named, disjointOrNested, empty, endsPast, misnamed, otherName, goodPlaces, headerRows, areaRows, mapRows, goodHeader, goodAreas, goodMap, holdsMap}
+use Rattle.fmap_rules.proofs.Rules.{holds-none, none-holds, code-none, code-first, code-later, header-no-zero}
+use Rattle.fmap_rules.proofs.Signature.{short-unsigned}
 
 -- what lets a map's bytes be read; m is the bytes from its position on
 pub record Fits (m : List ℕ) : Type 0 where
@@ -21,43 +26,80 @@ pub record Fits (m : List ℕ) : Type 0 where
   pub few : countOf m ≤ 128
   pub whole : mapSize (countOf m) ≤ length m
 
-pub header-fits : (len : ℕ) (m : List ℕ) → goodHeader len m ≡ true → Fits m
-unfolding goodHeader
-header-fits len m e =
-    let r5 = and-r _ _ (and-r _ _ (and-r _ _ (and-r _ _ (and-r _ _ e)))) in
-    let r6 = and-r _ _ r5 in
-    let r7 = and-r _ _ r6 in
-    record { header = leb-true _ _ (and-l _ _ e); some = leb-true _ _ (and-l _ _ r5); few = leb-true _ _ (and-l _ _ r6); whole = leb-true _ _ (and-l _ _ r7) }
+pub rows-fit : (len : ℕ) (m : List ℕ) → refusal (headerRows len m) ≡ none → Fits m
+rows-fit len m e =
+    let s : countOf m ≡ 0 → ⊥ = eqb-false (countOf m) 0 (passes 6 (headerRows len m) e) in
+    record {
+      header = ltb-false _ _ (passes 2 (headerRows len m) e);
+      some = omega (arith, s);
+      few = ltb-false _ _ (passes 7 (headerRows len m) e);
+      whole = ltb-false _ _ (passes 8 (headerRows len m) e);
+    }
 
-pub header-signed : (len : ℕ) (m : List ℕ) → goodHeader len m ≡ true → signed m ≡ true
-unfolding goodHeader
-header-signed len m e = and-l _ _ (and-r _ _ e)
+module _ (len : ℕ) (m : List ℕ) (g : goodHeader len m ≡ true) where
+  header-rows : refusal (headerRows len m) ≡ none
+  unfolding goodHeader
+  header-rows = holds-none (headerRows len m) g
 
--- ---- a good map, of its bytes m
+  pub header-fits : Fits m
+  header-fits = rows-fit len m header-rows
 
-module _ (image : List ℕ) (at : ℕ) (m : List ℕ) (q : m ≡ rest at image) where
-  pub bad-header : goodHeader (length image) m ≡ false → false ≡ goodMap image at
-  unfolding goodMap
-  bad-header e = and-f _ (ap (goodHeader (length image)) (sym q) ∙ e)
+  pub header-signed : signed m ≡ true
+  header-signed = not-f _ (passes 1 (headerRows len m) header-rows)
 
-  pub by-areas : {r : Bool} → goodHeader (length image) m ≡ true → r ≡ goodAreas (length image) at (areasIn (part 56 (42 * countOf m) m)) → r ≡ goodMap image at
-  unfolding goodMap areasOf
-  by-areas {r} e f = and-t (ap (goodHeader (length image)) (sym q) ∙ e) (f ∙ ap (λ (l : List ℕ). goodAreas (length image) at (areasIn (part 56 (42 * countOf l) l))) q)
+-- ---- a good map
 
 module _ (image : List ℕ) (at : ℕ) (g : goodMap image at ≡ true) where
-  pub good-header : goodHeader (length image) (rest at image) ≡ true
+  map-rows : (refusal (headerRows (length image) (rest at image)) ≡ none) × (refusal (areaRows (length image) at (areasOf (rest at image))) ≡ none)
   unfolding goodMap
-  good-header = and-l _ _ g
+  map-rows = refusal-before (headerRows (length image) (rest at image)) (areaRows (length image) at (areasOf (rest at image))) (holds-none (mapRows image at) g)
+
+  pub good-header : goodHeader (length image) (rest at image) ≡ true
+  unfolding goodHeader
+  good-header = none-holds _ (map-rows .0)
 
   pub good-areas : goodAreas (length image) at (areasOf (rest at image)) ≡ true
-  unfolding goodMap
-  good-areas = and-r _ _ g
+  unfolding goodAreas
+  good-areas = none-holds _ (map-rows .1)
 
   pub good-fits : Fits (rest at image)
   good-fits = header-fits (length image) (rest at image) good-header
 
   pub good-within : at + mapSize (countOf (rest at image)) ≤ length image
   good-within = omega (arith, good-fits .whole, good-fits .some, length-rest image at)
+
+pub map-good : (image : List ℕ) (at : ℕ) → goodHeader (length image) (rest at image) ≡ true → goodAreas (length image) at (areasOf (rest at image)) ≡ true
+    → goodMap image at ≡ true
+unfolding goodMap goodHeader goodAreas
+map-good image at h a =
+    none-holds (mapRows image at) (refusal-append (headerRows (length image) (rest at image)) (areaRows (length image) at (areasOf (rest at image)))
+    (holds-none _ h) ∙ holds-none _ a)
+
+-- ---- the first rule that a map at a position breaks
+
+pub unsigned-first : (image : List ℕ) (at : ℕ) → signed (rest at image) ≡ false → refusal (mapRows image at) ≡ some 1
+unsigned-first image at e = pick-true _ 1 _ (ap not e)
+
+pub past-end : (image : List ℕ) (at : ℕ) → length image < at → 1 ≡ codeOf (refusal (mapRows image at))
+past-end image at h = sym (ap codeOf (unsigned-first image at (short-unsigned (rest at image) (omega (arith, length-rest image at)))))
+
+-- m is the bytes from the position on
+module _ (image : List ℕ) (at : ℕ) (m : List ℕ) (q : m ≡ rest at image) (k : ℕ) (e : k ≡ codeOf (refusal (headerRows (length image) m))) where
+  header-code : k ≡ codeOf (refusal (headerRows (length image) (rest at image)))
+  header-code = e ∙ ap (λ (l : List ℕ). codeOf (refusal (headerRows (length image) l))) q
+
+  pub by-header : (k ≡ 0 → ⊥) → k ≡ codeOf (refusal (mapRows image at))
+  by-header h = code-first (headerRows (length image) (rest at image)) (areaRows (length image) at (areasOf (rest at image))) k header-code h
+
+  pub header-read : k ≡ 0 → Fits m
+  header-read h = rows-fit (length image) m (code-none (headerRows (length image) m) (header-no-zero (length image) m) (sym h ∙ e))
+
+  pub by-areas : {n : ℕ} → k ≡ 0 → n ≡ codeOf (refusal (areaRows (length image) at (areasIn (part 56 (42 * countOf m) m)))) → n ≡ codeOf (refusal (mapRows image at))
+  unfolding areasOf
+  by-areas {n} h f =
+      code-later (headerRows (length image) (rest at image)) (areaRows (length image) at (areasOf (rest at image))) k header-code
+      (header-no-zero (length image) (rest at image)) h
+      (f ∙ ap (λ (l : List ℕ). codeOf (refusal (areaRows (length image) at (areasIn (part 56 (42 * countOf l) l))))) q)
 
 -- an unsigned position has no good map
 pub unsigned-bad : (image : List ℕ) (at : ℕ) → signed (rest at image) ≡ false → goodMap image at ≡ false
@@ -70,25 +112,60 @@ unsigned-bad image at e = go (goodMap image at) refl
 -- ---- what the areas of a good map are
 
 module _ (len at : ℕ) (areas : List Area) (g : goodAreas len at areas ≡ true) where
-  pub each : all (goodArea len) areas ≡ true
+  area-rows : refusal (areaRows len at areas) ≡ none
   unfolding goodAreas
-  each = and-l _ _ g
+  area-rows = holds-none (areaRows len at areas) g
 
   pub holder : any (holdsMap at (length areas)) areas ≡ true
-  unfolding goodAreas
-  holder = and-l _ _ (and-r _ _ g)
-
-  pub two : pairs goodPair areas ≡ true
-  unfolding goodAreas
-  two = and-r _ _ (and-r _ _ g)
-
-  pub size-some : (i : ℕ) → i < length areas → 1 ≤ getD areas i blank .place .size
-  unfolding goodArea
-  size-some i h = leb-true _ _ (and-l _ _ (all-get (goodArea len) areas blank each i h))
+  holder = not-f _ (passes 13 (areaRows len at areas) area-rows)
 
   pub ends-in : (i : ℕ) → i < length areas → endOf (getD areas i blank .place) ≤ len
-  unfolding goodArea
-  ends-in i h = leb-true _ _ (and-l _ _ (and-r _ _ (all-get (goodArea len) areas blank each i h)))
+  unfolding endsPast
+  ends-in i h = ltb-false _ _ (any-none (endsPast len) areas blank (passes 11 (areaRows len at areas) area-rows) i h)
+
+  pub legal : (i : ℕ) → i < length areas → legalName (getD areas i blank .name) ≡ true
+  unfolding misnamed
+  legal i h = not-f _ (any-none misnamed areas blank (passes 12 (areaRows len at areas) area-rows) i h)
+
+  pub names-differ : (i j : ℕ) → i < j → j < length areas → named (getD areas i blank .name) (getD areas j blank) ≡ false
+  unfolding otherName
+  names-differ i j h k = not-t _ (pairs-get otherName areas blank (not-f _ (passes 14 (areaRows len at areas) area-rows)) i j h k)
+
+-- what makes areas good
+module _ (len at : ℕ) (areas : List Area)
+    (some : (i : ℕ) → i < length areas → 1 ≤ getD areas i blank .place .size)
+    (within : (i : ℕ) → i < length areas → endOf (getD areas i blank .place) ≤ len)
+    (legals : (i : ℕ) → i < length areas → legalName (getD areas i blank .name) ≡ true)
+    (held : any (holdsMap at (length areas)) areas ≡ true)
+    (differ : (i j : ℕ) → i < j → j < length areas → named (getD areas i blank .name) (getD areas j blank) ≡ false)
+    (apart : (i j : ℕ) → i < j → j < length areas → disjointOrNested (getD areas i blank .place) (getD areas j blank .place) ≡ true)
+  where
+    none-empty : any empty areas ≡ false
+    unfolding empty
+    none-empty = any-false empty areas blank (λ i h. ne-eqb (getD areas i blank .place .size) 0 (λ e. omega (arith, e, some i h)))
+
+    none-past : any (endsPast len) areas ≡ false
+    unfolding endsPast
+    none-past = any-false (endsPast len) areas blank (λ i h. le-ltb len _ (within i h))
+
+    none-misnamed : any misnamed areas ≡ false
+    unfolding misnamed
+    none-misnamed = any-false misnamed areas blank (λ i h. ap not (legals i h))
+
+    all-differ : pairs otherName areas ≡ true
+    unfolding otherName
+    all-differ = pairs-make otherName areas blank (λ i j h k. ap not (differ i j h k))
+
+    all-apart : pairs goodPlaces areas ≡ true
+    unfolding goodPlaces
+    all-apart = pairs-make goodPlaces areas blank apart
+
+    pub areas-good : goodAreas len at areas ≡ true
+    unfolding goodAreas
+    areas-good =
+        none-holds (areaRows len at areas)
+        (pick-false _ 10 _ none-empty ∙ pick-false _ 11 _ none-past ∙ pick-false _ 12 _ none-misnamed ∙ pick-false _ 13 _ (ap not held)
+        ∙ pick-false _ 14 _ (ap not all-differ) ∙ pick-false _ 15 _ (ap not all-apart))
 
 -- the bytes of all areas, as a lent part
 pub areas-are : (image xs : List ℕ) (at : ℕ) → xs ≡ part 56 (42 * countOf (take (length image - at) (drop at image))) (take (length image - at) (drop at image))

@@ -1,7 +1,8 @@
 -- Laws of good maps.
 pub mod Names
 pub mod Areas
+pub mod Rules
+pub mod Signature
 pub mod Header
 pub mod Good
-pub mod Signature
 pub mod Written

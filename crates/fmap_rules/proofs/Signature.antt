@@ -6,19 +6,23 @@ use Prim.Native.Nat.{ℕ, _+_, _≤_, _<_}
 use native.Mathlib.Nat.{add-zero}
 use native.Mathlib.Omega.{arith}
 use lib.Dec.{eqb, ltb}
-use lib.ListN.{length, getD}
+use lib.ListN.{length, getD, drop, length-take}
 use borrow.Author.Tests.{ltb-true, eqb-true, eqb-false}
 use Rattle.octets.specs.Bytes.{unle, part, rest, field, same}
 use Rattle.octets.specs.Tests.{_and_}
 use Rattle.octets.proofs.Tests.{all-get}
 use Rattle.octets.proofs.Numbers.{unle-inj}
 use Rattle.octets.proofs.Parts.{length-part, getD-part, part-of-rest}
-use Rattle.octets.proofs.Equal.{same-refl, same-false}
+use Rattle.octets.proofs.Equal.{same-refl, same-false, same-length}
 use Rattle.fmap_rules.specs.Map.{signature, signed}
 
 pub signed-part : (image : List ℕ) (at : ℕ) → signed (rest at image) ≡ same (part at 8 image) signature
 unfolding signed
 signed-part image at = ap (λ (l : List ℕ). same l signature) (part-of-rest 0 8 at image ∙ ap (λ (k : ℕ). part k 8 image) (add-zero at))
+
+pub short-unsigned : (m : List ℕ) → length m < 8 → signed m ≡ false
+unfolding signed part
+short-unsigned m h = same-length (part 0 8 m) signature (λ e. let l = length-take 8 (drop 0 m) in omega (arith, e, l))
 
 number : unle signature ≡ 6872299797790220127
 unfolding unle

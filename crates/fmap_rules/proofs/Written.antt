@@ -1,25 +1,27 @@
 -- A map that is written at the start of its area FMAP is good there.
 use mathlib.Core.Path.{_≡_, refl, sym, ap, ap₂, _∙_}
-use mathlib.Core.Bool.{true}
+use mathlib.Core.Bool.{true, not}
 use mathlib.Core.List.{List, [], _∷_, _++_, map, append-assoc}
 use Prim.Native.Nat.{ℕ, zero, suc, _+_, _*_, _/_, _^_, _≤_, _<_, suc-le-suc}
 use native.Mathlib.Nat.{zero-lt-suc}
 use native.Mathlib.Omega.{arith}
 use lib.ListN.{length, getD, take, drop, length-append}
 use lib.Seq.{take-at, drop-at, length-take-le}
-use borrow.Author.Tests.{eq-eqb, le-leb, leb-true, eqb-true}
+use borrow.Author.Tests.{eq-eqb, ne-eqb, le-ltb, leb-true, eqb-true}
 use Rattle.octets.specs.Tests.{_and_}
 use Rattle.octets.specs.Bytes.{le, unle, part, rest, field, put, same, chunks, flat}
-use Rattle.octets.proofs.Bools.{and-i, and-l, and-r}
+use Rattle.octets.proofs.Bools.{and-l, and-r}
+use Rattle.octets.proofs.Rows.{pick-false}
 use Rattle.octets.proofs.Tests.{any-get}
 use Rattle.octets.proofs.Numbers.{length-le, unle-le}
 use Rattle.octets.proofs.Parts.{part-here, part-skip, part-from, part-in, part-whole, rest-at, length-rest}
 use Rattle.octets.proofs.Puts.{put-eq, length-put}
 use Rattle.octets.proofs.Equal.{same-refl}
 use Rattle.fmap_rules.specs.declared.Area.{Area}
-use Rattle.fmap_rules.specs.Map.{signature, signed, majorOf, minorOf, baseOf, sizeOf, nameOf, countOf, mapSize, areaOf, areasIn, areasOf, blank, legalName, goodHeader, goodAreas, goodMap, holdsMap}
+use Rattle.fmap_rules.specs.Map.{signature, signed, majorOf, minorOf, baseOf, sizeOf, nameOf, countOf, mapSize, areaOf, areasIn, areasOf, blank, legalName, headerRows, goodHeader, goodAreas, goodMap, holdsMap}
 use Rattle.fmap_rules.specs.Written.{areaBytes, mapBytes, Stored, Writable, WrittenIsGood, WrittenHeader}
-use Rattle.fmap_rules.proofs.Good.{ends-in, holder}
+use Rattle.fmap_rules.proofs.Good.{ends-in, holder, map-good}
+use Rattle.fmap_rules.proofs.Rules.{none-holds}
 
 -- ---- one area
 
@@ -246,23 +248,24 @@ module _ (image : List ℕ) (at : ℕ) (name : List ℕ) (base minor : ℕ) (are
       let c = count-is in
       let l = length-from in
       let sig : part 0 8 (rest at written) ≡ signature = look 0 8 (omega arith) ∙ sig-at (length image) name base minor areas (w .name-fits) (w .stored) in
-      let h1 : 56 ≤ length (rest at written) = omega arith in
-      let h2 : minorOf (rest at written) ≤ 1 = omega (arith, minor-same, w .version) in
-      let h3 : 1 ≤ countOf (rest at written) = omega (arith, w .some) in
-      let h4 : countOf (rest at written) ≤ 128 = omega (arith, w .few) in
-      let h5 : mapSize (countOf (rest at written)) ≤ length (rest at written) = omega arith in
-      and-i _ _ (le-leb _ _ h1)
-      (and-i _ _ (ap (λ (x : List ℕ). same x signature) sig ∙ same-refl signature)
-      (and-i _ _ (eq-eqb _ _ major-same)
-      (and-i _ _ (le-leb _ _ h2)
-      (and-i _ _ (eq-eqb _ _ (size-same ∙ sym length-written))
-      (and-i _ _ (le-leb _ _ h3)
-      (and-i _ _ (le-leb _ _ h4) (and-i _ _ (le-leb _ _ h5) (ap legalName name-same ∙ w .legal))))))))
+      let h2 : 56 ≤ length (rest at written) = omega arith in
+      let h4 : minorOf (rest at written) ≤ 1 = omega (arith, minor-same, w .version) in
+      let h7 : countOf (rest at written) ≤ 128 = omega (arith, w .few) in
+      let h8 : mapSize (countOf (rest at written)) ≤ length (rest at written) = omega arith in
+      none-holds (headerRows (length written) (rest at written))
+      (pick-false _ 1 _ (ap not (ap (λ (x : List ℕ). same x signature) sig ∙ same-refl signature))
+      ∙ pick-false _ 2 _ (le-ltb _ _ h2)
+      ∙ pick-false _ 3 _ (ap not (eq-eqb _ _ major-same))
+      ∙ pick-false _ 4 _ (le-ltb _ _ h4)
+      ∙ pick-false _ 5 _ (ap not (eq-eqb _ _ (size-same ∙ sym length-written)))
+      ∙ pick-false _ 6 _ (ne-eqb (countOf (rest at written)) 0 (λ e. omega (arith, e, w .some)))
+      ∙ pick-false _ 7 _ (le-ltb _ _ h7)
+      ∙ pick-false _ 8 _ (le-ltb _ _ h8)
+      ∙ pick-false _ 9 _ (ap not (ap legalName name-same ∙ w .legal)))
 
   is-good : goodMap written at ≡ true
-  unfolding goodMap
   is-good =
-      and-i _ _ header
+      map-good written at header
       (ap (λ (k : ℕ). goodAreas k at (areasOf (rest at written))) length-written ∙ ap (goodAreas (length image) at) areas-same ∙ w .good)
 
 pub written-is-good : WrittenIsGood

@@ -1,3 +1,4 @@
 -- What a good flash map is, and the bytes of one.
 pub mod Map
 pub mod Written
+pub mod Invariants

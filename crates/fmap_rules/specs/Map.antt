@@ -1,10 +1,12 @@
 -- The flash map: its fields, and what a good map at a position is. Definitions only.
-use mathlib.Core.Bool.{Bool, not}
-use mathlib.Core.List.{List, [], _∷_, map}
+use mathlib.Core.Bool.{Bool, true, false, not}
+use mathlib.Core.List.{List, [], _∷_, _++_, map}
+use mathlib.Core.Option.{Option, none, some}
 use Prim.Native.Nat.{ℕ, _+_, _*_, _/_}
 use lib.ListN.{length}
-use lib.Dec.{eqb, leb}
-use Rattle.octets.specs.Tests.{_and_, _or_, all, any, pairs, findIx}
+use lib.Dec.{eqb, leb, ltb}
+use Rattle.octets.specs.Tests.{_and_, _or_, any, pairs, findIx}
+use Rattle.octets.specs.Rows.{Row, row, refusal}
 use Rattle.octets.specs.Bytes.{part, rest, field, zeros, isZero, same, chunks}
 use Rattle.fmap_rules.specs.declared.ImagePosition.{ImagePosition}
 use Rattle.fmap_rules.specs.declared.Extent.{Extent}
@@ -96,41 +98,78 @@ inside x y = leb (y .start .0) (x .start .0) and leb (endOf x) (endOf y)
 unfoldable pub disjointOrNested : Extent → Extent → Bool
 disjointOrNested x y = disjoint x y or (inside x y or inside y x)
 
--- ---- the rules of a map
+-- ---- the rules of a map; the first row that holds is the rule that a map breaks, and its number is the rule's
 
 -- M3: A good map at a position: major 1, minor 0 or 1, size equal to the image length, count 1 to 128, all bytes in the image.
-unfoldable pub goodHeader : ℕ → List ℕ → Bool
-goodHeader len m =
-    leb 56 (length m)
-    and (signed m
-    and (eqb (majorOf m) 1
-    and (leb (minorOf m) 1
-    and (eqb (sizeOf m) len
-    and (leb 1 (countOf m)
-    and (leb (countOf m) 128
-    and (leb (mapSize (countOf m)) (length m)
-    and legalName (nameOf m))))))))
+-- (M1), (M4) m is the bytes from the position on of an image of len bytes
+abbrev pub headerRows : ℕ → List ℕ → List Row
+headerRows len m =
+    row (not (signed m)) 1
+    ∷ row (ltb (length m) 56) 2
+    ∷ row (not (eqb (majorOf m) 1)) 3
+    ∷ row (ltb 1 (minorOf m)) 4
+    ∷ row (not (eqb (sizeOf m) len)) 5
+    ∷ row (eqb (countOf m) 0) 6
+    ∷ row (ltb 128 (countOf m)) 7
+    ∷ row (ltb (length m) (mapSize (countOf m))) 8
+    ∷ row (not (legalName (nameOf m))) 9
+    ∷ []
 
 -- M6: Each area has size at least 1 and ends in the image.
-unfoldable pub goodArea : ℕ → Area → Bool
-goodArea len a = leb 1 (a .place .size) and (leb (endOf (a .place)) len and legalName (a .name))
+unfoldable pub empty : Area → Bool
+empty a = eqb (a .place .size) 0
+
+unfoldable pub endsPast : ℕ → Area → Bool
+endsPast len a = ltb len (endOf (a .place))
+
+-- (M4)
+unfoldable pub misnamed : Area → Bool
+misnamed a = not (legalName (a .name))
 
 -- the area has these 32 bytes as its name
 unfoldable pub named : List ℕ → Area → Bool
 named n a = same n (a .name)
 
--- M5: Area names differ.
-unfoldable pub goodPair : Area → Area → Bool
-goodPair a b = not (named (a .name) b) and disjointOrNested (a .place) (b .place)
-
 -- M8: The area FMAP starts at that position and holds the whole map.
 unfoldable pub holdsMap : ℕ → ℕ → Area → Bool
 holdsMap at count a = named fmapName a and (eqb (a .place .start .0) at and leb (mapSize count) (a .place .size))
 
+-- M5: Area names differ.
+unfoldable pub otherName : Area → Area → Bool
+otherName a b = not (named (a .name) b)
+
+-- (M7)
+unfoldable pub goodPlaces : Area → Area → Bool
+goodPlaces a b = disjointOrNested (a .place) (b .place)
+
 -- M9: Flags are not judged.
-unfoldable pub goodAreas : ℕ → ℕ → List Area → Bool
-goodAreas len at areas = all (goodArea len) areas and (any (holdsMap at (length areas)) areas and pairs goodPair areas)
+abbrev pub areaRows : ℕ → ℕ → List Area → List Row
+areaRows len at areas =
+    row (any empty areas) 10
+    ∷ row (any (endsPast len) areas) 11
+    ∷ row (any misnamed areas) 12
+    ∷ row (not (any (holdsMap at (length areas)) areas)) 13
+    ∷ row (not (pairs otherName areas)) 14
+    ∷ row (not (pairs goodPlaces areas)) 15
+    ∷ []
+
+abbrev pub mapRows : List ℕ → ℕ → List Row
+mapRows image at = headerRows (length image) (rest at image) ++ areaRows (length image) at (areasOf (rest at image))
+
+abbrev pub isNone : Option ℕ → Bool
+isNone none = true
+isNone (some k) = false
+
+-- no row holds
+unfoldable pub noneHolds : List Row → Bool
+noneHolds rows = isNone (refusal rows)
 
 -- (M3) a good map at a position
 unfoldable pub goodMap : List ℕ → ℕ → Bool
-goodMap image at = goodHeader (length image) (rest at image) and goodAreas (length image) at (areasOf (rest at image))
+goodMap image at = noneHolds (mapRows image at)
+
+unfoldable pub goodHeader : ℕ → List ℕ → Bool
+goodHeader len m = noneHolds (headerRows len m)
+
+unfoldable pub goodAreas : ℕ → ℕ → List Area → Bool
+goodAreas len at areas = noneHolds (areaRows len at areas)

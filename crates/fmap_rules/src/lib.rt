@@ -6,7 +6,9 @@ ghost use Prim.Native.Nat.{_+_, _*_, _/_, _≤_, _<_};
 ghost use lib.ListN.{length, getD, drop};
 ghost use Rattle.octets.specs.Tests.{all, any, pairs, findIx};
 ghost use Rattle.octets.specs.Bytes.{part, rest};
-ghost use Rattle.fmap_rules.specs.Map.{signed, nameLength, legalName, areaOf, areasIn, areasOf, blank, named, endOf, disjoint, inside, disjointOrNested, mapSize, countOf, goodHeader, goodArea, goodPair, holdsMap, goodAreas, goodMap};
+ghost use Rattle.octets.specs.Rows.{refusal, codeOf};
+ghost use Rattle.fmap_rules.specs.Map.{signed, nameLength, legalName, areaOf, areasIn, areasOf, blank, named, endOf, disjoint, inside, disjointOrNested, mapSize, countOf, holdsMap, headerRows, areaRows, mapRows, goodMap};
+ghost use Rattle.fmap_rules.specs.Invariants.{broken, goodPair};
 
 // A byte's position in a flash image.
 pub struct ImagePosition(pub u32);
@@ -111,53 +113,63 @@ fn is_disjoint_or_nested(x: Extent, y: Extent) -> bool
     is_inside(y, x)
 }
 
-fn is_good_area(a: &[u8], len: usize) -> bool
-    requires { ⌜ length (now a) ≡ 42 ⌝ }
-    ensures { λ r. ⌜ r ≡ goodArea len (areaOf (now (a .entry))) ⌝ }
-{
-    let x = extent_of(a);
-    if x.size < 1 {
-        return false;
-    }
-    if (len as u64) < end_of(x) {
-        return false;
-    }
-    is_legal_name(&a[8..40])
+// A rule for each area.
+enum AreaRule {
+    SomeByte,
+    InImage,
+    LegalName,
 }
 
-fn each_good(areas: &[u8], len: usize) -> bool
-    ensures { λ r. ⌜ r ≡ all (goodArea len) (areasIn (now (areas .entry))) ⌝ }
+// A rule for each two areas.
+enum PairRule {
+    Names,
+    Places,
+}
+
+fn is_broken(a: &[u8], len: usize, rule: AreaRule) -> bool
+    requires { ⌜ length (now a) ≡ 42 ⌝ }
+    ensures { λ r. ⌜ r ≡ broken rule len (areaOf (now (a .entry))) ⌝ }
+{
+    match rule {
+        AreaRule::SomeByte => extent_of(a).size == 0,
+        AreaRule::InImage => (len as u64) < end_of(extent_of(a)),
+        AreaRule::LegalName => !is_legal_name(&a[8..40]),
+    }
+}
+
+fn some_broken(areas: &[u8], len: usize, rule: AreaRule) -> bool
+    ensures { λ r. ⌜ r ≡ any (broken rule len) (areasIn (now (areas .entry))) ⌝ }
 {
     let n = areas.len() / 42;
     let mut i = 0;
     while i < n {
-        if !is_good_area(area_at(areas, i), len) {
-            return false;
+        if is_broken(area_at(areas, i), len, rule) {
+            return true;
         }
         i += 1;
     }
-    true
+    false
 }
 
-fn is_good_pair(a: &[u8], b: &[u8]) -> bool
+fn is_good_pair(a: &[u8], b: &[u8], rule: PairRule) -> bool
     requires { ⌜ (length (now a) ≡ 42) × (length (now b) ≡ 42) ⌝ }
-    ensures { λ r. ⌜ r ≡ goodPair (areaOf (now (a .entry))) (areaOf (now (b .entry))) ⌝ }
+    ensures { λ r. ⌜ r ≡ goodPair rule (areaOf (now (a .entry))) (areaOf (now (b .entry))) ⌝ }
 {
-    if octets::same(&a[8..40], &b[8..40]) {
-        return false;
+    match rule {
+        PairRule::Names => !octets::same(&a[8..40], &b[8..40]),
+        PairRule::Places => is_disjoint_or_nested(extent_of(a), extent_of(b)),
     }
-    is_disjoint_or_nested(extent_of(a), extent_of(b))
 }
 
 // Area i goes with each later one.
-fn good_with_later(areas: &[u8], i: usize) -> bool
+fn good_with_later(areas: &[u8], i: usize, rule: PairRule) -> bool
     requires { ⌜ i < length (now areas) / 42 ⌝ }
-    ensures { λ r. ⌜ r ≡ all (goodPair (getD (areasIn (now (areas .entry))) i blank)) (drop (i + 1) (areasIn (now (areas .entry)))) ⌝ }
+    ensures { λ r. ⌜ r ≡ all (goodPair rule (getD (areasIn (now (areas .entry))) i blank)) (drop (i + 1) (areasIn (now (areas .entry)))) ⌝ }
 {
     let n = areas.len() / 42;
     let mut j = i + 1;
     while j < n {
-        if !is_good_pair(area_at(areas, i), area_at(areas, j)) {
+        if !is_good_pair(area_at(areas, i), area_at(areas, j), rule) {
             return false;
         }
         j += 1;
@@ -165,13 +177,13 @@ fn good_with_later(areas: &[u8], i: usize) -> bool
     true
 }
 
-fn pairs_good(areas: &[u8]) -> bool
-    ensures { λ r. ⌜ r ≡ pairs goodPair (areasIn (now (areas .entry))) ⌝ }
+fn pairs_good(areas: &[u8], rule: PairRule) -> bool
+    ensures { λ r. ⌜ r ≡ pairs (goodPair rule) (areasIn (now (areas .entry))) ⌝ }
 {
     let n = areas.len() / 42;
     let mut i = 0;
     while i < n {
-        if !good_with_later(areas, i) {
+        if !good_with_later(areas, i, rule) {
             return false;
         }
         i += 1;
@@ -211,18 +223,30 @@ fn some_holder(areas: &[u8], at: ImagePosition) -> bool
     false
 }
 
-// Each area, the area FMAP, then each two: what costs least comes first.
-pub fn good_areas(areas: &[u8], len: usize, at: ImagePosition) -> bool
+// The number of the first rule that the areas break, or 0. Each area, the area FMAP, then each two: what costs least comes first.
+fn area_rule(areas: &[u8], len: usize, at: ImagePosition) -> u32
     requires { ⌜ length (now areas) / 42 ≤ 128 ⌝ }
-    ensures { λ r. ⌜ r ≡ goodAreas len (at .0) (areasIn (now (areas .entry))) ⌝ }
+    ensures { λ r. ⌜ r ≡ codeOf (refusal (areaRows len (at .0) (areasIn (now (areas .entry))))) ⌝ }
 {
-    if !each_good(areas, len) {
-        return false;
+    if some_broken(areas, len, AreaRule::SomeByte) {
+        return 10;
+    }
+    if some_broken(areas, len, AreaRule::InImage) {
+        return 11;
+    }
+    if some_broken(areas, len, AreaRule::LegalName) {
+        return 12;
     }
     if !some_holder(areas, at) {
-        return false;
+        return 13;
     }
-    pairs_good(areas)
+    if !pairs_good(areas, PairRule::Names) {
+        return 14;
+    }
+    if !pairs_good(areas, PairRule::Places) {
+        return 15;
+    }
+    0
 }
 
 // The number of the first area with a name, or their count.
@@ -265,49 +289,65 @@ pub fn is_signed(m: &[u8]) -> bool
     octets::load64(m, 0) == 0x5f5f50414d465f5f
 }
 
-// The fields that are compared with a number come before the name.
-fn good_header(m: &[u8], len: usize) -> bool
-    ensures { λ r. ⌜ r ≡ goodHeader len (now (m .entry)) ⌝ }
+// The number of the first rule that the header breaks, or 0. The fields that are compared with a number come before the name.
+fn header_rule(m: &[u8], len: usize) -> u32
+    ensures { λ r. ⌜ r ≡ codeOf (refusal (headerRows len (now (m .entry)))) ⌝ }
 {
-    if m.len() < 56 {
-        return false;
+    if m.len() < 8 {
+        return 1;
     }
     if !is_signed(m) {
-        return false;
+        return 1;
+    }
+    if m.len() < 56 {
+        return 2;
     }
     if m[8] != 1 {
-        return false;
+        return 3;
     }
     if 1 < m[9] {
-        return false;
+        return 4;
     }
     if octets::load32(m, 18) as u64 != len as u64 {
-        return false;
+        return 5;
     }
     let n = count_of(m);
-    if n < 1 {
-        return false;
+    if n == 0 {
+        return 6;
     }
     if 128 < n {
-        return false;
+        return 7;
     }
     if m.len() < 56 + 42 * n {
-        return false;
+        return 8;
     }
-    is_legal_name(&m[22..54])
+    if !is_legal_name(&m[22..54]) {
+        return 9;
+    }
+    0
+}
+
+// The number of the first rule that a map at a position breaks, or 0.
+pub fn map_rule(image: &[u8], at: ImagePosition) -> u32
+    ensures { λ r. ⌜ r ≡ codeOf (refusal (mapRows (now (image .entry)) (at .0))) ⌝ }
+{
+    let a = at.0 as usize;
+    if image.len() < a {
+        return 1;
+    }
+    let m = &image[a..];
+    let k = header_rule(m, image.len());
+    if k != 0 {
+        return k;
+    }
+    area_rule(areas_part(m), image.len(), at)
 }
 
 // A good map stands at a position.
 pub fn good_at(image: &[u8], at: ImagePosition) -> bool
-    requires { ⌜ at .0 ≤ length (now image) ⌝ }
     ensures { λ r. ⌜ r ≡ goodMap (now (image .entry)) (at .0) ⌝ }
 {
-    let a = at.0 as usize;
-    let m = &image[a..];
-    if !good_header(m, image.len()) {
-        return false;
-    }
-    good_areas(areas_part(m), image.len(), at)
+    map_rule(image, at) == 0
 }
 
 // The bytes of the areas of a good map.

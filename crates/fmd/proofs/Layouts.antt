@@ -18,6 +18,7 @@ use Rattle.fmd_table.proofs.Table.{length-sections}
 use Rattle.fmd_parse.specs.declared.Image.{Image}
 use Rattle.fmd_table.proofs.Spots.{length-placed}
 use Rattle.fmd_check.specs.Check.{fault, good, checkText}
+use Rattle.fmd_check.specs.declared.Place.{Place}
 use Rattle.fmd_check.specs.Facts.{Numbered}
 use Rattle.fmd_check.proofs.Facts.{check-facts}
 use Rattle.fmd_areas.specs.Areas.{areaFrom, areaAt, areasOf, Laid}
@@ -38,7 +39,7 @@ pub held : (s : List ℕ) (i : Image) (rows spots : List ℕ) (n m : ℕ) → Ha
     → good i (sectionsIn n rows) (placedIn n spots) m ≡ checkText s → Held s i rows spots n m
 held s i rows spots n m p q e = record { rows-room = p; spots-room = q; accepted = rw (sym e) at (check-facts s) }
 
-pub numbered : (s : List ℕ) (n p : ℕ) → fault n p ≡ checkText s → Numbered n
+pub numbered : (s : List ℕ) (n : ℕ) (p : Place) → fault n p ≡ checkText s → Numbered n
 numbered s n p e = (rw (sym e) at (check-facts s)) .0
 
 module _ {s : List ℕ} {i : Image} {rows spots : List ℕ} {n m : ℕ} (g : Held s i rows spots n m) where

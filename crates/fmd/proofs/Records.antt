@@ -9,6 +9,7 @@ use borrow.Author.Tests.{eq-eqb, ne-eqb}
 use Rattle.octets.specs.Bytes.{put, flat}
 use Rattle.fmap_rules.specs.Written.{areaBytes}
 use Rattle.fmd_check.specs.Check.{Judged, fault, checkText}
+use Rattle.fmd_check.specs.declared.Place.{Place}
 use Rattle.fmd.specs.Calls.{Said, Read, blank, saidBy, layoutIn, Recorded, recordText}
 
 -- what a text says, with the records afterwards
@@ -26,7 +27,7 @@ module _ (s old : List ℕ) (h : length old ≡ 5376) (j : Judged) (c : j ≡ ch
   unfolding recordText layoutIn
   records-good y new e p = rw (eq-eqb (length old) 5376 h, sym c) (rw (e, p))
 
-pub records-fault : (s bs : List ℕ) → length bs ≡ 5376 → (n p : ℕ) → fault n p ≡ checkText s → (y : Read) → y ≡ record { answer = some n; image = blank }
+pub records-fault : (s bs : List ℕ) → length bs ≡ 5376 → (n : ℕ) (p : Place) → fault n p ≡ checkText s → (y : Read) → y ≡ record { answer = some n; image = blank }
     → with-records y bs ≡ recordText s bs
 unfolding recordText layoutIn put
 records-fault s bs h n p c y e = rw (eq-eqb (length bs) 5376 h, sym c) (rw e)

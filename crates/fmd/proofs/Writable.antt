@@ -1,19 +1,20 @@
 -- What an accepted text says can be written as a good map.
 use mathlib.Core.Path.{_≡_, refl, sym, ap, subst, _∙_}
-use mathlib.Core.Bool.{Bool, true, false, not}
+use mathlib.Core.Bool.{Bool, true, false}
 use mathlib.Core.List.{List}
 use Prim.Native.Nat.{ℕ, _≤_, _<_, _^_}
 use native.Mathlib.Omega.{arith}
 use lib.ListN.{length, getD}
 use borrow.Author.Tests.{le-leb, eq-eqb}
-use Rattle.octets.specs.Tests.{all, any, pairs}
+use Rattle.octets.specs.Tests.{any}
 use Rattle.octets.specs.Bytes.{same}
 use Rattle.octets.proofs.Bools.{and-i}
-use Rattle.octets.proofs.Tests.{all-make, any-make, pairs-make}
+use Rattle.octets.proofs.Tests.{any-make}
 use Rattle.octets.proofs.Equal.{same-refl}
-use Rattle.fmap_rules.specs.Map.{blank as blankArea, legalName, fmapName, named, mapSize, goodArea, goodPair, goodAreas, holdsMap}
+use Rattle.fmap_rules.specs.Map.{blank as blankArea, legalName, fmapName, named, mapSize, goodAreas, holdsMap}
 use Rattle.fmap_rules.specs.Written.{Stored, Writable}
 use Rattle.fmap_rules.specs.declared.Area.{Area}
+use Rattle.fmap_rules.proofs.Good.{areas-good}
 use Rattle.fmd_parse.specs.Trees.{blank as blankSection}
 use Rattle.fmd_table.specs.declared.Section.{Section}
 use Rattle.fmd_parse.specs.declared.Image.{Image}
@@ -49,12 +50,6 @@ module _ (s : List ℕ) (i : Image) (l : List Section) (ps : List Placed) (m : �
   legal-at : (k : ℕ) → k < length areas → legalName (getD areas k blankArea .name) ≡ true
   legal-at k h = rw (area-is k h) (area-legal s l ps (a .tree) k (there k h))
 
-  each-good : all (goodArea (i .size)) areas ≡ true
-  unfolding goodArea
-  each-good =
-      all-make (goodArea (i .size)) areas blankArea
-      (λ k h. and-i _ _ (le-leb _ _ (nested .some k h)) (and-i _ _ (le-leb _ _ (nested .within k h)) (legal-at k h)))
-
   stored : (k : ℕ) → k < length areas → Stored (getD areas k blankArea)
   unfolding areaAt areaFrom
   stored k h =
@@ -67,14 +62,10 @@ module _ (s : List ℕ) (i : Image) (l : List Section) (ps : List Placed) (m : �
         flags = subst (λ (x : Area). x .flags < 256 ^ 2) (sym (area-is k h)) (flags-small (getD l k blankSection .preserve));
       }
 
-  two-good : pairs goodPair areas ≡ true
-  unfolding goodPair
-  two-good =
-      pairs-make goodPair areas blankArea
-      (λ j k g h.
+  names-differ : (j k : ℕ) → j < k → k < length areas → named (getD areas j blankArea .name) (getD areas k blankArea) ≡ false
+  names-differ j k g h =
       let f : j < length areas = omega arith in
-      and-i _ _ (rw (area-is j f, area-is k h) (ap not (area-names-differ s l ps (a .tree) j k g (there k h) (a .differ k (there k h)))))
-      (nested .apart j k f h))
+      rw (area-is j f, area-is k h) (area-names-differ s l ps (a .tree) j k g (there k h) (a .differ k (there k h)))
 
   large : mapSize (length areas) ≤ areaAt s l ps m .place .size
   unfolding areaAt areaFrom
@@ -90,8 +81,7 @@ module _ (s : List ℕ) (i : Image) (l : List Section) (ps : List Placed) (m : �
       (and-i _ _ (eq-eqb at at refl) (le-leb _ _ large))))
 
   pub good-areas : goodAreas (i .size) at areas ≡ true
-  unfolding goodAreas
-  good-areas = and-i _ _ each-good (and-i _ _ holder two-good)
+  good-areas = areas-good (i .size) at areas (nested .some) (nested .within) legal-at holder names-differ (λ j k g h. nested .apart j k (omega arith) h)
 
   pub writable : Writable (i .size) at (storedName s (i .place) (i .length)) 1 areas
   writable =

@@ -1,5 +1,5 @@
 -- Every layout text: what holds of its refusal, or of what it is accepted with.
-use mathlib.Core.Path.{_≡_, refl}
+use mathlib.Core.Path.{_≡_, refl, subst}
 use mathlib.Core.Bool.{Bool, true, false}
 use mathlib.Core.List.{List, [], _∷_}
 use mathlib.Core.Logic.{_⊎_, inl, inr}
@@ -21,11 +21,13 @@ use Rattle.fmd_rows.specs.Rows.{foundFrom, repeats, firstRepeat, holdsCbfs, fir
 use Rattle.fmd_rows.specs.declared.Found.{Found}
 use Rattle.fmd_rows.specs.declared.Found.the-variants.{At, Nowhere}
 use Rattle.fmd_rows.proofs.Rows.{FirstFacts, first-facts}
-use Rattle.fmd_plan.specs.Plans.{Resolved, unfit, plan, resolveFrom}
+use Rattle.fmd_plan.specs.Plans.{Resolved, unfit, unsized, plan, resolveFrom}
 use Rattle.fmd_plan.specs.Fitted.{Fitted, ResolvedFacts}
 use Rattle.fmd_table.specs.declared.Placed.{Placed}
 use Rattle.fmd_plan.proofs.Fitted.{resolve-facts}
-use Rattle.fmd_check.specs.Check.{Judged, fault, atSection, checkLeaf, atMap, checkMap, atPlan, checkPlaces, checkSizes, checkMarks, checkList, checkLayout, checkText}
+use Rattle.fmd_check.specs.Check.{Judged, fault, noMap, checkLayout, checkText}
+use Rattle.fmd_check.specs.Invariants.{listFrom}
+use Rattle.fmd_check.proofs.Stages.{named, whole, at-54, on-54, at-56, on-56, at-57, at-58, on-58, no-map, bad-map, good-map}
 use Rattle.fmd_check.specs.Facts.{Numbered, CheckedFacts}
 
 -- the numbers of a list lie between two
@@ -45,63 +47,68 @@ module _ (s : List ℕ) (i : Image) (l : List Section) (short : length s ≤ 327
   here : (k : ℕ) → k < length l → getD l k blankSection .place ≤ length s
   here k h = let w = tree .each k h .named .inside in omega arith
 
-  -- a row over the whole list: its fault, or the next one with what was found not to be
-  row-facts : (p : ℕ → Bool) (n : ℕ) (c : Judged) → Numbered n → (((k : ℕ) → k < length l → p k ≡ false) → CheckedFacts s c)
-      → CheckedFacts s (atSection l n (foundFrom p (length l) 0) c)
-  row-facts p n c e g = by-found (foundFrom p (length l) 0) (first-facts p (length l) 0)
+  -- a row over the whole list, judged as c: its fault, or what comes after it, d, with what was found not to be
+  row-facts : (p : ℕ → Bool) (n : ℕ) (c d : Judged) → Numbered n → ((k : ℕ) → foundFrom p (length l) 0 ≡ At k → fault n (named l k) ≡ c)
+      → (foundFrom p (length l) 0 ≡ Nowhere → d ≡ c) → (((k : ℕ) → k < length l → p k ≡ false) → CheckedFacts s d) → CheckedFacts s c
+  row-facts p n c d num at on g = by-found (foundFrom p (length l) 0) (first-facts p (length l) 0) refl
     where
-      by-found : (f : Found) → FirstFacts p (length l) 0 f → CheckedFacts s (atSection l n f c)
-      by-found (At k) w = (e, here k (omega (arith, w .0)))
-      by-found Nowhere w = g (λ k h. w k (omega arith) (omega arith))
+      by-found : (f : Found) → FirstFacts p (length l) 0 f → foundFrom p (length l) 0 ≡ f → CheckedFacts s c
+      by-found (At k) w e = subst (CheckedFacts s) (at k e) (num, here k (omega (arith, w .0)))
+      by-found Nowhere w e = subst (CheckedFacts s) (on e) (g (λ k h. w k (omega arith) (omega arith)))
 
   module _ (differ : (k : ℕ) → k < length l → repeats s l k ≡ false) where
     module _ (ps : List Placed) (fitted : Fitted (i .size) l ps) where
-      leaf-facts : (k : ℕ) → k < length l → isFmap s l k ≡ true → CheckedFacts s (checkLeaf i l ps k)
-      unfolding checkLeaf _or_
-      leaf-facts k h e =
-          choice (CheckedFacts s) (hasChild l k or ltb (getD ps k blank .size) (mapSize (length l))) _ _ (λ q. ((omega arith, omega arith), here k h))
-          (λ q.
-          record {
-            short = short;
-            image = image;
-            tree = tree;
-            some = some;
-            fitted = fitted;
-            differ = differ;
-            there = h;
-            called = e;
-            leaf = or-false-l (hasChild l k) (ltb (getD ps k blank .size) (mapSize (length l))) q;
-            room = ltb-false _ _ (or-false-r (hasChild l k) (ltb (getD ps k blank .size) (mapSize (length l))) q);
-          })
-
-      map-facts : CheckedFacts s (checkMap s i l ps)
-      unfolding checkMap fmapIn _or_
-      map-facts = by-found (foundFrom (isFmap s l) (length l) 0) (first-facts (isFmap s l) (length l) 0)
+      leaf-facts : (k : ℕ) → k < length l → isFmap s l k ≡ true → fmapIn s l ≡ At k → CheckedFacts s (listFrom 4 s i l (plan ps))
+      leaf-facts k h e f = by-size (noMap l ps (At k)) refl
         where
-          by-found : (f : Found) → FirstFacts (isFmap s l) (length l) 0 f → CheckedFacts s (atMap s f (checkLeaf i l ps))
-          by-found (At k) w = leaf-facts k (omega (arith, w .0)) (w .1)
-          by-found Nowhere w = ((omega arith, omega arith), omega arith)
+          by-size : (b : Bool) → noMap l ps (At k) ≡ b → CheckedFacts s (listFrom 4 s i l (plan ps))
+          by-size true q = subst (CheckedFacts s) (bad-map s i l ps k f q) ((omega arith, omega arith), here k h)
+          by-size false q =
+              subst (CheckedFacts s) (good-map s i l ps k f q)
+              (record {
+                short = short;
+                image = image;
+                tree = tree;
+                some = some;
+                fitted = fitted;
+                differ = differ;
+                there = h;
+                called = e;
+                leaf = or-false-l (hasChild l k) (ltb (getD ps k blank .size) (mapSize (length l))) q;
+                room = ltb-false _ _ (or-false-r (hasChild l k) (ltb (getD ps k blank .size) (mapSize (length l))) q);
+              })
 
-    places-facts : CheckedFacts s (checkPlaces s i l)
-    unfolding checkPlaces _or_
-    places-facts = by-plan (resolveFrom (i .size) [] l) (resolve-facts (i .size) l)
-      where
-        by-plan : (r : Resolved) → ResolvedFacts (i .size) l r → CheckedFacts s (atPlan l r (checkMap s i l))
-        by-plan (unfit k) w = ((omega arith, omega arith), here k w)
-        by-plan (plan ps) w = map-facts ps w
+      map-facts : CheckedFacts s (listFrom 4 s i l (plan ps))
+      unfolding fmapIn
+      map-facts = by-found (foundFrom (isFmap s l) (length l) 0) (first-facts (isFmap s l) (length l) 0) refl
+        where
+          by-found : (f : Found) → FirstFacts (isFmap s l) (length l) 0 f → foundFrom (isFmap s l) (length l) 0 ≡ f → CheckedFacts s (listFrom 4 s i l (plan ps))
+          by-found (At k) w e = leaf-facts k (omega (arith, w .0)) (w .1) e
+          by-found Nowhere w e = subst (CheckedFacts s) (no-map s i l ps e) ((omega arith, omega arith), tt)
 
-  list-facts : CheckedFacts s (checkList s i l)
-  unfolding checkList firstRepeat checkMarks firstCbfs checkSizes firstUndecided _or_
+    places-facts : (r : Resolved) → ResolvedFacts (i .size) l r → CheckedFacts s (listFrom 2 s i l r)
+    unfolding firstUndecided
+    places-facts (unfit k) w =
+        row-facts (undecided l) 57 _ _ (omega arith, omega arith) (at-57 s i l (unfit k)) (at-58 s i l k) (λ _. ((omega arith, omega arith), here k (w .0)))
+    places-facts (unsized k) w =
+        row-facts (undecided l) 57 _ (listFrom 2 s i l (unsized k)) (omega arith, omega arith) (at-57 s i l (unsized k)) (λ _. refl)
+        (λ f. absurd (clash (w .2) (f k (w .0))))
+    places-facts (plan ps) w =
+        row-facts (undecided l) 57 _ _ (omega arith, omega arith) (at-57 s i l (plan ps)) (on-58 s i l ps) (λ _. map-facts ps (w .0))
+
+  list-facts : CheckedFacts s (listFrom 0 s i l (resolveFrom (i .size) [] l))
+  unfolding firstRepeat firstCbfs
   list-facts =
-      row-facts (repeats s l) 54 (checkMarks s i l) (omega arith, omega arith)
-      (λ d. row-facts (holdsCbfs l) 56 (checkSizes s i l) (omega arith, omega arith) (λ _. row-facts (undecided l) 57 (checkPlaces s i l) (omega arith, omega arith) (λ _. places-facts d)))
+      let r = resolveFrom (i .size) [] l in
+      row-facts (repeats s l) 54 _ _ (omega arith, omega arith) (at-54 s i l r) (on-54 s i l r)
+      (λ d. row-facts (holdsCbfs l) 56 _ _ (omega arith, omega arith) (at-56 s i l r) (on-56 s i l r) (λ _. places-facts d r (resolve-facts (i .size) l)))
 
 pub check-facts : (s : List ℕ) → CheckedFacts s (checkText s)
 unfolding checkText _or_ _and_
 check-facts s =
-    choice (CheckedFacts s) (ltb 32768 (length s)) _ _ (λ e. ((omega arith, omega arith), let w = ltb-true 32768 (length s) e in omega arith))
+    choice (CheckedFacts s) (ltb 32768 (length s)) _ _ (λ e. ((omega arith, omega arith), tt))
     (λ e. by-layout (ltb-false 32768 (length s) e) (layoutOf s) (layout-facts s))
   where
     by-layout : length s ≤ 32768 → (o : Layout) → LayoutFacts s o → CheckedFacts s (checkLayout s o)
     by-layout h (refused n p) w = (between 50 59 n (51 ∷ 52 ∷ 53 ∷ 55 ∷ 56 ∷ []) refl (w .0), w .1)
-    by-layout h (layout i l) w = list-facts s i l h (w .0) (w .1) (w .2)
+    by-layout h (layout i l) w = subst (CheckedFacts s) (whole s i l) (list-facts s i l h (w .0) (w .1) (w .2))

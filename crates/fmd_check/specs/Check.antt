@@ -1,74 +1,98 @@
 -- R33: FMD: 1 (section list not 128 records), 50; then left to right, the first fault in the text; then over the whole list 54, 56, 57, 58, 59.
 -- Row 1 stands where a list is lent.
-use mathlib.Core.Bool.{cond}
-use mathlib.Core.List.{List, []}
+use mathlib.Core.Bool.{Bool, true, cond}
+use mathlib.Core.List.{List, [], _∷_}
+use mathlib.Core.Option.{Option, none, some}
 use Prim.Native.Nat.{ℕ}
-use lib.Dec.{ltb}
+use lib.Dec.{ltb, eqb}
 use lib.ListN.{length, getD}
 use Rattle.octets.specs.Tests.{_or_}
+use Rattle.octets.specs.Rows.{Row, row, refusal}
 use Rattle.fmap_rules.specs.Map.{mapSize}
 use Rattle.fmd_table.specs.Table.{blank, sectionsIn, placedIn}
+use Rattle.fmd_table.specs.declared.Section.{Section}
+use Rattle.fmd_table.specs.declared.Placed.{Placed}
 use Rattle.fmd_parse.specs.Trees.{blank as blankSection}
 use Rattle.fmd_parse.specs.Layouts.{Layout, layout, refused, layoutOf}
-use Rattle.fmd_table.specs.declared.Section.{Section}
 use Rattle.fmd_parse.specs.declared.Image.{Image}
-use Rattle.fmd_rows.specs.Rows.{firstRepeat, firstCbfs, firstUndecided, fmapIn, hasChild}
+use Rattle.fmd_rows.specs.Rows.{isFound, firstRepeat, firstCbfs, firstUndecided, fmapIn, hasChild}
 use Rattle.fmd_rows.specs.declared.Found.{Found}
 use Rattle.fmd_rows.specs.declared.Found.the-variants.{At, Nowhere}
-use Rattle.fmd_plan.specs.Plans.{Resolved, unfit, plan, resolveFrom}
-use Rattle.fmd_table.specs.declared.Placed.{Placed}
+use Rattle.fmd_plan.specs.Plans.{Resolved, unfit, unsized, plan, resolveFrom}
+use Rattle.fmd_check.specs.declared.Place.{Place}
+use Rattle.fmd_check.specs.declared.Place.the-variants.{Byte, NoPlace}
 use Rattle.fmd_check.specs.declared.Verdict.{Verdict}
 use Rattle.fmd_check.specs.declared.Verdict.the-variants.{Good, Fault}
 
 -- a fault's number and place; or image, sections, their places, and the index of section FMAP
 pub data Judged : Type 0 where
-  fault : ℕ → ℕ → Judged
+  fault : ℕ → Place → Judged
   good : Image → List Section → List Placed → ℕ → Judged
 
--- a row of the whole list: the fault stands at the name of the first section that has it
-abbrev pub atSection : List Section → ℕ → Found → Judged → Judged
-atSection l n (At k) c = fault n (getD l k blankSection .place)
-atSection l n Nowhere c = c
+-- ---- over the whole list: the sections l of the text s, resolved as r
 
--- R22: 59: no section FMAP, or it has children or is too small. Section k is FMAP.
-unfoldable pub checkLeaf : Image → List Section → List Placed → ℕ → Judged
-checkLeaf i l ps k =
-    cond (hasChild l k or ltb (getD ps k blank .size) (mapSize (length l))) (fault 59 (getD l k blankSection .place)) (good i l ps k)
+-- R21: 58 .. section does not fit: the first
+abbrev pub firstUnfit : Resolved → Found
+firstUnfit (unfit k) = At k
+firstUnfit (unsized k) = Nowhere
+firstUnfit (plan ps) = Nowhere
 
--- where there is none, the fault stands at the text's end
-abbrev pub atMap : List ℕ → Found → (ℕ → Judged) → Judged
-atMap s (At k) f = f k
-atMap s Nowhere f = fault 59 (length s)
+-- the places of the sections, where all have one
+abbrev pub placesOf : Resolved → List Placed
+placesOf (unfit k) = []
+placesOf (unsized k) = []
+placesOf (plan ps) = ps
 
-unfoldable pub checkMap : List ℕ → Image → List Section → List Placed → Judged
-checkMap s i l ps = atMap s (fmapIn s l) (checkLeaf i l ps)
+-- R22: 59: no section FMAP, or it has children or is too small
+abbrev pub noMap : List Section → List Placed → Found → Bool
+noMap l ps (At k) = hasChild l k or ltb (getD ps k blank .size) (mapSize (length l))
+noMap l ps Nowhere = true
 
--- R21: 57 / 58: size undecided / section does not fit
-abbrev pub atPlan : List Section → Resolved → (List Placed → Judged) → Judged
-atPlan l (unfit k) f = fault 58 (getD l k blankSection .place)
-atPlan l (plan ps) f = f ps
+-- R33: .. then over the whole list 54, 56, 57, 58, 59. (R19) 54: section name used twice; (R20) 56: CBFS on a section with children; (R21) 57: size undecided
+abbrev pub listRows : List ℕ → List Section → Resolved → List Row
+listRows s l r =
+    row (isFound (firstRepeat s l)) 54
+    ∷ row (isFound (firstCbfs l)) 56
+    ∷ row (isFound (firstUndecided l)) 57
+    ∷ row (isFound (firstUnfit r)) 58
+    ∷ row (noMap l (placesOf r) (fmapIn s l)) 59
+    ∷ []
 
-unfoldable pub checkPlaces : List ℕ → Image → List Section → Judged
-checkPlaces s i l = atPlan l (resolveFrom (i .size) [] l) (checkMap s i l)
+-- the section at fault: for 54 the first repeat of a name, for 56 to 58 the first that has the fault, for 59 section FMAP, if there is one
+abbrev pub atFault : List ℕ → List Section → Resolved → ℕ → Found
+atFault s l r n =
+    cond (eqb n 54) (firstRepeat s l)
+    (cond (eqb n 56) (firstCbfs l)
+    (cond (eqb n 57) (firstUndecided l)
+    (cond (eqb n 58) (firstUnfit r)
+    (fmapIn s l))))
 
-unfoldable pub checkSizes : List ℕ → Image → List Section → Judged
-checkSizes s i l = atSection l 57 (firstUndecided l) (checkPlaces s i l)
+-- the place of a section: its name's
+abbrev pub placeOf : List Section → Found → Place
+placeOf l (At k) = Byte (getD l k blankSection .place)
+placeOf l Nowhere = NoPlace
 
--- (R20) 56: CBFS on a section with children
-unfoldable pub checkMarks : List ℕ → Image → List Section → Judged
-checkMarks s i l = atSection l 56 (firstCbfs l) (checkSizes s i l)
+-- the index of a section that was found
+abbrev pub indexOf : Found → ℕ
+indexOf (At k) = k
+indexOf Nowhere = 0
 
--- (R19) 54: section name used twice
+abbrev pub judged : List ℕ → Image → List Section → Resolved → Option ℕ → Judged
+judged s i l r (some n) = fault n (placeOf l (atFault s l r n))
+judged s i l r none = good i l (placesOf r) (indexOf (fmapIn s l))
+
 unfoldable pub checkList : List ℕ → Image → List Section → Judged
-checkList s i l = atSection l 54 (firstRepeat s l) (checkMarks s i l)
+checkList s i l = judged s i l (resolveFrom (i .size) [] l) (refusal (listRows s l (resolveFrom (i .size) [] l)))
+
+-- ---- a text
 
 abbrev pub checkLayout : List ℕ → Layout → Judged
-checkLayout s (refused n p) = fault n p
+checkLayout s (refused n p) = fault n (Byte p)
 checkLayout s (layout i l) = checkList s i l
 
--- R17: 50: layout text too long, at the first byte too many
+-- R17: 50: layout text too long
 unfoldable pub checkText : List ℕ → Judged
-checkText s = cond (ltb 32768 (length s)) (fault 50 32768) (checkLayout s (layoutOf s))
+checkText s = cond (ltb 32768 (length s)) (fault 50 NoPlace) (checkLayout s (layoutOf s))
 
 -- ---- what the values of the code say, with the tables that were lent
 

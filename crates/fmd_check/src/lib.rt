@@ -1,96 +1,110 @@
 // All refusals of a layout text, in their order: 50, the first fault in the text, then 54, 56, 57, 58 and 59 over the whole list.
 // The sections and their places stand in two lent tables, in the first n rows.
 // An inner crate: no user calls it, so its functions may have a `requires`, which each caller meets.
+ghost use mathlib.Core.List.{List, []};
 ghost use mathlib.Core.Path.{_≡_};
-ghost use Prim.Native.Nat.{_*_, _≤_, _<_};
-ghost use lib.ListN.{length, getD};
+ghost use Prim.Native.Nat.{ℕ, _+_, _≤_, _<_};
+ghost use lib.ListN.{getD};
 ghost use Rattle.fmd_table.specs.Table.{sectionsIn, placedIn, HasRows, HasSpots};
 ghost use Rattle.fmd_parse.specs.Trees.{blank};
-ghost use Rattle.fmd_rows.specs.Rows.{Inside};
-ghost use Rattle.fmd_check.specs.Check.{verdictOf, checkLeaf, checkMap, checkPlaces, checkSizes, checkMarks, checkList, checkText};
+ghost use Rattle.fmd_rows.specs.Invariants.{Inside};
+ghost use Rattle.fmd_plan.specs.Plans.{unfit, plan, resolveFrom};
+ghost use Rattle.fmd_plan.specs.Fitted.{Sized};
+ghost use Rattle.fmd_check.specs.Check.{verdictOf, noMap, checkText};
+ghost use Rattle.fmd_check.specs.Invariants.{listFrom};
 use fmd_parse::Answer;
 use fmd_parse::Image;
+use fmd_plan::Resolution;
 use fmd_rows::Found;
 use fmd_table::row_at;
+
+// Where a fault stands in the text, if it does.
+pub enum Place {
+    Byte(usize),
+    NoPlace,
+}
 
 // The image, how many sections there are, and the index of section FMAP; or a fault's number and place.
 pub enum Verdict {
     Good(Image, usize, usize),
-    Fault(u16, usize),
+    Fault(u16, Place),
 }
 
 // A fault at the name of section k.
 fn fault_at(number: u16, rows: &[u32], n: usize, k: usize) -> Verdict
     requires { ⌜ HasRows n (now rows) × (k < n) ⌝ }
-    ensures { λ r. ⌜ r ≡ Verdict.Fault number (getD (sectionsIn n (now (rows .entry))) k blank .place) ⌝ }
+    ensures { λ r. ⌜ r ≡ Verdict.Fault number (Place.Byte (getD (sectionsIn n (now (rows .entry))) k blank .place)) ⌝ }
 {
     let h = row_at(rows, k);
-    Verdict::Fault(number, h.place as usize)
+    Verdict::Fault(number, Place::Byte(h.place as usize))
 }
 
-// Row 59, where section k is FMAP.
-fn check_leaf(i: Image, rows: &[u32], spots: &[u32], n: usize, k: usize) -> Verdict
+// Section k has children, or is too small for a map.
+fn no_map(rows: &[u32], spots: &[u32], n: usize, k: usize) -> bool
     requires { ⌜ HasRows n (now rows) × HasSpots n (now spots) × (n ≤ 128) × (k < n) ⌝ }
-    ensures { λ r. ⌜ verdictOf r (now (rows .entry)) (now (spots .entry)) ≡ checkLeaf i (sectionsIn n (now (rows .entry))) (placedIn n (now (spots .entry))) k ⌝ }
+    ensures { λ r. ⌜ r ≡ noMap (sectionsIn n (now (rows .entry))) (placedIn n (now (spots .entry))) (Found.At k) ⌝ }
 {
     if fmd_rows::has_child(rows, n, k) {
-        return fault_at(59, rows, n, k);
+        return true;
     }
     let q = fmd_table::placed_at(spots, k);
-    if (q.size as usize) < 56 + 42 * n {
-        return fault_at(59, rows, n, k);
-    }
-    Verdict::Good(i, n, k)
+    (q.size as usize) < 56 + 42 * n
 }
 
 // Row 59.
 fn check_map(text: &[u8], i: Image, rows: &[u32], spots: &[u32], n: usize) -> Verdict
     requires { ⌜ HasRows n (now rows) × HasSpots n (now spots) × (n ≤ 128) × Inside (now text) (sectionsIn n (now rows)) ⌝ }
-    ensures { λ r. ⌜ verdictOf r (now (rows .entry)) (now (spots .entry)) ≡ checkMap (now (text .entry)) i (sectionsIn n (now (rows .entry))) (placedIn n (now (spots .entry))) ⌝ }
+    ensures { λ r. ⌜ verdictOf r (now (rows .entry)) (now (spots .entry)) ≡ listFrom 4 (now (text .entry)) i (sectionsIn n (now (rows .entry))) (plan (placedIn n (now (spots .entry)))) ⌝ }
 {
     match fmd_rows::find_fmap(text, rows, n) {
-        Found::At(k) => check_leaf(i, rows, spots, n, k),
-        Found::Nowhere => Verdict::Fault(59, text.len()),
+        Found::Nowhere => Verdict::Fault(59, Place::NoPlace),
+        Found::At(k) => {
+            if no_map(rows, spots, n, k) {
+                return fault_at(59, rows, n, k);
+            }
+            Verdict::Good(i, n, k)
+        }
     }
 }
 
-// Rows 58 and 59.
-fn check_places(text: &[u8], i: Image, rows: &[u32], spots: &mut [u32], n: usize) -> Verdict
-    requires { ⌜ HasRows n (now rows) × HasSpots n (now spots) × (n ≤ 128) × Inside (now text) (sectionsIn n (now rows)) ⌝ }
-    ensures { λ r. ⌜ verdictOf r (now (rows .entry)) (now (spots .exit)) ≡ checkPlaces (now (text .entry)) i (sectionsIn n (now (rows .entry))) ⌝ }
+// Rows 57 and 58, where section k is the first that does not fit.
+fn unfit_at(rows: &[u32], n: usize, k: usize) -> Verdict
+    requires { ⌜ HasRows n (now rows) × (k < n) × Sized (sectionsIn n (now rows)) (k + 1) ⌝ }
+    ensures { λ r. ⌜ ((s : List ℕ) (i : Image) (spots : List ℕ) → verdictOf r (now (rows .entry)) spots ≡ listFrom 2 s i (sectionsIn n (now (rows .entry))) (unfit k)) ⌝ }
 {
-    match fmd_plan::resolve(rows, n, i.size, spots) {
-        Found::At(k) => fault_at(58, rows, n, k),
-        Found::Nowhere => check_map(text, i, rows, spots, n),
+    match fmd_rows::first_undecided(rows, n, k + 1) {
+        Found::At(j) => fault_at(57, rows, n, j),
+        Found::Nowhere => fault_at(58, rows, n, k),
     }
 }
 
 // Rows 57 to 59.
-fn check_sizes(text: &[u8], i: Image, rows: &[u32], spots: &mut [u32], n: usize) -> Verdict
+fn check_places(text: &[u8], i: Image, rows: &[u32], spots: &mut [u32], n: usize) -> Verdict
     requires { ⌜ HasRows n (now rows) × HasSpots n (now spots) × (n ≤ 128) × Inside (now text) (sectionsIn n (now rows)) ⌝ }
-    ensures { λ r. ⌜ verdictOf r (now (rows .entry)) (now (spots .exit)) ≡ checkSizes (now (text .entry)) i (sectionsIn n (now (rows .entry))) ⌝ }
+    ensures { λ r. ⌜ verdictOf r (now (rows .entry)) (now (spots .exit)) ≡ listFrom 2 (now (text .entry)) i (sectionsIn n (now (rows .entry))) (resolveFrom (i .size) [] (sectionsIn n (now (rows .entry)))) ⌝ }
 {
-    match fmd_rows::first_undecided(rows, n) {
-        Found::At(k) => fault_at(57, rows, n, k),
-        Found::Nowhere => check_places(text, i, rows, spots, n),
+    match fmd_plan::resolve(rows, n, i.size, spots) {
+        Resolution::Unfits(k) => unfit_at(rows, n, k),
+        Resolution::Unsized(k) => fault_at(57, rows, n, k),
+        Resolution::Whole => check_map(text, i, rows, spots, n),
     }
 }
 
 // Rows 56 to 59.
 fn check_marks(text: &[u8], i: Image, rows: &[u32], spots: &mut [u32], n: usize) -> Verdict
     requires { ⌜ HasRows n (now rows) × HasSpots n (now spots) × (n ≤ 128) × Inside (now text) (sectionsIn n (now rows)) ⌝ }
-    ensures { λ r. ⌜ verdictOf r (now (rows .entry)) (now (spots .exit)) ≡ checkMarks (now (text .entry)) i (sectionsIn n (now (rows .entry))) ⌝ }
+    ensures { λ r. ⌜ verdictOf r (now (rows .entry)) (now (spots .exit)) ≡ listFrom 1 (now (text .entry)) i (sectionsIn n (now (rows .entry))) (resolveFrom (i .size) [] (sectionsIn n (now (rows .entry)))) ⌝ }
 {
     match fmd_rows::first_cbfs(rows, n) {
         Found::At(k) => fault_at(56, rows, n, k),
-        Found::Nowhere => check_sizes(text, i, rows, spots, n),
+        Found::Nowhere => check_places(text, i, rows, spots, n),
     }
 }
 
 // Rows 54 to 59.
 fn check_list(text: &[u8], i: Image, rows: &[u32], spots: &mut [u32], n: usize) -> Verdict
     requires { ⌜ HasRows n (now rows) × HasSpots n (now spots) × (n ≤ 128) × Inside (now text) (sectionsIn n (now rows)) ⌝ }
-    ensures { λ r. ⌜ verdictOf r (now (rows .entry)) (now (spots .exit)) ≡ checkList (now (text .entry)) i (sectionsIn n (now (rows .entry))) ⌝ }
+    ensures { λ r. ⌜ verdictOf r (now (rows .entry)) (now (spots .exit)) ≡ listFrom 0 (now (text .entry)) i (sectionsIn n (now (rows .entry))) (resolveFrom (i .size) [] (sectionsIn n (now (rows .entry)))) ⌝ }
 {
     match fmd_rows::first_repeat(text, rows, n) {
         Found::At(k) => fault_at(54, rows, n, k),
@@ -104,10 +118,10 @@ pub fn check(text: &[u8], rows: &mut [u32], spots: &mut [u32]) -> Verdict
     ensures { λ r. ⌜ verdictOf r (now (rows .exit)) (now (spots .exit)) ≡ checkText (now (text .entry)) ⌝ }
 {
     if 32768 < text.len() {
-        return Verdict::Fault(50, 32768);
+        return Verdict::Fault(50, Place::NoPlace);
     }
     match fmd_parse::read_layout(text, rows) {
         Answer::Accepted(i, n) => check_list(text, i, rows, spots, n),
-        Answer::Refused(n, p) => Verdict::Fault(n, p),
+        Answer::Refused(n, p) => Verdict::Fault(n, Place::Byte(p)),
     }
 }

@@ -1,9 +1,11 @@
--- Every resolution: sections lie in their parents, siblings ascend without overlap.
+-- Every resolution: sizes are decided, sections lie in their parents, siblings ascend without overlap.
 use mathlib.Core.Path.{_≡_, refl, sym, ap, _∙_}
 use mathlib.Core.Bool.{Bool, true, false}
+use mathlib.Core.Logic.{_⊎_, inl, inr}
 use mathlib.Core.List.{List, [], _∷_, _++_}
 use Prim.Native.Nat.{ℕ, suc, _+_, _-_, _≤_, _<_}
-use native.Mathlib.Nat.{not-suc-le-zero}
+use native.Mathlib.Nat.{not-suc-le-zero, eq-or-lt-of-le}
+use native.Mathlib.Numerals.{add-one}
 use native.Mathlib.Omega.{arith}
 use lib.Dec.{ltb, leb, eqb}
 use lib.ListN.{length, getD, drop, length-append, length-drop, List·getD-append}
@@ -15,10 +17,13 @@ use Rattle.fmd_parse.specs.Trees.{blank as blankSection}
 use Rattle.fmd_table.specs.Table.{blank}
 use Rattle.fmd_table.specs.declared.Section.{Section}
 use Rattle.fmd_table.specs.declared.Placed.{Placed}
-use Rattle.fmd_plan.specs.Plans.{endOf, endWith, endIn, roomOf, fits, spotOf, spotIn, placeOf, Resolved, afterSpot, resolveFrom}
-use Rattle.fmd_plan.specs.Fitted.{Lies, ResolvedFacts}
+use Rattle.fmd_plan.specs.Plans.{endOf, endWith, endIn, roomOf, fits, spotOf, spotBy, spotIn, placeOf, Resolved, afterSpot, resolveFrom}
+use Rattle.fmd_plan.specs.Fitted.{Lies, Sized, ResolvedFacts}
+use Rattle.fmd_rows.specs.Rows.{siblingIn, reachOf, isUndecided, undecided}
+use Rattle.fmd_rows.specs.declared.Reach.{Reach}
+use Rattle.fmd_rows.specs.declared.Reach.the-variants.{OfSize, UpTo, ToParentEnd, Undecided}
 use Rattle.fmd_plan.specs.declared.Spot.{Spot}
-use Rattle.fmd_plan.specs.declared.Spot.the-variants.{Fits, Unfit}
+use Rattle.fmd_plan.specs.declared.Spot.the-variants.{Fits, Unfit, NoSize}
 
 -- ---- one section
 
@@ -30,29 +35,54 @@ pub record Spotted (h : Section) (e room : ℕ) (p : Placed) : Type 0 where
   pub parent : p .parent ≡ h .parent
   pub level : p .level ≡ h .level
 
-abbrev SpotFacts : Section → ℕ → ℕ → Spot → Type 0
-SpotFacts h e room (Fits p) = Spotted h e room p
-SpotFacts h e room Unfit = Unit {0}
+-- b: its size is undecided
+abbrev SpotFacts : Section → ℕ → ℕ → Bool → Spot → Type 0
+SpotFacts h e room b (Fits p) = Spotted h e room p × (b ≡ false)
+SpotFacts h e room b Unfit = b ≡ false
+SpotFacts h e room b NoSize = b ≡ true
 
-spot-facts : (h : Section) (e start size room : ℕ) → SpotFacts h e room (spotOf h e start size room)
+spot-facts : (h : Section) (e start size room : ℕ) → SpotFacts h e room false (spotOf h e start size room)
 unfolding spotOf fits
 spot-facts h e start size room =
-    choice (SpotFacts h e room) (leb 1 size and leb e start and leb (start + size) room) _ _
+    choice (SpotFacts h e room false) (leb 1 size and leb e start and leb (start + size) room) _ _
     (λ q.
-    let a = and-l (leb 1 size and leb e start) (leb (start + size) room) q in
-    record {
-      some = leb-true 1 size (and-l _ _ a);
-      after = leb-true e start (and-r _ _ a);
-      within = leb-true (start + size) room (and-r _ _ q);
-      parent = refl;
-      level = refl;
-    })
-    (λ q. tt)
+    let a = and-l (leb 1 size and leb e start) (leb (start + size) room) q in (
+      record {
+        some = leb-true 1 size (and-l _ _ a);
+        after = leb-true e start (and-r _ _ a);
+        within = leb-true (start + size) room (and-r _ _ q);
+        parent = refl;
+        level = refl;
+      },
+      refl,
+    ))
+    (λ q. refl)
+
+reach-facts : (h : Section) (e start room : ℕ) (r : Reach) → SpotFacts h e room (isUndecided r) (spotBy h e start room r)
+reach-facts h e start room (OfSize n) = spot-facts h e start n room
+reach-facts h e start room (UpTo o) = spot-facts h e start (o .0 - start) room
+reach-facts h e start room ToParentEnd = spot-facts h e start (room - start) room
+reach-facts h e start room Undecided = refl
+
+-- the size of h, before the sections hs, is undecided
+abbrev lacksSize : Section → List Section → Bool
+lacksSize h hs = isUndecided (reachOf (h .size) (siblingIn (h .parent) hs))
 
 place-facts : (z : ℕ) (ps : List Placed) (h : Section) (hs : List Section)
-    → SpotFacts h (endIn (h .parent) 0 ps) (roomOf z (h .parent) ps) (placeOf z ps h hs)
+    → SpotFacts h (endIn (h .parent) 0 ps) (roomOf z (h .parent) ps) (lacksSize h hs) (placeOf z ps h hs)
 unfolding placeOf spotIn
-place-facts z ps h hs = spot-facts h (endIn (h .parent) 0 ps) _ _ (roomOf z (h .parent) ps)
+place-facts z ps h hs = reach-facts h (endIn (h .parent) 0 ps) _ (roomOf z (h .parent) ps) (reachOf (h .size) (siblingIn (h .parent) hs))
+
+lacks-at : (l : List Section) (k : ℕ) (h : Section) (hs : List Section) → getD l k blankSection ≡ h → drop (suc k) l ≡ hs → lacksSize h hs ≡ undecided l k
+unfolding undecided
+lacks-at l k h hs a b = rw (add-one k, a, b)
+
+sized-more : (l : List Section) (k : ℕ) → Sized l k → undecided l k ≡ false → Sized l (k + 1)
+sized-more l k f e j h = cases (eq-or-lt-of-le {n = j} {m = k} (omega arith))
+  where
+    cases : (j ≡ k) ⊎ (j < k) → undecided l j ≡ false
+    cases (inl q) = rw q e
+    cases (inr q) = f j q
 
 -- ---- the last end with a parent, one section further on
 
@@ -137,39 +167,48 @@ module _ (z : ℕ) (ps : List Placed) {h : Section} {p : Placed} (s : Spotted h 
 -- ---- all sections of the list l
 
 record Done (z : ℕ) (l : List Section) (ps : List Placed) : Type 0 where
+  sized : Sized l (length ps)
   short : length ps ≤ length l
   ends : Ends ps
   each : (k : ℕ) → k < length ps → Lies z ps k (getD ps k blank)
   parent : (k : ℕ) → k < length ps → getD ps k blank .parent ≡ getD l k blankSection .parent
   level : (k : ℕ) → k < length ps → getD ps k blank .level ≡ getD l k blankSection .level
 
-after-spot : (z : ℕ) (l : List Section) (h : Section) (e room k : ℕ) (t : Spot) (f : Placed → Resolved) → SpotFacts h e room t → k < length l
-    → ((p : Placed) → Spotted h e room p → ResolvedFacts z l (f p)) → ResolvedFacts z l (afterSpot t k f)
-after-spot z l h e room k (Fits p) f w q g = g p w
-after-spot z l h e room k Unfit f w q g = q
+after-spot : (z : ℕ) (l : List Section) (h : Section) (e room k : ℕ) (b : Bool) (t : Spot) (f : Placed → Resolved) → SpotFacts h e room b t
+    → k < length l → b ≡ undecided l k → Sized l k → ((p : Placed) → Spotted h e room p → Sized l (k + 1) → ResolvedFacts z l (f p))
+    → ResolvedFacts z l (afterSpot t k f)
+after-spot z l h e room k b (Fits p) f w q u d g = g p (w .0) (sized-more l k d (sym u ∙ w .1))
+after-spot z l h e room k b Unfit f w q u d g = (q, sized-more l k d (sym u ∙ w))
+after-spot z l h e room k b NoSize f w q u d g = (q, d, sym u ∙ w)
 
 from-rest : (z : ℕ) (l : List Section) (hs : List Section) (ps : List Placed) → drop (length ps) l ≡ hs → Done z l ps
     → ResolvedFacts z l (resolveFrom z ps hs)
 unfolding resolveFrom
 from-rest z l [] ps e w =
-    record {
-      count = let a = w .short in omega (arith, sym (length-drop (length ps) l) ∙ ap length e);
-      each = w .each;
-      parent = w .parent;
-      level = w .level;
-    }
+    let a = w .short in
+    let n : length ps ≡ length l = omega (arith, sym (length-drop (length ps) l) ∙ ap length e) in (
+      record {
+        count = n;
+        each = w .each;
+        parent = w .parent;
+        level = w .level;
+      },
+      rw n at (w .sized),
+    )
 from-rest z l (h ∷ hs) ps e w =
     let a : length l - length ps ≡ suc (length hs) = sym (length-drop (length ps) l) ∙ ap length e in
     let q : length ps < length l = omega arith in
     let c : getD l (length ps) blankSection ∷ drop (suc (length ps)) l ≡ h ∷ hs = sym (drop-cons l (length ps) blankSection q) ∙ e in
     let c0 : getD l (length ps) blankSection ≡ h = ap (λ (xs : List Section). getD xs 0 blankSection) c in
     let c1 : drop (suc (length ps)) l ≡ hs = ap (λ (xs : List Section). drop 1 xs) c in
-    after-spot z l h (endIn (h .parent) 0 ps) (roomOf z (h .parent) ps) (length ps) (placeOf z ps h hs) _ (place-facts z ps h hs) q
-    (λ p s.
+    after-spot z l h (endIn (h .parent) 0 ps) (roomOf z (h .parent) ps) (length ps) (lacksSize h hs) (placeOf z ps h hs) _ (place-facts z ps h hs) q
+    (lacks-at l (length ps) h hs c0 c1) (w .sized)
+    (λ p s d.
     let n = one-more ps p in
     let m : length (ps ++ (p ∷ [])) ≡ suc (length ps) = omega arith in
     from-rest z l hs (ps ++ (p ∷ [])) (rw m c1)
     (record {
+      sized = rw n d;
       short = omega arith;
       ends = ends-push z ps s (w .ends);
       each = lies-push z ps s (w .ends) (w .each);
@@ -182,6 +221,7 @@ pub resolve-facts : (z : ℕ) (l : List Section) → ResolvedFacts z l (resolveF
 resolve-facts z l =
     from-rest z l l [] refl
     (record {
+      sized = λ k h. absurd (not-suc-le-zero h);
       short = omega arith;
       ends = λ k h. absurd (not-suc-le-zero h);
       each = λ k h. absurd (not-suc-le-zero h);

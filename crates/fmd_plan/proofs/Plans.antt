@@ -13,8 +13,8 @@ use Rattle.fmd_table.proofs.Table.{length-sections}
 use Rattle.fmd_table.proofs.Spots.{length-placed, none-placed}
 use Rattle.fmd_table.specs.declared.Placed.{Placed}
 use Rattle.fmd_parse.specs.Trees.{blank as blankSection}
-use Rattle.fmd_plan.specs.Plans.{endWith, endIn, placeOf, unfit, plan, resolveFrom}
-use Rattle.fmd_plan.specs.declared.Spot.the-variants.{Fits, Unfit}
+use Rattle.fmd_plan.specs.Plans.{endWith, endIn, placeOf, unfit, unsized, plan, resolveFrom}
+use Rattle.fmd_plan.specs.declared.Spot.the-variants.{Fits, Unfit, NoSize}
 
 -- ---- the end of the last section with a parent, sought from the last row back
 
@@ -53,6 +53,11 @@ module _ (n : ℕ) (rows : List ℕ) (k : ℕ) (spots : List ℕ) (z : ℕ) wher
       → unfit k ≡ resolveFrom z (placedIn k spots) (drop k (sectionsIn n rows))
   unfolding resolveFrom
   resolve-stop h q = rw (here h, q, length-placed k spots)
+
+  pub resolve-unsized : k < n → placeOf z (placedIn k spots) (getD (sectionsIn n rows) k blankSection) (drop (k + 1) (sectionsIn n rows)) ≡ NoSize
+      → unsized k ≡ resolveFrom z (placedIn k spots) (drop k (sectionsIn n rows))
+  unfolding resolveFrom
+  resolve-unsized h q = rw (here h, q, length-placed k spots)
 
   pub resolve-on : (new : List ℕ) (x : Placed) → k < n → placeOf z (placedIn k spots) (getD (sectionsIn n rows) k blankSection) (drop (k + 1) (sectionsIn n rows)) ≡ Fits x
       → placedIn (k + 1) new ≡ placedIn k spots ++ (x ∷ [])

@@ -8,17 +8,15 @@ use Rattle.octets.specs.Tests.{_and_}
 use Rattle.fmd_table.specs.Table.{blank}
 use Rattle.fmd_table.specs.declared.Offset.{Offset}
 use Rattle.fmd_table.specs.declared.Offset.the-variants.{Given as GivenOffset, Omitted as OmittedOffset}
-use Rattle.fmd_table.specs.declared.Size.{Size}
-use Rattle.fmd_table.specs.declared.Size.the-variants.{Given as GivenSize, Omitted as OmittedSize}
 use Rattle.fmd_table.specs.declared.Section.{Section}
 use Rattle.fmd_table.specs.declared.Placed.{Placed}
-use Rattle.fmd_rows.specs.Rows.{siblingIn}
-use Rattle.fmd_rows.specs.declared.Found.{Found}
-use Rattle.fmd_rows.specs.declared.Found.the-variants.{At, Nowhere}
-use Rattle.fmd_rows.specs.declared.Sibling.{Sibling}
-use Rattle.fmd_rows.specs.declared.Sibling.the-variants.{Next, Last}
+use Rattle.fmd_rows.specs.Rows.{siblingIn, reachOf}
+use Rattle.fmd_rows.specs.declared.Reach.{Reach}
+use Rattle.fmd_rows.specs.declared.Reach.the-variants.{OfSize, UpTo, ToParentEnd, Undecided}
 use Rattle.fmd_plan.specs.declared.Spot.{Spot}
-use Rattle.fmd_plan.specs.declared.Spot.the-variants.{Fits, Unfit}
+use Rattle.fmd_plan.specs.declared.Spot.the-variants.{Fits, Unfit, NoSize}
+use Rattle.fmd_plan.specs.declared.Resolution.{Resolution}
+use Rattle.fmd_plan.specs.declared.Resolution.the-variants.{Unfits, Unsized, Whole}
 
 -- the end of a section in its parent
 abbrev pub endOf : Placed → ℕ
@@ -42,13 +40,6 @@ abbrev pub startOf : Offset → ℕ → ℕ
 startOf (GivenOffset o) e = o .0
 startOf OmittedOffset e = e
 
--- L13: A missing size reaches to the next sibling's given offset (57 if it has none), for the last sibling to the parent's end.
-abbrev pub sizeOf : Size → Sibling → ℕ → ℕ → ℕ
-sizeOf (GivenSize n) next start room = n
-sizeOf OmittedSize (Next (GivenOffset o)) start room = o .0 - start
-sizeOf OmittedSize (Next OmittedOffset) start room = 0
-sizeOf OmittedSize Last start room = room - start
-
 -- L14: Sizes are at least 1, siblings ascend without overlap and end within the parent, else 58.
 unfoldable pub fits : ℕ → ℕ → ℕ → ℕ → Bool
 fits e start size room = leb 1 size and leb e start and leb (start + size) room
@@ -58,21 +49,30 @@ unfoldable pub spotOf : Section → ℕ → ℕ → ℕ → ℕ → Spot
 spotOf h e start size room =
     cond (fits e start size room) (Fits (record { offset = record { 0 = start }; size = size; parent = h .parent; level = h .level })) Unfit
 
-unfoldable pub spotIn : Section → ℕ → ℕ → Sibling → Spot
-spotIn h e room next = spotOf h e (startOf (h .offset) e) (sizeOf (h .size) next (startOf (h .offset) e) room) room
+-- a section at its start, of the size that it reaches (L13)
+abbrev pub spotBy : Section → ℕ → ℕ → ℕ → Reach → Spot
+spotBy h e start room (OfSize n) = spotOf h e start n room
+spotBy h e start room (UpTo o) = spotOf h e start (o .0 - start) room
+spotBy h e start room ToParentEnd = spotOf h e start (room - start) room
+spotBy h e start room Undecided = NoSize
+
+unfoldable pub spotIn : Section → ℕ → ℕ → Reach → Spot
+spotIn h e room reach = spotBy h e (startOf (h .offset) e) room reach
 
 -- the section h of an image of z bytes, after the sections ps and before the sections hs
 unfoldable pub placeOf : ℕ → List Placed → Section → List Section → Spot
-placeOf z ps h hs = spotIn h (endIn (h .parent) 0 ps) (roomOf z (h .parent) ps) (siblingIn (h .parent) hs)
+placeOf z ps h hs = spotIn h (endIn (h .parent) 0 ps) (roomOf z (h .parent) ps) (reachOf (h .size) (siblingIn (h .parent) hs))
 
--- the sections resolved, or the index of the first that does not fit
+-- the sections resolved; or the index of the first that does not fit, or whose size is undecided
 pub data Resolved : Type 0 where
   unfit : ℕ → Resolved
+  unsized : ℕ → Resolved
   plan : List Placed → Resolved
 
 abbrev pub afterSpot : Spot → ℕ → (Placed → Resolved) → Resolved
 afterSpot (Fits p) k f = f p
 afterSpot Unfit k f = unfit k
+afterSpot NoSize k f = unsized k
 
 unfoldable pub resolveFrom : ℕ → List Placed → List Section → Resolved
 resolveFrom z ps [] = plan ps
@@ -80,6 +80,7 @@ resolveFrom z ps (h ∷ hs) = afterSpot (placeOf z ps h hs) (length ps) (λ p. r
 
 -- ---- what the values of the code say, with the table that was lent
 
-abbrev pub foundOf : Found → List Placed → Resolved
-foundOf (At k) ps = unfit k
-foundOf Nowhere ps = plan ps
+abbrev pub resolvedBy : Resolution → List Placed → Resolved
+resolvedBy (Unfits k) ps = unfit k
+resolvedBy (Unsized k) ps = unsized k
+resolvedBy Whole ps = plan ps

@@ -1,27 +1,33 @@
 // Offsets and sizes of the sections, and row 58.
 // An inner crate: no user calls it, so its functions may have a `requires`, which each caller meets.
-ghost use mathlib.Core.List.{_++_, _∷_, []};
+ghost use mathlib.Core.List.{[]};
 ghost use mathlib.Core.Path.{_≡_};
-ghost use Prim.Native.Nat.{ℕ, _+_, _*_, _-_, _≤_, _<_};
-ghost use lib.ListN.{length, drop, getD};
+ghost use Prim.Native.Nat.{_+_, _-_, _≤_, _<_};
+ghost use lib.ListN.{drop, getD};
 ghost use Rattle.fmd_table.specs.Table.{sectionsIn, placedIn, HasRows, HasSpots};
 ghost use Rattle.fmd_parse.specs.Trees.{blank as blankSection};
-ghost use Rattle.fmd_rows.specs.Rows.{siblingIn};
-ghost use Rattle.fmd_plan.specs.Plans.{endIn, roomOf, startOf, sizeOf, spotOf, spotIn, placeOf, resolveFrom, foundOf};
-use fmd_rows::Found;
-use fmd_rows::Sibling;
+ghost use Rattle.fmd_plan.specs.Plans.{endIn, roomOf, startOf, spotOf, spotIn, placeOf, resolveFrom, resolvedBy};
+use fmd_rows::Reach;
 use fmd_table::Offset;
 use fmd_table::ParentOffset;
 use fmd_table::Placed;
 use fmd_table::Section;
-use fmd_table::Size;
 use fmd_table::placed_at;
 use fmd_table::put_placed;
 use fmd_table::row_at;
 
+// A section at its place; or that it does not fit, or has no size.
 pub enum Spot {
     Fits(Placed),
     Unfit,
+    NoSize,
+}
+
+// All sections have their places; or the first that does not fit, or has no size.
+pub enum Resolution {
+    Whole,
+    Unfits(usize),
+    Unsized(usize),
 }
 
 // The end of the last section with the parent, sought from the last row back.
@@ -65,26 +71,11 @@ fn start_of(o: Offset, e: u64) -> u64
 }
 
 // From start up to the limit, 0 where that lies below.
-fn reach(start: u64, limit: u32) -> u64
+fn gap(start: u64, limit: u32) -> u64
     ensures { λ r. ⌜ (r ≡ limit - start) × (r ≤ 4294967295) ⌝ }
 {
     let m = limit as u64;
     if start < m { m - start } else { 0 }
-}
-
-fn size_of(z: Size, next: Sibling, start: u64, room: u32) -> u64
-    ensures { λ r. ⌜ (r ≡ sizeOf z next start room) × (r ≤ 4294967295) ⌝ }
-{
-    match z {
-        Size::Given(n) => n as u64,
-        Size::Omitted => match next {
-            Sibling::Last => reach(start, room),
-            Sibling::Next(o) => match o {
-                Offset::Given(n) => reach(start, n.0),
-                Offset::Omitted => 0,
-            },
-        },
-    }
 }
 
 // The section at start, of size bytes, after a sibling that ends at e.
@@ -109,26 +100,17 @@ fn spot_of(h: Section, e: u64, start: u64, size: u64, room: u32) -> Spot
     })
 }
 
-fn spot_in(h: Section, e: u64, room: u32, next: Sibling) -> Spot
+fn spot_in(h: Section, e: u64, room: u32, reach: Reach) -> Spot
     requires { ⌜ e ≤ 8589934590 ⌝ }
-    ensures { λ r. ⌜ r ≡ spotIn h e room next ⌝ }
+    ensures { λ r. ⌜ r ≡ spotIn h e room reach ⌝ }
 {
     let o = h.offset;
-    let z = h.size;
     let start = start_of(o, e);
-    let size = size_of(z, next, start, room);
-    spot_of(h, e, start, size, room)
-}
-
-// The next sibling of section k, where the size of k depends on it.
-fn next_of(rows: &[u32], n: usize, k: usize, h: Section) -> Sibling
-    requires { ⌜ HasRows n (now rows) × (k < n) ⌝ }
-    ensures { λ r. ⌜ ((start room : ℕ) → sizeOf (h .size) r start room ≡ sizeOf (h .size) (siblingIn (h .parent) (drop (k + 1) (sectionsIn n (now (rows .entry))))) start room) ⌝ }
-{
-    let size = h.size;
-    match size {
-        Size::Given(_) => Sibling::Last,
-        Size::Omitted => fmd_rows::next_sibling(rows, n, k + 1, h.parent),
+    match reach {
+        Reach::OfSize(n) => spot_of(h, e, start, n as u64, room),
+        Reach::UpTo(o) => spot_of(h, e, start, gap(start, o.0), room),
+        Reach::ToParentEnd => spot_of(h, e, start, gap(start, room), room),
+        Reach::Undecided => Spot::NoSize,
     }
 }
 
@@ -140,20 +122,23 @@ fn place_at(rows: &[u32], n: usize, k: usize, spots: &[u32], size: u32) -> Spot
     let h = row_at(rows, k);
     let e = end_in(spots, k, h.parent);
     let room = room_of(spots, k, h.parent, size);
-    let next = next_of(rows, n, k, h);
-    spot_in(h, e, room, next)
+    let reach = fmd_rows::reach_of(rows, n, k + 1, h);
+    spot_in(h, e, room, reach)
 }
 
-// Offsets and sizes of the sections of an image of size bytes, or the first section that does not fit.
-pub fn resolve(rows: &[u32], n: usize, size: u32, spots: &mut [u32]) -> Found
+// Offsets and sizes of the sections of an image of size bytes.
+pub fn resolve(rows: &[u32], n: usize, size: u32, spots: &mut [u32]) -> Resolution
     requires { ⌜ HasRows n (now rows) × HasSpots n (now spots) ⌝ }
-    ensures { λ r. ⌜ foundOf r (placedIn n (now (spots .exit))) ≡ resolveFrom size [] (sectionsIn n (now (rows .entry))) ⌝ }
+    ensures { λ r. ⌜ resolvedBy r (placedIn n (now (spots .exit))) ≡ resolveFrom size [] (sectionsIn n (now (rows .entry))) ⌝ }
 {
     let mut k: usize = 0;
     while k < n {
         match place_at(rows, n, k, spots, size) {
             Spot::Unfit => {
-                return Found::At(k);
+                return Resolution::Unfits(k);
+            }
+            Spot::NoSize => {
+                return Resolution::Unsized(k);
             }
             Spot::Fits(q) => {
                 put_placed(spots, k, q);
@@ -161,5 +146,5 @@ pub fn resolve(rows: &[u32], n: usize, size: u32, spots: &mut [u32]) -> Found
             }
         }
     }
-    Found::Nowhere
+    Resolution::Whole
 }

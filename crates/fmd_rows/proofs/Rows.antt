@@ -1,5 +1,5 @@
 -- Laws of the rows' loops over the places of a section list.
-use mathlib.Core.Path.{_≡_, sym, _∙_}
+use mathlib.Core.Path.{_≡_, refl, sym, _∙_}
 use mathlib.Core.Bool.{Bool, true, false}
 use mathlib.Core.Logic.{_⊎_, inl, inr}
 use mathlib.Core.List.{List, _∷_}
@@ -19,7 +19,8 @@ use Rattle.fmd_parse.specs.Trees.{blank, Tree}
 use Rattle.fmd_table.specs.declared.Section.{Section}
 use Rattle.fmd_table.specs.Table.{sectionAt, sectionsIn}
 use Rattle.fmd_table.proofs.Table.{length-sections, section-in}
-use Rattle.fmd_rows.specs.Rows.{foundFrom, nameOf, repeats, siblingIn, Inside}
+use Rattle.fmd_rows.specs.Rows.{foundFrom, nameOf, repeats, siblingIn}
+use Rattle.fmd_rows.specs.Invariants.{Inside}
 use Rattle.fmd_rows.specs.declared.Found.{Found}
 use Rattle.fmd_rows.specs.declared.Found.the-variants.{At, Nowhere}
 use Rattle.fmd_rows.specs.declared.Sibling.the-variants.{Next, Last}
@@ -42,6 +43,12 @@ module _ (p : ℕ → Bool) (n k : ℕ) where
   pub first-done : n ≤ k → Nowhere ≡ foundFrom p (n - k) k
   unfolding foundFrom
   first-done h = let m : n - k ≡ 0 = omega arith in rw m
+
+-- the indices below k do not pass: the first is sought from k on
+pub first-from : (p : ℕ → Bool) (n k : ℕ) → k ≤ n → ((j : ℕ) → j < k → p j ≡ false) → foundFrom p (n - k) k ≡ foundFrom p (n - 0) 0
+first-from p n zero h e = refl
+first-from p n (suc k) h e =
+    let w : suc k ≡ k + 1 = omega arith in rw w (first-on p n k (omega arith) (e k (omega arith))) ∙ first-from p n k (omega arith) (λ j q. e j (omega arith))
 
 -- of the n indices from k on, the one found passes; where none is found, none does
 abbrev pub FirstFacts : (ℕ → Bool) → ℕ → ℕ → Found → Type 0

@@ -1,7 +1,7 @@
 -- Rows 54, 56 and 57 of a section list, each by the index of the first section at fault.
 use mathlib.Core.Bool.{Bool, true, false, cond}
 use mathlib.Core.List.{List, [], _∷_}
-use Prim.Native.Nat.{ℕ, zero, suc, _+_, _≤_, _<_}
+use Prim.Native.Nat.{ℕ, zero, suc, _+_}
 use lib.Dec.{eqb}
 use lib.ListN.{length, getD, take, drop}
 use Rattle.octets.specs.Tests.{_and_, any}
@@ -13,6 +13,8 @@ use Rattle.fmd_table.specs.declared.Size.the-variants.{Given as GivenSize, Omit
 use Rattle.fmd_table.specs.declared.Section.{Section}
 use Rattle.fmd_rows.specs.declared.Found.{Found}
 use Rattle.fmd_rows.specs.declared.Found.the-variants.{At, Nowhere}
+use Rattle.fmd_rows.specs.declared.Reach.{Reach}
+use Rattle.fmd_rows.specs.declared.Reach.the-variants.{OfSize, UpTo, ToParentEnd, Undecided}
 use Rattle.fmd_rows.specs.declared.Sibling.{Sibling}
 use Rattle.fmd_rows.specs.declared.Sibling.the-variants.{Next, Last}
 
@@ -20,6 +22,11 @@ use Rattle.fmd_rows.specs.declared.Sibling.the-variants.{Next, Last}
 unfoldable pub foundFrom : (ℕ → Bool) → ℕ → ℕ → Found
 foundFrom p zero k = Nowhere
 foundFrom p (suc n) k = cond (p k) (At k) (foundFrom p n (suc k))
+
+-- one was found
+abbrev pub isFound : Found → Bool
+isFound (At k) = true
+isFound Nowhere = false
 
 -- the bytes of a section's name
 abbrev pub nameOf : List ℕ → Section → List ℕ
@@ -59,19 +66,23 @@ unfoldable pub siblingIn : ℕ → List Section → Sibling
 siblingIn par [] = Last
 siblingIn par (x ∷ xs) = cond (eqb (x .parent) par) (Next (x .offset)) (siblingIn par xs)
 
--- L13: A missing size reaches to the next sibling's given offset (57 if it has none)
-abbrev pub isUndecided : Size → Sibling → Bool
-isUndecided (GivenSize n) next = false
-isUndecided OmittedSize Last = false
-isUndecided OmittedSize (Next (GivenOffset o)) = false
-isUndecided OmittedSize (Next OmittedOffset) = true
+-- L13: A missing size reaches to the next sibling's given offset (57 if it has none), for the last sibling to the parent's end.
+abbrev pub reachOf : Size → Sibling → Reach
+reachOf (GivenSize n) next = OfSize n
+reachOf OmittedSize (Next (GivenOffset o)) = UpTo o
+reachOf OmittedSize (Next OmittedOffset) = Undecided
+reachOf OmittedSize Last = ToParentEnd
 
+-- R21: 57 .. size undecided
+abbrev pub isUndecided : Reach → Bool
+isUndecided (OfSize n) = false
+isUndecided (UpTo o) = false
+isUndecided ToParentEnd = false
+isUndecided Undecided = true
+
+-- section k, with the sections after it
 unfoldable pub undecided : List Section → ℕ → Bool
-undecided l k = isUndecided (getD l k blank .size) (siblingIn (getD l k blank .parent) (drop (k + 1) l))
+undecided l k = isUndecided (reachOf (getD l k blank .size) (siblingIn (getD l k blank .parent) (drop (k + 1) l)))
 
 unfoldable pub firstUndecided : List Section → Found
 firstUndecided l = foundFrom (undecided l) (length l) 0
-
--- every name lies in the text
-abbrev pub Inside : List ℕ → List Section → Type 0
-Inside s l = (k : ℕ) → k < length l → getD l k blank .place + getD l k blank .length ≤ length s

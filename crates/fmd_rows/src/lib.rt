@@ -2,12 +2,14 @@
 // The list is the first n rows of a lent table.
 // An inner crate: no user calls it, so its functions may have a `requires`, which each caller meets.
 ghost use mathlib.Core.Path.{_≡_};
-ghost use Prim.Native.Nat.{_+_, _*_, _≤_, _<_};
+ghost use Prim.Native.Nat.{_+_, _-_, _≤_, _<_};
 ghost use lib.ListN.{length, drop};
 ghost use Rattle.octets.specs.Bytes.{same as sameBytes};
 ghost use Rattle.fmd_table.specs.Table.{sectionsIn, HasRows};
-ghost use Rattle.fmd_rows.specs.Rows.{nameOf, repeats, firstRepeat, isFmap, fmapIn, hasChild, holdsCbfs, firstCbfs, siblingIn, isUndecided, undecided, firstUndecided, Inside};
+ghost use Rattle.fmd_rows.specs.Rows.{nameOf, repeats, firstRepeat, isFmap, fmapIn, hasChild, holdsCbfs, firstCbfs, foundFrom, siblingIn, reachOf, isUndecided, undecided};
+ghost use Rattle.fmd_rows.specs.Invariants.{Inside};
 use fmd_table::Offset;
+use fmd_table::ParentOffset;
 use fmd_table::Section;
 use fmd_table::Size;
 use fmd_table::row_at;
@@ -22,6 +24,14 @@ pub enum Found {
 pub enum Sibling {
     Next(Offset),
     Last,
+}
+
+// How far a section reaches: by its own size, up to its next sibling's offset, or up to its parent's end; or nothing says how far.
+pub enum Reach {
+    OfSize(u32),
+    UpTo(ParentOffset),
+    ToParentEnd,
+    Undecided,
 }
 
 fn same_name(text: &[u8], a: Section, b: Section) -> bool
@@ -136,7 +146,7 @@ pub fn first_cbfs(rows: &[u32], n: usize) -> Found
 }
 
 // The next section with the parent, from the index at on.
-pub fn next_sibling(rows: &[u32], n: usize, at: usize, parent: u32) -> Sibling
+fn next_sibling(rows: &[u32], n: usize, at: usize, parent: u32) -> Sibling
     requires { ⌜ HasRows n (now rows) × (at ≤ n) ⌝ }
     ensures { λ r. ⌜ r ≡ siblingIn parent (drop at (sectionsIn n (now (rows .entry)))) ⌝ }
 {
@@ -152,15 +162,39 @@ pub fn next_sibling(rows: &[u32], n: usize, at: usize, parent: u32) -> Sibling
     Sibling::Last
 }
 
-fn is_open(next: Sibling) -> bool
-    ensures { λ r. ⌜ r ≡ isUndecided Size.Omitted next ⌝ }
+// A section without a size, by its next sibling.
+fn reach_to(next: Sibling) -> Reach
+    ensures { λ r. ⌜ r ≡ reachOf Size.Omitted next ⌝ }
 {
     match next {
-        Sibling::Last => false,
+        Sibling::Last => Reach::ToParentEnd,
         Sibling::Next(o) => match o {
-            Offset::Given(_) => false,
-            Offset::Omitted => true,
+            Offset::Given(n) => Reach::UpTo(n),
+            Offset::Omitted => Reach::Undecided,
         },
+    }
+}
+
+// Section h; its next sibling is sought from the index at on.
+pub fn reach_of(rows: &[u32], n: usize, at: usize, h: Section) -> Reach
+    requires { ⌜ HasRows n (now rows) × (at ≤ n) ⌝ }
+    ensures { λ r. ⌜ r ≡ reachOf (h .size) (siblingIn (h .parent) (drop at (sectionsIn n (now (rows .entry))))) ⌝ }
+{
+    let size = h.size;
+    match size {
+        Size::Given(z) => Reach::OfSize(z),
+        Size::Omitted => reach_to(next_sibling(rows, n, at, h.parent)),
+    }
+}
+
+fn is_undecided(reach: Reach) -> bool
+    ensures { λ r. ⌜ r ≡ isUndecided reach ⌝ }
+{
+    match reach {
+        Reach::OfSize(_) => false,
+        Reach::UpTo(_) => false,
+        Reach::ToParentEnd => false,
+        Reach::Undecided => true,
     }
 }
 
@@ -170,19 +204,16 @@ fn undecided_at(rows: &[u32], n: usize, k: usize) -> bool
     ensures { λ r. ⌜ r ≡ undecided (sectionsIn n (now (rows .entry))) k ⌝ }
 {
     let h = row_at(rows, k);
-    let size = h.size;
-    match size {
-        Size::Given(_) => false,
-        Size::Omitted => is_open(next_sibling(rows, n, k + 1, h.parent)),
-    }
+    let reach = reach_of(rows, n, k + 1, h);
+    is_undecided(reach)
 }
 
-// Row 57.
-pub fn first_undecided(rows: &[u32], n: usize) -> Found
-    requires { ⌜ HasRows n (now rows) ⌝ }
-    ensures { λ r. ⌜ r ≡ firstUndecided (sectionsIn n (now (rows .entry))) ⌝ }
+// Row 57, from the index at on.
+pub fn first_undecided(rows: &[u32], n: usize, at: usize) -> Found
+    requires { ⌜ HasRows n (now rows) × (at ≤ n) ⌝ }
+    ensures { λ r. ⌜ r ≡ foundFrom (undecided (sectionsIn n (now (rows .entry)))) (n - at) at ⌝ }
 {
-    let mut k: usize = 0;
+    let mut k = at;
     while k < n {
         if undecided_at(rows, n, k) {
             return Found::At(k);

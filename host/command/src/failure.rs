@@ -91,6 +91,11 @@ impl Failure {
         self
     }
 
+    /// What the refusal says, or the whole sentence.
+    pub fn sentence(&self) -> &str {
+        &self.words
+    }
+
     pub fn status(&self) -> u8 {
         self.kind.status()
     }

@@ -21,12 +21,13 @@ mod verbs;
 
 use answers::Answers;
 use arguments::{Given, Request};
-use failure::{words, Failure};
+use failure::{words, Failure, Kind};
 use report::Report;
 use std::env;
 use std::ffi::OsString;
 use std::process::ExitCode;
 use std::thread;
+use storage::signals;
 use verbs::Verb;
 
 /// A layout text needs up to 2 MiB of stack, more than a caller may leave to the main thread (`ulimit -s`).
@@ -50,24 +51,46 @@ fn told(json: bool, failure: Failure) -> u8 {
     answers.end()
 }
 
-/// Each of several disks is a call of its own.
+/// Each of several disks is a call of its own; what was typed wrongly is told once.
 fn call(verb: &'static Verb, given: &Given) -> u8 {
     let several = verb.takes_several() && given.operands.len() > 1;
     let mut answers = Answers::new(given.has("--json"), several);
-    match several {
-        true => (0..given.operands.len()).for_each(|place| answers.tell(run(verb, &given.alone(place)))),
-        false => answers.tell(run(verb, given)),
+    if !several {
+        answers.tell(run(verb, given));
+        return answers.end();
+    }
+    for place in 0..given.operands.len() {
+        let answer = run(verb, &given.alone(place));
+        let misused = matches!(&answer, Err(failure) if failure.kind == Kind::Usage);
+        answers.tell(answer);
+        if misused {
+            break;
+        }
     }
     answers.end()
 }
 
 fn run(verb: &'static Verb, given: &Given) -> Result<Report, Failure> {
     let run = || (verb.run)(given).map_err(|failure| failure.with(verb.always));
-    if verb.group != "fmd" {
-        return run();
+    if verb.group == "fmd" {
+        return roomy(run);
     }
-    thread::scope(|scope| match thread::Builder::new().stack_size(LAYOUT_STACK).spawn_scoped(scope, run) {
-        Ok(thread) => thread.join().unwrap_or_else(|panic| std::panic::resume_unwind(panic)),
-        Err(error) => Err(Failure::input_output(format!("no thread can be had: {}", words(&error)))),
-    })
+    run()
+}
+
+/// On a thread with a stack of its own, which alone has the signals that end the call.
+fn roomy(run: impl FnOnce() -> Result<Report, Failure> + Send) -> Result<Report, Failure> {
+    let before = signals::held_back();
+    let work = || {
+        signals::let_through(&before);
+        run()
+    };
+    let answer = thread::scope(|scope| {
+        match thread::Builder::new().stack_size(LAYOUT_STACK).spawn_scoped(scope, work) {
+            Ok(thread) => thread.join().unwrap_or_else(|panic| std::panic::resume_unwind(panic)),
+            Err(error) => Err(Failure::input_output(format!("no thread can be had: {}", words(&error)))),
+        }
+    });
+    signals::let_through(&before);
+    answer
 }

@@ -63,8 +63,12 @@ pub fn human(bytes: u64) -> String {
 
 /// A number of blocks with its size: `2048 blocks (1 MiB)`.
 pub fn of_blocks(blocks: u64) -> String {
-    let noun = if blocks == 1 { "block" } else { "blocks" };
-    format!("{blocks} {noun} ({})", human(blocks.saturating_mul(BLOCK_LEN)))
+    format!("{} ({})", plural(blocks, "block"), human(blocks.saturating_mul(BLOCK_LEN)))
+}
+
+/// A number of things: `1 area`, `2 areas`.
+pub fn plural(count: u64, noun: &str) -> String {
+    format!("{count} {noun}{}", if count == 1 { "" } else { "s" })
 }
 
 #[cfg(test)]

@@ -46,7 +46,10 @@ fn a_device_in_use() {
     run!["gpt", "format", path].needed("is in use");
     assert_eq!(fs::read(path).expect("a device"), before);
     run!["gpt", "show", path].done();
-    run!["gpt", "add", path, "--size", "1", "--dry-run"].done();
+    let tried = run!["gpt", "add", path, "--size", "1", "--dry-run"];
+    assert!(tried.out.starts_with("would add partition 1"), "{}", tried.err);
+    let warning = "usigrambal: warning: ";
+    assert!(tried.err.starts_with(warning) && tried.err.contains("is in use"), "{}", tried.err);
     // The kernel does not read the table of a device in use.
     let forced = run!["gpt", "add", path, "--size", "1", "--force"];
     assert_eq!(forced.status, Some(0), "{}", forced.err);

@@ -22,7 +22,7 @@ fn a_disk_of_100_blocks() {
     assert_eq!(placed(add(&image, "11", "c")), (1, 49, 59));
     assert_eq!(placed(add(&image, "10", "d")), (3, 34, 43));
     let free = run!["gpt", "free", image].done();
-    let runs = "Free  First  Last  Blocks     Size\n         60    66       7  3.5 KiB\n";
+    let runs = "  Free  First  Last  Blocks     Size\n           60    66       7  3.5 KiB\n";
     let expected = "free:        7 blocks (3.5 KiB)\nlongest run: 7 blocks (3.5 KiB)\n";
     assert_eq!(free, format!("{}:\n{expected}\n{runs}", image.display()));
     let words = run!["gpt", "resize", image, "1", "19"].refused(25);
@@ -38,7 +38,9 @@ fn a_disk_of_100_blocks() {
 fn show_is_a_table_and_a_drawing() {
     let folder = Folder::new();
     let image = folder.sparse("disk.img", 163 * 512);
-    run!["gpt", "format", image, "--guid", GUID].done();
+    let formatted = run!["gpt", "format", image, "--guid", GUID].done();
+    let facts = format!("163 blocks (81.5 KiB) of 512 bytes, usable 34 to 129, disk GUID {GUID}");
+    assert_eq!(formatted, format!("formatted {}: {facts}\n", image.display()));
     let unique = "AAAAAAAA-BBBB-4CCC-8DDD-EEEEEEEEEEEE";
     run!["gpt", "add", image, "--size", "24", "--type", "system", "--guid", unique, "--name", "boot"].done();
     let foreign = "FE3A2A5D-4F32-41A7-B725-ACCC3285A309";
@@ -57,8 +59,8 @@ Number  First  Last  Blocks    Size  Type                                  Uniqu
      1     34    57      24  12 KiB  system                                {unique}  0x0         boot
      2     58    81      24  12 KiB  {foreign}  {GUID}  0x5
 
-Free  First  Last  Blocks    Size
-         82   129      48  24 KiB
+  Free  First  Last  Blocks    Size
+           82   129      48  24 KiB
 
 1{part}2{part}{free}
 ",
@@ -184,8 +186,9 @@ fn wrong_words_are_told_in_a_sentence() {
     run!["gpt", "add", image, "--size", "1000B"].usage("no whole number of blocks");
     run!["gpt", "add", image, "--size", "18446744073709551616"].usage("too large");
     run!["gpt", "add", image, "--size", "1", "--attributes", "x"].usage("\"x\" is no number");
-    run!["gpt", "delete", image, "one"].usage("\"one\" is no number");
-    run!["gpt", "delete", image].usage("NUMBER is missing");
+    run!["gpt", "delete", image, "one"]
+        .usage("no partition has the number, the name or the unique GUID \"one\"");
+    run!["gpt", "delete", image].usage("PARTITION is missing");
     run!["gpt", "wipe", image].usage("gpt has no verb wipe");
     run!["gpt"].usage("a verb is missing");
     run!["disk"].usage("there is no group disk");
@@ -203,7 +206,7 @@ fn the_number_of_blocks_is_judged() {
     {
         let image = folder.sparse("disk.img", n * 512);
         let words = run!["gpt", "show", image].refused(number);
-        assert!(number != 2 || words.contains(&format!(": {n} blocks")), "{words}");
+        assert!(number != 2 || words.contains(&format!(": {n} block")), "{words}");
         let format = run!["gpt", "format", image];
         match number {
             2 => drop(format.refused(2)),
@@ -213,23 +216,6 @@ fn the_number_of_blocks_is_judged() {
     let ragged = folder.sparse("ragged.img", 100 * 512 + 1);
     run!["gpt", "show", ragged].unusable("has 51201 bytes, which is no multiple of the block size, 512");
     run!["gpt", "format", ragged].unusable("no multiple");
-}
-
-#[test]
-fn format_asks_before_it_replaces_partitions() {
-    let folder = Folder::new();
-    let image = disk(&folder, "disk.img", 100);
-    run!["gpt", "format", image].done();
-    add(&image, "1", "a");
-    let before = fs::read(&image).expect("an image");
-    run!["gpt", "format", image].needed("holds a table with 1 partition");
-    spoil(&image, 512);
-    run!["gpt", "format", image].needed("--replace");
-    spoil(&image, 512);
-    assert_eq!(fs::read(&image).expect("an image"), before);
-    let formatted = run!["gpt", "format", image, "--replace", "--guid", GUID].done();
-    assert!(formatted.contains("100 blocks (50 KiB) of 512 bytes, usable 34 to 66, disk GUID 01234567-"));
-    assert!(run!["gpt", "show", image].done().contains("no partitions"));
 }
 
 /// RFC 9562: 122 random bits, version 4, variant 10.
@@ -291,6 +277,17 @@ fn verify_and_repair_by_states() {
         assert!(run!["gpt", "repair", image].done().contains(repaired));
         assert_eq!(fs::read(&image).expect("an image"), good);
     }
+    for at in [450, 510, 511] {
+        spoil(&image, at);
+        let ended = run!["gpt", "verify", image];
+        assert_eq!((ended.status, ended.err.as_str()), (Some(1), ""));
+        assert!(ended.out.contains("block 0 has no protective record (EE at byte 450, 55 AA at byte 510)"));
+        let json = json::parse(&run!["gpt", "verify", image, "--json"].out).expect("JSON");
+        assert_eq!((json.number("state"), json.at("verified")), (1, &Json::Bool(false)));
+        assert_eq!(json.at("protective_record"), &Json::Bool(false));
+        assert!(run!["gpt", "show", image].err.contains("other systems see no table"));
+        spoil(&image, at);
+    }
     spoil(&image, 512);
     spoil(&image, backup_header);
     run!["gpt", "verify", image].refused(10);
@@ -349,7 +346,7 @@ fn between_head_and_tail_nothing_is_written() {
     use std::os::unix::fs::MetadataExt;
     let folder = Folder::new();
     let image = folder.file("disk.img", vec![0xA5; 512 * 512]);
-    run!["gpt", "format", image].done();
+    assert_eq!(run!["gpt", "format", image, "--replace"].status, Some(0));
     add(&image, "100", "a");
     let bytes = fs::read(&image).expect("an image");
     assert!(bytes[17_408..512 * 512 - 16_896].iter().all(|byte| *byte == 0xA5));
@@ -357,46 +354,4 @@ fn between_head_and_tail_nothing_is_written() {
     add(&large, "1T", "a");
     assert!(fs::metadata(&large).expect("a file").blocks() < 256);
     assert_eq!(run!["gpt", "show", large, "--json"].json().list("partitions")[0].number("blocks"), 1 << 31);
-}
-
-/// Each disk has its own answer; the exit status is the worst.
-#[test]
-fn several_disks_in_one_call() {
-    let folder = Folder::new();
-    let (good, spoiled) = (disk(&folder, "good.img", 100), disk(&folder, "spoiled.img", 100));
-    let (empty, missing) = (folder.sparse("empty.img", 51_200), folder.path("missing.img"));
-    spoil(&spoiled, 512);
-    let ended = run!["gpt", "verify", good, spoiled];
-    let lines: Vec<&str> = ended.out.lines().collect();
-    assert_eq!((ended.status, lines.len(), ended.err.as_str()), (Some(1), 3, ""), "{}", ended.out);
-    assert_eq!(lines[0], format!("{}: both copies are good and the same", good.display()));
-    assert!(lines[1].starts_with(&format!("{}: the primary copy is not good", spoiled.display())));
-    let ended = run!["gpt", "verify", "--json", good, spoiled, empty, missing, good];
-    assert_eq!(ended.status, Some(3));
-    let Json::List(answers) = json::parse(&ended.out).expect("JSON") else { panic!("{}", ended.out) };
-    let told = |answer: &Json| (answer.at("verified").clone(), answer.at("state").clone());
-    let (yes, no) = (Json::Bool(true), Json::Bool(false));
-    let expected = [
-        (yes.clone(), Json::Number(1)),
-        (no.clone(), Json::Number(4)),
-        (no.clone(), Json::Null),
-        (no, Json::Null),
-        (yes, Json::Number(1)),
-    ];
-    assert_eq!(answers.iter().map(told).collect::<Vec<_>>(), expected);
-    let disks: Vec<&str> = answers.iter().map(|answer| answer.text("disk")).collect();
-    let paths = [&good, &spoiled, &empty, &missing, &good].map(|path| path.to_str().expect("UTF-8"));
-    assert_eq!(disks, paths);
-    assert_eq!(answers[2].number("refused"), 10);
-    assert!(answers[3].text("error").ends_with("missing.img does not exist"));
-    for verb in ["show", "free"] {
-        let ended = run!["gpt", verb, good, missing, spoiled];
-        assert_eq!(ended.status, Some(3), "{}", ended.err);
-        assert_eq!(ended.err, format!("usigrambal: {} does not exist\n", missing.display()));
-        let first = run!["gpt", verb, good].done();
-        let second = run!["gpt", verb, spoiled].done();
-        assert_eq!(ended.out, format!("{first}\n{second}"));
-    }
-    assert_eq!(run!["gpt", "verify", good, empty].status, Some(1));
-    run!["gpt", "repair", good, spoiled].usage("is one operand too many");
 }

@@ -55,7 +55,7 @@ fn examples_run_as_they_stand() {
     folder.file("board.fmd", "BOARD 64K { FMAP 4K RW_CAL(PRESERVE) 4K RW_LOG }");
     let fresh = "rm -f board.bin disk.img; usigrambal fmd write board.fmd board.bin --create; truncate -s 64M disk.img; \
                  usigrambal gpt format disk.img; usigrambal gpt add disk.img --size 21M; \
-                 usigrambal gpt add disk.img --size 1M; usigrambal gpt resize disk.img 1 1M; \
+                 usigrambal gpt add disk.img --size 1M --name pages; usigrambal gpt resize disk.img 1 1M; \
                  cp board.bin running.bin; cp board.bin update.bin";
     let mut run_lines = 0;
     for (group, verbs) in VERBS {

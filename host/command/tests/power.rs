@@ -7,6 +7,7 @@ use std::fs;
 use std::path::{Path, PathBuf};
 use std::process::Command;
 use std::sync::OnceLock;
+use testkit::json;
 
 /// `tests/c/disk_writes.c`, compiled.
 fn watcher() -> &'static Path {
@@ -92,7 +93,7 @@ fn killed_before_the_first_write() {
     assert_eq!((tried.ended.status, tried.before == tried.after), (None, true));
 }
 
-/// On a disk without a table the backup alone is there then.
+/// On a disk without a table the backup alone is there then, and block 0 has no record.
 #[test]
 fn killed_while_it_formats() {
     let folder = Folder::new();
@@ -100,11 +101,65 @@ fn killed_while_it_formats() {
     let text = path.to_str().expect("UTF-8");
     let ended = disturbed("kill:2", &folder.path("log"), &["gpt", "format", text]);
     assert_eq!(ended.status, None);
-    let shown = run!["gpt", "show", path, "--json"].json();
-    assert_eq!(shown.number("state"), 4);
+    let shown = |path: &PathBuf| json::parse(&run!["gpt", "show", path, "--json"].out).expect("JSON");
+    let before = shown(&path);
+    assert_eq!(before.number("state"), 4);
     run!["gpt", "repair", path].done();
+    assert_eq!(shown(&path).text("guid"), before.text("guid"));
+    let ended = run!["gpt", "verify", path];
+    let hint =
+        format!("hint: usigrambal gpt format {text} --replace writes the record, with an empty table\n");
+    assert!(ended.status == Some(1) && ended.out.ends_with(&hint), "{}", ended.out);
+    run!["gpt", "format", path, "--replace"].done();
     run!["gpt", "verify", path].done();
-    assert_eq!(run!["gpt", "show", path, "--json"].json().text("guid"), shown.text("guid"));
+}
+
+/// What was written, what was not, and a next step that works: no repair where there is no table.
+#[test]
+fn a_format_that_fails() {
+    for (how, said, hint, replace) in [
+        (
+            "full:1",
+            "no byte was: No space left",
+            "the disk is as it was; the same call can be made again",
+            false,
+        ),
+        ("short:1", "the primary copy was not touched, the backup copy was not wholly", "", true),
+        ("flush:1", "the primary copy was not touched, the backup copy was not wholly", "", true),
+        ("full:2", "the backup copy was written, the primary copy was not", "", true),
+        ("short:2", "the backup copy was written, the primary copy was not wholly", "", true),
+    ] {
+        let folder = Folder::new();
+        let path = folder.sparse("disk.img", 1000 * 512);
+        let text = path.to_str().expect("UTF-8");
+        let ended = disturbed(how, &folder.path("log"), &["gpt", "format", text]);
+        assert!(ended.status == Some(3) && ended.err.contains(said), "{how}: {}", ended.err);
+        let anew = "the same call with --replace writes both copies anew";
+        assert_eq!(ended.hint(), if replace { anew } else { hint }, "{how}");
+        match replace {
+            true => run!["gpt", "format", path, "--replace"].done(),
+            false => run!["gpt", "format", path].done(),
+        };
+        run!["gpt", "verify", path].done();
+    }
+}
+
+/// The edit is made; where the table can be seen is told.
+#[test]
+fn a_report_that_cannot_be_printed() {
+    let folder = Folder::new();
+    let path = disk(&folder, "disk.img", 1000);
+    for words in [&["--json"][..], &[]] {
+        let full = fs::File::options().write(true).open("/dev/full").expect("/dev/full");
+        let mut command = common::command();
+        let ended = command.args(["gpt", "add", "--size", "1"]).arg(&path).args(words).stdout(full).output();
+        let ended = Ended::from(ended.expect("the command"));
+        let text = path.display();
+        let hint = format!("{text} was written, both copies; usigrambal gpt show {text} shows the table");
+        assert_eq!(ended.hint(), hint);
+        ended.unusable("standard output cannot be written: No space left on device");
+    }
+    assert_eq!(run!["gpt", "show", path, "--json"].json().list("partitions").len(), 2);
 }
 
 #[test]
@@ -113,8 +168,10 @@ fn no_space_for_the_primary() {
     assert_eq!((tried.ended.status, tried.ended.out.as_str()), (Some(3), ""));
     let said = "could not be written: the backup copy was written, the primary copy was not: No space left on device";
     let path = tried.path.display();
-    let line = format!("usigrambal: {path} {said}; `usigrambal gpt repair {path}` makes both alike\n");
-    assert_eq!(tried.ended.err, line);
+    let hint = format!(
+        "usigrambal gpt repair {path} makes both copies alike, gpt show then tells which table holds"
+    );
+    assert_eq!(tried.ended.err, format!("usigrambal: {path} {said}\nhint: {hint}\n"));
     assert!(tried.tail_changed() && !tried.head_changed());
     assert_eq!(tried.repaired(2), 1);
 }
@@ -143,7 +200,7 @@ fn a_short_write_of_the_backup() {
 #[test]
 fn nothing_is_taken() {
     let tried = disturbed_add("none:1");
-    let said = "the primary copy was not touched, the backup copy was not: ";
+    let said = "could not be written, and no byte was: ";
     assert!(tried.ended.err.contains(said), "{}", tried.ended.err);
     assert_eq!((tried.ended.status, tried.before == tried.after), (Some(3), true));
 }

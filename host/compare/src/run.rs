@@ -23,6 +23,8 @@ pub enum Cell {
     By(u32, &'static str),
     /// Answers on a disk in this state.
     State(u64),
+    /// Answers this number of a rule.
+    Rule(u64),
     /// Answers on an input of this kind.
     On(&'static str),
 }
@@ -33,6 +35,7 @@ impl Display for Cell {
             Cell::Answer(number) => write!(f, "answer {number}"),
             Cell::By(number, argument) => write!(f, "{number} by {argument}"),
             Cell::State(state) => write!(f, "state {state}"),
+            Cell::Rule(rule) => write!(f, "rule {rule}"),
             Cell::On(kind) => f.write_str(kind),
         }
     }

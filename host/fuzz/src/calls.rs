@@ -51,6 +51,20 @@ pub fn usi_fmap_find(rules: &Rules, input: &mut Input) -> Outcome {
     )
 }
 
+/// An even byte chooses a signature, whose position is asked for; an odd one, and an image without any, a number.
+pub fn usi_fmap_fault(rules: &Rules, input: &mut Input) -> Outcome {
+    let (place, any) = (input.byte(), input.number(0));
+    let image = flash::image(input);
+    let signatures = (0..image.len()).filter(|at| image[*at..].starts_with(b"__FMAP__"));
+    let chosen = signatures.map(|at| at as u64).nth(usize::from(place / 2)).filter(|_| place % 2 == 0);
+    let position = chosen.unwrap_or(any);
+    both(
+        [image],
+        |[image], [rule]| raw::fmap_fault(image, position, rule),
+        |[image], [rule]| second::fmap_fault(rules, image, position, rule),
+    )
+}
+
 pub fn usi_fmap_area(rules: &Rules, input: &mut Input) -> Outcome {
     let (k, area) = (input.number(0), input.buffer(42));
     both(

@@ -52,11 +52,13 @@ fn small_images(seed: u8) -> Vec<Vec<u8>> {
 }
 
 fn images(call: &str) -> Vec<Vec<u8>> {
-    let mut inputs = Vec::new();
+    // An image too short.
+    let mut inputs = if call == "usi_fmap_fault" { vec![vec![0, 0, 50, 0]] } else { Vec::new() };
     let files = fixture::files("fmap", "flash");
     let fixtures: Vec<_> = files.iter().map(|path| fixture::flash(path).expect("an image")).collect();
     for one in small_images(0x11) {
         match call {
+            "usi_fmap_fault" => inputs.extend([[0, 0], [1, 5]].map(|place| [&place, &one[..]].concat())),
             "usi_fmap_area" => inputs.push([&[1, 0], &one[..]].concat()),
             "usi_fmap_named" => inputs.push([&[1, b'A'], &one[..]].concat()),
             "usi_fmap_carry" => {
@@ -68,6 +70,9 @@ fn images(call: &str) -> Vec<Vec<u8>> {
     for fixture in &fixtures {
         let image = flash::encoded(&fixture.image);
         match call {
+            "usi_fmap_fault" => {
+                inputs.extend([[0, 0], [2, 0], [1, 0xF1]].map(|place| [&place, &image[..]].concat()))
+            }
             "usi_fmap_area" => {
                 inputs.extend([&[0, 0], &[1, 0], &[200, 0], &[0, 0xF1]].map(|a| [&a[..], &image].concat()))
             }

@@ -56,6 +56,7 @@ targets! {
     fuzz_usi_type_read usi_type_read
     fuzz_usi_guid_write usi_guid_write
     fuzz_usi_fmap_find usi_fmap_find
+    fuzz_usi_fmap_fault usi_fmap_fault
     fuzz_usi_fmap_area usi_fmap_area
     fuzz_usi_fmap_named usi_fmap_named
     fuzz_usi_fmap_carry usi_fmap_carry

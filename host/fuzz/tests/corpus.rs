@@ -50,6 +50,7 @@ fn each_target_shows_a_wrong_answer() {
         ("usi_type_read", |r| r.guid.short_names_as_type = false),
         ("usi_guid_write", |r| r.guid.write_ten = b'a'),
         ("usi_fmap_find", |r| r.fmap.alignment = 4),
+        ("usi_fmap_fault", |r| r.fmap.minor_max = 0),
         ("usi_fmap_area", |r| r.fmap.area_buffer_len = 36),
         ("usi_fmap_named", |r| r.fmap.name_len_max = 3),
         ("usi_fmap_carry", |r| r.fmap.carry_slip = Some(CarrySlip::OneByteLess)),

@@ -5,6 +5,8 @@ use crate::refusal::accepted;
 use crate::refused::{Detail, Refused};
 use crate::Refusal;
 
+pub use crate::rule::Rule;
+
 const AREA_LEN: usize = 42;
 const HEADER_LEN: usize = 56;
 
@@ -58,6 +60,13 @@ pub fn find(image: &[u8]) -> Result<u64, Refused> {
     let mut position = 0;
     accepted_for(image, raw::fmap_find(image, &mut position))?;
     Ok(position)
+}
+
+/// The first rule that a map at that position breaks; `None` if a good map stands there.
+pub fn fault_at(image: &[u8], position: u64) -> Result<Option<Rule>, Refused> {
+    let mut rule = 0;
+    accepted_for(image, raw::fmap_fault(image, position, &mut rule))?;
+    Ok(Rule::from_number(rule))
 }
 
 /// The area at `k`, counted from 0; `None` if the map has no more than `k` areas.
@@ -207,6 +216,34 @@ mod tests {
         assert_eq!(area_named(&image, "CAL"), Ok(Some(1)));
         assert_eq!(area_named(&image, "CALL"), Ok(None));
         assert_eq!(cal.bytes(&image), &image[200..250]);
+    }
+
+    #[test]
+    fn the_first_rule_that_a_map_breaks() {
+        let (mut image, good) = (image(200, 50), image(200, 50));
+        assert_eq!(fault_at(&image, 7), Ok(None));
+        for nowhere in [0, 6, 8, 300, u64::from(u32::MAX) + 8, u64::MAX] {
+            assert_eq!(fault_at(&image, nowhere), Ok(Some(Rule::Signature)));
+        }
+        image[7 + 9] = 2;
+        assert_eq!(fault_at(&image, 7), Ok(Some(Rule::Minor)));
+        assert_eq!(Rule::Minor.found(&image, 7), "minor version 2");
+        image[7 + 18..7 + 22].copy_from_slice(&301u32.to_le_bytes());
+        assert_eq!(fault_at(&image, 7), Ok(Some(Rule::Minor)));
+        image[7 + 9] = 0;
+        assert_eq!(fault_at(&image, 7), Ok(Some(Rule::ImageSize)));
+        assert_eq!(
+            Rule::ImageSize.found(&image, 7),
+            "image size 301 in the map, and the image has 300 bytes"
+        );
+        assert_eq!(fault_at(&good[..97], 7).unwrap_err().number(), 40);
+        assert_eq!(
+            Rule::MapArea.found(&image, u64::MAX),
+            "no area FMAP starts at the map and holds all of it"
+        );
+        for rule in Rule::ALL {
+            assert_eq!(Rule::from_number(rule.number()), Some(*rule));
+        }
     }
 
     #[test]

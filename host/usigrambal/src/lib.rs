@@ -8,6 +8,7 @@ pub mod layout;
 pub mod raw;
 mod refusal;
 mod refused;
+mod rule;
 
 pub use disk::{Disk, Free, Name, NewPartition, Partition, Placed, Run, State, HEAD_LEN, TAIL_LEN};
 pub use guid::Guid;

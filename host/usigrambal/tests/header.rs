@@ -1,13 +1,17 @@
 //! include/usigrambal.h and the wrapper say the same: names, numbers and words of the refusals, and the version.
 
+use usigrambal::flash::Rule;
 use usigrambal::Refusal;
 
 const HEADER: &str = include_str!("../../../include/usigrambal.h");
 
-/// A case's name as the header has it: `NoRoom` is `USI_NO_ROOM`.
+/// A refusal's name as the header has it: `NoRoom` is `USI_NO_ROOM`.
 fn c_name(refusal: Refusal) -> String {
-    let case = format!("{refusal:?}");
-    let mut name = String::from("USI");
+    c_name_of("USI", &format!("{refusal:?}"))
+}
+
+fn c_name_of(prefix: &str, case: &str) -> String {
+    let mut name = String::from(prefix);
     for letter in case.chars() {
         if letter.is_uppercase() {
             name.push('_');
@@ -37,6 +41,18 @@ fn words_are_the_same() {
     let of = |refusal: &Refusal| format!("case {}: return \"{}\";", c_name(*refusal), refusal.words());
     let expected: Vec<String> = Refusal::ALL.iter().map(of).collect();
     assert_eq!(between("case USI_ACCEPTED: return \"accepted\";", "default:"), expected);
+}
+
+#[test]
+fn rules_of_a_map_are_the_same() {
+    let name = |rule: &Rule| c_name_of("USI_RULE", &format!("{rule:?}"));
+    let of = |rule: &Rule| format!("{} = {}", name(rule), rule.number());
+    let expected: Vec<String> =
+        [String::from("USI_RULE_NONE = 0")].into_iter().chain(Rule::ALL.iter().map(of)).collect();
+    assert_eq!(between("enum usi_rule {", "};"), expected);
+    let of = |rule: &Rule| format!("case {}: return \"{}\";", name(rule), rule.words());
+    let expected: Vec<String> = Rule::ALL.iter().map(of).collect();
+    assert_eq!(between("case USI_RULE_NONE: return \"a good map\";", "default:"), expected);
 }
 
 #[test]

@@ -6,16 +6,17 @@ use borrow.Author.Needs.{needs}
 use borrow.Author.Tests.{not-true, not-false}
 use Rattle.octets.specs.Tests.{all}
 use Rattle.fmap_rules.proofs.Areas.{all-next, all-fails, all-over}
-use Rattle.fmap_rules.specs.Map.{goodPair, areasIn, blank}
+use Rattle.fmap_rules.specs.Map.{areasIn, blank}
+use Rattle.fmap_rules.specs.Invariants.{goodPair}
 use Rattle.fmap_rules.proofs.good_with_later.Statement.{statement}
 use Rattle.fmap_rules.proofs.good_with_later.Tie as tie
 
 abbrev Inv-loop : tie.InvT-loop
-Inv-loop areas i n j₀ j = (j ≤ n) ×
-    (all (goodPair (getD (areasIn areas) i blank)) (drop j (areasIn areas)) ≡ all (goodPair (getD (areasIn areas) i blank)) (drop (i + 1) (areasIn areas)))
+Inv-loop areas i rule n j₀ j = (j ≤ n) ×
+    (all (goodPair rule (getD (areasIn areas) i blank)) (drop j (areasIn areas)) ≡ all (goodPair rule (getD (areasIn areas) i blank)) (drop (i + 1) (areasIn areas)))
 
 abbrev μ-loop : tie.MeasureT-loop
-μ-loop areas i n j₀ j = n - j
+μ-loop areas i rule n j₀ j = n - j
 
 add-j : tie.Need-add-j Inv-loop μ-loop
 add-j c = search needs
@@ -35,7 +36,7 @@ is-good-pair-requires c κs = search needs
 returns : tie.Need-returns Inv-loop μ-loop
 returns c =
     let s1 = c .before .before .before .before .before in
-    all-fails _ (s1 .loop .j) (omega arith) _ (c .before .before .area-at2 .ensures .0) (goodPair _)
+    all-fails _ (s1 .loop .j) (omega arith) _ (c .before .before .area-at2 .ensures .0) (goodPair _ _)
     (rw (← (c .before .before .before .area-at .ensures .0)) (sym (c .before .is-good-pair .ensures) ∙ not-true _ (c .if1 .taken))) (s1 .loop .inv .1)
 
 add-j-2 : tie.Need-add-j-2 Inv-loop μ-loop
@@ -48,13 +49,13 @@ loop-again : tie.Need-loop-again Inv-loop μ-loop
 loop-again c =
     let s1 = c .before .before .before .before .before in (
       omega arith,
-      all-next _ (s1 .loop .j) (omega arith) _ (c .before .before .area-at2 .ensures .0) (goodPair _)
+      all-next _ (s1 .loop .j) (omega arith) _ (c .before .before .area-at2 .ensures .0) (goodPair _ _)
           (rw (← (c .before .before .before .area-at .ensures .0)) (sym (c .before .is-good-pair .ensures) ∙ not-false _ (c .if1 .left)))
           (s1 .loop .inv .1),
     )
 
 returns-2 : tie.Need-returns-2 Inv-loop μ-loop
-returns-2 c = all-over _ (c .before .loop .j) (omega arith) (goodPair _) (c .before .loop .inv .1)
+returns-2 c = all-over _ (c .before .loop .j) (omega arith) (goodPair _ _) (c .before .loop .inv .1)
 
 pub good-with-later-spec : {M : Type 1} → statement M
 good-with-later-spec =

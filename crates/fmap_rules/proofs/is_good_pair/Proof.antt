@@ -1,11 +1,15 @@
-use mathlib.Core.Bool.{not}
-use mathlib.Core.Path.{sym, ap, _∙_}
-use borrow.Author.Needs.{needs}
-use Rattle.octets.proofs.Bools.{and-t, and-f}
+use Rattle.fmap_rules.specs.Invariants.{goodPair}
+use Rattle.fmap_rules.proofs.Areas.{by-pair}
+use Rattle.fmap_rules.specs.Map.{areaOf, named, otherName, goodPlaces}
 use Rattle.octets.specs.Bytes.{part}
-use Rattle.fmap_rules.specs.Map.{goodPair, named, areaOf}
+use mathlib.Core.Bool.{not}
+use mathlib.Core.Path.{ap}
+use borrow.Author.Needs.{needs}
 use Rattle.fmap_rules.proofs.is_good_pair.Statement.{statement}
 use Rattle.fmap_rules.proofs.is_good_pair.Tie as tie
+
+enum-told : tie.Need-enum-told
+enum-told c = search needs
 
 sub-same : tie.Need-sub-same
 sub-same c = search needs
@@ -28,9 +32,8 @@ part-same-end-2 c = search needs
 same-requires : tie.Need-same-requires
 same-requires c κs = search needs
 
-returns : tie.Need-returns
-unfolding goodPair named areaOf part
-returns c = and-f _ (ap not (sym (c .before .same .ensures) ∙ (c .if1 .taken)))
+enum-told-2 : tie.Need-enum-told-2
+enum-told-2 c = search needs
 
 extent-of-requires : tie.Need-extent-of-requires
 extent-of-requires c κs = search needs
@@ -41,15 +44,19 @@ extent-of-requires-2 c κs = search needs
 is-disjoint-or-nested-requires : tie.Need-is-disjoint-or-nested-requires
 is-disjoint-or-nested-requires c κs = search needs
 
+returns : tie.Need-returns
+unfolding goodPair otherName named areaOf part
+returns c = by-pair _ _ (c .before .before .before .enum-told .given .1) (ap not (c .same .ensures))
+
 returns-2 : tie.Need-returns-2
-unfolding goodPair named areaOf part
-returns-2 c = and-t (ap not (sym (c .before .before .before .before .same .ensures) ∙ (c .before .before .before .if1 .left)))
-    (rw (← (c .before .before .extent-of .ensures), ← (c .before .extent-of2 .ensures)) (c .is-disjoint-or-nested .ensures))
+unfolding goodPair goodPlaces
+returns-2 c = by-pair _ _ (c .before .before .before .enum-told2 .given .1) (rw (← (c .before .before .extent-of .ensures), ← (c .before .extent-of2 .ensures)) (c .is-disjoint-or-nested .ensures))
 
 pub is-good-pair-spec : {M : Type 1} → statement M
 is-good-pair-spec =
     tie.close
     (tie.spec
+    enum-told
     sub-same
     part-same-start
     part-same-end
@@ -57,8 +64,9 @@ is-good-pair-spec =
     part-same-start-2
     part-same-end-2
     same-requires
-    returns
+    enum-told-2
     extent-of-requires
     extent-of-requires-2
     is-disjoint-or-nested-requires
+    returns
     returns-2)

@@ -1,4 +1,5 @@
 use Rattle.fmd_check.proofs.Found.{ready}
+use Rattle.fmd_check.proofs.Stages.{whole}
 use Rattle.fmd_check.specs.Check.{checkText}
 use borrow.Author.Tests.{lt-ltb, le-ltb}
 use native.Mathlib.Omega.{arith}
@@ -32,7 +33,7 @@ same-length-2 c = search needs
 
 returns-2 : tie.Need-returns-2
 unfolding checkText
-returns-2 c = rw (le-ltb _ _ (c .before .before .before .before .before .before .before .before .before .before .before .before .if1 .left), sym (rw (c .before .before .before .before .before .before .i .given .1) at (c .before .before .before .before .before .before .before .before .before .before .read-layout .ensures))) (c .before .before .check-list .ensures)
+returns-2 c = rw (le-ltb _ _ (c .before .before .before .before .before .before .before .before .before .before .before .before .if1 .left), sym (rw (c .before .before .before .before .before .before .i .given .1) at (c .before .before .before .before .before .before .before .before .before .before .read-layout .ensures))) (c .before .before .check-list .ensures ∙ whole _ _ _)
 
 same-length-3 : tie.Need-same-length-3
 same-length-3 c = search needs

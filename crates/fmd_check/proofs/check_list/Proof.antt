@@ -1,5 +1,5 @@
 use Rattle.fmd_check.proofs.Found.{found-below}
-use Rattle.fmd_check.specs.Check.{checkList}
+use Rattle.fmd_check.proofs.Stages.{at-54, on-54}
 use Rattle.fmd_rows.specs.Rows.{firstRepeat}
 use mathlib.Core.Path.{sym, _∙_}
 use borrow.Author.Needs.{needs}
@@ -23,15 +23,13 @@ check-marks-requires : tie.Need-check-marks-requires
 check-marks-requires c κs = search needs
 
 returns : tie.Need-returns
-unfolding checkList
-returns c = rw (c .fault-at .ensures, sym (c .before .before .before .before .first-repeat .ensures) ∙ c .before .before .k .given .1)
+returns c = rw (c .fault-at .ensures) (at-54 _ _ _ _ _ (sym (c .before .before .before .before .first-repeat .ensures) ∙ c .before .before .k .given .1))
 
 same-length : tie.Need-same-length
 same-length c = search needs
 
 returns-2 : tie.Need-returns-2
-unfolding checkList
-returns-2 c = rw (sym (c .before .before .before .before .before .before .first-repeat .ensures) ∙ c .before .before .before .before .enum-told .given .1) (c .before .before .check-marks .ensures)
+returns-2 c = c .before .before .check-marks .ensures ∙ on-54 _ _ _ _ (sym (c .before .before .before .before .before .before .first-repeat .ensures) ∙ c .before .before .before .before .enum-told .given .1)
 
 pub check-list-spec : {M : Type 1} → statement M
 check-list-spec =

@@ -1,5 +1,5 @@
 use Rattle.fmd_check.proofs.Found.{found-below}
-use Rattle.fmd_check.specs.Check.{checkMarks}
+use Rattle.fmd_check.proofs.Stages.{at-56, on-56}
 use Rattle.fmd_rows.specs.Rows.{firstCbfs}
 use mathlib.Core.Path.{sym, _∙_}
 use borrow.Author.Needs.{needs}
@@ -19,19 +19,17 @@ fault-at-requires c κs = (c .before .before .before .before .before .before .be
 enum-told : tie.Need-enum-told
 enum-told c = search needs
 
-check-sizes-requires : tie.Need-check-sizes-requires
-check-sizes-requires c κs = search needs
+check-places-requires : tie.Need-check-places-requires
+check-places-requires c κs = search needs
 
 returns : tie.Need-returns
-unfolding checkMarks
-returns c = rw (c .fault-at .ensures, sym (c .before .before .before .before .first-cbfs .ensures) ∙ c .before .before .k .given .1)
+returns c = rw (c .fault-at .ensures) (at-56 _ _ _ _ _ (sym (c .before .before .before .before .first-cbfs .ensures) ∙ c .before .before .k .given .1))
 
 same-length : tie.Need-same-length
 same-length c = search needs
 
 returns-2 : tie.Need-returns-2
-unfolding checkMarks
-returns-2 c = rw (sym (c .before .before .before .before .before .before .first-cbfs .ensures) ∙ c .before .before .before .before .enum-told .given .1) (c .before .before .check-sizes .ensures)
+returns-2 c = c .before .before .check-places .ensures ∙ on-56 _ _ _ _ (sym (c .before .before .before .before .before .before .first-cbfs .ensures) ∙ c .before .before .before .before .enum-told .given .1)
 
 pub check-marks-spec : {M : Type 1} → statement M
 check-marks-spec =
@@ -41,7 +39,7 @@ check-marks-spec =
     enum-known-k
     fault-at-requires
     enum-told
-    check-sizes-requires
+    check-places-requires
     returns
     same-length
     returns-2)

@@ -1,5 +1,5 @@
 use Rattle.fmd_rows.proofs.Rows.{item}
-use Rattle.fmd_plan.specs.Plans.{startOf, spotIn, placeOf}
+use Rattle.fmd_plan.specs.Plans.{placeOf}
 use mathlib.Core.Path.{sym}
 use borrow.Author.Needs.{needs}
 use Rattle.fmd_plan.proofs.place_at.Statement.{statement}
@@ -14,15 +14,19 @@ end-in-requires c κs = search needs
 room-of-requires : tie.Need-room-of-requires
 room-of-requires c κs = search needs
 
-next-of-requires : tie.Need-next-of-requires
-next-of-requires c κs = search needs
+add-reach-of : tie.Need-add-reach-of
+add-reach-of c = search needs
+
+reach-of-requires : tie.Need-reach-of-requires
+reach-of-requires c κs = search needs
 
 spot-in-requires : tie.Need-spot-in-requires
 spot-in-requires c κs = search needs
 
 returns : tie.Need-returns
-unfolding placeOf spotIn
-returns c = rw (item (c .before .before .before .before .before .before .before .args .n) (c .before .before .before .before .before .before .before .args .rows .now) (c .before .before .before .before .before .before .before .args .k) (c .before .before .before .before .before .before .before .pre .2), sym (c .before .before .before .before .row-at .ensures), sym (c .before .before .before .end-in .ensures .0), sym (c .before .before .room-of .ensures), sym (c .before .next-of .ensures (startOf (c .before .before .before .before .row-at .result .offset) (c .before .before .before .end-in .result)) (c .before .before .room-of .result))) (c .spot-in .ensures)
+unfolding placeOf
+returns c = let a = c .before .before .before .before .before .before .before in
+    rw (item (a .args .n) (a .args .rows .now) (a .args .k) (a .pre .2), sym (c .before .before .before .before .row-at .ensures), sym (c .before .before .before .end-in .ensures .0), sym (c .before .before .room-of .ensures), sym (c .before .reach-of .ensures)) (c .spot-in .ensures)
 
 pub place-at-spec : {M : Type 1} → statement M
 place-at-spec =
@@ -31,6 +35,7 @@ place-at-spec =
     row-at-requires
     end-in-requires
     room-of-requires
-    next-of-requires
+    add-reach-of
+    reach-of-requires
     spot-in-requires
     returns)

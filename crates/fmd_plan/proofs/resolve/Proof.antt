@@ -1,5 +1,5 @@
 use borrow.Author.Needs.{needs}
-use Rattle.fmd_plan.proofs.Plans.{resolve-stop, resolve-on, resolve-done}
+use Rattle.fmd_plan.proofs.Plans.{resolve-stop, resolve-unsized, resolve-on, resolve-done}
 use Rattle.fmd_plan.specs.Plans.{resolveFrom}
 use Rattle.fmd_table.proofs.Spots.{none-placed}
 use Rattle.fmd_table.specs.Table.{sectionsIn, placedIn}
@@ -32,6 +32,15 @@ same-length c = search needs
 returns : tie.Need-returns Inv-loop μ-loop
 returns c = resolve-stop _ _ _ _ _ (c .before .before .before .before .loop-test .taken) (sym (c .before .before .place-at .ensures) ∙ c .enum-told .given .1) ∙ c .before .before .before .before .before .loop .inv .2
 
+enum-told-2 : tie.Need-enum-told-2 Inv-loop μ-loop
+enum-told-2 c = search needs
+
+same-length-2 : tie.Need-same-length-2 Inv-loop μ-loop
+same-length-2 c = search needs
+
+returns-2 : tie.Need-returns-2 Inv-loop μ-loop
+returns-2 c = resolve-unsized _ _ _ _ _ (c .before .before .before .before .loop-test .taken) (sym (c .before .before .place-at .ensures) ∙ c .enum-told2 .given .1) ∙ c .before .before .before .before .before .loop .inv .2
+
 enum-known-q : tie.Need-enum-known-q Inv-loop μ-loop
 enum-known-q c = search needs
 
@@ -47,11 +56,11 @@ loop-less c = search needs
 loop-again : tie.Need-loop-again Inv-loop μ-loop
 loop-again c = (search needs, omega arith, resolve-on _ _ _ _ _ _ _ (c .before .before .before .before .before .before .before .before .before .loop-test .taken) (sym (c .before .before .before .before .before .before .before .place-at .ensures) ∙ c .before .before .before .before .before .q .given .1) (c .before .before .put-placed .ensures) ∙ c .before .before .before .before .before .before .before .before .before .before .loop .inv .2)
 
-same-length-2 : tie.Need-same-length-2 Inv-loop μ-loop
-same-length-2 c = search needs
+same-length-3 : tie.Need-same-length-3 Inv-loop μ-loop
+same-length-3 c = search needs
 
-returns-2 : tie.Need-returns-2 Inv-loop μ-loop
-returns-2 c = let e : c .before .loop .k ≡ c .before .before .before .before .args .n = omega arith in
+returns-3 : tie.Need-returns-3 Inv-loop μ-loop
+returns-3 c = let e : c .before .loop .k ≡ c .before .before .before .before .args .n = omega arith in
     resolve-done _ _ _ _ _ e ∙ c .before .loop .inv .2
 
 pub resolve-spec : {M : Type 1} → statement M
@@ -65,10 +74,13 @@ resolve-spec =
     enum-told
     same-length
     returns
+    enum-told-2
+    same-length-2
+    returns-2
     enum-known-q
     put-placed-requires
     add-k
     loop-less
     loop-again
-    same-length-2
-    returns-2)
+    same-length-3
+    returns-3)

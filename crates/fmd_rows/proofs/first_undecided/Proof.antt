@@ -1,6 +1,6 @@
 use borrow.Author.Needs.{needs}
-use Rattle.fmd_rows.proofs.Rows.{first-start, first-on, first-stop, first-done}
-use Rattle.fmd_rows.specs.Rows.{foundFrom, undecided, firstUndecided}
+use Rattle.fmd_rows.proofs.Rows.{first-on, first-stop, first-done}
+use Rattle.fmd_rows.specs.Rows.{foundFrom, undecided}
 use Rattle.fmd_table.specs.Table.{sectionsIn}
 use native.Mathlib.Omega.{arith}
 use Prim.Native.Nat.{_≤_, _-_}
@@ -9,17 +9,16 @@ use Rattle.fmd_rows.proofs.first_undecided.Statement.{statement}
 use Rattle.fmd_rows.proofs.first_undecided.Tie as tie
 
 abbrev Inv-loop : tie.InvT-loop
-Inv-loop rows n k₀ k = (k ≤ n) × (foundFrom (undecided (sectionsIn n rows)) (n - k) k ≡ firstUndecided (sectionsIn n rows))
+Inv-loop rows n at k₀ k = (k ≤ n) × (foundFrom (undecided (sectionsIn n rows)) (n - k) k ≡ foundFrom (undecided (sectionsIn n rows)) (n - at) at)
 
 abbrev μ-loop : tie.MeasureT-loop
-μ-loop rows n k₀ k = n - k
+μ-loop rows n at k₀ k = n - k
 
 loop-holds : tie.Need-loop-holds Inv-loop μ-loop
-unfolding firstUndecided
-loop-holds c = (search needs, first-start _ _ _)
+loop-holds c = search needs
 
 undecided-at-requires : tie.Need-undecided-at-requires Inv-loop μ-loop
-undecided-at-requires c κs = (c .before .before .before .pre, c .loop-test .taken)
+undecided-at-requires c κs = (c .before .before .before .pre .0, c .loop-test .taken)
 
 returns : tie.Need-returns Inv-loop μ-loop
 returns c = first-stop _ _ _ (c .before .before .loop-test .taken) (sym (c .before .undecided-at .ensures) ∙ c .if1 .taken) ∙ c .before .before .before .loop .inv .1

@@ -1,11 +1,13 @@
 //! The verbs that edit a table.
 
+use super::hints::{advised, no_guid, of_add, of_resize, slot};
 use super::random_guid;
 use super::words::{copies, described, in_words};
 use crate::arguments::Given;
-use crate::disk::{self, Mode};
+use crate::disk::{self, Edited, Mode};
 use crate::failure::{Failure, On};
 use crate::json::Json;
+use crate::paths::{quoted, shown};
 use crate::report::Report;
 use crate::show::printable;
 use crate::sizes::{self, of_blocks};
@@ -13,20 +15,16 @@ use usigrambal::{Disk, Guid, Name, NewPartition, Partition, State};
 
 pub fn add(given: &Given) -> Result<Report, Failure> {
     let path = given.path(0);
-    let kind = Guid::parse_type(given.text("--type")?.unwrap_or("linux")).on("disk", path)?;
-    let unique = match given.text("--guid")? {
-        Some(text) => Guid::parse(text).on("disk", path)?,
-        None => random_guid()?,
-    };
+    let kind = given.text("--type")?.unwrap_or("linux");
     let new = NewPartition {
-        kind,
+        kind: Guid::parse_type(kind).map_err(|refused| no_guid(refused, path, "--type", kind))?,
         size: sizes::blocks(given.text("--size")?.unwrap_or_default())?,
-        unique,
+        unique: guid(given)?,
         attributes: given.text("--attributes")?.map_or(Ok(0), sizes::number)?,
         name: name(given.text("--name")?.unwrap_or_default())?,
     };
     let call = |disk: &mut Disk| {
-        let placed = disk.add(&new)?;
+        let placed = disk.add(&new).map_err(|refused| of_add(refused, path, disk, new.unique))?;
         partition(disk, placed.slot)
     };
     edited(given, call, |added, word| {
@@ -35,10 +33,11 @@ pub fn add(given: &Given) -> Result<Report, Failure> {
 }
 
 pub fn delete(given: &Given) -> Result<Report, Failure> {
-    let slot = sizes::number(given.word(1, "NUMBER")?)?;
+    let (path, text) = (given.path(0), given.word(1, "PARTITION")?);
     let call = |disk: &mut Disk| {
+        let slot = slot(disk, path, text)?;
         let held = partition(disk, slot);
-        disk.delete(slot)?;
+        disk.delete(slot).map_err(|refused| advised(refused, path, disk))?;
         held
     };
     edited(given, call, |deleted, word| {
@@ -47,11 +46,12 @@ pub fn delete(given: &Given) -> Result<Report, Failure> {
 }
 
 pub fn resize(given: &Given) -> Result<Report, Failure> {
-    let slot = sizes::number(given.word(1, "NUMBER")?)?;
+    let (path, text) = (given.path(0), given.word(1, "PARTITION")?);
     let size = sizes::blocks(given.word(2, "SIZE")?)?;
     let call = |disk: &mut Disk| {
+        let slot = slot(disk, path, text)?;
         let held = partition(disk, slot);
-        disk.resize(slot, size)?;
+        disk.resize(slot, size).map_err(|refused| of_resize(refused, path, disk, slot))?;
         Ok((held?, partition(disk, slot)?))
     };
     edited(given, call, |(before, after), word| {
@@ -64,11 +64,12 @@ pub fn resize(given: &Given) -> Result<Report, Failure> {
 }
 
 pub fn rename(given: &Given) -> Result<Report, Failure> {
-    let slot = sizes::number(given.word(1, "NUMBER")?)?;
+    let (path, text) = (given.path(0), given.word(1, "PARTITION")?);
     let name = name(given.word(2, "NAME")?)?;
     let call = |disk: &mut Disk| {
+        let slot = slot(disk, path, text)?;
         let held = partition(disk, slot);
-        disk.rename(slot, &name)?;
+        disk.rename(slot, &name).map_err(|refused| advised(refused, path, disk))?;
         Ok((held?, partition(disk, slot)?))
     };
     edited(given, call, |(before, after), word| {
@@ -86,7 +87,8 @@ pub fn rename(given: &Given) -> Result<Report, Failure> {
 }
 
 pub fn repair(given: &Given) -> Result<Report, Failure> {
-    let call = |disk: &mut Disk| Ok(disk.repair()?);
+    let path = given.path(0);
+    let call = |disk: &mut Disk| disk.repair().map_err(|refused| advised(refused, path, disk));
     edited(given, call, |state, word| {
         let was = word("was", "would be");
         let what = match state {
@@ -99,22 +101,49 @@ pub fn repair(given: &Given) -> Result<Report, Failure> {
     })
 }
 
-/// Makes an edit and tells of it; `tell` chooses between what was done and what would be.
-pub fn edited<T>(
+/// The GUID that is given, or a random one.
+pub fn guid(given: &Given) -> Result<Guid, Failure> {
+    match given.text("--guid")? {
+        Some(text) => Guid::parse(text).map_err(|refused| no_guid(refused, given.path(0), "--guid", text)),
+        None => random_guid(),
+    }
+}
+
+/// Chooses between what was done and what would be.
+type Word<'a> = dyn Fn(&'static str, &'static str) -> &'static str + 'a;
+
+/// Makes an edit and tells of it.
+fn edited<T>(
     given: &Given,
     call: impl Fn(&mut Disk) -> Result<T, Failure>,
-    tell: impl Fn(&T, &dyn Fn(&'static str, &'static str) -> &'static str) -> (String, Vec<(&'static str, Json)>),
+    tell: impl Fn(&T, &Word) -> (String, Vec<(&'static str, Json)>),
 ) -> Result<Report, Failure> {
-    let mode = Mode { dry_run: given.has("--dry-run"), force: given.has("--force") };
-    let edit = disk::edit(given.path(0), mode, call).on("disk", given.path(0))?;
-    let (text, told) = tell(&edit.answer, &|done, would| if mode.dry_run { would } else { done });
-    let mut json = vec![
-        ("disk", given.path(0).into()),
-        ("dry_run", mode.dry_run.into()),
-        ("changed", edit.changed.into()),
-    ];
+    let mode = mode(given, false);
+    let edit = disk::edit(given.path(0), mode, call, |_, _| Ok(())).on("disk", given.path(0))?;
+    Ok(told(given, edit, tell))
+}
+
+pub fn mode(given: &Given, anew: bool) -> Mode {
+    Mode { dry_run: given.has("--dry-run"), force: given.has("--force"), anew }
+}
+
+pub fn told<T>(
+    given: &Given,
+    edit: Edited<T>,
+    tell: impl Fn(&T, &Word) -> (String, Vec<(&'static str, Json)>),
+) -> Report {
+    let (path, dry_run) = (given.path(0), given.has("--dry-run"));
+    let (text, told) = tell(&edit.answer, &|done, would| if dry_run { would } else { done });
+    let mut json = vec![("disk", path.into()), ("dry_run", dry_run.into()), ("changed", edit.changed.into())];
     json.extend(told);
-    Ok(Report::new(text, json).warn(edit.note))
+    let written = (edit.changed && !dry_run).then(|| {
+        format!(
+            "{} was written, both copies; usigrambal gpt show {} shows the table",
+            shown(path),
+            quoted(path)
+        )
+    });
+    Report::new(text, json).warn(edit.warning).written(written)
 }
 
 fn partition(disk: &Disk, slot: u64) -> Result<Partition, Failure> {

@@ -1,46 +1,70 @@
 //! The verb that writes a new table.
 
-use super::edits::edited;
-use super::random_guid;
+use super::edits::{guid, mode, told};
+use super::found::{self, Found};
+use super::hints::advised;
 use crate::arguments::Given;
+use crate::disk::{self, Ends};
 use crate::failure::{Failure, On};
 use crate::paths::shown;
 use crate::report::Report;
 use crate::sizes::{of_blocks, BLOCK_LEN};
-use usigrambal::{Disk, Guid};
+use crate::storage::{needed, Opened};
+use std::cell::RefCell;
+use usigrambal::Disk;
 
+/// In use is judged first, then what is there.
 pub fn format(given: &Given) -> Result<Report, Failure> {
     let path = given.path(0);
-    let guid = match given.text("--guid")? {
-        Some(text) => Guid::parse(text).on("disk", path)?,
-        None => random_guid()?,
-    };
-    let replace = given.has("--replace");
+    let (guid, mode) = (guid(given)?, mode(given, true));
     let call = |disk: &mut Disk| {
-        let held = disk.partitions().map_or(0, |partitions| partitions.len());
-        disk.format(guid)?;
-        if held > 0 && !replace {
-            let noun = if held == 1 { "partition" } else { "partitions" };
-            let what = format!("holds a table with {held} {noun}");
-            return Err(crate::storage::needed(path, &what).hint("--replace writes over it"));
-        }
+        disk.format(guid).map_err(|refused| advised(refused, path, disk))?;
         Ok((disk.n, disk.usable()?))
     };
-    edited(given, call, |(n, usable), word| {
+    let replaced: RefCell<Option<Found>> = RefCell::new(None);
+    let look = |opened: &Opened, ends: &Ends| {
+        let found = found::look(path, &opened.file, ends)?;
+        if let Some(found) = &found {
+            if !given.has("--replace") {
+                return Err(kept(given, found));
+            }
+        }
+        replaced.replace(found);
+        Ok(())
+    };
+    let edit = disk::edit(path, mode, call, look).on("disk", path)?;
+    let replaced = replaced.into_inner();
+    let over = replaced.as_ref().map(|found| found.what.clone());
+    let report = told(given, edit, |(n, usable), word| {
         let text = format!(
-            "{} {}: {} of {BLOCK_LEN} bytes, usable {} to {}, disk GUID {guid}\n",
+            "{} {}: {} of {BLOCK_LEN} bytes, usable {} to {}, disk GUID {guid}{}\n",
             word("formatted", "would format"),
             shown(path),
             of_blocks(*n),
             usable.first,
-            usable.last
+            usable.last,
+            over.iter().map(|what| format!(", over {what}")).collect::<String>()
         );
         let json = vec![
             ("guid", guid.to_string().into()),
             ("blocks", (*n).into()),
             ("first_usable", usable.first.into()),
             ("last_usable", usable.last.into()),
+            ("replaced", over.clone().into()),
         ];
         (text, json)
-    })
+    });
+    let gone = if mode.dry_run { "would be gone" } else { "is gone" };
+    let boot_code = replaced.filter(|found| found.boot_code);
+    Ok(report.warn(boot_code.map(|_| format!("the boot code in block 0 {gone}"))))
+}
+
+/// What is there stays.
+fn kept(given: &Given, found: &Found) -> Failure {
+    let path = given.path(0);
+    let boot_code =
+        found.boot_code.then(|| "block 0 has boot code, which a new table overwrites".to_string());
+    needed(path, &format!("holds {}; nothing was written", found.what))
+        .hint("--replace writes an empty table over it")
+        .warn(boot_code)
 }

@@ -1,14 +1,20 @@
 //! The verbs that only read.
 
+use super::hints::advised;
 use super::words::{copies, described, drawing, partition_table, run_table, runs_json};
 use crate::arguments::Given;
 use crate::disk;
-use crate::failure::{Failure, On};
+use crate::failure::Failure;
 use crate::json::Json;
 use crate::paths::{quoted, shown};
 use crate::report::Report;
 use crate::sizes::{self, of_blocks, BLOCK_LEN};
 use usigrambal::State;
+
+const NO_RECORD: &str =
+    "block 0 has no protective record (EE at byte 450, 55 AA at byte 510): other systems see no table";
+const KEPT: &str =
+    "no call writes the record of block 0 to a table that is there: gpt repair leaves block 0 as it is";
 
 const BAR_WIDTH: u64 = 64;
 const BAR_MAX: u64 = 10_000;
@@ -20,8 +26,9 @@ pub fn show(given: &Given) -> Result<Report, Failure> {
     }
     let path = given.path(0);
     let mut ends = disk::read(path)?;
+    let unprotected = (!ends.protected()).then(|| NO_RECORD.to_string());
     let disk = ends.disk();
-    let state = disk.state().on("disk", path)?;
+    let state = disk.state().map_err(|refused| advised(refused, path, &disk))?;
     let (partitions, runs) = (disk.partitions()?, disk.free_runs()?);
     let (guid, free, usable) = (disk.guid()?, disk.free()?, disk.usable()?);
     let drawing = drawing(&partitions, &runs, width as usize);
@@ -51,15 +58,15 @@ pub fn show(given: &Given) -> Result<Report, Failure> {
         ("free_runs", runs_json(&runs)),
         ("drawing", drawing.into()),
     ];
-    Ok(Report::new(text, json))
+    Ok(Report::new(text, json).warn(unprotected))
 }
 
 pub fn free(given: &Given) -> Result<Report, Failure> {
     let path = given.path(0);
     let mut ends = disk::read(path)?;
     let disk = ends.disk();
-    let free = disk.free().on("disk", path)?;
-    let runs = disk.free_runs().on("disk", path)?;
+    let free = disk.free().map_err(|refused| advised(refused, path, &disk))?;
+    let runs = disk.free_runs()?;
     let mut text = format!("{}:\n", shown(path));
     text +=
         &format!("free:        {}\nlongest run: {}\n", of_blocks(free.blocks), of_blocks(free.longest_run));
@@ -77,19 +84,38 @@ pub fn free(given: &Given) -> Result<Report, Failure> {
 
 pub fn verify(given: &Given) -> Result<Report, Failure> {
     let path = given.path(0);
-    let state = disk::read(path)?.disk().state().on("disk", path)?;
-    let words = copies(state);
-    let good = state == State::Same;
-    let mut text = format!("{}: {words}\n", shown(path));
-    let hint = (!good).then(|| format!("usigrambal gpt repair {} makes both alike", quoted(path)));
+    let mut ends = disk::read(path)?;
+    let protected = ends.protected();
+    let disk = ends.disk();
+    let state = disk.state().map_err(|refused| advised(refused, path, &disk))?;
+    let alike = state == State::Same;
+    let mut text = format!("{}: {}\n", shown(path), copies(state));
+    if !protected {
+        text += &format!("{}: {NO_RECORD}\n", shown(path));
+    }
+    let empty = disk.partitions().is_ok_and(|partitions| partitions.is_empty());
+    let record = match empty {
+        true => {
+            format!("usigrambal gpt format {} --replace writes the record, with an empty table", quoted(path))
+        }
+        false => KEPT.to_string(),
+    };
+    let repair = format!("usigrambal gpt repair {} makes both copies alike", quoted(path));
+    let hint = match (alike, protected) {
+        (true, true) => None,
+        (false, true) => Some(repair),
+        (false, false) => Some(format!("{repair}; {record}")),
+        (true, false) => Some(record),
+    };
     text.extend(hint.iter().map(|hint| format!("hint: {hint}\n")));
     let json = vec![
         ("disk", path.into()),
-        ("verified", good.into()),
+        ("verified", (alike && protected).into()),
         ("state", (state as u64).into()),
-        ("copies", words.into()),
+        ("copies", copies(state).into()),
+        ("protective_record", protected.into()),
         ("hint", hint.into()),
     ];
     let report = Report::new(text, json);
-    Ok(if good { report } else { report.found() })
+    Ok(if alike && protected { report } else { report.found() })
 }

@@ -2,7 +2,10 @@
 
 mod edits;
 mod format;
+mod found;
+mod hints;
 mod look;
+mod why;
 mod words;
 
 pub use edits::{add, delete, rename, repair, resize};

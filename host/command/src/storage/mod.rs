@@ -5,11 +5,13 @@ mod device;
 mod open;
 mod put;
 mod replace;
-mod signals;
+pub mod signals;
+mod users;
 
 pub use open::{open, Access, Opened};
 pub use put::{changed_runs, put, put_told, Unwritten};
 pub use replace::{create, folder, replace};
+pub use users::{attached, in_use};
 
 use crate::failure::Failure;
 use crate::paths::shown;

@@ -1,4 +1,5 @@
-use super::{about, device, kind, metadata, needed, unusable, Facts, Kind};
+use super::users::{busy, busy_device};
+use super::{about, device, kind, metadata, unusable, Facts, Kind};
 use crate::failure::{words, Failure};
 use std::fs::{File, Metadata, OpenOptions, TryLockError};
 use std::io::{self, Seek, SeekFrom};
@@ -8,8 +9,8 @@ use std::thread;
 use std::time::{Duration, Instant};
 
 /// fcntl.h and errno.h of Linux. A block device that is opened so is opened alone.
-const O_EXCL: i32 = 0o200;
-const EBUSY: i32 = 16;
+pub const O_EXCL: i32 = 0o200;
+pub const EBUSY: i32 = 16;
 
 /// How long a lock of another program is waited for.
 const PATIENCE: Duration = Duration::from_secs(5);
@@ -52,10 +53,11 @@ impl Opened {
 
 /// Opens an image file or a block device. What is neither is not opened, since that may wait or act.
 pub fn open(path: &Path, access: Access) -> Result<Opened, Failure> {
-    let known = facts_of_mode(&metadata(path)?);
+    let metadata = metadata(path)?;
+    let known = facts_of_mode(&metadata);
     let hindered = |facts: &Facts| if access == Access::Read { None } else { facts.no_writing() };
     refuse(path, known.kind.unsuitable().or_else(|| hindered(&known)))?;
-    let file = opened(path, access, known.kind)?;
+    let file = opened(path, access, known.kind, metadata.rdev())?;
     let (metadata, facts) = facts(&file).map_err(|error| unusable(path, "cannot be measured", &error))?;
     refuse(path, hindered(&facts))?;
     Ok(Opened { file, facts, metadata })
@@ -65,7 +67,7 @@ pub fn refuse(path: &Path, fault: Option<String>) -> Result<(), Failure> {
     fault.map_or(Ok(()), |fault| Err(about(path, &fault)))
 }
 
-fn opened(path: &Path, access: Access, kind: Kind) -> Result<File, Failure> {
+fn opened(path: &Path, access: Access, kind: Kind, device: u64) -> Result<File, Failure> {
     let mut options = OpenOptions::new();
     options.read(true);
     if let Access::Write { force } = access {
@@ -76,9 +78,7 @@ fn opened(path: &Path, access: Access, kind: Kind) -> Result<File, Failure> {
     }
     let file = options.open(path).map_err(|error| match (access, error.raw_os_error()) {
         (Access::Read, _) => unusable(path, "cannot be read", &error),
-        (_, Some(EBUSY)) => {
-            needed(path, "is in use (mounted, or held by another program)").hint("--force writes anyway")
-        }
+        (_, Some(EBUSY)) => busy_device(path, device),
         _ => unusable(path, "cannot be written", &error),
     })?;
     let alone = match access {
@@ -90,7 +90,7 @@ fn opened(path: &Path, access: Access, kind: Kind) -> Result<File, Failure> {
     };
     match alone {
         true => Ok(file),
-        false => Err(needed(path, "is in use (locked by another program)").hint("--force writes anyway")),
+        false => Err(busy(path, "locked by another program")),
     }
 }
 

@@ -16,7 +16,7 @@ const SIG_BLOCK: c_int = 0;
 const SIG_SETMASK: c_int = 2;
 
 /// A set of signals: 1,024 bits, in glibc and in musl.
-type Signals = [u64; 16];
+pub type Signals = [u64; 16];
 
 extern "C" {
     fn signal(number: c_int, handler: usize) -> usize;
@@ -39,8 +39,7 @@ pub fn unfinished<T>(path: &CStr, make: impl FnOnce() -> io::Result<T>) -> io::R
     if made.is_ok() {
         note(path.to_owned().into_raw());
     }
-    // Safety: the set is the one that was taken, whole.
-    unsafe { pthread_sigmask(SIG_SETMASK, &before, ptr::null_mut()) };
+    let_through(&before);
     made
 }
 
@@ -68,7 +67,8 @@ fn heed(number: c_int) {
     }
 }
 
-fn held_back() -> Signals {
+/// Holds back the signals that end the call, on this thread; what was held back before.
+pub fn held_back() -> Signals {
     let (mut set, mut before): (Signals, Signals) = ([0; 16], [0; 16]);
     // Safety: both sets are as long as the C library's.
     unsafe {
@@ -79,6 +79,12 @@ fn held_back() -> Signals {
         pthread_sigmask(SIG_BLOCK, &set, &mut before);
     }
     before
+}
+
+/// This thread has the signals that are not in the set.
+pub fn let_through(before: &Signals) {
+    // Safety: the set is one that was taken, whole.
+    unsafe { pthread_sigmask(SIG_SETMASK, before, ptr::null_mut()) };
 }
 
 /// The handler. The call ends by the signal, as it would without one.

@@ -31,6 +31,22 @@ pub fn find(run: &mut Run, image: &[u8]) -> Outcome {
     run.compare("fmap_find", || shown(image), answers, &[Lent::pair("image", &ours, &theirs)])
 }
 
+pub fn fault(run: &mut Run, image: &[u8], position: u64) -> Outcome {
+    let lent = Lent::holding(image, &mut run.random);
+    let (ours, theirs) = (lent.clone(), lent);
+    let mut rule_1 = Number::new(&mut run.random);
+    let mut rule_2 = rule_1.clone();
+    let library = raw::fmap_fault(ours.bytes(), position, rule_1.answer());
+    let second = second::fmap_fault(run.rules, theirs.bytes(), position, rule_2.answer());
+    run.reach("fmap_fault", Cell::Answer(library));
+    if library == 0 {
+        run.reach("fmap_fault", Cell::Rule(rule_1.value()));
+    }
+    let arguments = || format!("{}, position {position}", shown(image));
+    let answers = (Answers(library, [rule_1]), Answers(second, [rule_2]));
+    run.compare("fmap_fault", arguments, answers, &[Lent::pair("image", &ours, &theirs)])
+}
+
 pub fn area(run: &mut Run, image: &[u8], k: u64, length: usize) -> Outcome {
     let lent = Lent::holding(image, &mut run.random);
     let (ours, theirs) = (lent.clone(), lent);

@@ -1,6 +1,6 @@
 //! Images with good maps, with maps that one rule alone makes bad, and with decoys.
 
-use super::call::{area, find, look, named};
+use super::call::{area, fault, find, look, named};
 use crate::run::{Outcome, Run};
 use testkit::flash::{good_map, map_len, Map, HEADER_LEN, SIGNATURE};
 use testkit::random::Random;
@@ -32,7 +32,7 @@ fn any_map(most: usize, random: &mut Random) -> Map {
     good_map(length, position, count, random)
 }
 
-fn image_of(map: &Map, random: &mut Random) -> Vec<u8> {
+pub fn image_of(map: &Map, random: &mut Random) -> Vec<u8> {
     let mut image = filled(map.size as usize, random);
     map.write(&mut image);
     image
@@ -67,15 +67,15 @@ fn near_names(run: &mut Run, image: &[u8], name: &[u8]) -> Outcome {
 type Change = fn(&mut Vec<u8>, usize, &mut Random);
 
 /// Where a field of the area at `k` stands in the map.
-fn in_area(k: usize, at: usize) -> usize {
+pub fn in_area(k: usize, at: usize) -> usize {
     HEADER_LEN + 42 * k + at
 }
 
-fn set32(map: &mut [u8], at: usize, value: u64) {
+pub fn set32(map: &mut [u8], at: usize, value: u64) {
     map[at..at + 4].copy_from_slice(&(value as u32).to_le_bytes());
 }
 
-fn get32(map: &[u8], at: usize) -> u64 {
+pub fn get32(map: &[u8], at: usize) -> u64 {
     u64::from(u32::from_le_bytes(map[at..at + 4].try_into().expect("4 bytes")))
 }
 
@@ -173,7 +173,7 @@ const CHANGES: &[(&str, Change)] = &[
 ];
 
 /// A map of FMAP, A, B and C, in this order in the map and in the image too, with gaps between them.
-fn base(random: &mut Random) -> Map {
+pub fn base(random: &mut Random) -> Map {
     let position = 1 + random.below(40);
     let fmap = map_len(4) + 2 + random.below(9);
     let mut next = position + fmap + 1;
@@ -203,6 +203,7 @@ pub fn near_misses(run: &mut Run) -> Outcome {
             change(&mut bytes, image.len(), &mut run.random);
             image[map.position..map.position + bytes.len()].copy_from_slice(&bytes);
             find(run, &image)?;
+            fault(run, &image, map.position as u64)?;
             area(run, &image, 1, 42)?;
             named(run, &image, b"B")?;
         }
@@ -227,6 +228,7 @@ pub fn each_byte(run: &mut Run) -> Outcome {
             let mut changed = image.clone();
             changed[at] ^= change;
             find(run, &changed)?;
+            fault(run, &changed, map.position as u64)?;
             area(run, &changed, 2, 42)?;
         }
     }
@@ -310,6 +312,7 @@ pub fn lengths(run: &mut Run) -> Outcome {
         map.size = length as u32;
         map.write(&mut image);
         find(run, &image)?;
+        fault(run, &image, position as u64)?;
         area(run, &image, 0, 42)?;
         named(run, &image, b"FMAP")?;
         area(run, &image, 0, 41)?;
@@ -331,6 +334,7 @@ pub fn many_areas(run: &mut Run) -> Outcome {
         }
         let image = image_of(&map, &mut run.random);
         look(run, &image, &[b"AREA_126", b"AREA_127", b"AREA_128"])?;
+        fault(run, &image, 5)?;
     }
     Ok(())
 }

@@ -1,5 +1,6 @@
 use crate::topic::{number_variants, order_variants, variant, Order, Variant};
-use second::rules::{By, CarrySlip, In, Pick, Row, Span};
+use second::rules::{By, CarrySlip, In, MapRule, Pick, Row, Span};
+use second::RULES;
 
 pub const RULES_TO_BREAK: &[&str] = &[
     "Q4", "Q6", "R1", "R4", "R15", "R16", "R23", "R24", "R31", "R32", "M1", "M2", "M3", "M4", "M5", "M6",
@@ -7,10 +8,19 @@ pub const RULES_TO_BREAK: &[&str] = &[
 ];
 
 pub fn all() -> Vec<Variant> {
-    [rows(), number_variants(NUMBERS), order_variants(ORDERS), layout(), good_maps(), finding(), carrying()]
-        .into_iter()
-        .flatten()
-        .collect()
+    [
+        rows(),
+        number_variants(NUMBERS),
+        order_variants(ORDERS),
+        layout(),
+        good_maps(),
+        faults(),
+        finding(),
+        carrying(),
+    ]
+    .into_iter()
+    .flatten()
+    .collect()
 }
 
 fn rows() -> Vec<Variant> {
@@ -46,6 +56,7 @@ const NUMBERS: &[(Row, &str, u32)] = &[
 
 const ORDERS: &[Order] = &[
     ("find", "R31", |r| &mut r.fmap.find_order, None),
+    ("fault", "R15", |r| &mut r.fmap.fault_refusals, None),
     ("area", "R31", |r| &mut r.fmap.area_order, None),
     ("named", "R31", |r| &mut r.fmap.named_order, None),
     // An area is missing in a map only where a map is.
@@ -111,6 +122,47 @@ fn good_maps() -> Vec<Variant> {
         variant("fmap-too-small-taken", "M8", |r| r.fmap.fmap_holds_map = false),
         variant("flags-judged", "M9", |r| r.fmap.flags_judged = Some(15)),
     ]
+}
+
+/// Each rule of a map not judged, judged after the next one, and under another number.
+fn faults() -> Vec<Variant> {
+    let rules = RULES.fmap.fault_order;
+    let without = |k: usize| {
+        let rest = [&rules[..k], &rules[k + 1..]].concat();
+        variant(format!("fault-without-{:?}", rules[k].0), sentence(rules[k].0), |r| {
+            r.fmap.fault_order = rest.leak()
+        })
+    };
+    let after = |k: usize| {
+        let mut swapped = rules.to_vec();
+        swapped.swap(k - 1, k);
+        let name = format!("fault-{:?}-before-{:?}", rules[k].0, rules[k - 1].0);
+        variant(name, sentence(rules[k].0), |r| r.fmap.fault_order = swapped.leak())
+    };
+    let renumbered = |k: usize| {
+        let mut numbers = rules.to_vec();
+        numbers[k].1 = 16;
+        variant(format!("fault-16-for-{:?}", rules[k].0), sentence(rules[k].0), |r| {
+            r.fmap.fault_order = numbers.leak()
+        })
+    };
+    // A map has not at once no area and too many.
+    let neighbours = (1..rules.len()).filter(|k| rules[*k].0 != MapRule::TooManyAreas);
+    let all = 0..rules.len();
+    all.clone().map(without).chain(neighbours.map(after)).chain(all.map(renumbered)).collect()
+}
+
+/// The sentence that has the rule.
+fn sentence(rule: MapRule) -> &'static str {
+    match rule {
+        MapRule::Signature => "M1",
+        MapRule::Name | MapRule::AreaName => "M4",
+        MapRule::SameName => "M5",
+        MapRule::AreaSize | MapRule::AreaEnd => "M6",
+        MapRule::Crossing => "M7",
+        MapRule::MapArea => "M8",
+        _ => "M3",
+    }
 }
 
 fn finding() -> Vec<Variant> {

@@ -18,6 +18,26 @@ pub struct Area {
 }
 
 impl Area {
+    /// M2: an area whose name is not judged, and empty.
+    pub fn stored(rules: &FmapRules, bytes: &[u8]) -> Area {
+        Area {
+            offset: value(rules, bytes, rules.offset),
+            size: value(rules, bytes, rules.size),
+            name: Vec::new(),
+            flags: value(rules, bytes, rules.flags),
+            bytes: bytes.to_vec(),
+        }
+    }
+
+    /// M4: the name that the bytes have, if it is one.
+    pub fn named(&self, rules: &FmapRules) -> Option<Vec<u8>> {
+        name(rules, part(&self.bytes, rules.name.at, rules.name.len))
+    }
+
+    pub fn ends_past(&self, rules: &FmapRules, image_len: u64) -> bool {
+        rules.ends_in_image && self.end(rules) > image_len
+    }
+
     /// M6: offset and size added in 64 bits.
     fn end(&self, rules: &FmapRules) -> u64 {
         (self.offset + self.size) & rules.sum_mask
@@ -116,12 +136,12 @@ fn header_good(rules: &FmapRules, image_len: usize, header: &[u8]) -> bool {
         && (!rules.image_name_judged || name(rules, image_name).is_some())
 }
 
-fn value(rules: &FmapRules, bytes: &[u8], span: Span) -> u64 {
+pub fn value(rules: &FmapRules, bytes: &[u8], span: Span) -> u64 {
     number(rules.little_endian, part(bytes, span.at, span.len))
 }
 
 /// M4: the bytes before the zeros, if it is a name.
-fn name(rules: &FmapRules, stored: &[u8]) -> Option<Vec<u8>> {
+pub fn name(rules: &FmapRules, stored: &[u8]) -> Option<Vec<u8>> {
     let len = stored.iter().position(|byte| *byte == 0).unwrap_or(stored.len());
     let (name, zeros) = stored.split_at(len);
     let bytes = rules.name_byte_min..=rules.name_byte_max;
@@ -133,19 +153,15 @@ fn name(rules: &FmapRules, stored: &[u8]) -> Option<Vec<u8>> {
 
 /// M2, and M4 of its name.
 fn area(rules: &FmapRules, bytes: &[u8]) -> Option<Area> {
-    Some(Area {
-        offset: value(rules, bytes, rules.offset),
-        size: value(rules, bytes, rules.size),
-        name: name(rules, part(bytes, rules.name.at, rules.name.len))?,
-        flags: value(rules, bytes, rules.flags),
-        bytes: bytes.to_vec(),
-    })
+    let stored = Area::stored(rules, bytes);
+    let name = stored.named(rules)?;
+    Some(Area { name, ..stored })
 }
 
 /// M5 to M7, M9.
 fn areas_good(rules: &FmapRules, image_len: usize, areas: &[Area]) -> bool {
     let alone = |area: &Area| {
-        let ends = !rules.ends_in_image || area.end(rules) <= image_len as u64;
+        let ends = !area.ends_past(rules, image_len as u64);
         let flags = rules.flags_judged.is_none_or(|known| area.flags & !known == 0);
         area.size >= rules.size_min && ends && flags
     };
@@ -155,19 +171,21 @@ fn areas_good(rules: &FmapRules, image_len: usize, areas: &[Area]) -> bool {
 
 /// M5, M7: names differ; disjoint, equal or one in the other.
 fn pair_good(rules: &FmapRules, one: &Area, other: &Area) -> bool {
-    if rules.names_differ && one.name == other.name {
+    !(rules.names_differ && one.name == other.name) && !crosses(rules, one, other)
+}
+
+/// M7: neither disjoint nor equal nor one in the other.
+pub fn crosses(rules: &FmapRules, one: &Area, other: &Area) -> bool {
+    if !one.shares_a_byte(other) {
         return false;
     }
-    if !one.shares_a_byte(other) {
-        return true;
-    }
     if one.is_equal(other) {
-        return rules.equal_good;
+        return !rules.equal_good;
     }
     if one.holds(other) || other.holds(one) {
-        return rules.nested_good;
+        return !rules.nested_good;
     }
-    rules.crossing_good
+    !rules.crossing_good
 }
 
 /// M8.

@@ -1,9 +1,11 @@
 //! The flash map calls. Arguments and answers are those of the C interface.
 
 mod carry;
+mod fault;
 mod map;
 
 pub use carry::fmap_carry;
+pub use fault::fmap_fault;
 
 use crate::bytes::put;
 use crate::refuse::{first_refusal, leave, leave_answer};
@@ -19,6 +21,11 @@ struct Image {
 impl Image {
     fn of(rules: &Rules, image: &[u8]) -> Image {
         Image { len: image.len(), found: find(rules, image) }
+    }
+
+    /// An image of which nothing is known but its length.
+    fn of_length(len: usize) -> Image {
+        Image { len, found: Found::NoSignature }
     }
 
     fn map(&self) -> Option<&Map> {

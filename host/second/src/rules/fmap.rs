@@ -45,6 +45,26 @@ pub enum CarrySlip {
     AtOldOffset,
 }
 
+/// What a good map is, rule by rule (M1 to M8), with the number that a broken one has in the C interface.
+#[derive(Clone, Copy, Debug, PartialEq, Eq)]
+pub enum MapRule {
+    Signature,
+    HeaderEnd,
+    Major,
+    Minor,
+    ImageSize,
+    NoArea,
+    TooManyAreas,
+    MapEnd,
+    Name,
+    AreaSize,
+    AreaEnd,
+    AreaName,
+    MapArea,
+    SameName,
+    Crossing,
+}
+
 /// The flash map: Q4, R31, R32, M1 to M13.
 #[derive(Clone, Copy, Debug)]
 pub struct FmapRules {
@@ -61,6 +81,9 @@ pub struct FmapRules {
     pub area_order: &'static [Row],
     pub named_order: &'static [Row],
     pub carry_order: &'static [Row],
+    pub fault_refusals: &'static [Row],
+    /// M1 to M8, in the order in which a map at a position is judged.
+    pub fault_order: &'static [(MapRule, u64)],
     /// R16: a signature counts where a whole header does not fit any more.
     pub signature_at_end_counts: bool,
 
@@ -150,6 +173,24 @@ pub const FMAP: FmapRules = FmapRules {
         Row::OtherSize,
         Row::SharedByte,
         Row::OnFmap,
+    ],
+    fault_refusals: &[Row::ImageLength],
+    fault_order: &[
+        (MapRule::Signature, 1),
+        (MapRule::HeaderEnd, 2),
+        (MapRule::Major, 3),
+        (MapRule::Minor, 4),
+        (MapRule::ImageSize, 5),
+        (MapRule::NoArea, 6),
+        (MapRule::TooManyAreas, 7),
+        (MapRule::MapEnd, 8),
+        (MapRule::Name, 9),
+        (MapRule::AreaSize, 10),
+        (MapRule::AreaEnd, 11),
+        (MapRule::AreaName, 12),
+        (MapRule::MapArea, 13),
+        (MapRule::SameName, 14),
+        (MapRule::Crossing, 15),
     ],
     signature_at_end_counts: true,
 

@@ -3,6 +3,7 @@
 mod c {
     extern "C" {
         pub fn usi_fmap_find(image: *const u8, image_len: usize, position: *mut u64) -> u32;
+        pub fn usi_fmap_fault(image: *const u8, image_len: usize, position: u64, rule: *mut u64) -> u32;
         pub fn usi_fmap_area(
             image: *const u8,
             image_len: usize,
@@ -26,6 +27,10 @@ mod c {
 
 pub fn fmap_find(image: &[u8], position: &mut u64) -> u32 {
     unsafe { c::usi_fmap_find(image.as_ptr(), image.len(), position) }
+}
+
+pub fn fmap_fault(image: &[u8], position: u64, rule: &mut u64) -> u32 {
+    unsafe { c::usi_fmap_fault(image.as_ptr(), image.len(), position, rule) }
 }
 
 pub fn fmap_area(image: &[u8], k: u64, area: &mut [u8]) -> u32 {

@@ -1,0 +1,12 @@
+-- For the proofs of the code, not to be believed: the rows of the whole list from one on.
+use mathlib.Core.List.{List}
+use Prim.Native.Nat.{ℕ}
+use lib.ListN.{drop}
+use Rattle.octets.specs.Rows.{refusal}
+use Rattle.fmd_table.specs.declared.Section.{Section}
+use Rattle.fmd_parse.specs.declared.Image.{Image}
+use Rattle.fmd_plan.specs.Plans.{Resolved}
+use Rattle.fmd_check.specs.Check.{Judged, listRows, judged}
+
+unfoldable pub listFrom : ℕ → List ℕ → Image → List Section → Resolved → Judged
+listFrom k s i l r = judged s i l r (refusal (drop k (listRows s l r)))

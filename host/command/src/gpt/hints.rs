@@ -1,0 +1,198 @@
+//! What would help against a refusal of a call on a disk.
+
+use super::why;
+use super::words::copies;
+use crate::failure::Failure;
+use crate::paths::quoted;
+use crate::show::printable;
+use crate::sizes::{human, of_blocks, plural, BLOCK_LEN};
+use std::path::Path;
+use usigrambal::{Disk, Guid, Partition, Refusal, Refused, State};
+
+pub const TYPES: &str = "system, msft, data, linux, swap";
+
+/// Rule D2.
+const BLOCKS_MIN: u64 = 68;
+const BLOCKS_MAX: u64 = 1 << 32;
+
+/// A refusal of reading, and of every edit.
+pub fn advised(refused: Refused, path: &Path, disk: &Disk) -> Failure {
+    let hint = match refused.refusal {
+        Refusal::BlockCount => Some(format!(
+            "a disk has {BLOCKS_MIN} to {BLOCKS_MAX} blocks of {BLOCK_LEN} bytes ({} to {})",
+            human(BLOCKS_MIN * BLOCK_LEN),
+            human(BLOCKS_MAX * BLOCK_LEN)
+        )),
+        Refusal::NoDiskGuid => Some("without --guid a random one is taken".into()),
+        Refusal::NeitherGood => Some(format!(
+            "{}; usigrambal gpt format {} --dry-run tells what is there",
+            why::both(disk),
+            quoted(path)
+        )),
+        Refusal::NotTheSame => disk.state().ok().map(|state| repairable(state, path)),
+        Refusal::NoSuchSlot | Refusal::SlotUnused => disk.partitions().ok().map(|held| used(&held)),
+        Refusal::NoSize => Some(format!("the least is {}", of_blocks(1))),
+        Refusal::NoType => Some(format!("a type is a GUID that is not zero, or one of {TYPES}")),
+        Refusal::BadPartitionName => Some("a name ends at its first zero".into()),
+        Refusal::NoUnusedSlot => {
+            Some(format!("all numbers are in use; usigrambal gpt delete {} NUMBER frees one", quoted(path)))
+        }
+        _ => None,
+    };
+    let failure = Failure::from(refused).on("disk", path);
+    match hint {
+        Some(hint) => failure.hint(hint),
+        None => failure,
+    }
+}
+
+fn repairable(state: State, path: &Path) -> String {
+    let (to, from) = match state {
+        State::BackupOnly => ("primary", "backup"),
+        _ => ("backup", "primary"),
+    };
+    let repair = format!("usigrambal gpt repair {}", quoted(path));
+    format!("{}; {repair} writes the {to} from the {from}", copies(state))
+}
+
+/// `partitions 1 to 3 and 7 are there`
+pub fn used(partitions: &[Partition]) -> String {
+    let mut runs: Vec<(u64, u64)> = Vec::new();
+    for partition in partitions {
+        match runs.last_mut() {
+            Some((_, last)) if *last + 1 == partition.slot => *last = partition.slot,
+            _ => runs.push((partition.slot, partition.slot)),
+        }
+    }
+    let told = |(first, last): &(u64, u64)| match last - first {
+        0 => first.to_string(),
+        1 => format!("{first}, {last}"),
+        _ => format!("{first} to {last}"),
+    };
+    match partitions.len() {
+        0 => "the table has no partitions".to_string(),
+        1 => format!("the one partition has number {}", told(&runs[0])),
+        _ => format!("the numbers in use are {}", runs.iter().map(told).collect::<Vec<_>>().join(", ")),
+    }
+}
+
+/// The partitions with their names, where they are few.
+fn named(partitions: &[Partition]) -> String {
+    let named =
+        |partition: &Partition| format!("{} \"{}\"", partition.slot, printable(&partition.name.to_text()));
+    match partitions.len() {
+        0 | 9.. => used(partitions),
+        _ => format!("there are {}", partitions.iter().map(named).collect::<Vec<_>>().join(", ")),
+    }
+}
+
+/// A refused add.
+pub fn of_add(refused: Refused, path: &Path, disk: &Disk, unique: Guid) -> Failure {
+    let failure = advised(refused, path, disk);
+    match (refused.refusal, disk.free(), disk.free_runs(), disk.partitions()) {
+        (Refusal::NoRoom, Ok(free), Ok(runs), _) => failure.hint(match runs.len() {
+            0 => "no block is free".to_string(),
+            1 => format!("the one free run has {}", of_blocks(free.longest_run)),
+            many => format!(
+                "the longest free run has {}; {} are free in {many} runs",
+                of_blocks(free.longest_run),
+                of_blocks(free.blocks)
+            ),
+        }),
+        (Refusal::BadUniqueGuid, _, _, Ok(held)) => {
+            let holder = held.iter().find(|partition| partition.unique == unique);
+            let whose = holder.map_or(String::new(), |holder| format!("partition {} has it; ", holder.slot));
+            failure.hint(format!("{whose}without --guid a random one is taken"))
+        }
+        _ => failure,
+    }
+}
+
+/// A refused resize.
+pub fn of_resize(refused: Refused, path: &Path, disk: &Disk, slot: u64) -> Failure {
+    let failure = advised(refused, path, disk);
+    if refused.refusal != Refusal::NoRoom {
+        return failure;
+    }
+    match (disk.partitions(), disk.free_runs()) {
+        (Ok(held), Ok(runs)) => match held.iter().find(|partition| partition.slot == slot) {
+            Some(own) => {
+                let behind = runs.iter().find(|run| run.first == own.last + 1);
+                let last = behind.map_or(own.last, |run| run.last);
+                let most = of_blocks(last - own.first + 1);
+                failure.hint(format!(
+                    "partition {slot} begins at block {} and can have at most {most}",
+                    own.first
+                ))
+            }
+            None => failure,
+        },
+        _ => failure,
+    }
+}
+
+/// What stands for a GUID and is none: the option, the text and what would be one.
+pub fn no_guid(refused: Refused, path: &Path, option: &str, text: &str) -> Failure {
+    let words = format!("{}: {option} \"{}\"", refused.sentence(), printable(text));
+    let digits = "32 hex digits in groups of 8, 4, 4, 4 and 12";
+    let hint = match option {
+        "--type" => format!("a type is one of {TYPES} in lower case, or a GUID: {digits}"),
+        _ => format!("a GUID is {digits} ({TYPES} are types); without {option} a random one is taken"),
+    };
+    Failure::refused(refused.refusal, words).hint(hint).on("disk", path)
+}
+
+/// A partition that is asked for by its number, its unique GUID or its name.
+pub fn slot(disk: &Disk, path: &Path, text: &str) -> Result<u64, Failure> {
+    if let Ok(number) = crate::sizes::number(text) {
+        return Ok(number);
+    }
+    let held = disk.partitions().map_err(|refused| advised(refused, path, disk))?;
+    let unique = Guid::parse(text).ok();
+    let alike: Vec<&Partition> = held
+        .iter()
+        .filter(|partition| Some(partition.unique) == unique || partition.name.to_text() == text)
+        .collect();
+    let told = printable(text);
+    match alike[..] {
+        [one] => Ok(one.slot),
+        [] => Err(Failure::usage(format!(
+            "no partition has the number, the name or the unique GUID \"{told}\""
+        ))
+        .hint(named(&held))),
+        _ => {
+            let numbers: Vec<String> = alike.iter().map(|partition| partition.slot.to_string()).collect();
+            Err(Failure::usage(format!("{} are called \"{told}\"", plural(alike.len() as u64, "partition")))
+                .hint(format!("the numbers {} tell them apart", numbers.join(", "))))
+        }
+    }
+}
+
+#[cfg(test)]
+mod tests {
+    use super::*;
+    use usigrambal::Name;
+
+    #[test]
+    fn the_short_names_are_types() {
+        assert!(TYPES.split(", ").all(|name| Guid::parse_type(name).is_ok()));
+        assert_eq!(TYPES.split(", ").count(), 5);
+    }
+
+    #[test]
+    fn numbers_in_use() {
+        let one = |slot| Partition {
+            slot,
+            kind: Guid([1; 16]),
+            unique: Guid([1; 16]),
+            first: 34,
+            last: 34,
+            attributes: 0,
+            name: Name([0; 36]),
+        };
+        let told = |slots: &[u64]| used(&slots.iter().map(|slot| one(*slot)).collect::<Vec<_>>());
+        assert_eq!(told(&[]), "the table has no partitions");
+        assert_eq!(told(&[7]), "the one partition has number 7");
+        assert_eq!(told(&[1, 2, 4, 6, 7, 8, 128]), "the numbers in use are 1, 2, 4, 6 to 8, 128");
+    }
+}
