@@ -31,14 +31,18 @@ RECORDS_LEN = 5376
 PRESERVE = 8
 
 
-class Refusal(enum.IntEnum):
-    """Why a call is refused; each number has its words."""
+class _Worded(enum.IntEnum):
+    """Numbers with words."""
 
     def __new__(cls, number, words):
         one = int.__new__(cls, number)
         one._value_ = number
         one.words = words
         return one
+
+
+class Refusal(_Worded):
+    """Why a call is refused; each number has its words."""
 
     WRONG_LENGTH = 1, "a lent buffer has a wrong length"
     BLOCK_COUNT = 2, "the number of blocks is outside its range"
@@ -72,6 +76,27 @@ class Refusal(enum.IntEnum):
     AREAS_SHARE = 62, "areas to be carried share a byte"
     AREA_ON_MAP = 63, "an area to be carried shares a byte with area FMAP of the new map"
     NO_SUCH_AREA = 255, "the map has no such area"
+
+
+class Rule(_Worded):
+    """The rules of a flash map in the order in which they are judged; the words say how one is broken."""
+
+    NONE = 0, "a good map"
+    SIGNATURE = 1, "the eight signature bytes do not stand there"
+    HEADER_END = 2, "the header does not end in the image"
+    MAJOR = 3, "the major version is not 1"
+    MINOR = 4, "the minor version is neither 0 nor 1"
+    IMAGE_SIZE = 5, "the image size in the map is not the length of the image"
+    NO_AREA = 6, "the map has no area"
+    TOO_MANY_AREAS = 7, "the map has more than 128 areas"
+    MAP_END = 8, "the map does not end in the image"
+    NAME = 9, "the name of the map is not 1 to 31 bytes of 21 to 7E hex and then zeros"
+    AREA_SIZE = 10, "an area has no byte"
+    AREA_END = 11, "an area does not end in the image"
+    AREA_NAME = 12, "the name of an area is not 1 to 31 bytes of 21 to 7E hex and then zeros"
+    MAP_AREA = 13, "no area FMAP starts at the map and holds all of it"
+    SAME_NAME = 14, "two areas have one name"
+    CROSSING = 15, "two areas share bytes, and neither lies in the other"
 
 
 class Refused(Exception):
@@ -123,6 +148,7 @@ _CALLS = {
     "usi_type_read": ("buffer", "buffer"),
     "usi_guid_write": ("buffer", "buffer"),
     "usi_fmap_find": ("buffer", "answer"),
+    "usi_fmap_fault": ("buffer", "number", "answer"),
     "usi_fmap_area": ("buffer", "number", "buffer"),
     "usi_fmap_named": ("buffer", "buffer", "answer"),
     "usi_fmap_carry": ("buffer", "buffer"),
@@ -218,6 +244,13 @@ def fmap_find(image):
     (position,) = _answers(1)
     _accepted("usi_fmap_find", _copy(image), position)
     return position.value
+
+
+def fmap_fault(image, position):
+    """The first Rule that a map at a position breaks, Rule.NONE where a good map stands there. Refused: 40."""
+    (rule,) = _answers(1)
+    _accepted("usi_fmap_fault", _copy(image), position, rule)
+    return Rule(rule.value)
 
 
 def fmap_area(image, k):

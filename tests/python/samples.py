@@ -25,13 +25,14 @@ def formatted(n):
 
 
 class Names(unittest.TestCase):
-    def test_refusals(self):
+    def test_refusals_and_rules(self):
         numbers = {name: int(number) for name, number in re.findall(r"^    USI_(\w+) = (\d+)", HEADER, re.M)}
         words = dict(re.findall(r'case USI_(\w+): return "(.*)";', HEADER))
         self.assertEqual(numbers.pop("ACCEPTED"), 0)
         self.assertEqual(words.pop("ACCEPTED"), "accepted")
-        self.assertEqual(numbers, {one.name: int(one) for one in usi.Refusal})
-        self.assertEqual(words, {one.name: one.words for one in usi.Refusal})
+        named = [(one.name, one) for one in usi.Refusal] + [("RULE_" + one.name, one) for one in usi.Rule]
+        self.assertEqual(numbers, {name: int(one) for name, one in named})
+        self.assertEqual(words, {name: one.words for name, one in named})
 
     def test_constants(self):
         for name in ["HEAD_LEN", "TAIL_LEN", "ENTRIES_LEN", "ENTRY_LEN", "GUID_LEN", "GUID_TEXT_LEN", "NAME_UNITS", "AREA_LEN", "IMAGE_NAME_LEN", "RECORDS_LEN"]:
@@ -112,6 +113,7 @@ class Samples(unittest.TestCase):
         self.assertEqual(usi.fmd_records(LAYOUT), SECTIONS)
         old = bytearray(usi.fmd_write(LAYOUT, bytes(0x800000)))
         self.assertEqual((usi.fmap_find(old), usi.fmap_named(old, "RW_CAL"), usi.fmap_area(old, 2)), (0, 2, SECTIONS[2]))
+        self.assertEqual((usi.fmap_fault(old, 0), usi.fmap_fault(old, 1)), (usi.Rule.NONE, usi.Rule.SIGNATURE))
         old[0x300000:0x300003] = b"cal"
         new = usi.fmd_write(Path("examples/update.fmd").read_text(), bytes(0x800000))
         carried = bytearray(new)
