@@ -11,20 +11,16 @@ use Rattle.fmap_rules.specs.Map.{position}
 use Rattle.fmap_rules.specs.Written.{areaBytes, mapBytes}
 use Rattle.fmap_rules.specs.declared.ImagePosition.{ImagePosition}
 use Rattle.fmap_rules.specs.declared.Area.{Area}
-use Rattle.fmap_write.specs.Areas.{listOf}
 use Rattle.fmd_parse.specs.declared.Address.{Address}
 use Rattle.fmd_parse.specs.declared.Address.the-variants.{Given, Omitted}
 use Rattle.fmd_parse.specs.declared.Image.{Image as TextImage}
 use Rattle.fmd_check.specs.Check.{Judged, fault, good, checkText}
-use Rattle.fmd_check.specs.Facts as Text
-use Rattle.fmd_table.specs.Table.{sectionsIn, placedIn, HasRows, HasSpots}
 use Rattle.fmd_areas.specs.Areas.{storedName, areaAt, areasOf}
 use Rattle.fmd.specs.declared.Answer.{Answer}
 use Rattle.fmd.specs.declared.Answer.the-variants.{Accepted, WrongLength, TooLong, OutOfGrammar, BadNumber, BadName, NameTwice, TooMany, BadFlag, Undecided, Unfit, NoMapSection}
 use Rattle.fmd.specs.declared.Image.{Image}
 use Rattle.fmd.specs.declared.Reading.{Reading}
 use Rattle.fmd.specs.declared.Section.{Section}
-use Rattle.fmd.specs.declared.Layout.{Layout}
 
 -- (W15) the number of each answer
 abbrev pub numberOf : Answer → Option ℕ
@@ -144,15 +140,6 @@ unfoldable pub writeText : List ℕ → List ℕ → Written
 writeText s image = writeBy (layoutIn s) image (layoutIn s .answer)
 
 -- ---- what the values of the code say
-
--- a text that is accepted, with the tables of its n sections; section m is FMAP
-pub record Held (s : List ℕ) (i : TextImage) (rows spots : List ℕ) (n m : ℕ) : Type 0 where
-  pub rows-room : HasRows 128 rows
-  pub spots-room : HasSpots 128 spots
-  pub accepted : Text.Accepted s i (sectionsIn n rows) (placedIn n spots) m
-
-abbrev pub said : Layout → Said
-said r = record { answer = numberOf (r .reading .answer); image = r .reading .image; areas = listOf (r .areas); at = r .at }
 
 abbrev pub reading : Reading → Read
 reading r = record { answer = numberOf (r .answer); image = r .image }
