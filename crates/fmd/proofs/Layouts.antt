@@ -2,7 +2,7 @@
 use mathlib.Core.Path.{_≡_, sym, ap, _∙_}
 use mathlib.Core.List.{List, [], map}
 use mathlib.Core.Logic.{_≢_}
-use mathlib.Core.Option.{Option, none, some}
+use mathlib.Core.Option.{none, some}
 use Prim.Native.Nat.{ℕ, _+_, _*_, _≤_, _<_}
 use native.Mathlib.Omega.{arith}
 use lib.ListN.{length}
@@ -23,7 +23,7 @@ use Rattle.fmd_areas.specs.Areas.{areaFrom, areaAt, areasFrom, areasOf, Laid}
 use Rattle.fmd_areas.proofs.Names.{name-short, length-stored}
 use Rattle.fmd_areas.proofs.Places.{ends}
 use Rattle.fmd_areas.proofs.Shape.{length-areas}
-use Rattle.fmd.specs.Calls.{numberOf, blank, imageOf, saidBy, layoutIn, layoutFor, Said, refusedWith, Read, reading, Written, writeBy}
+use Rattle.fmd.specs.Calls.{blank, imageOf, saidBy, layoutIn, layoutFor, Said, refusedWith, Read, reading, Written, writeBy}
 use Rattle.fmd.specs.Invariants.{Held, ReadFor}
 use Rattle.fmd.specs.declared.Image.{Image as SaidImage}
 use Rattle.fmd.specs.declared.Answer.the-variants.{Accepted}
