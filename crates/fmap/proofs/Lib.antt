@@ -5,4 +5,5 @@ pub mod Places
 pub mod Reading
 pub mod Letters
 pub mod Promises
+pub mod Written
 pub mod Named

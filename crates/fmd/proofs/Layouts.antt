@@ -19,7 +19,8 @@ use Rattle.fmd_check.specs.Check.{fault, good, checkText}
 use Rattle.fmd_check.specs.declared.Place.{Place}
 use Rattle.fmd_check.specs.Facts.{Numbered}
 use Rattle.fmd_check.proofs.Facts.{check-facts}
-use Rattle.fmd_areas.specs.Areas.{areaFrom, areaAt, areasFrom, areasOf, Laid}
+use Rattle.fmd_areas.specs.Areas.{areaFrom, areaAt, areasFrom, areasOf}
+use Rattle.fmd_areas.specs.Invariants.{Laid}
 use Rattle.fmd_areas.proofs.Names.{name-short, length-stored}
 use Rattle.fmd_areas.proofs.Places.{ends}
 use Rattle.fmd_areas.proofs.Shape.{length-areas}

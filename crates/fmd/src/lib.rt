@@ -8,7 +8,8 @@ ghost use Rattle.octets.specs.Rows.{codeOf};
 ghost use Rattle.fmd_table.specs.Table.{sectionsIn, placedIn, HasRows, HasSpots};
 ghost use Rattle.fmd_check.specs.Check.{good};
 ghost use Rattle.fmd_check.specs.Facts.{Numbered};
-ghost use Rattle.fmd_areas.specs.Areas.{areaAt, areasOf, Laid};
+ghost use Rattle.fmd_areas.specs.Areas.{areaAt, areasOf};
+ghost use Rattle.fmd_areas.specs.Invariants.{Laid};
 ghost use Rattle.fmd.specs.Calls.{numberOf, blank as blankImage, baseOf, imageOf, saidBy, reading, readText, sectionOf, filled, listed, listText, recorded, recordText, written, writeBy, writeText};
 ghost use Rattle.fmd.specs.Invariants.{Held, ReadFor};
 use fmap_rules::ImagePosition;
@@ -210,7 +211,13 @@ fn section_at(text: &[u8], rows: &[u32], spots: &[u32], n: usize, k: usize) -> S
 }
 
 // The sections, one at a time, from the start of the list on.
-fn fill<'a, 'b, 'c, 'd>(sections: &'a mut [Section], text: &'b [u8], rows: &'c [u32], spots: &'d [u32], n: usize)
+fn fill<'a, 'b, 'c, 'd>(
+    sections: &'a mut [Section],
+    text: &'b [u8],
+    rows: &'c [u32],
+    spots: &'d [u32],
+    n: usize,
+)
     requires { ⌜ (0 < n → Laid (now text) (now rows) (now spots) n) × (n ≤ length (now sections)) ⌝ }
     ensures { λ _. ⌜ now (sections .exit)
         ≡ filled (map sectionOf (areasOf (now (text .entry)) (sectionsIn n (now (rows .entry))) (placedIn n (now (spots .entry))))) (now (sections .entry)) ⌝ }

@@ -54,12 +54,12 @@ use denote.Triple.Table.{entered, cited}
 use denote.Triple.Walked.{says, needs, Stays, stay-slice, stay-none, stay-none-slice, walkOf, goes-slice, goes-none, goes-none-slice, Walks, ends-at, walked}
 use denote.Triple.Walked.{walk-meets}
 use denote.Exit.{yes}
-use Rattle.fmap_rules.specs.Map.{blank}
+use Rattle.fmap_rules.specs.Map.{blank, position}
 use Rattle.fmap_rules.specs.declared.Area.{Area}
-use Rattle.fmd_table.specs.Table.{sectionsIn}
-use Rattle.fmd_plan.specs.Plans.{placedIn}
-use Rattle.fmd_plan.proofs.Plans.{length-placed}
-use Rattle.fmd_areas.specs.Areas.{areaAt, areasOf, Laid}
+use Rattle.fmd_table.specs.Table.{sectionsIn, placedIn}
+use Rattle.fmd_table.proofs.Spots.{length-placed}
+use Rattle.fmd_areas.specs.Areas.{areaAt, areasOf}
+use Rattle.fmd_areas.specs.Invariants.{Laid}
 use Rattle.fmd_areas.proofs.Shape.{length-areas}
 use Rattle.fmd_areas.proofs.Listed.{area-in}
 use Rattle.fmd.specs.Calls.{sectionOf, filled}
@@ -84,8 +84,13 @@ Arg = RefT (List Section) × (Words × (Words × (Words × (ℕ × Unit {0}))))
 abbrev stayed : Stays (fill.ended .signature .params) (fill.ended .kept)
 stayed = (
   stay-slice (0 ∷ []) tt (plain (λ _. T.the-row)),
-  (stay-none-slice (1 ∷ []) tt (plain (λ _. u8)) yes, (stay-none-slice (2 ∷ []) tt (plain (λ _. u32)) yes,
-  (stay-none-slice (3 ∷ []) tt (plain (λ _. u32)) yes, (stay-none (λ _. usize) yes, tt)))),
+  (
+    stay-none-slice (1 ∷ []) tt (plain (λ _. u8)) yes,
+    (
+      stay-none-slice (2 ∷ []) tt (plain (λ _. u32)) yes,
+      (stay-none-slice (3 ∷ []) tt (plain (λ _. u32)) yes, (stay-none (λ _. usize) yes, tt)),
+    ),
+  ),
 )
 
 -- the list's type
@@ -181,13 +186,18 @@ module _ {M : Type 1} (𝓤 : URA M) (H : Heap 𝓤) (A : Atoms 𝓤) (W : Given
 
   exits : Room T.the-row (length ys) → n ≤ length ys → ent 𝓤 (⋆ 𝓤 H A Exit) (Post vunit)
   exits gn fit =
-      qed W Exit ∵ suffices ! _ (ends-at 𝓤 H A fill.ended stayed (fill.clauses 𝓤 H A mem run) W here vunit tt (zs, (tt, (tt, (tt, (tt, tt))))) (len n fit,
-      (tt, (tt, (tt, (tt, tt)))))) $ says ! (ap (λ (l : List Area). filled (map sectionOf l) ys) (take-all n areas (omega (arith, count)))) $
+      qed W Exit ∵ suffices ! _ (ends-at 𝓤 H A fill.ended stayed (fill.clauses 𝓤 H A mem run) W here vunit tt (zs, (tt, (tt, (tt, (tt, tt))))) (
+        len n fit,
+        (tt, (tt, (tt, (tt, tt)))),
+      )) $ says ! (ap (λ (l : List Area). filled (map sectionOf l) ys) (take-all n areas (omega (arith, count)))) $
       nothing ! $ move ! (6 ∷ 0 ∷ []) $ join ! $ move ! (5 ∷ 0 ∷ []) $ join ! $ move ! (4 ∷ 0 ∷ []) $ join ! $ move ! (3 ∷ 0 ∷ []) $ join ! $ frame ! $
       move ! (4 ∷ 5 ∷ []) $ fjoin ! $ move ! (4 ∷ 0 ∷ []) $ fjoin ! $ move ! (3 ∷ 0 ∷ []) $ fjoin ! $ move ! (1 ∷ 2 ∷ []) $ fjoin ! $
-      pureI ! (at-slice T.the-row (record { ptr = (b, o); name = γ; now = zs }) (xv ∷ [])) (tt, (tt, tt)) (ap (λ (k : ℕ). sliceVal (b, o) k ∷ []) (sym (len n
-          fit)), subst (Room T.the-row) (sym (len n
-      fit)) gn) $
+      pureI ! (at-slice T.the-row (record { ptr = (b, o); name = γ; now = zs }) (xv ∷ [])) (tt, (tt, tt)) (
+        ap (λ (k : ℕ). sliceVal (b, o) k ∷ []) (sym (len n
+            fit)),
+        subst (Room T.the-row) (sym (len n
+            fit)) gn,
+      ) $
       fjoin ! $ fjoin ! $ frame ! $ feqI ! (List Val) (vunit ∷ []) (vunit ∷ []) refl $ done !
 
   -- what `section_at`'s triple binds outside, at i
@@ -258,8 +268,10 @@ module _ {M : Type 1} (𝓤 : URA M) (H : Heap 𝓤) (A : Atoms 𝓤) (W : Given
         let there : i < length areas = omega (arith, count) in
         let within : i < length (L i) = omega (arith, len i (omega arith)) in
         qed W (At i) ∵ exec ! C Λ En turn (anyQ (afterTurn 𝓤 H X Left)) $
-        assigns ! (bin ! (load ! (from ! (stop !)) (look ! 1 refl)) (load ! (from ! (stop !)) (look ! 10 refl)) tt) (from ! (stop !)) (init ! 2 refl (tt,
-        tt)) $
+        assigns ! (bin ! (load ! (from ! (stop !)) (look ! 1 refl)) (load ! (from ! (stop !)) (look ! 10 refl)) tt) (from ! (stop !)) (init ! 2 refl (
+          tt,
+          tt,
+        )) $
         rewrite ! 2 (λ (t : Bool). ‵ (fat fullShare tyBool l₇ 0 (vbool t))) (lt-ltb i n small) refl $ stays ! (load ! (from ! (stop !)) (look ! 2 refl)) $
         move ! (18 ∷ []) $ use1 W (‵ Own₁ ⊛ ‵ Own₁) (shr-slice-copy 𝓤 H A W (named 1) κ₁ u8 .twice s (sv ∷ [])) $ split ! $ move ! (20 ∷ []) $
         use1 W (‵ Own₂ ⊛ ‵ Own₂) (shr-slice-copy 𝓤 H A W (named 2) κ₂ u32 .twice u (uv ∷ [])) $ split ! $ move ! (22 ∷ []) $
@@ -283,15 +295,17 @@ module _ {M : Type 1} (𝓤 : URA M) (H : Heap 𝓤) (A : Atoms 𝓤) (W : Given
         assigns ! (bin ! (load ! (from ! (fld ! refl (stop !))) (look-in ! 13 (sub ! 0 refl (whole !)))) (load ! (from ! (stop !)) (look ! 11 refl)) tt)
         (from ! (stop !)) (init ! 12 refl (tt, tt)) $
         rewrite ! 12 (λ (p : ℕ). ‵ (fat fullShare tyPtr l₁₀ 0 (vptr b p))) (sym (place-is 44 o i)) refl $ move ! (7 ∷ []) $
-        elem-out ! T.the-row (Is T.the-row) (shows 𝓤 H A T.the-row) (LL.vals T.the-type T′.the-laws) (LL.tells T.the-type T′.the-laws) fullShare (L i) i past
-        b o within (λ _.
+        elem-out ! T.the-row (Is T.the-row) (shows 𝓤 H A T.the-row) (LL.vals T.the-type T′.the-laws) (LL.tells T.the-type T′.the-laws) fullShare (L i) i
+        (record { position = position 0; size = 0; flags = 0; name = [] }) b o within (λ _.
         assigns ! (of-opd ! (load ! (from ! (stop !)) (look ! 12 refl))) (from ! (hop ! (look ! 14 refl) (stop !))) (store-raw ! 0 refl (LL.lawful T.the-type
         T′.the-laws 𝓤 H A W .typed r _ is .0)) $
         move ! (1 ∷ []) $ drop ! $ move ! (0 ∷ 2 ∷ 1 ∷ []) $ elem-put ! T.the-row fullShare (L i) i r (w ∷ []) b o within $
         rewrite ! 0 (λ (l : List Section). ‵ (row T.the-row fullShare l b o)) (ap (λ (z : Section). set (L i) i z) (e ∙ ap sectionOf (sym (area-in (laid
         (omega arith)) i small))) ∙ filled-on sectionOf areas ys i blank there room) refl $
-        assigns-last ! (bin ! (load ! (from ! (stop !)) (look ! 7 refl)) (lit ! tt) (record { fits = omega arith })) (from ! (stop !)) (store ! 7 refl (tt,
-            record { fits = omega arith })) $
+        assigns-last ! (bin ! (load ! (from ! (stop !)) (look ! 7 refl)) (lit ! tt) (record { fits = omega arith })) (from ! (stop !)) (store ! 7 refl (
+          tt,
+          record { fits = omega arith },
+        )) $
         forget ! 8 refl $ forget ! 9 refl $ forget ! 10 refl $ forget ! 11 refl $
         rewrite ! 7 (λ (j : ℕ). ‵ (fat fullShare word l₆ 0 (vint w64 j))) (add-one i) refl $
         keep ! (0 ∷ 7 ∷ 8 ∷ 9 ∷ 10 ∷ 11 ∷ 12 ∷ 13 ∷ 14 ∷ 15 ∷ 16 ∷ 17 ∷ 18 ∷ 19 ∷ 20 ∷ 3 ∷ 2 ∷ 1 ∷ 6 ∷ 5 ∷ 4 ∷ 21 ∷ 22 ∷ 23 ∷ 24 ∷ 25 ∷ 26 ∷ 27 ∷ 28 ∷ 29 ∷
@@ -302,8 +316,10 @@ module _ {M : Type 1} (𝓤 : URA M) (H : Heap 𝓤) (A : Atoms 𝓤) (W : Given
     unfolding afterTurn
     ends X =
         qed W (At n) ∵ exec ! C Λ En turn (anyQ (afterTurn 𝓤 H X Left)) $
-        assigns ! (bin ! (load ! (from ! (stop !)) (look ! 1 refl)) (load ! (from ! (stop !)) (look ! 10 refl)) tt) (from ! (stop !)) (init ! 2 refl (tt,
-        tt)) $
+        assigns ! (bin ! (load ! (from ! (stop !)) (look ! 1 refl)) (load ! (from ! (stop !)) (look ! 10 refl)) tt) (from ! (stop !)) (init ! 2 refl (
+          tt,
+          tt,
+        )) $
         rewrite ! 2 (λ (t : Bool). ‵ (fat fullShare tyBool l₇ 0 (vbool t))) (le-ltb n n (omega arith)) refl $
         leaves-loop ! (load ! (from ! (stop !)) (look ! 2 refl)) $ exec ! C Λ En rest (atRet En Post) $
         assigns ! (of-opd ! (unit-lit !)) (from ! (stop !)) (init ! 11 refl (tt, tt)) $ move ! (0 ∷ 12 ∷ 13 ∷ 14 ∷ []) $
@@ -372,8 +388,16 @@ module _ {M : Type 1} (𝓤 : URA M) (H : Heap 𝓤) (A : Atoms 𝓤) (W : Given
   fill-walks : Walks 𝓤 H A fill.ended stayed (WpFn 𝓤 H (𝓣 .C) (𝓣 .Λ) plainly) (fill.clauses 𝓤 H A mem run)
   fill-walks = walked 𝓤 H A fill.ended stayed (fill.clauses 𝓤 H A mem run) (WpFn 𝓤 H (𝓣 .C) (𝓣 .Λ) plainly)
       (λ κs. (slice-vals, (slice-vals, (slice-vals, (slice-vals, (uint-vals w64, tt))))))
-      (λ κs. (mut-slice-tells (named 0) (κs .0) T.the-row, (shr-slice-tells (named 1) (κs .1 .0) u8, (shr-slice-tells (named 2) (κs .1 .1 .0) u32,
-      (shr-slice-tells (named 3) (κs .1 .1 .1 .0) u32, (uint-tells w64, tt))))))
+      (λ κs. (
+        mut-slice-tells (named 0) (κs .0) T.the-row,
+        (
+          shr-slice-tells (named 1) (κs .1 .0) u8,
+          (
+            shr-slice-tells (named 2) (κs .1 .1 .0) u32,
+            (shr-slice-tells (named 3) (κs .1 .1 .1 .0) u32, (uint-tells w64, tt)),
+          ),
+        ),
+      ))
       (λ κs qs bounds a g are. needs 𝓤 ((0 < a .1 .1 .1 .1 .0 → Laid (a .1 .0 .now) (a .1 .1 .0 .now) (a .1 .1 .1 .0 .now) (a .1 .1 .1 .1 .0))
       × (a .1 .1 .1 .1 .0 ≤ length (a .0 .now))) _
       (λ within. walk 𝓤 H A W mem run (κs .0) (κs .1 .0) (κs .1 .1 .0) (κs .1 .1 .1 .0) (qs .0) (qs .1 .0) (qs .1 .1 .0) (qs .1 .1 .1 .0)
@@ -384,8 +408,13 @@ module _ {M : Type 1} (𝓤 : URA M) (H : Heap 𝓤) (A : Atoms 𝓤) (W : Given
   fill-meets =
       walk-meets 𝓤 H A fill.ended stayed W (
         goes-slice 𝓤 H A W 4 0 tt (plain (λ _. T.the-row)),
-        (goes-none-slice 𝓤 H A W 4 (1 ∷ []) tt (plain (λ _. u8)) yes, (goes-none-slice 𝓤 H A W 4 (2 ∷ []) tt (plain (λ _. u32)) yes,
-        (goes-none-slice 𝓤 H A W 4 (3 ∷ []) tt (plain (λ _. u32)) yes, (goes-none 𝓤 H A W 4 (λ _. usize) yes (λ κs x f. refl), tt)))),
+        (
+          goes-none-slice 𝓤 H A W 4 (1 ∷ []) tt (plain (λ _. u8)) yes,
+          (
+            goes-none-slice 𝓤 H A W 4 (2 ∷ []) tt (plain (λ _. u32)) yes,
+            (goes-none-slice 𝓤 H A W 4 (3 ∷ []) tt (plain (λ _. u32)) yes, (goes-none 𝓤 H A W 4 (λ _. usize) yes (λ κs x f. refl), tt)),
+          ),
+        ),
       ) (fill.clauses 𝓤 H A mem run)
       (WpFn 𝓤 H (𝓣 .C) (𝓣 .Λ) plainly) (WpFn-mono 𝓤 H (W .laws) 𝓣 plainly) fill-walks
 
