@@ -24,7 +24,7 @@ use Rattle.fmd_areas.specs.Invariants.{Laid}
 use Rattle.fmd_areas.proofs.Names.{name-short, length-stored}
 use Rattle.fmd_areas.proofs.Places.{ends}
 use Rattle.fmd_areas.proofs.Shape.{length-areas}
-use Rattle.fmd.specs.Calls.{blank, imageOf, saidBy, layoutIn, layoutFor, Said, refusedWith, Read, reading, Written, writeBy}
+use Rattle.fmd.specs.Calls.{blank, imageOf, saidBy, layoutIn, layoutFor, Said, refusedWith, Read, reading, Written, withMap, writeBy}
 use Rattle.fmd.specs.Invariants.{Held, ReadFor}
 use Rattle.fmd.specs.declared.Image.{Image as SaidImage}
 use Rattle.fmd.specs.declared.Answer.the-variants.{Accepted}
@@ -97,7 +97,7 @@ module _ {s : List ℕ} {i : Image} {rows spots : List ℕ} {n m : ℕ} (g : Hel
       pub map-is : (a : Area) (one two : List ℕ) → a ≡ areaAt s (sectionsIn n rows) (placedIn n spots) m
           → ((areas : List Area) → n ≡ length areas → one ≡ put (a .place .start .0) (part 0 56 (mapBytes (x .size) (x .name) (x .address) 1 areas)) image)
           → two ≡ put (a .place .start .0 + 56) (flat (map areaBytes (areasOf s (sectionsIn n rows) (placedIn n spots)))) one
-          → record { answer = none; image = two } ≡ writeBy (saidBy s (good i (sectionsIn n rows) (placedIn n spots) m)) image none
+          → record { answer = none; at = a .place .start; image = two } ≡ writeBy (saidBy s (good i (sectionsIn n rows) (placedIn n spots) m)) image none
       unfolding imageOf
       map-is a one two d p q =
           let areas = areasOf s (sectionsIn n rows) (placedIn n spots) in
@@ -105,7 +105,9 @@ module _ {s : List ℕ} {i : Image} {rows spots : List ℕ} {n m : ℕ} (g : Hel
           let w =
           map-written (x .size) (x .name) (x .address) 1 wide (a .place .start .0) areas image one two
           (p areas (sym (length-areas s (sectionsIn n rows) (placedIn n spots) ∙ length-placed n spots))) q in
-          rw (eq-eqb (length image) (i .size) h) (ap {B = Written} (λ (y : List ℕ). record { answer = none; image = y }) (w ∙ rw (e, d, h)))
+          let x = saidBy s (good i (sectionsIn n rows) (placedIn n spots) m) in
+          rw (eq-eqb (length image) (i .size) h) (ap {B = Written} (λ (y : List ℕ). record { answer = none; at = a .place .start; image = y }) (w ∙ rw (e, d, h))
+          ∙ ap {B = Written} (λ (z : Area). record { answer = none; at = z .place .start; image = withMap x image }) d)
 
 -- ---- a text that is refused: the tables hold no section
 

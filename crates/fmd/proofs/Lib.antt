@@ -5,3 +5,4 @@ pub mod Layouts
 pub mod Tables
 pub mod Writable
 pub mod Promises
+pub mod Listings

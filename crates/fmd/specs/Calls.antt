@@ -20,6 +20,7 @@ use Rattle.fmd.specs.declared.Answer.the-variants.{Accepted, WrongLength
 use Rattle.fmd.specs.declared.Image.{Image}
 use Rattle.fmd.specs.declared.Reading.{Reading}
 use Rattle.fmd.specs.declared.Section.{Section}
+use Rattle.fmd.specs.declared.Writing.{Writing}
 
 -- (W15) the number of each answer
 abbrev pub numberOf : Answer → Option ℕ
@@ -121,9 +122,14 @@ recordText s bs = cond (eqb (length bs) 5376) (recordBy (layoutIn s) bs) (record
 
 -- ---- writing
 
+-- a refusal's number or none, the position of the map that was written, and the image afterwards
 pub record Written : Type 0 where
   pub answer : Option ℕ
+  pub at : ImagePosition
   pub image : List ℕ
+
+abbrev pub unwritten : ℕ → List ℕ → Written
+unwritten n image = record { answer = some n; at = position 0; image = image }
 
 -- L18: It is written at the start of section FMAP. L17: version 1.1, base the address or 0
 abbrev pub withMap : Said → List ℕ → List ℕ
@@ -131,9 +137,9 @@ withMap x image = put (x .at .0) (mapBytes (length image) (x .image .name) (x .i
 
 -- R34: Writing a map into an image: FMD's refusals, then 1 where the image length is not the stated size.
 abbrev pub writeBy : Said → List ℕ → Option ℕ → Written
-writeBy x image (some n) = record { answer = some n; image = image }
+writeBy x image (some n) = unwritten n image
 writeBy x image none =
-    cond (eqb (length image) (x .image .size)) (record { answer = none; image = withMap x image }) (record { answer = some 1; image = image })
+    cond (eqb (length image) (x .image .size)) (record { answer = none; at = x .at; image = withMap x image }) (unwritten 1 image)
 
 unfoldable pub writeText : List ℕ → List ℕ → Written
 writeText s image = writeBy (layoutIn s) image (layoutIn s .answer)
@@ -149,5 +155,5 @@ listed r ys = record { answer = numberOf (r .answer); image = r .image; sections
 abbrev pub recorded : Reading → List ℕ → Recorded
 recorded r bs = record { answer = numberOf (r .answer); image = r .image; records = bs }
 
-abbrev pub written : Answer → List ℕ → Written
-written r image = record { answer = numberOf r; image = image }
+abbrev pub written : Writing → List ℕ → Written
+written r image = record { answer = numberOf (r .answer); at = r .at; image = image }

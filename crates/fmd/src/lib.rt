@@ -5,6 +5,7 @@ ghost use mathlib.Core.Path.{_≡_};
 ghost use Prim.Native.Nat.{_+_, _≤_, _<_};
 ghost use lib.ListN.{length};
 ghost use Rattle.octets.specs.Rows.{codeOf};
+ghost use Rattle.fmap_rules.specs.Map.{position};
 ghost use Rattle.fmd_table.specs.Table.{sectionsIn, placedIn, HasRows, HasSpots};
 ghost use Rattle.fmd_check.specs.Check.{good};
 ghost use Rattle.fmd_check.specs.Facts.{Numbered};
@@ -62,6 +63,12 @@ pub struct Section {
 struct Counted {
     reading: Reading,
     count: usize,
+}
+
+// What a writer answers: the position of the map that it wrote, 0 unless the answer is Accepted.
+pub struct Writing {
+    pub answer: Answer,
+    pub at: ImagePosition,
 }
 
 // The number of an answer; 0 for Accepted.
@@ -262,6 +269,16 @@ pub fn put_records(text: &[u8], records: &mut [u8]) -> Reading
     }
 }
 
+// No map.
+fn unwritten(answer: Answer) -> Writing
+    ensures { λ r. ⌜ r ≡ record { answer = answer; at = position 0 } ⌝ }
+{
+    Writing {
+        answer: answer,
+        at: ImagePosition(0),
+    }
+}
+
 // Writes the map of a layout into an image; section m is FMAP.
 fn put_layout(
     text: &[u8],
@@ -271,31 +288,36 @@ fn put_layout(
     n: usize,
     m: usize,
     image: &mut [u8],
-) -> Answer
+) -> Writing
     requires { ⌜ Held (now text) i (now rows) (now spots) n m ⌝ }
     ensures { λ r. ⌜ written r (now (image .exit))
         ≡ writeBy (saidBy (now (text .entry)) (good i (sectionsIn n (now (rows .entry))) (placedIn n (now (spots .entry))) m)) (now (image .entry)) none ⌝ }
 {
     if image.len() != i.size as usize {
-        return Answer::WrongLength;
+        return unwritten(Answer::WrongLength);
     }
     let a = area_at(text, rows, spots, n, m);
-    let start = a.place.start.0 as usize;
+    let place = a.place;
+    let at = place.start;
+    let start = at.0 as usize;
     let x = image_of(text, i, n);
     let name = x.name;
     fmap_write::put_header(image, start, x.size, name, x.address as u64, 1, n as u16);
     fmd_areas::put_areas(text, rows, spots, n, image, start + 56);
-    Answer::Accepted
+    Writing {
+        answer: Answer::Accepted,
+        at: at,
+    }
 }
 
-// Writes the map of a layout text into an image.
-pub fn write_map(text: &[u8], image: &mut [u8]) -> Answer
+// Writes the map of a layout text into an image, and answers where the map stands.
+pub fn write_map(text: &[u8], image: &mut [u8]) -> Writing
     ensures { λ r. ⌜ written r (now (image .exit)) ≡ writeText (now (text .entry)) (now (image .entry)) ⌝ }
 {
     let mut rows = [0u32; ROWS];
     let mut spots = [0u32; SPOTS];
     match fmd_check::check(text, &mut rows, &mut spots) {
         Verdict::Good(i, n, m) => put_layout(text, i, &rows, &spots, n, m, image),
-        Verdict::Fault(k, _) => answer_of(k),
+        Verdict::Fault(k, _) => unwritten(answer_of(k)),
     }
 }
