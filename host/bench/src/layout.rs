@@ -38,7 +38,8 @@ fn list_row(t: &mut Table, programs: Rc<Programs>) {
 fn records_row(t: &mut Table) {
     let text: &'static [u8] = text().into_bytes().leak();
     let ours = |text: &[u8], records: &mut [u8]| records_of(|count| raw::fmd_records(text, records, count));
-    let second = |text: &[u8], records: &mut [u8]| records_of(|count| fmd_records(&RULES, text, records, count));
+    let second =
+        |text: &[u8], records: &mut [u8]| records_of(|count| fmd_records(&RULES, text, records, count));
     let label = Label::new("fmd records", "second implementation").size("128 sections").at_least(1.0);
     t.row(label, calls(over(text, ours)), calls(over(text, second)));
 }
