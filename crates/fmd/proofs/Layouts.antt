@@ -129,6 +129,6 @@ pub wrong-places : (s : List ℕ) (places : ℕ) → places ≢ 128 → layoutFo
 unfolding layoutFor
 wrong-places s places h = rw (ne-eqb places 128 h)
 
-pub text-fault : (s : List ℕ) (places n p : ℕ) → places ≡ 128 → fault n p ≡ checkText s → layoutFor s places ≡ refusedWith (some n)
+pub text-fault : (s : List ℕ) (places n : ℕ) (p : Place) → places ≡ 128 → fault n p ≡ checkText s → layoutFor s places ≡ refusedWith (some n)
 unfolding layoutFor layoutIn
 text-fault s places n p h c = rw (eq-eqb places 128 h, sym c)

@@ -14,8 +14,8 @@ fn texts() -> Vec<(Vec<u8>, u32)> {
     let mut texts = vec![
         (largest, 0),
         (worst_text(), 0),
-        (b"I 16M{FMAP 98 A 1{B{C{D{E{F{G{H}}}}}}}}".to_vec(), 0),
-        (b"I 16M{FMAP 98 A 1{B{C{D{E{F{G{H{I}}}}}}}}}".to_vec(), 55),
+        (b"I 16M{FMAP 1K A 1{B{C{D{E{F{G{H}}}}}}}}".to_vec(), 0),
+        (b"I 16M{FMAP 1K A 1{B{C{D{E{F{G{H{I}}}}}}}}}".to_vec(), 55),
         (endless, 55),
         (vec![b'{'; 32_768], 51),
         (vec![b' '; 32_769], 50),
@@ -27,21 +27,23 @@ fn texts() -> Vec<(Vec<u8>, u32)> {
     texts
 }
 
-fn on_small_stack(work: impl FnOnce() + Send + 'static) {
-    thread::Builder::new().stack_size(STACK).spawn(work).expect("a thread").join().expect("no overflow");
+/// What read, records and write answer. The buffers are on the heap, so that the stack holds the calls alone.
+fn calls(text: &[u8]) -> [u32; 3] {
+    let (mut name, mut records) = (vec![0; 32], vec![0; RECORDS * RECORD_LEN]);
+    let (mut size, mut address, mut count) = (0, 0, 0);
+    let read = raw::fmd_read(text, &mut name, &mut size, &mut address, &mut count);
+    let listed = raw::fmd_records(text, &mut records, &mut count);
+    [read, listed, raw::fmd_write(text, &mut vec![0; size as usize])]
+}
+
+fn on_small_stack<A: Send + 'static>(work: impl FnOnce() -> A + Send + 'static) -> A {
+    thread::Builder::new().stack_size(STACK).spawn(work).expect("a thread").join().expect("no overflow")
 }
 
 #[test]
 fn every_layout_call_needs_at_most_24_kib_of_stack() {
     for (text, number) in texts() {
-        on_small_stack(move || {
-            let (mut name, mut records) = (vec![0; 32], vec![0; RECORDS * RECORD_LEN]);
-            let (mut size, mut address, mut count) = (0, 0, 0);
-            let said = raw::fmd_read(&text, &mut name, &mut size, &mut address, &mut count);
-            assert_eq!(said, number, "{}", String::from_utf8_lossy(&text[..text.len().min(60)]));
-            assert_eq!(raw::fmd_records(&text, &mut records, &mut count), number);
-            let mut image = vec![0; size as usize];
-            assert_eq!(raw::fmd_write(&text, &mut image), number);
-        });
+        let begin = String::from_utf8_lossy(&text[..text.len().min(60)]).into_owned();
+        assert_eq!(on_small_stack(move || calls(&text)), [number; 3], "{begin}");
     }
 }
