@@ -1,5 +1,6 @@
 -- Signs, and the bytes of words.
 use mathlib.Core.Bool.{Bool, not}
+use Prim.Native.Char.{code}
 use Prim.Native.Nat.{ℕ}
 use lib.Dec.{eqb}
 use Rattle.octets.specs.Ascii.{ascii}
@@ -10,6 +11,6 @@ unfoldable pub isSign : ℕ → Bool
 isSign b = any (eqb b) (ascii "@{}()")
 
 -- L5: A word ends at a blank or one of @ { } ( ) #; other bytes outside 21 to 7E hex end a word too.
--- So a byte of a word is one of 21 to 7E hex that is no sign and no # (35).
+-- So a byte of a word is one of 21 to 7E hex that is no sign and no #.
 unfoldable pub isWord : ℕ → Bool
-isWord b = isGraphic b and not (isSign b) and not (eqb b 35)
+isWord b = isGraphic b and not (isSign b) and not (eqb b (code "#"))

@@ -1,6 +1,7 @@
 -- Numbers of a layout text.
 use mathlib.Core.Bool.{cond}
 use mathlib.Core.List.{List, [], _∷_}
+use Prim.Native.Char.{code}
 use Prim.Native.Nat.{ℕ, _*_}
 use lib.Dec.{leb, eqb}
 use lib.ListN.{drop}
@@ -13,9 +14,9 @@ use Rattle.fmd_lex.specs.declared.Number.the-variants.{Value, Wrong}
 -- L8: Numbers: 0, or decimal without leading 0, or 0x and hex digits of either case, then optional K, M or G (1,024 and its powers);
 -- at most 4,294,967,295.
 
--- what K (75), M (77) and G (71) stand for, 0 for any other byte
+-- what K, M and G stand for, 0 for any other byte
 unfoldable pub unitOf : ℕ → ℕ
-unitOf b = cond (eqb b 75) 1024 (cond (eqb b 77) 1048576 (cond (eqb b 71) 1073741824 0))
+unitOf b = cond (eqb b (code "K")) 1024 (cond (eqb b (code "M")) 1048576 (cond (eqb b (code "G")) 1073741824 0))
 
 -- at most 4,294,967,295
 unfoldable pub capped : ℕ → Number

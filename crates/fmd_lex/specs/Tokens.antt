@@ -1,6 +1,7 @@
 -- The tokens of a layout text. A place is a byte position in the text.
 use mathlib.Core.Bool.{Bool, true, false, cond}
 use mathlib.Core.List.{List, [], _∷_}
+use Prim.Native.Char.{code}
 use Prim.Native.Nat.{ℕ, suc, _+_, _-_}
 use lib.Dec.{ltb, eqb}
 use lib.ListN.{length, getD, drop}
@@ -27,9 +28,9 @@ tokenOf k a e = record { kind = k; start = a; end = e }
 -- The place after the blanks and comments that begin at the place `at`; true: inside a comment, which ends at LF alone, whatever bytes it has.
 unfoldable pub skipFrom : Bool → List ℕ → ℕ → ℕ
 skipFrom c [] at = at
-skipFrom true (x ∷ xs) at = cond (eqb x 10) (skipFrom false xs (suc at)) (skipFrom true xs (suc at))
+skipFrom true (x ∷ xs) at = cond (eqb x (code "\n")) (skipFrom false xs (suc at)) (skipFrom true xs (suc at))
 skipFrom false (x ∷ xs) at =
-    cond (isBlank x) (skipFrom false xs (suc at)) (cond (eqb x 35) (skipFrom true xs (suc at)) at)
+    cond (isBlank x) (skipFrom false xs (suc at)) (cond (eqb x (code "#")) (skipFrom true xs (suc at)) at)
 
 -- the place after the word bytes that begin at the place `at`
 unfoldable pub wordFrom : List ℕ → ℕ → ℕ

@@ -7,7 +7,7 @@ ghost use lib.ListN.{length, drop};
 ghost use Rattle.octets.specs.Bytes.{same as sameBytes};
 ghost use Rattle.fmd_table.specs.Table.{sectionsIn, HasRows};
 ghost use Rattle.fmd_rows.specs.Rows.{nameOf, repeats, firstRepeat, isFmap, fmapIn, hasChild, holdsCbfs, firstCbfs, foundFrom, siblingIn, reachOf, isUndecided, undecided};
-ghost use Rattle.fmd_rows.specs.Invariants.{Inside};
+ghost use Rattle.fmd_rows.specs.Invariants.{Inside, keyFrom, keyAt, Seen};
 use fmd_table::Offset;
 use fmd_table::ParentOffset;
 use fmd_table::Section;
@@ -62,16 +62,55 @@ fn is_repeat(text: &[u8], rows: &[u32], n: usize, k: usize) -> bool
     false
 }
 
-// Row 54.
+// A number that names of the same bytes share.
+fn key_of(name: &[u8]) -> usize
+    ensures { λ r. ⌜ (r ≡ keyFrom 0 (now (name .entry))) × (r < 2048) ⌝ }
+{
+    let mut key: usize = 0;
+    let mut i: usize = 0;
+    while i < name.len() {
+        key = (33 * key + name[i] as usize) % 2048;
+        i += 1;
+    }
+    key
+}
+
+// The key of section k's name.
+fn key_at(text: &[u8], rows: &[u32], n: usize, k: usize) -> usize
+    requires { ⌜ HasRows n (now rows) × Inside (now text) (sectionsIn n (now rows)) × (k < n) ⌝ }
+    ensures { λ r. ⌜ (r ≡ keyAt (now (text .entry)) (sectionsIn n (now (rows .entry))) k) × (r < 2048) ⌝ }
+{
+    let h = row_at(rows, k);
+    let p = h.place as usize;
+    let e = p + h.length as usize;
+    key_of(&text[p..e])
+}
+
+// Section k has the name of an earlier one; the keys of those are marked.
+fn repeats_seen(text: &[u8], rows: &[u32], n: usize, k: usize, key: usize, seen: &[u8]) -> bool
+    requires { ⌜ HasRows n (now rows) × Inside (now text) (sectionsIn n (now rows)) × (k < n)
+        × (key ≡ keyAt (now text) (sectionsIn n (now rows)) k) × (key < length (now seen)) × Seen (now text) (sectionsIn n (now rows)) k (now seen) ⌝ }
+    ensures { λ r. ⌜ r ≡ repeats (now (text .entry)) (sectionsIn n (now (rows .entry))) k ⌝ }
+{
+    if seen[key] == 0 {
+        return false;
+    }
+    is_repeat(text, rows, n, k)
+}
+
+// Row 54. Names are compared where a key was seen before.
 pub fn first_repeat(text: &[u8], rows: &[u32], n: usize) -> Found
     requires { ⌜ HasRows n (now rows) × Inside (now text) (sectionsIn n (now rows)) ⌝ }
     ensures { λ r. ⌜ r ≡ firstRepeat (now (text .entry)) (sectionsIn n (now (rows .entry))) ⌝ }
 {
+    let mut seen = [0u8; 2048];
     let mut k: usize = 0;
     while k < n {
-        if is_repeat(text, rows, n, k) {
+        let key = key_at(text, rows, n, k);
+        if repeats_seen(text, rows, n, k, key, &seen) {
             return Found::At(k);
         }
+        seen[key] = 1;
         k += 1;
     }
     Found::Nowhere

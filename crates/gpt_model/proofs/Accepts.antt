@@ -1,5 +1,5 @@
--- Delete, rename and resize: none of their own rows holds exactly when what `Serves` says in plain words does.
-use mathlib.Core.Path.{_≡_, refl, sym, ap, _∙_}
+-- An edit's own rows (an add's before the one for room): none holds exactly when what `Serves` says in plain words does.
+use mathlib.Core.Path.{_≡_, refl, sym, ap, subst, _∙_}
 use mathlib.Core.Logic.{_⊎_, inl, inr, _≢_, _↔_}
 use mathlib.Core.Bool.{true, false, not}
 use mathlib.Core.List.{List, [], _∷_, _++_}
@@ -11,17 +11,19 @@ use lib.Dec.{eqb}
 use lib.ListN.{length, getD, set, length-set}
 use lib.Seq.{getD-set-same, getD-set-other}
 use borrow.Author.Tests.{leb-true, le-leb, eqb-true, eqb-false, eq-eqb, ne-eqb}
-use Rattle.octets.specs.Tests.{_and_}
+use Rattle.octets.specs.Tests.{_and_, any, findIx}
 use Rattle.octets.specs.Rows.{Row, row, refusal}
-use Rattle.octets.specs.Bytes.{isZero}
-use Rattle.octets.proofs.Bools.{and-l, and-r, and-i, bool-cases, not-f, option-cases}
-use Rattle.octets.proofs.Tests.{all-make, any-none, any-false}
+use Rattle.octets.specs.Bytes.{isZero, same}
+use Rattle.octets.proofs.Bools.{and-l, and-r, and-i, and-false-l, and-skip, and-t, or-false-l, or-false-r, or-false-i, bool-cases, not-f, clash, option-cases}
+use Rattle.octets.proofs.Tests.{all-make, any-none, any-false, any-make, findIx-get}
+use Rattle.octets.proofs.Equal.{same-refl, same-false}
 use Rattle.octets.proofs.Rows.{pick-false, passes, refusal-append, refusal-before}
-use Rattle.gpt_model.specs.Table.{firstOf, Slot, vacant, slots}
+use Rattle.octets.proofs.Chunks.{length-chunks}
+use Rattle.gpt_model.specs.Table.{uniqueOf, firstOf, unused, Slot, vacant, entries, slots}
 use Rattle.gpt_model.specs.Disk.{Shape, lastUsable, tableOf}
 use Rattle.gpt_model.specs.Ranges.{inside}
-use Rattle.gpt_model.specs.Calls.{Edit, resize, rename, edit, accepted, Out, badName, entryOf, slotRows, fitsAt, tableRows, change, openRows, rowsOf, step}
-use Rattle.gpt_model.specs.Claims.{UsedSlot, NameOk, FitsAlone}
+use Rattle.gpt_model.specs.Calls.{Edit, resize, rename, edit, accepted, Out, badName, entryOf, carries, slotRows, addRows, fitsAt, tableRows, change, openRows, rowsOf, step}
+use Rattle.gpt_model.specs.Claims.{UsedSlot, NameOk, FitsAlone, NewOk}
 use Rattle.gpt_model.proofs.Room.{not-in-vacant, room-get, room-make}
 use Rattle.gpt_model.proofs.Entries.{length-slots}
 use Rattle.gpt_model.proofs.Ways.{step-refused, step-made, edit-decides}
@@ -118,3 +120,50 @@ module _ (first last : ℕ) (es : List ℕ) (k : ℕ) where
         λ e. (let w : size ≢ 0 = eqb-false size 0 (passes 20 rows e) in omega arith, fits-alone size .0 (not-f _ (passes 25 rows e))),
         λ w. pick-false _ 20 _ (let p = w .0 in ne-eqb size 0 (λ z. omega arith)) ∙ pick-false _ 25 _ (ap not (fits-alone size .1 (w .1))),
       )
+
+-- ---- an add's rows before the one for room
+
+module _ (first last : ℕ) (es type unique : List ℕ) (size : ℕ) (name : List ℕ) where
+  abbrev rows : List Row
+  rows = addRows first last es type unique size name
+
+  -- the test of row 22, and what it says of each slot
+  new-unique : any (carries unique) (entries es) ≡ false → (k : ℕ) → UsedSlot es k → uniqueOf (entryOf es k) ≢ unique
+  new-unique e k u q =
+      let lo = u .0 in
+      let hi = u .1 in
+      clash (subst (λ (x : List ℕ). same (uniqueOf (entryOf es k)) x ≡ true) q (same-refl _))
+      (and-skip _ _ (ap not (u .2)) (any-none (carries unique) (entries es) [] e (k - 1) (omega (arith, length-chunks 128 128 es))))
+
+  unique-new : ((k : ℕ) → UsedSlot es k → uniqueOf (entryOf es k) ≢ unique) → any (carries unique) (entries es) ≡ false
+  unique-new f = any-false (carries unique) (entries es) [] (λ i h. one i (omega (arith, length-chunks 128 128 es)) (bool-cases (unused (getD (entries es) i []))))
+    where
+      at : (i : ℕ) → entryOf es (suc i) ≡ getD (entries es) i []
+      at i = ap (λ (x : ℕ). getD (entries es) x []) (omega arith)
+
+      one : (i : ℕ) → i < 128 → (unused (getD (entries es) i []) ≡ true) ⊎ (unused (getD (entries es) i []) ≡ false) → carries unique (getD (entries es) i []) ≡ false
+      one i h (inl u) = and-false-l _ _ (ap not u)
+      one i h (inr u) = sym (and-t (ap not u) (sym (same-false _ _ (λ e. f (suc i) (omega arith, omega arith, ap unused (at i) ∙ u) (ap uniqueOf (at i) ∙ e)))))
+
+  pub new-get : (length type ≡ 16) × (length unique ≡ 16) × (length name ≡ 36) → refusal (addRows first last es type unique size name) ≡ none → NewOk es type unique size name
+  new-get l e = record {
+    lengths = l;
+    blocks = eqb-false _ _ (passes 20 rows e);
+    typed = passes 21 rows e;
+    own = (or-false-l _ _ (passes 22 rows e), new-unique (or-false-r _ _ (passes 22 rows e)));
+    named = name-get name (passes 23 rows e);
+    slot =
+        let f = findIx-get unused (entries es) [] (not-f _ (passes 24 rows e)) in
+        let h = f .0 in
+        let at : suc (findIx unused (entries es)) - 1 ≡ findIx unused (entries es) = omega arith in
+        (suc (findIx unused (entries es)), omega arith, omega (arith, length-chunks 128 128 es), ap (λ (x : ℕ). unused (getD (entries es) x [])) at ∙ f .1);
+  }
+
+  pub new-make : NewOk es type unique size name → refusal (addRows first last es type unique size name) ≡ none
+  new-make w =
+      pick-false _ 20 _ (ne-eqb _ _ (w .blocks))
+      ∙ pick-false _ 21 _ (w .typed)
+      ∙ pick-false _ 22 _ (or-false-i _ _ (w .own .0) (unique-new (w .own .1)))
+      ∙ pick-false _ 23 _ (name-make name (w .named))
+      ∙ pick-false _ 24 _ (ap not (let s = w .slot in let lo = s .1 in let hi = s .2 in
+      any-make unused (entries es) [] (s .0 - 1) (omega (arith, length-chunks 128 128 es)) (s .3)))

@@ -4,30 +4,30 @@ use mathlib.Core.Logic.{_⊎_, inl, inr, _≢_, _↔_}
 use mathlib.Core.Bool.{Bool, true, false, not}
 use mathlib.Core.List.{List, [], _∷_, _++_}
 use mathlib.Core.Option.{Option, none, some}
-use Prim.Native.Nat.{ℕ, _+_, _-_, _≤_, _<_}
+use Prim.Native.Nat.{ℕ, suc, _+_, _*_, _≤_, _<_}
 use native.Mathlib.Decide.{decLt}
 use native.Mathlib.Omega.{arith}
-use lib.ListN.{getD}
-use borrow.Author.Tests.{eqb-false, eq-eqb, leb-true, le-leb}
+use lib.ListN.{length, getD}
+use borrow.Author.Tests.{eqb-true, eqb-false, eq-eqb, leb-true, le-leb}
 use Rattle.octets.specs.Rows.{Row, row, pickRow, refusal}
 use Rattle.octets.specs.Bytes.{zeros}
-use Rattle.octets.proofs.Bools.{and-l, and-i, option-cases}
+use Rattle.octets.proofs.Bools.{and-l, and-r, and-i, option-cases}
 use Rattle.octets.proofs.Tests.{pairs-get}
 use Rattle.octets.proofs.Parts.{length-zeros}
-use Rattle.octets.proofs.Rows.{pick-false, passes, refusal-append}
+use Rattle.octets.proofs.Rows.{pick-false, passes, refusal-append, refusal-before}
 use Rattle.gpt_model.specs.Table.{vacant, apart, slots, goodTable}
-use Rattle.gpt_model.specs.Disk.{Shape, disk512, lastUsable, usable, inRange, state, tableOf, freshHead, freshTail}
-use Rattle.gpt_model.specs.Ranges.{inside, place, longestFree}
-use Rattle.gpt_model.specs.Calls.{Edit, add, delete, resize, rename, Call, repair, edit, refused, accepted, Out, out, decided, isNone, addRows, tableRows, change, edited, lengthsOf, openRows, rowsOf, step, formatRows, format}
+use Rattle.gpt_model.specs.Disk.{Shape, disk512, lastUsable, inRange, state, tableOf, freshHead, freshTail}
+use Rattle.gpt_model.specs.Ranges.{inside, place, freeCount, longestFree}
+use Rattle.gpt_model.specs.Calls.{Edit, add, delete, resize, rename, Call, read, freeCounts, repair, edit, refused, accepted, Out, out, decided, isNone, addRows, tableRows, change, edited, lengthsOf, readRows, openRows, rowsOf, repaired, step, formatRows, format}
 use Rattle.gpt_model.specs.Lists.{Run, run, answers, applied, begun, total, StartsAfresh}
-use Rattle.gpt_model.specs.Claims.{FreeFrom, Passes, Sound, Formats, Demand3From, Demand3, Demand3At512, Serves, NotEmpty, EditReadsBack, RepairReadsBack}
+use Rattle.gpt_model.specs.Claims.{FreeFrom, Passes, Sound, Formats, Demand3From, Demand3, Demand3At512, RefusedStays, BooksDifference, Numbers512, UsedSlot, NameOk, NewOk, Serves, NotEmpty, EditReadsBack, RepairReadsBack}
 use Rattle.gpt_model.proofs.Room.{place-none, place-some, place-is-none}
 use Rattle.gpt_model.proofs.Counts.{apart-get, taken-total, total-zeros, taken-free}
-use Rattle.gpt_model.proofs.Longest.{room-fits, fits-room}
+use Rattle.gpt_model.proofs.Longest.{room-fits, longest-room}
 use Rattle.gpt_model.proofs.Entries.{length-slots, good-bounded, good-apart, empty-sizes, empty-good}
 use Rattle.gpt_model.proofs.States.{Holds, readable-good, fresh-holds, repair-holds}
-use Rattle.gpt_model.proofs.Ways.{step-refused, step-made, repair-answer, not-ten, not-eleven, row1, row10, open-none}
-use Rattle.gpt_model.proofs.Accepts.{edit-accepted, slot-rows, rename-rows, resize-rows}
+use Rattle.gpt_model.proofs.Ways.{step-refused, step-made, repair-answer, refused-row, accepted-none, not-ten, not-eleven, row1, row10, open-read, edit-open, open-none}
+use Rattle.gpt_model.proofs.Accepts.{edit-accepted, slot-rows, rename-rows, resize-rows, new-get, new-make}
 use Rattle.gpt_model.proofs.Steps.{Agrees, Kept, edit-held, keeps-all}
 
 -- ---- formatting
@@ -129,23 +129,19 @@ module _ (g : Shape) (n : ℕ) (r : Run) (v : Kept g n r) where
         to (inr w) a = let b = add-yes (w .0) (w .1) in let z : _≡_ {A = ℕ} 0 1 = cc in absurd (omega arith)
 
     fits-iff : (step g n (r .head) (r .tail) c .answer ≡ accepted (change (g .first) (lastUsable g n) tab (add type unique size attributes name) .values))
-        ↔ (size ≤ longestFree (slots tab) (g .first) (lastUsable g n))
+        ↔ ((s : ℕ) × FreeFrom g n (slots tab) size s)
     fits-iff = (to (option-cases start), from (option-cases start))
       where
         to : (start ≡ none) ⊎ ((s : ℕ) × (start ≡ some s))
             → step g n (r .head) (r .tail) c .answer ≡ accepted (change (g .first) (lastUsable g n) tab (add type unique size attributes name) .values)
-            → size ≤ longestFree (slots tab) (g .first) (lastUsable g n)
+            → (s : ℕ) × FreeFrom g n (slots tab) size s
         to (inl q) a = let b = add-no q in let z : _≡_ {A = ℕ} 0 1 = cc in absurd (omega arith)
-        to (inr w) a =
-            let p = place-some (slots tab) (g .first) (lastUsable g n) size (w .0) (w .1) in
-            room-fits (slots tab) (g .first) (lastUsable g n) size (w .0) (p .0) (p .1)
+        to (inr w) a = let p = place-some (slots tab) (g .first) (lastUsable g n) size (w .0) (w .1) in (w .0, (p .0, p .1 .0, p .1 .1))
 
-        from : (start ≡ none) ⊎ ((s : ℕ) × (start ≡ some s)) → size ≤ longestFree (slots tab) (g .first) (lastUsable g n)
+        from : (start ≡ none) ⊎ ((s : ℕ) × (start ≡ some s)) → ((s : ℕ) × FreeFrom g n (slots tab) size s)
             → step g n (r .head) (r .tail) c .answer ≡ accepted (change (g .first) (lastUsable g n) tab (add type unique size attributes name) .values)
         from (inr w) a = add-yes (w .0) (w .1)
-        from (inl q) a =
-            let p = fits-room (slots tab) (g .first) (lastUsable g n) size add-size a in
-            absurd (place-none (slots tab) (g .first) (lastUsable g n) size add-size q (p .0) (p .1) (p .2))
+        from (inl q) a = let f = a .1 in absurd (place-none (slots tab) (g .first) (lastUsable g n) size add-size q (a .0) (f .0) (f .1, f .2))
 
   pub sound : Sound g n r
   sound = record {
@@ -167,18 +163,62 @@ module _ (g : Shape) (n : ℕ) (r : Run) (v : Kept g n r) where
   serves range = record {
     reads = v .reads;
     table = refl;
+    reading = ap (λ (o : Out). o .answer) (step-made g n (r .head) (r .tail) read read-none) ∙ ap (λ (s : ℕ). accepted (s ∷ [])) (v .reads);
+    repairing = step-made g n (r .head) (r .tail) repair read-none ∙ ap (repaired g n (r .head) (r .tail)) (v .reads);
     not10 = not-ten g n (r .head) (r .tail) (v .reads);
     not11 = not-eleven g n (r .head) (r .tail) (v .reads);
-    free = omega (arith, taken-free (slots tab) (g .first) (lastUsable g n));
+    counts =
+        let p = longest-room (slots tab) (g .first) (lastUsable g n) usable-run in (
+          freeCount (slots tab) (g .first) (lastUsable g n),
+          longestFree (slots tab) (g .first) (lastUsable g n),
+          ap (λ (o : Out). o .answer) (step-made g n (r .head) (r .tail) freeCounts read-none),
+          omega (arith, taken-free (slots tab) (g .first) (lastUsable g n)),
+          (p .0, (p .1, p .2 .0, p .2 .1)),
+          λ size s w. room-fits (slots tab) (g .first) (lastUsable g n) size s (w .0) (w .1, w .2),
+        );
+    passes = λ type unique size attributes name. (new-passes type unique size attributes name, passes-new type unique size attributes name);
     fits = fits-iff;
     deletes = λ k. accepts (delete k) refl (slot-rows (g .first) (lastUsable g n) tab k);
-    renames = λ k name l. accepts (rename k name) (eq-eqb _ _ l) (rename-rows (g .first) (lastUsable g n) tab k name);
+    renames = λ k name. (named k name, λ w. accepts (rename k name) (eq-eqb _ _ (w .0)) (rename-rows (g .first) (lastUsable g n) tab k name) .1 (w .1, w .2));
     resizes = λ k size. accepts (resize k size) refl (resize-rows (g .first) (lastUsable g n) tab k size);
   }
     where
+      usable-run : g .first ≤ suc (lastUsable g n)
+      usable-run = let w : 2 * g .first ≤ n = leb-true _ _ (and-l _ _ range) in omega arith
+
+      read-none : refusal (readRows g n (r .head) (r .tail) true) ≡ none
+      read-none = open-read g n (r .head) (r .tail) (delete 0) (open-none g n (r .head) (r .tail) (delete 0) (v .len-head) (v .len-tail) refl range (v .reads))
+
+      opens : (d : Edit) → lengthsOf d ≡ true → refusal (openRows g n (r .head) (r .tail) d) ≡ none
+      opens d l = open-none g n (r .head) (r .tail) d (v .len-head) (v .len-tail) l range (v .reads)
+
       accepts : (d : Edit) → lengthsOf d ≡ true → {P : Type 0} → (refusal (tableRows (g .first) (lastUsable g n) tab d) ≡ none) ↔ P
           → (step g n (r .head) (r .tail) (edit d) .answer ≡ accepted (change (g .first) (lastUsable g n) tab d .values)) ↔ P
-      accepts d l w = edit-accepted g n (r .head) (r .tail) d (open-none g n (r .head) (r .tail) d (v .len-head) (v .len-tail) l range (v .reads)) w
+      accepts d l w = edit-accepted g n (r .head) (r .tail) d (opens d l) w
+
+      -- an accepted rename has 36 units: row 1 does not hold
+      named : (k : ℕ) (name : List ℕ) → step g n (r .head) (r .tail) (edit (rename k name)) .answer ≡ accepted [] → (length name ≡ 36) × UsedSlot tab k × NameOk name
+      named k name a =
+          let e = accepted-none g n (r .head) (r .tail) (edit (rename k name)) [] a in
+          let l = row1 g n (r .head) (r .tail) (lengthsOf (rename k name)) (open-read g n (r .head) (r .tail) (rename k name) (edit-open g n (r .head) (r .tail) (rename k name) e)) .2 in
+          let w = accepts (rename k name) l (rename-rows (g .first) (lastUsable g n) tab k name) .0 a in
+          (eqb-true _ _ l, w .0, w .1)
+
+      new-passes : (type unique : List ℕ) (size attributes : ℕ) (name : List ℕ) → Passes g n r type unique size attributes name → NewOk tab type unique size name
+      new-passes type unique size attributes name e =
+          let d = add type unique size attributes name in
+          let w = refusal-before (openRows g n (r .head) (r .tail) d) (addRows (g .first) (lastUsable g n) tab type unique size name) e in
+          let l = row1 g n (r .head) (r .tail) (lengthsOf d) (open-read g n (r .head) (r .tail) d (w .0)) .2 in
+          new-get (g .first) (lastUsable g n) tab type unique size name
+          (eqb-true _ _ (and-l _ _ (and-l _ _ l)), eqb-true _ _ (and-r _ _ (and-l _ _ l)), eqb-true _ _ (and-r _ _ l)) (w .1)
+
+      passes-new : (type unique : List ℕ) (size attributes : ℕ) (name : List ℕ) → NewOk tab type unique size name → Passes g n r type unique size attributes name
+      passes-new type unique size attributes name w =
+          let d = add type unique size attributes name in
+          let l = w .lengths in
+          refusal-append (openRows g n (r .head) (r .tail) d) (addRows (g .first) (lastUsable g n) tab type unique size name)
+          (opens d (and-i _ _ (and-i _ _ (eq-eqb _ _ (l .0)) (eq-eqb _ _ (l .1))) (eq-eqb _ _ (l .2))))
+          ∙ new-make (g .first) (lastUsable g n) tab type unique size name w
 
 -- ---- the theorems
 
@@ -204,9 +244,28 @@ notEmpty g n guid h t f cs =
     (k .1 ∙ ap (λ (es : List ℕ). applied (g .first) (lastUsable g n) es cs (answers g n cs r)) (s .table))
     (serves g n (run g n cs r) (k .0) (f .range))
 
--- N − 67 usable blocks on a disk of 512-byte blocks
-pub usable512 : (n : ℕ) → inRange disk512 n ≡ true → usable disk512 n ≡ n - 67
-usable512 n range = let w : 68 ≤ n = leb-true _ _ (and-l _ _ range) in omega arith
+pub refusedStays : RefusedStays
+refusedStays g n k guid h t c = (λ a. step-refused g n h t c k (refused-row g n h t c k a), formats (option-cases (refusal (formatRows g n guid h t))))
+  where
+    formats : (refusal (formatRows g n guid h t) ≡ none) ⊎ ((j : ℕ) × (refusal (formatRows g n guid h t) ≡ some j))
+        → format g n guid h t .answer ≡ refused k → format g n guid h t ≡ out (refused k) h t
+    formats (inl e) a = let b = ap (λ (o : Out). o .answer) (format-made g n guid h t e) in let z : _≡_ {A = ℕ} 0 1 = cc in absurd (omega arith)
+    formats (inr w) a =
+        let b = ap (λ (o : Out). o .answer) (format-refused g n guid h t (w .0) (w .1)) in
+        let q : w .0 ≡ k = cc in
+        format-refused g n guid h t k (w .1 ∙ ap some q)
+
+pub booksDifference : BooksDifference
+booksDifference l k size reply = (λ h. (omega arith, omega arith), λ h. (omega arith, omega arith))
+
+pub numbers512 : Numbers512
+numbers512 = record {
+  head = refl;
+  tail = refl;
+  range = λ n. (λ e. (leb-true _ _ (and-l _ _ e), leb-true _ _ (and-r _ _ e)), λ w. and-i _ _ (le-leb _ _ (w .0)) (le-leb _ _ (w .1)));
+  first = refl;
+  blocks = λ n h. (omega arith, omega arith, omega arith);
+}
 
 pub editReadsBack : EditReadsBack
 editReadsBack g n h t d wide e =

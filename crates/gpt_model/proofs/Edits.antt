@@ -28,7 +28,7 @@ use Rattle.gpt_model.proofs.Entries.{same-sym, slot-unused, slot-used, 
 nonzero : (x : ℕ) → eqb x 0 ≡ false → 0 < x
 nonzero x e = let w : x ≢ 0 = eqb-false x 0 e in omega arith
 
-place-value : (o : Option ℕ) → isNone o ≡ false → o ≡ some (valueOf o)
+pub place-value : (o : Option ℕ) → isNone o ≡ false → o ≡ some (valueOf o)
 place-value none e = absurd (true≢false e)
 place-value (some s) e = refl
 

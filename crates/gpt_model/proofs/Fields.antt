@@ -79,13 +79,27 @@ module _ (type unique : List ℕ) (f l attributes : ℕ) (name : List ℕ) where
   unfolding _and_
   new-unique e = field-reads fs (zeros 128) 1 16 16 unique (omega arith) refl refl e (omega (arith, length-zeros 128))
 
-  pub new-first : f < 256 ^ 8 → firstOf new ≡ f
+  pub new-first-bytes : part 32 8 new ≡ le 8 f
   unfolding _and_
-  new-first h = ap unle (field-reads fs (zeros 128) 2 32 8 (le 8 f) (omega arith) refl refl (length-le 8 f) (omega (arith, length-zeros 128))) ∙ unle-le 8 f h
+  new-first-bytes = field-reads fs (zeros 128) 2 32 8 (le 8 f) (omega arith) refl refl (length-le 8 f) (omega (arith, length-zeros 128))
+
+  pub new-first : f < 256 ^ 8 → firstOf new ≡ f
+  new-first h = ap unle new-first-bytes ∙ unle-le 8 f h
+
+  pub new-last-bytes : part 40 8 new ≡ le 8 l
+  unfolding _and_
+  new-last-bytes = field-reads fs (zeros 128) 3 40 8 (le 8 l) (omega arith) refl refl (length-le 8 l) (omega (arith, length-zeros 128))
 
   pub new-last : l < 256 ^ 8 → lastOf new ≡ l
+  new-last h = ap unle new-last-bytes ∙ unle-le 8 l h
+
+  pub new-attributes : part 48 8 new ≡ le 8 attributes
   unfolding _and_
-  new-last h = ap unle (field-reads fs (zeros 128) 3 40 8 (le 8 l) (omega arith) refl refl (length-le 8 l) (omega (arith, length-zeros 128))) ∙ unle-le 8 l h
+  new-attributes = field-reads fs (zeros 128) 4 48 8 (le 8 attributes) (omega arith) refl refl (length-le 8 attributes) (omega (arith, length-zeros 128))
+
+  pub new-name : length name ≡ 36 → part 56 72 new ≡ nameBytes name
+  new-name e =
+      field-reads fs (zeros 128) 5 56 72 (nameBytes name) (omega arith) refl refl (length-name name ∙ omega arith) (omega (arith, length-zeros 128))
 
 -- ---- an entry whose last block is set, and one whose name is set
 

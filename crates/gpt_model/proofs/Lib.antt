@@ -1,4 +1,4 @@
--- Laws that the crates above cite, and the theorems (Demand3, Touches, SameSize).
+-- Laws that the crates above cite, and the theorems (Demand3, Touches, SameSize; over bytes StoredTable to StoredRepair).
 pub mod Room
 pub mod Counts
 pub mod Longest
@@ -15,3 +15,9 @@ pub mod Steps
 pub mod Demand3
 pub mod Touches
 pub mod SameSize
+pub mod StoredTable
+pub mod StoredHeader
+pub mod StoredCopies
+pub mod StoredFormat
+pub mod StoredEdits
+pub mod StoredRepair

@@ -4,12 +4,12 @@ use mathlib.Core.Logic.{_⊎_, inl, inr}
 use mathlib.Core.Bool.{Bool, true, false, not}
 use mathlib.Core.List.{List}
 use Prim.Native.Nat.{ℕ, zero, suc, _+_, _-_, _≤_, _<_, max}
-use native.Mathlib.Nat.{suc-add, zero-add, add-zero}
+use native.Mathlib.Nat.{le-refl, suc-add, zero-add, add-zero}
 use native.Mathlib.Decide.{decLe, ℕ-discrete}
 use native.Mathlib.Omega.{arith}
 use Rattle.octets.proofs.Bools.{bool-cases, not-t}
 use Rattle.gpt_model.specs.Table.{Slot}
-use Rattle.gpt_model.specs.Ranges.{free, runFrom, longest, longestFree}
+use Rattle.gpt_model.specs.Ranges.{inNone, runFrom, longest, longestFree}
 use Rattle.gpt_model.proofs.Room.{Room}
 
 -- ---- runFrom
@@ -134,14 +134,22 @@ pub room-fits : (t : List Slot) (first last size s : ℕ) → first ≤ s → Ro
 unfolding longestFree
 room-fits t first last size s h r = go (decLe s last)
   where
-    go : Dec (s ≤ last) → size ≤ longest (free t) first (suc last - first)
-    go (yes e) = let a = r .0 in longest-least (free t) first (suc last - first) s size h (omega arith) (λ b x y. ap not (r .1 b x y))
+    go : Dec (s ≤ last) → size ≤ longest (inNone t) first (suc last - first)
+    go (yes e) = let a = r .0 in longest-least (inNone t) first (suc last - first) s size h (omega arith) (λ b x y. ap not (r .1 b x y))
     go (no e) = let a = r .0 in omega arith
 
 pub fits-room : (t : List Slot) (first last size : ℕ) → 0 < size → size ≤ longestFree t first last → (s : ℕ) × (first ≤ s) × Room t last size s
 unfolding longestFree
 fits-room t first last size pos h =
-    let r = longest-stands (free t) first (suc last - first) size pos h in
+    let r = longest-stands (inNone t) first (suc last - first) size pos h in
     let a = r .1 in
     let b = r .2 in
     (r .0, a, (omega arith, λ c x y. not-t _ (r .3 c x y)))
+
+-- a run of that length stands somewhere
+pub longest-room : (t : List Slot) (first last : ℕ) → first ≤ suc last → (s : ℕ) × (first ≤ s) × Room t last (longestFree t first last) s
+longest-room t first last h = go (ℕ-discrete (longestFree t first last) 0)
+  where
+    go : Dec (longestFree t first last ≡ 0) → (s : ℕ) × (first ≤ s) × Room t last (longestFree t first last) s
+    go (yes z) = (first, omega arith, (omega arith, λ b x y. absurd (omega arith)))
+    go (no z) = fits-room t first last (longestFree t first last) (omega arith) (le-refl _)

@@ -10,7 +10,7 @@ use native.Mathlib.Omega.{arith}
 use borrow.Author.Tests.{leb-true, le-leb}
 use Rattle.octets.proofs.Bools.{and-l, and-r, and-i, bool-cases, not-t, clash, some-none, option-cases}
 use Rattle.gpt_model.specs.Table.{Slot, vacant, spans}
-use Rattle.gpt_model.specs.Ranges.{inside, lies, free, allFrom, roomAt, firstFrom, place}
+use Rattle.gpt_model.specs.Ranges.{inside, lies, inNone, allFrom, roomAt, firstFrom, place}
 
 -- ---- a block in a range
 
@@ -90,19 +90,19 @@ firstFrom-some p lo (suc k) s e = go (bool-cases (p lo)) (firstFrom-some p (suc 
 
 -- ---- room
 
--- the blocks s to s + size − 1 are usable up to last, and free
+-- the blocks s to s + size − 1 end at last or before, and each lies in no partition
 abbrev pub Room : List Slot → ℕ → ℕ → ℕ → Type 0
 Room t last size s = (s + size ≤ suc last) × ((b : ℕ) → s ≤ b → b < s + size → lies t b ≡ false)
-
-pub room-get : (t : List Slot) (last size s : ℕ) → roomAt t last size s ≡ true → Room t last size s
-unfolding roomAt
-room-get t last size s e =
-    (leb-true _ _ (and-l _ _ e), λ b h g. not-t _ (allFrom-get (free t) s size (and-r _ _ e) b h g))
 
 pub room-make : (t : List Slot) (last size s : ℕ) → Room t last size s → roomAt t last size s ≡ true
 unfolding roomAt
 room-make t last size s r =
-    and-i _ _ (le-leb _ _ (r .0)) (allFrom-make (free t) s size (λ b h g. ap not (r .1 b h g)))
+    and-i _ _ (le-leb _ _ (r .0)) (allFrom-make (inNone t) s size (λ b h g. ap not (r .1 b h g)))
+
+pub room-get : (t : List Slot) (last size s : ℕ) → roomAt t last size s ≡ true → Room t last size s
+unfolding roomAt
+room-get t last size s e =
+    (leb-true _ _ (and-l _ _ e), λ b h g. not-t _ (allFrom-get (inNone t) s size (and-r _ _ e) b h g))
 
 -- none: no start at all has room
 pub place-none : (t : List Slot) (first last size : ℕ) → 0 < size → place t first last size ≡ none

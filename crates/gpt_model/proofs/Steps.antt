@@ -77,13 +77,13 @@ kept g n r es w v =
 
 -- an edit that no row refuses: the entry that it writes fits, and both copies hold the edited table
 module _ (g : Shape) (wide : 92 ≤ g .block) (n : ℕ) (h t : List ℕ) (d : Edit) (e : refusal (rowsOf g n h t (edit d)) ≡ none) where
-  lens : (length h ≡ lentBytes g primary) × (length t ≡ lentBytes g backup) × (lengthsOf d ≡ true)
+  pub lens : (length h ≡ lentBytes g primary) × (length t ≡ lentBytes g backup) × (lengthsOf d ≡ true)
   lens = row1 g n h t (lengthsOf d) (open-read g n h t d (edit-open g n h t d e))
 
   one : state g n h t ≡ 1
   one = row11 g n h t d (edit-open g n h t d e)
 
-  len-table : length (tableOf g n h t) ≡ 16384
+  pub len-table : length (tableOf g n h t) ≡ 16384
   len-table = ap length (one-primary g n h t one) ∙ length-entries g wide primary h (lens .0)
 
   good : goodTable (g .first) (lastUsable g n) (tableOf g n h t) ≡ true

@@ -12,7 +12,7 @@ use lib.ListN.{length, getD}
 use Rattle.octets.proofs.Bools.{bool-cases, clash}
 use Rattle.octets.proofs.Tests.{any-get, any-make}
 use Rattle.gpt_model.specs.Table.{Slot, vacant, spans}
-use Rattle.gpt_model.specs.Ranges.{inside, lies, free, place, countFrom, freeCount, longest, longestFree}
+use Rattle.gpt_model.specs.Ranges.{inside, lies, inNone, place, countFrom, freeCount, longest, longestFree}
 use Rattle.gpt_model.proofs.Room.{Room, place-is, place-is-none, inside-make, inside-get, inside-vacant}
 use Rattle.gpt_model.proofs.Counts.{count-false, count-true, count-add}
 use Rattle.gpt_model.proofs.Longest.{longest-skip, longest-gap}
@@ -132,10 +132,10 @@ max-assoc x y z = omega arith
 -- ---- counting: from a on, k blocks are left
 module _ (s : List Slot) (first last : ℕ) where
   abbrev pub Counted : ℕ → ℕ → Type 0
-  Counted n a = n + countFrom (free s) a (suc last - a) ≡ freeCount s first last
+  Counted n a = n + countFrom (inNone s) a (suc last - a) ≡ freeCount s first last
 
   abbrev pub Longest : ℕ → ℕ → Type 0
-  Longest m a = max m (longest (free s) a (suc last - a)) ≡ longestFree s first last
+  Longest m a = max m (longest (inNone s) a (suc last - a)) ≡ longestFree s first last
 
   pub counted-start : Counted 0 first
   unfolding freeCount
@@ -149,29 +149,29 @@ module _ (s : List Slot) (first last : ℕ) where
   counted-over n a x xl ax h f =
       let k : suc last - a ≡ (x + 1 - a) + (suc last - (x + 1)) = omega arith in
       let e : a + (x + 1 - a) ≡ x + 1 = omega arith in
-      let p = ap (countFrom (free s) a) k in
-      let q = count-add (free s) a (x + 1 - a) (suc last - (x + 1)) in
-      let z = count-false (free s) a (x + 1 - a) (λ b u v. ap not (f b u (omega arith))) in
-      let w = ap (λ (y : ℕ). countFrom (free s) y (suc last - (x + 1))) e in
+      let p = ap (countFrom (inNone s) a) k in
+      let q = count-add (inNone s) a (x + 1 - a) (suc last - (x + 1)) in
+      let z = count-false (inNone s) a (x + 1 - a) (λ b u v. ap not (f b u (omega arith))) in
+      let w = ap (λ (y : ℕ). countFrom (inNone s) y (suc last - (x + 1))) e in
       omega arith
 
   pub counted-gap : (n a g : ℕ) → a ≤ g → g ≤ last + 1 → Counted n a → ((c : ℕ) → a ≤ c → c < g → lies s c ≡ false) → Counted (n + (g - a)) g
   counted-gap n a g ag gl h f =
       let k : suc last - a ≡ (g - a) + (suc last - g) = omega arith in
       let e : a + (g - a) ≡ g = omega arith in
-      let p = ap (countFrom (free s) a) k in
-      let q = count-add (free s) a (g - a) (suc last - g) in
-      let z = count-true (free s) a (g - a) (λ b u v. ap not (f b u (omega arith))) in
-      let w = ap (λ (y : ℕ). countFrom (free s) y (suc last - g)) e in
+      let p = ap (countFrom (inNone s) a) k in
+      let q = count-add (inNone s) a (g - a) (suc last - g) in
+      let z = count-true (inNone s) a (g - a) (λ b u v. ap not (f b u (omega arith))) in
+      let w = ap (λ (y : ℕ). countFrom (inNone s) y (suc last - g)) e in
       omega arith
 
   pub longest-over : (m a x : ℕ) → x ≤ last → a ≤ x → Longest m a → ((c : ℕ) → a ≤ c → c ≤ x → lies s c ≡ true) → Longest m (x + 1)
   longest-over m a x xl ax h f =
       let k : suc last - a ≡ (x + 1 - a) + (suc last - (x + 1)) = omega arith in
       let e : a + (x + 1 - a) ≡ x + 1 = omega arith in
-      let p = ap (longest (free s) a) k in
-      let q = longest-skip (free s) a (x + 1 - a) (suc last - (x + 1)) (λ b u v. ap not (f b u (omega arith))) in
-      let w = ap (λ (y : ℕ). longest (free s) y (suc last - (x + 1))) e in
+      let p = ap (longest (inNone s) a) k in
+      let q = longest-skip (inNone s) a (x + 1 - a) (suc last - (x + 1)) (λ b u v. ap not (f b u (omega arith))) in
+      let w = ap (λ (y : ℕ). longest (inNone s) y (suc last - (x + 1))) e in
       ap (max m) (sym (p ∙ q ∙ w)) ∙ h
 
   pub longest-step : (m a g : ℕ) → a ≤ g → g ≤ last + 1 → Longest m a → ((c : ℕ) → a ≤ c → c < g → lies s c ≡ false)
@@ -179,15 +179,15 @@ module _ (s : List Slot) (first last : ℕ) where
   longest-step m a g ag gl h f stop =
       let k : suc last - a ≡ (g - a) + (suc last - g) = omega arith in
       let e : a + (g - a) ≡ g = omega arith in
-      let p = ap (longest (free s) a) k in
-      let q = longest-gap (free s) a (g - a) (suc last - g) (λ b u v. ap not (f b u (omega arith))) (λ u. ap (free s) e ∙ ap not (stop (omega arith))) in
-      let w = ap (λ (y : ℕ). max (g - a) (longest (free s) y (suc last - g))) e in
-      max-assoc m (g - a) (longest (free s) g (suc last - g)) ∙ sym (ap (max m) (p ∙ q ∙ w)) ∙ h
+      let p = ap (longest (inNone s) a) k in
+      let q = longest-gap (inNone s) a (g - a) (suc last - g) (λ b u v. ap not (f b u (omega arith))) (λ u. ap (inNone s) e ∙ ap not (stop (omega arith))) in
+      let w = ap (λ (y : ℕ). max (g - a) (longest (inNone s) y (suc last - g))) e in
+      max-assoc m (g - a) (longest (inNone s) g (suc last - g)) ∙ sym (ap (max m) (p ∙ q ∙ w)) ∙ h
 
   pub counted-end : (n a : ℕ) → last < a → Counted n a → n ≡ freeCount s first last
   unfolding countFrom
-  counted-end n a h e = let k : suc last - a ≡ 0 = omega arith in omega (arith, e, ap (countFrom (free s) a) k)
+  counted-end n a h e = let k : suc last - a ≡ 0 = omega arith in omega (arith, e, ap (countFrom (inNone s) a) k)
 
   pub longest-end : (m a : ℕ) → last < a → Longest m a → m ≡ longestFree s first last
   unfolding longest
-  longest-end m a h e = let k : suc last - a ≡ 0 = omega arith in omega (arith, e, ap (longest (free s) a) k)
+  longest-end m a h e = let k : suc last - a ≡ 0 = omega arith in omega (arith, e, ap (longest (inNone s) a) k)

@@ -64,6 +64,17 @@ refused-row g n h t c k a = go (refusal (rowsOf g n h t c)) refl
         let b : refused j ≡ refused k = ap (λ (o : Out). o .answer) (sym (step-refused g n h t c j e)) ∙ a in
         cc
 
+-- and where it is accepted no row holds
+pub accepted-none : (g : Shape) (n : ℕ) (h t : List ℕ) (c : Call) (values : List ℕ) → step g n h t c .answer ≡ accepted values → refusal (rowsOf g n h t c) ≡ none
+accepted-none g n h t c values a = go (refusal (rowsOf g n h t c)) refl
+  where
+    go : (q : Option ℕ) → refusal (rowsOf g n h t c) ≡ q → q ≡ none
+    go none e = refl
+    go (some k) e =
+        let b = ap (λ (o : Out). o .answer) (step-refused g n h t c k e) in
+        let z : _≡_ {A = ℕ} 0 1 = cc in
+        absurd (omega arith)
+
 -- in state 1 rows 10 and 11 do not hold
 module _ (g : Shape) (n : ℕ) (h t : List ℕ) (one : state g n h t ≡ 1) where
   none10 : (c : Call) → any (λ r. eqb 10 (r .number) and r .holds) (rowsOf g n h t c) ≡ false

@@ -45,16 +45,21 @@ module _ (g : Shape) (n : ℕ) (side : Side) (guid es : List ℕ) (lg : length g
           (refl, (refl, (refl, (refl, (refl, (refl, (refl, (refl, (refl, (refl, (omega arith, (omega arith, (omega arith, (omega arith, tt))))))))))))))
           ∙ put-all _ xs (simp (length-append, lg) (omega arith))
 
+-- another CRC in its field
+pub crc-put : (g : Shape) (n : ℕ) (side : Side) (guid es : List ℕ) (old crc : ℕ)
+    → put 16 (le 4 crc) (headerWith g n side guid es old) ≡ headerWith g n side guid es crc
+unfolding headerWith _and_
+crc-put g n side guid es old crc =
+    let front = writeAll (take 3 (headerFields g n side guid es old)) (zeros 92) in
+    let rest = drop 4 (headerFields g n side guid es old) in
+    put-before rest (le 4 crc) (put 16 (le 4 old) front) 16 4 (length-le 4 crc) refl
+    ∙ ap (writeAll rest) (put-over (le 4 old) (le 4 crc) front 16 (length-le 4 _ ∙ sym (length-le 4 _)))
+
 -- its CRC is stored last
 pub header-stored : (g : Shape) (n : ℕ) (side : Side) (guid es : List ℕ)
     → put 16 (le 4 (headerCrc g n side guid es)) (headerWith g n side guid es 0) ≡ header g n side guid es
-unfolding header headerWith _and_
-header-stored g n side guid es =
-    let crc = headerCrc g n side guid es in
-    let front = writeAll (take 3 (headerFields g n side guid es 0)) (zeros 92) in
-    let rest = drop 4 (headerFields g n side guid es 0) in
-    put-before rest (le 4 crc) (put 16 (le 4 0) front) 16 4 (length-le 4 crc) refl
-    ∙ ap (writeAll rest) (put-over (le 4 0) (le 4 crc) front 16 (length-le 4 _ ∙ sym (length-le 4 _)))
+unfolding header
+header-stored g n side guid es = crc-put g n side guid es 0 (headerCrc g n side guid es)
 
 -- ---- one entry
 

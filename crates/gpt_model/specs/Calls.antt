@@ -9,7 +9,8 @@ use Rattle.octets.specs.Tests.{_and_, _or_, any, findIx}
 use Rattle.octets.specs.Rows.{Row, row, refusal}
 use Rattle.octets.specs.Bytes.{le, put, zeros, isZero, same, putChunk}
 use Rattle.gpt_model.specs.Table.{vacant, entryBytes, slotCount, tableBytes, uniqueOf, firstOf, nameBytes, entryWith, unused, entries, slots}
-use Rattle.gpt_model.specs.Disk.{Shape, lastUsable, inRange, primary, backup, lentBytes, guidIn, entriesIn, state, tableOf, withTable, withCopy, freshHead, freshTail}
+use Rattle.gpt_model.specs.Disk.{Shape, lastUsable, inRange, primary, backup, lentBytes, guidIn, entriesIn, state, tableOf}
+use Rattle.gpt_model.specs.Disk.{withTable, withCopy, freshHead, freshTail}
 use Rattle.gpt_model.specs.Ranges.{roomAt, place, freeCount, longestFree}
 
 -- D15: Add is given type, unique GUID (16 stored bytes each), size in blocks, attributes and name (36 units). A slot is named by its number, from 1 on.
@@ -103,7 +104,8 @@ module _ (first last : ℕ) (es : List ℕ) where
   startOf size = valueOf (place (slots es) first last size)
 
   -- what an edit answers, and the one entry that it writes, counted from 0
-  -- D16: Delete zeroes the slot. D18: Resize sets the last block alone, to the size asked. D17: Rename sets the entry's 72 name bytes alone, to 36 given units.
+  -- D16: Delete zeroes the slot. D18: Resize sets the last block alone, to the size asked.
+  -- D17: Rename sets the entry's 72 name bytes alone, to 36 given units.
   abbrev pub change : Edit → Change
   change (add type unique size attributes name) = record {
     values = suc lowestUnused ∷ startOf size ∷ [];
@@ -155,7 +157,8 @@ module _ (g : Shape) (n : ℕ) (h t : List ℕ) where
   abbrev pub made : Call → Out
   made read = out (accepted (state g n h t ∷ [])) h t
   made freeCounts =
-      out (accepted (freeCount (slots (tableOf g n h t)) (g .first) (lastUsable g n) ∷ longestFree (slots (tableOf g n h t)) (g .first) (lastUsable g n) ∷ [])) h t
+      let t′ = slots (tableOf g n h t) in
+      out (accepted (freeCount t′ (g .first) (lastUsable g n) ∷ longestFree t′ (g .first) (lastUsable g n) ∷ [])) h t
   made repair = repaired (state g n h t)
   -- D23: Each edit changes that entry and the two CRCs, in both copies, and no other byte.
   made (edit d) =

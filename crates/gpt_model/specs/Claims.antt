@@ -8,11 +8,13 @@ use Prim.Native.Nat.{ℕ, suc, _+_, _-_, _*_, _≤_, _<_}
 use lib.ListN.{length, getD}
 use Rattle.octets.specs.Rows.{refusal}
 use Rattle.octets.specs.Bytes.{zeros, isZero}
-use Rattle.gpt_model.specs.Table.{entryBytes, firstOf, lastOf, unused, Slot, vacant, slotCount, tableBytes, slots}
-use Rattle.gpt_model.specs.Disk.{Shape, disk512, lastUsable, usable, inRange, Side, primary, backup, lentBytes, headerAt, entriesAt, headerBytes, state, lent, tableOf}
-use Rattle.gpt_model.specs.Ranges.{inside, lies, taken, freeCount, longestFree}
-use Rattle.gpt_model.specs.Calls.{Edit, add, delete, resize, rename, Call, repair, edit, refused, accepted, out, entryOf, addRows, change, edited, openRows, rowsOf, step, format}
-use Rattle.gpt_model.specs.Lists.{Run, run, answers, applied, begun, slotsOf, StartsAfresh}
+use Rattle.gpt_model.specs.Table.{entryBytes, uniqueOf, firstOf, lastOf, unused, Slot, vacant, slotCount, tableBytes, slots}
+use Rattle.gpt_model.specs.Disk.{Shape, disk512, lastUsable, usable, inRange, Side, primary, backup, entriesBlock, lentBytes, headerAt, entriesAt}
+use Rattle.gpt_model.specs.Disk.{headerBytes, state, lent, tableOf}
+use Rattle.gpt_model.specs.Ranges.{inside, lies, taken}
+use Rattle.gpt_model.specs.Calls.{Edit, add, delete, resize, rename, Call, read, freeCounts, repair, edit, refused, accepted, out}
+use Rattle.gpt_model.specs.Calls.{entryOf, addRows, change, edited, openRows, rowsOf, step, format}
+use Rattle.gpt_model.specs.Lists.{Ledger, sizeWas, bookEdit, Run, run, answers, applied, begun, slotsOf, StartsAfresh}
 
 -- ---- demand 3
 
@@ -32,7 +34,8 @@ pub record Sound (g : Shape) (n : ℕ) (r : Run) : Type 0 where
       → inside b (getD (slotsOf g n r) i vacant) ≡ true → inside b (getD (slotsOf g n r) j vacant) ≡ true → i ≡ j
   -- The blocks lying in partitions, counted one by one, equal all blocks granted by accepted calls less all given back.
   pub counted : taken (slotsOf g n r) (g .first) (lastUsable g n) + r .ledger .back ≡ r .ledger .granted
-  -- An add that comes next, once its earlier checks pass, is refused for room exactly when no run of as many free blocks as it asks exists, freed ones included.
+  -- An add that comes next, once its earlier checks pass, is refused for room exactly when no run of as many free blocks as it asks exists, freed ones
+  -- included.
   pub room : (type unique : List ℕ) (size attributes : ℕ) (name : List ℕ) → Passes g n r type unique size attributes name
       → (step g n (r .head) (r .tail) (edit (add type unique size attributes name)) .answer ≡ refused 25)
       ↔ ((s : ℕ) → ¬ FreeFrom g n (slotsOf g n r) size s)
@@ -64,7 +67,24 @@ Demand3At512 =
     → (cs : List Call)
     → (format disk512 n guid h t .answer ≡ accepted []) × Sound disk512 n (run disk512 n cs (begun (format disk512 n guid h t)))
 
--- ---- demand 3 is not empty. P2: These imposters are shut out: refusing all calls, a constant reply or no writes, doing only the first add, made-up free counts.
+-- The numbers of such a disk. Q2: N .. is 68 to 4,294,967,296. Q3: the head .. (17,408 bytes), and the tail .. (16,896 bytes).
+-- D1: first usable 34, last usable N−34. D2: entries from N−33. So N−67 blocks are usable.
+pub record Numbers512 : Type 0 where
+  pub head : lentBytes disk512 primary ≡ 17408
+  pub tail : lentBytes disk512 backup ≡ 16896
+  pub range : (n : ℕ) → (inRange disk512 n ≡ true) ↔ ((68 ≤ n) × (n ≤ 4294967296))
+  pub first : disk512 .first ≡ 34
+  pub blocks : (n : ℕ) → 68 ≤ n → (lastUsable disk512 n ≡ n - 34) × (entriesBlock disk512 backup n ≡ n - 33) × (usable disk512 n ≡ n - 67)
+
+-- D22: a resize grants or gives back the difference from it: what it grants gives nothing back, and what it gives back grants nothing
+abbrev pub BooksDifference : Type 0
+BooksDifference =
+    (l : Ledger) (k size reply : ℕ) → let m = bookEdit l (resize k size) reply in
+    (sizeWas l k ≤ size → (m .granted + sizeWas l k ≡ l .granted + size) × (m .back ≡ l .back))
+    × (size ≤ sizeWas l k → (m .granted ≡ l .granted) × (m .back + size ≡ l .back + sizeWas l k))
+
+-- ---- demand 3 is not empty. P2: These imposters are shut out: refusing all calls, a constant reply or no writes, doing only the first add, made-up free
+-- counts.
 
 -- slot k can be edited: its number is one of 1 to 128, and it is used
 abbrev pub UsedSlot : List ℕ → ℕ → Type 0
@@ -80,27 +100,44 @@ FitsAlone last es k size =
     let f = firstOf (entryOf es k) in
     (f + size ≤ suc last) × ((b i : ℕ) → f ≤ b → b < f + size → i < slotCount → i ≢ k - 1 → inside b (getD (slots es) i vacant) ≡ false)
 
+-- what an add is given is right, and the table has a slot for it: each line denies one row
+pub record NewOk (es type unique : List ℕ) (size : ℕ) (name : List ℕ) : Type 0 where
+  pub lengths : (length type ≡ 16) × (length unique ≡ 16) × (length name ≡ 36)
+  pub blocks : size ≢ 0
+  pub typed : isZero type ≡ false
+  pub own : (isZero unique ≡ false) × ((k : ℕ) → UsedSlot es k → uniqueOf (entryOf es k) ≢ unique)
+  pub named : NameOk name
+  pub slot : (k : ℕ) × (1 ≤ k) × (k ≤ slotCount) × (unused (entryOf es k) ≡ true)
+
 -- an edit that answers nothing else is accepted when it comes next
 abbrev pub Accepts : Shape → ℕ → Run → Edit → Type 0
 Accepts g n r d = step g n (r .head) (r .tail) (edit d) .answer ≡ accepted []
 
 pub record Serves (g : Shape) (n : ℕ) (es : List ℕ) (r : Run) : Type 0 where
-  -- the disk reads as state 1, with the table es, and rows 10 and 11 do not hold
+  -- the disk reads as state 1, with the table es, and repair finds state 1 and changes nothing
   pub reads : state g n (r .head) (r .tail) ≡ 1
   pub table : tableOf g n (r .head) (r .tail) ≡ es
+  pub reading : step g n (r .head) (r .tail) read .answer ≡ accepted (1 ∷ [])
+  pub repairing : step g n (r .head) (r .tail) repair ≡ out (accepted (1 ∷ [])) (r .head) (r .tail)
+  -- rows 10 and 11 do not hold
   pub not10 : (c : Call) → step g n (r .head) (r .tail) c .answer ≢ refused 10
   pub not11 : (c : Call) → step g n (r .head) (r .tail) c .answer ≢ refused 11
-  -- free counts count the blocks of the entries
-  pub free : freeCount (slotsOf g n r) (g .first) (lastUsable g n) + taken (slotsOf g n r) (g .first) (lastUsable g n) ≡ usable g n
-  -- an add whose earlier checks pass is accepted exactly when its size is at most the longest run
+  -- (D12) free counts: the usable blocks that lie in no partition, and the longest run of such: one of that length stands somewhere, and no longer one does
+  pub counts : (free : ℕ) × (longest : ℕ) × (step g n (r .head) (r .tail) freeCounts .answer ≡ accepted (free ∷ longest ∷ []))
+      × (free + taken (slotsOf g n r) (g .first) (lastUsable g n) ≡ usable g n)
+      × ((s : ℕ) × FreeFrom g n (slotsOf g n r) longest s)
+      × ((size s : ℕ) → FreeFrom g n (slotsOf g n r) size s → size ≤ longest)
+  -- an add's checks before the one for room pass exactly when what it is given is right and a slot is unused
+  pub passes : (type unique : List ℕ) (size attributes : ℕ) (name : List ℕ) → Passes g n r type unique size attributes name ↔ NewOk es type unique size name
+  -- and then it is accepted exactly when a run of as many free blocks as it asks exists
   pub fits : (type unique : List ℕ) (size attributes : ℕ) (name : List ℕ) → Passes g n r type unique size attributes name
       → (step g n (r .head) (r .tail) (edit (add type unique size attributes name)) .answer
       ≡ accepted (change (g .first) (lastUsable g n) es (add type unique size attributes name) .values))
-      ↔ (size ≤ longestFree (slotsOf g n r) (g .first) (lastUsable g n))
+      ↔ ((s : ℕ) × FreeFrom g n (slotsOf g n r) size s)
   -- a delete is accepted exactly when its slot is used
   pub deletes : (k : ℕ) → Accepts g n r (delete k) ↔ UsedSlot es k
-  -- a rename to 36 units, exactly when its slot is used and no nonzero unit comes after a zero one
-  pub renames : (k : ℕ) (name : List ℕ) → length name ≡ 36 → Accepts g n r (rename k name) ↔ (UsedSlot es k × NameOk name)
+  -- a rename, exactly when it has 36 units, its slot is used and no nonzero unit comes after a zero one
+  pub renames : (k : ℕ) (name : List ℕ) → Accepts g n r (rename k name) ↔ ((length name ≡ 36) × UsedSlot es k × NameOk name)
   -- a resize, exactly when its slot is used, its size is not zero, and no block of the new range lies past N−34 or in another partition
   pub resizes : (k size : ℕ) → Accepts g n r (resize k size) ↔ (UsedSlot es k × ((0 < size) × FitsAlone (lastUsable g n) es k size))
 
@@ -110,6 +147,14 @@ NotEmpty =
     (g : Shape) (n : ℕ) (guid h t : List ℕ) → Formats g n guid h t → (cs : List Call)
     → let r = begun (format g n guid h t) in
     Serves g n (applied (g .first) (lastUsable g n) (zeros tableBytes) cs (answers g n cs r)) (run g n cs r)
+
+-- ---- demand 1. R1: A refusal returns its number alone .. and changes no lent byte.
+
+abbrev pub RefusedStays : Type 0
+RefusedStays =
+    (g : Shape) (n k : ℕ) (guid h t : List ℕ) (c : Call)
+    → (step g n h t c .answer ≡ refused k → step g n h t c ≡ out (refused k) h t)
+    × (format g n guid h t .answer ≡ refused k → format g n guid h t ≡ out (refused k) h t)
 
 -- ---- demand 2: What is written reads back as the same table
 
@@ -140,7 +185,8 @@ EditTouches =
     → Outside (headerAt g side + 16) 4 k → Outside (headerAt g side + 88) 4 k
     → getD (lent side (o .head) (o .tail)) k 0 ≡ getD (lent side h t) k 0)
 
--- (D18) a resize to the present size is accepted and changes no byte, where the head's list holds bytes; the copies are both good and the same, and the slot is used
+-- (D18) a resize to the present size is accepted and changes no byte, where the head's list holds bytes, the copies are both good and the same and the
+-- slot is used
 abbrev pub ResizeToSame : Type 0
 ResizeToSame =
     (g : Shape) (n : ℕ) (h t : List ℕ) (k : ℕ) → headerBytes ≤ g .block → ((i : ℕ) → getD h i 0 < 256) → refusal (rowsOf g n h t (edit (delete k))) ≡ none

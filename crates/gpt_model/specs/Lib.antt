@@ -5,3 +5,4 @@ pub mod Ranges
 pub mod Calls
 pub mod Lists
 pub mod Claims
+pub mod Stored

@@ -15,20 +15,20 @@ inside b (spans f l) = leb f b and leb b l
 abbrev pub lies : List Slot → ℕ → Bool
 lies t b = any (inside b) t
 
--- D21: usable blocks (34 to N−34) in none are free, consecutive ones a run.
-abbrev pub free : List Slot → ℕ → Bool
-free t b = not (lies t b)
+-- the block lies in no partition, whether usable or not. D21: usable blocks (34 to N−34) in none are free, consecutive ones a run.
+abbrev pub inNone : List Slot → ℕ → Bool
+inNone t b = not (lies t b)
 
--- ---- room: a run of enough free blocks; placing, row 25 and demand 3 go by this one definition
+-- ---- room: a run of enough free blocks; placing and row 25 go by this one definition, and demand 3 says over blocks what it must be
 
 -- p holds of the k numbers from lo on
 unfoldable pub allFrom : (ℕ → Bool) → ℕ → ℕ → Bool
 allFrom p lo zero = true
 allFrom p lo (suc k) = p lo and allFrom p (suc lo) k
 
--- the blocks s to s + size − 1 end at last or before, and all are free
+-- the blocks s to s + size − 1 end at last or before, and lie in no partition
 unfoldable pub roomAt : List Slot → ℕ → ℕ → ℕ → Bool
-roomAt t last size s = leb (s + size) (suc last) and allFrom (free t) s size
+roomAt t last size s = leb (s + size) (suc last) and allFrom (inNone t) s size
 
 -- the lowest of the k numbers from lo on of which p holds
 unfoldable pub firstFrom : (ℕ → Bool) → ℕ → ℕ → Option ℕ
@@ -56,7 +56,7 @@ taken t first last = countFrom (lies t) first (suc last - first)
 
 -- D12: usable blocks in no partition
 unfoldable pub freeCount : List Slot → ℕ → ℕ → ℕ
-freeCount t first last = countFrom (free t) first (suc last - first)
+freeCount t first last = countFrom (inNone t) first (suc last - first)
 
 -- of how many of the k numbers from lo on p holds before it fails
 unfoldable pub runFrom : (ℕ → Bool) → ℕ → ℕ → ℕ
@@ -70,4 +70,4 @@ longest p lo (suc k) = max (runFrom p lo (suc k)) (longest p (suc lo) k)
 
 -- D12: and the longest such run (0 if none)
 unfoldable pub longestFree : List Slot → ℕ → ℕ → ℕ
-longestFree t first last = longest (free t) first (suc last - first)
+longestFree t first last = longest (inNone t) first (suc last - first)

@@ -14,7 +14,7 @@ use borrow.Author.Tests.{lt-leb, le-leb, leb-true}
 use Rattle.octets.specs.Tests.{_and_}
 use Rattle.octets.proofs.Bools.{and-l, and-r, and-i, and-f, and-t, bool-cases, clash}
 use Rattle.octets.proofs.Tests.{any-make, any-false}
-use Rattle.gpt_model.specs.Ranges.{inside, lies, free, roomAt}
+use Rattle.gpt_model.specs.Ranges.{inside, lies, inNone, roomAt}
 use Rattle.gpt_model.specs.Table.{Slot, vacant, spans}
 use Rattle.gpt_model.proofs.Room.{Room, inside-make, inside-get, room-get, room-make}
 use Rattle.gpt_table.specs.Gaps.{Passed, Next, Full, Clear, Stands, taken, gap}

@@ -8,7 +8,7 @@ use native.Mathlib.Nat.{le-refl}
 use native.Mathlib.Omega.{arith}
 use lib.Dec.{leb}
 use Rattle.octets.specs.Tests.{_and_}
-use Rattle.gpt_model.specs.Ranges.{free, allFrom, firstFrom, roomAt, place, countFrom, freeCount, longest as longestOf, longestFree}
+use Rattle.gpt_model.specs.Ranges.{inNone, allFrom, firstFrom, roomAt, place, countFrom, freeCount, longest as longestOf, longestFree}
 use Rattle.gpt_model.specs.Table.{Slot}
 use Rattle.gpt_model.proofs.Walk.{Low, low-start, low-over, low-gap, low-found, low-none, Counted, Longest, counted-start, longest-start, counted-over, longest-over, counted-gap, longest-step, counted-end, longest-end}
 use Rattle.gpt_table.specs.Answers.{freeOf}
@@ -16,7 +16,7 @@ use Rattle.gpt_table.specs.Gaps.{Full, Clear}
 
 -- ---- the same blocks are free
 
-module _ (s u : List Slot) (e : free s ≡ free u) (last : ℕ) where
+module _ (s u : List Slot) (e : inNone s ≡ inNone u) (last : ℕ) where
   pub room-same : (size : ℕ) {a b : ℕ} → a ≡ b → roomAt s last size a ≡ roomAt u last size b
   unfolding roomAt
   room-same size q = ap₂ (λ (p : ℕ → Bool) (x : ℕ). leb (x + size) (suc last) and allFrom p x size) e q

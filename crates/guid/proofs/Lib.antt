@@ -4,3 +4,4 @@ pub mod Text
 pub mod Calls
 pub mod Table
 pub mod Promises
+pub mod Stands

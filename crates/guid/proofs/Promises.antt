@@ -19,7 +19,7 @@ use Rattle.octets.proofs.Tests.{all-append, all-take, all-drop, all-reverse}
 use Rattle.guid.specs.Hex.{isDigit, bytesOf, digitsOf, upper}
 use Rattle.guid.specs.Text.{digitsIn, isGuidText, grouped, reordered, storedOf, textOf}
 use Rattle.guid.specs.Calls.{outcome, readRows, readOf, writeRows, writeOf}
-use Rattle.guid.specs.Promises.{areBytes, WrittenReadsBack, ReadWritesUpper}
+use Rattle.guid.specs.Promises.{areBytes, WrittenReadsBack, ReadWritesUpper, RefusedStays}
 use Rattle.guid.proofs.Hex.{length-digits, digits-are, bytes-digits, length-bytes, digits-bytes}
 use Rattle.guid.proofs.Text.{length-reordered, reordered-twice, digits-grouped, dashes-grouped, length-grouped, upper-grouped, length-digitsIn, grouped-digits}
 use Rattle.guid.proofs.Calls.{text-length, text-dashes, text-all, length-stored, length-text, read-done, write-done}
@@ -44,7 +44,7 @@ module _ (g : List ℕ) (l : length g ≡ 16) (e : areBytes g ≡ true) where
   digits-32 : length (digitsOf (reordered g)) ≡ 32
   digits-32 = let n = length-reordered g l in length-digits (reordered g) ∙ omega arith
 
-  text-is : isGuidText (textOf g) ≡ true
+  pub text-is : isGuidText (textOf g) ≡ true
   unfolding isGuidText textOf
   text-is =
       let ds = digitsOf (reordered g) in
@@ -52,7 +52,7 @@ module _ (g : List ℕ) (l : length g ≡ 16) (e : areBytes g ≡ true) where
       (and-i _ _ (ap (λ (xs : List ℕ). same xs (ascii "----")) (dashes-grouped ds digits-32) ∙ same-refl (ascii "----"))
       (ap (all isDigit) (digits-grouped ds digits-32) ∙ digits-are (reordered g) (bytes-reordered g e)))
 
-  stored-text : storedOf (textOf g) ≡ g
+  pub stored-text : storedOf (textOf g) ≡ g
   unfolding storedOf textOf
   stored-text =
       ap (λ (xs : List ℕ). reordered (bytesOf xs)) (digits-grouped (digitsOf (reordered g)) digits-32)
@@ -61,7 +61,7 @@ module _ (g : List ℕ) (l : length g ≡ 16) (e : areBytes g ≡ true) where
 
 -- ---- the bytes of a text are written in upper case
 
-text-stored : (t : List ℕ) → isGuidText t ≡ true → textOf (storedOf t) ≡ map upper t
+pub text-stored : (t : List ℕ) → isGuidText t ≡ true → textOf (storedOf t) ≡ map upper t
 unfolding textOf storedOf
 text-stored t e =
     let l = text-length t e in
@@ -84,30 +84,39 @@ buffer-is none new old e = refl
 buffer-is (some k) new old e = absurd (some-none e)
 
 module _ (t g : List ℕ) (e : readOf t g .number ≡ none) where
-  read-rows : refusal (readRows t g) ≡ none
+  pub read-rows : refusal (readRows t g) ≡ none
   unfolding readOf
   read-rows = sym (number-is (refusal (readRows t g)) (storedOf t) g) ∙ e
 
-  read-is-text : isGuidText t ≡ true
+  pub read-is-text : isGuidText t ≡ true
   read-is-text = not-f _ (passes 30 (readRows t g) read-rows)
 
-  read-buffer : readOf t g .buffer ≡ storedOf t
+  pub read-buffer : readOf t g .buffer ≡ storedOf t
   unfolding readOf
   read-buffer = buffer-is (refusal (readRows t g)) (storedOf t) g read-rows
 
 module _ (g t : List ℕ) (e : writeOf g t .number ≡ none) where
-  write-rows : refusal (writeRows g t) ≡ none
+  pub write-rows : refusal (writeRows g t) ≡ none
   unfolding writeOf
   write-rows = sym (number-is (refusal (writeRows g t)) (textOf g) t) ∙ e
 
-  write-length : length g ≡ 16
+  pub write-length : length g ≡ 16
   write-length = eqb-true (length g) 16 (not-f _ (or-false-l _ _ (passes 1 (writeRows g t) write-rows)))
 
-  write-buffer : writeOf g t .buffer ≡ textOf g
+  pub write-buffer : writeOf g t .buffer ≡ textOf g
   unfolding writeOf
   write-buffer = buffer-is (refusal (writeRows g t)) (textOf g) t write-rows
 
 -- ---- the promises
+
+stays : (r : Option ℕ) (new old : List ℕ) (k : ℕ) → outcome r new old .number ≡ some k → outcome r new old .buffer ≡ old
+unfolding outcome
+stays none new old k e = absurd (some-none (sym e))
+stays (some j) new old k e = refl
+
+pub refused-stays : RefusedStays
+unfolding readOf writeOf
+refused-stays text guid k = (stays (refusal (readRows text guid)) (storedOf text) guid k, stays (refusal (writeRows guid text)) (textOf guid) text k)
 
 pub written-reads-back : WrittenReadsBack
 written-reads-back guid text buffer b e n =

@@ -1,14 +1,17 @@
--- What follows from the definitions for all GUIDs and all texts; proved in proofs/Promises.antt.
+-- What follows from the definitions for all GUIDs and all texts; proved in proofs/Promises.antt and proofs/Stands.antt.
 use mathlib.Core.Path.{_≡_}
+use mathlib.Core.Logic.{_⊎_, _≢_, _↔_}
 use mathlib.Core.Bool.{Bool, true}
-use mathlib.Core.List.{List, map}
-use mathlib.Core.Option.{none}
-use Prim.Native.Nat.{ℕ}
+use mathlib.Core.List.{List, [], _∷_, map}
+use mathlib.Core.Option.{none, some}
+use Prim.Native.Nat.{ℕ, _+_, _-_, _*_, _≤_, _<_}
+use Prim.Native.Char.{code}
 use lib.Dec.{ltb}
-use lib.ListN.{length}
+use lib.ListN.{length, getD}
+use Rattle.octets.specs.Ascii.{ascii}
 use Rattle.octets.specs.Tests.{all}
 use Rattle.guid.specs.Hex.{upper}
-use Rattle.guid.specs.Calls.{readOf, writeOf}
+use Rattle.guid.specs.Calls.{readOf, readTypeOf, writeOf}
 
 -- every number is a byte
 abbrev pub areBytes : List ℕ → Bool
@@ -25,3 +28,59 @@ abbrev pub ReadWritesUpper : Type 0
 ReadWritesUpper =
     (text guid buffer : List ℕ) → readOf text guid .number ≡ none → length buffer ≡ 36
     → writeOf (readOf text guid .buffer) buffer ≡ record { number = none; buffer = map upper text }
+
+-- R1: A refusal returns its number alone .. and changes no lent byte.
+abbrev pub RefusedStays : Type 0
+RefusedStays =
+    (text guid : List ℕ) (k : ℕ)
+    → (readOf text guid .number ≡ some k → readOf text guid .buffer ≡ guid) × (writeOf guid text .number ≡ some k → writeOf guid text .buffer ≡ text)
+
+-- ---- what a text and its stored bytes have to do with each other, character by character
+
+-- G1: hex of either case: the character c is the digit of value v
+abbrev pub Digit : ℕ → ℕ → Type 0
+Digit c v = ((v < 10) × (c ≡ code "0" + v)) ⊎ ((10 ≤ v) × (v < 16) × ((c ≡ code "A" + (v - 10)) ⊎ (c ≡ code "a" + (v - 10))))
+
+-- the two characters from p on are the digits of the byte b, the higher first
+abbrev pub Pair : List ℕ → ℕ → ℕ → Type 0
+Pair text p b = (high : ℕ) × (low : ℕ) × Digit (getD text p 0) high × Digit (getD text (p + 1) 0) low × (b ≡ 16 * high + low)
+
+-- where the sixteen pairs of digits stand in the text (G1: Groups 8-4-4-4-12), and which stored byte each is (G2: The first three groups are stored reversed)
+abbrev pub inText : List ℕ
+inText = 0 ∷ 2 ∷ 4 ∷ 6 ∷ 9 ∷ 11 ∷ 14 ∷ 16 ∷ 19 ∷ 21 ∷ 24 ∷ 26 ∷ 28 ∷ 30 ∷ 32 ∷ 34 ∷ []
+
+abbrev pub inBytes : List ℕ
+inBytes = 3 ∷ 2 ∷ 1 ∷ 0 ∷ 5 ∷ 4 ∷ 7 ∷ 6 ∷ 8 ∷ 9 ∷ 10 ∷ 11 ∷ 12 ∷ 13 ∷ 14 ∷ 15 ∷ []
+
+-- the text stands for the bytes
+pub record StandsFor (text bytes : List ℕ) : Type 0 where
+  -- G1: exactly 36 bytes
+  pub size : (length text ≡ 36) × (length bytes ≡ 16)
+  pub dashes : (getD text 8 0 ≡ code "-") × (getD text 13 0 ≡ code "-") × (getD text 18 0 ≡ code "-") × (getD text 23 0 ≡ code "-")
+  pub pairs : (k : ℕ) → k < 16 → Pair text (getD inText k 0) (getD bytes (getD inBytes k 0) 0)
+
+-- a text is read exactly where it stands for some bytes, into 16 bytes, and these are what it stands for
+abbrev pub ReadsText : Type 0
+ReadsText =
+    (text guid : List ℕ)
+    → ((readOf text guid .number ≡ none) ↔ ((length guid ≡ 16) × ((bytes : List ℕ) × StandsFor text bytes)))
+    × (readOf text guid .number ≡ none → StandsFor text (readOf text guid .buffer))
+
+-- 16 bytes are written into 36, and what is written stands for them, in upper case
+abbrev pub WritesText : Type 0
+WritesText =
+    (guid text : List ℕ)
+    → ((writeOf guid text .number ≡ none) ↔ ((length guid ≡ 16) × (length text ≡ 36)))
+    × (writeOf guid text .number ≡ none → areBytes guid ≡ true
+    → let w = writeOf guid text .buffer in StandsFor w guid × ((i : ℕ) → ¬ ((code "a" ≤ getD w i 0) × (getD w i 0 ≤ code "z"))))
+
+-- G1: a type may also be a short name. G3: Five short names stand for types, in lower case only
+pub record ReadsTypes : Type 0 where
+  pub system : (guid : List ℕ) → readTypeOf (ascii "system") guid ≡ readOf (ascii "C12A7328-F81F-11D2-BA4B-00A0C93EC93B") guid
+  pub msft : (guid : List ℕ) → readTypeOf (ascii "msft") guid ≡ readOf (ascii "E3C9E316-0B5C-4DB8-817D-F92DF00215AE") guid
+  pub basic : (guid : List ℕ) → readTypeOf (ascii "data") guid ≡ readOf (ascii "EBD0A0A2-B9E5-4433-87C0-68B6B72699C7") guid
+  pub linux : (guid : List ℕ) → readTypeOf (ascii "linux") guid ≡ readOf (ascii "0FC63DAF-8483-4772-8E79-3D69D8477DE4") guid
+  pub swap : (guid : List ℕ) → readTypeOf (ascii "swap") guid ≡ readOf (ascii "0657FD6D-A4AB-43C4-84E5-0933C84B4F4F") guid
+  -- all else is read as a GUID text
+  pub other : (text guid : List ℕ) → text ≢ ascii "system" → text ≢ ascii "msft" → text ≢ ascii "data" → text ≢ ascii "linux" → text ≢ ascii "swap"
+      → readTypeOf text guid ≡ readOf text guid

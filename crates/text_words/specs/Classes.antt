@@ -1,5 +1,6 @@
 -- Classes of bytes.
 use mathlib.Core.Bool.{Bool, cond}
+use Prim.Native.Char.{code}
 use Prim.Native.Nat.{ℕ, _-_}
 use lib.Dec.{ltb, leb, eqb}
 use Rattle.octets.specs.Ascii.{ascii}
@@ -15,7 +16,7 @@ isGraphic b = leb 0x21 b and leb b 0x7E
 
 -- 0 to 9
 unfoldable pub isDigit : ℕ → Bool
-isDigit b = leb 48 b and leb b 57
+isDigit b = leb (code "0") b and leb b (code "9")
 
 -- the value of a hex digit of either case, 99 for any other byte
 unfoldable pub digitOf : ℕ → ℕ

@@ -1,6 +1,7 @@
 -- Numerals: the number that a word begins with, and the place after its last digit.
 use mathlib.Core.Bool.{cond}
 use mathlib.Core.List.{List, [], _∷_}
+use Prim.Native.Char.{code}
 use Prim.Native.Nat.{ℕ, suc, _+_, _*_}
 use lib.Dec.{ltb, leb, eqb}
 use Rattle.text_words.specs.Classes.{digitOf}
@@ -25,9 +26,9 @@ someDigits most base (x ∷ xs) at = cond (ltb (digitOf x) base) (digitsFrom mos
 -- after a first 0: x and hex digits, else it is 0; so a further decimal digit is no part of it
 unfoldable pub afterZero : ℕ → List ℕ → Numeral
 afterZero most [] = Value 0 1
-afterZero most (x ∷ xs) = cond (eqb x 120) (someDigits most 16 xs 2) (Value 0 1)
+afterZero most (x ∷ xs) = cond (eqb x (code "x")) (someDigits most 16 xs 2) (Value 0 1)
 
 -- L8: Numbers: 0, or decimal without leading 0, or 0x and hex digits of either case, ..; at most ..
 unfoldable pub numeralOf : ℕ → List ℕ → Numeral
 numeralOf most [] = Missing
-numeralOf most (x ∷ xs) = cond (eqb x 48) (afterZero most xs) (someDigits most 10 (x ∷ xs) 0)
+numeralOf most (x ∷ xs) = cond (eqb x (code "0")) (afterZero most xs) (someDigits most 10 (x ∷ xs) 0)

@@ -82,7 +82,7 @@ pub fn read(path: &Path) -> Result<Ends, Failure> {
 }
 
 /// Makes an edit. It is first tried on a disk that is open for reading only: so a refusal, a dry run and an edit
-/// without effect open nothing for writing. What is open is looked at before anything is written.
+/// without effect open nothing for writing. Before a new table is written, what is open is looked at.
 pub fn edit<T>(
     path: &Path,
     mode: Mode,
@@ -98,7 +98,7 @@ pub fn edit<T>(
         return tried(path, mode, &opened, &before, look).map(|warning| Edited { answer, changed, warning });
     }
     drop(opened);
-    if !changed {
+    if !changed && !mode.anew {
         return Ok(Edited { answer, changed, warning: None });
     }
     let opened = open(path, Access::Write { force: mode.force })?;

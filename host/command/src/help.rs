@@ -8,7 +8,7 @@ const SIZES: &str = "\
 SIZE: a bare number is blocks of 512 bytes; with B, K, M, G or T (KiB, MiB ...: powers of 1,024) it is bytes,
       which must be whole blocks. Numbers are decimal, or 0x and hex digits.
 DISK, IMAGE: a file or a block device. Of a disk only the first 34 and the last 33 blocks are read and written,
-      the backup copy first.
+      the backup copy first. Several disks in one call are answered in turn; the exit status is the largest.
 -- ends the options, so that a name may begin with -.
 ";
 

@@ -47,7 +47,7 @@ pub fn write(path: &Path, image: &Image, after: &[u8], force: bool) -> Result<()
     written.map_err(|unwritten| {
         let (done, wanted) = (unwritten.written, unwritten.wanted);
         let error = crate::failure::words(&unwritten.error);
-        let again = "the same call again writes what is missing";
-        about(path, &format!("could not be written: {done} of {wanted} bytes were, then: {error}; {again}"))
+        let what = format!("could not be written: {done} of {wanted} bytes were, then: {error}");
+        about(path, &what).hint("the same call again writes what is missing")
     })
 }

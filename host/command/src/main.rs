@@ -19,7 +19,7 @@ mod verbs;
 
 use answers::Answers;
 use arguments::{Given, Request};
-use failure::{words, Failure};
+use failure::{words, Failure, Kind};
 use report::Report;
 use std::env;
 use std::ffi::OsString;
@@ -49,13 +49,21 @@ fn told(json: bool, failure: Failure) -> u8 {
     answers.end()
 }
 
-/// Each of several disks is a call of its own.
+/// Each of several disks is a call of its own; what was typed wrongly is told once.
 fn call(verb: &'static Verb, given: &Given) -> u8 {
     let several = verb.takes_several() && given.operands.len() > 1;
     let mut answers = Answers::new(given.has("--json"), several);
-    match several {
-        true => (0..given.operands.len()).for_each(|place| answers.tell(run(verb, &given.alone(place)))),
-        false => answers.tell(run(verb, given)),
+    if !several {
+        answers.tell(run(verb, given));
+        return answers.end();
+    }
+    for place in 0..given.operands.len() {
+        let answer = run(verb, &given.alone(place));
+        let misused = matches!(&answer, Err(failure) if failure.kind == Kind::Usage);
+        answers.tell(answer);
+        if misused {
+            break;
+        }
     }
     answers.end()
 }

@@ -195,7 +195,7 @@ fn a_kill_leaves_the_old_file_and_the_next_call_tidies() {
 fn a_signal_that_is_ignored_stays_ignored() {
     let Images { folder, old, new, .. } = images();
     let before = fs::read(&new).expect("an image");
-    for _ in 0..20 {
+    for _ in 0..8 {
         fs::write(&new, &before).expect("an image");
         let mut bash = Command::new("bash");
         bash.args([

@@ -117,7 +117,7 @@ fn a_flash_image_on_a_device() {
     run!["fmap", "carry", old, path, "--dry-run"].done();
     run!["fmap", "carry", path, path].usage("are the same file");
     run!["fmap", "carry", old, path].done();
-    assert!(run!["fmap", "carry", old, path].done().contains("the same already"));
+    assert!(run!["fmap", "carry", old, path].done().contains("the same bytes already"));
     let after = fs::read(path).expect("a device");
     assert_eq!(after[0x2000..0x2400], bytes);
     assert!(after[0x400..0x2000].iter().chain(&after[0x2400..]).all(|byte| *byte == 0xA5));

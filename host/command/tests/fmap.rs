@@ -98,8 +98,11 @@ fn carry_moves_the_bytes() {
     let carried = run!["fmap", "carry", old, new].done();
     let expected = format!(
         "\
-Area    From        To          Size               Bytes
-RW_CAL  0x00002000  0x00003000  0x00000100  256 B  changed
+Area    From        To          Size               What becomes of it
+RW_CAL  0x00002000  0x00003000  0x00000100  256 B  carried
+TOP     0x00000000  0x00000000  0x00001000  4 KiB  left as the new image has it: not marked in the old map
+FMAP    0x00000200  0x00000200  0x00000800  2 KiB  left as the new image has it: not marked in the old map
+ALIAS   0x00000200  0x00000200  0x00000800  2 KiB  left as the new image has it: not marked in the old map
 
 1 area carried from {} into {}, 256 bytes (256 B)
 ",
@@ -120,7 +123,7 @@ RW_CAL  0x00002000  0x00003000  0x00000100  256 B  changed
         (one.text("name"), one.number("from"), one.number("to"), one.number("size")),
         ("RW_CAL", 0x2000, 0x3000, 0x100)
     );
-    assert!(run!["fmap", "carry", old, new].done().contains("the same already"));
+    assert!(run!["fmap", "carry", old, new].done().contains("carried, the same bytes already"));
     assert_eq!(folder.names(), ["new.bin", "old.bin"]);
 }
 
@@ -133,7 +136,7 @@ fn nothing_to_carry_is_noted() {
     let (old, before) = (folder.file("plain.bin", image(plain, 1)), fs::read(&new).unwrap());
     let ended = run!["fmap", "carry", old, new];
     assert_eq!((ended.status, fs::read(&new).unwrap()), (Some(0), before));
-    assert!(ended.out.starts_with("0 areas carried"), "{}", ended.out);
+    assert!(ended.out.contains("\n\n0 areas carried"), "{}", ended.out);
     assert!(ended.err.contains("plain.bin marks no area PRESERVE"), "{}", ended.err);
 }
 
@@ -147,8 +150,8 @@ fn a_refused_carry_writes_nothing() {
         image(areas, 0xEE)
     };
     for (number, bytes, words) in [
-        (41, vec![0; 98], "the new image"),
-        (40, vec![0; 97], "the new image"),
+        (41, vec![0; 98], "new.bin: the signature"),
+        (40, vec![0; 97], "new.bin: the image length"),
         (60, changed(&|areas| areas[0].name = b"CAL".to_vec()), "in the new map: RW_CAL"),
         (61, changed(&|areas| areas[0].size += 1), "in the new map: RW_CAL"),
         (63, changed(&|areas| areas[0].offset = 0x400), "area FMAP of the new map"),
@@ -163,8 +166,8 @@ fn a_refused_carry_writes_nothing() {
     let new_62 = folder.file("new62.bin", image(both, 2));
     run!["fmap", "carry", old_62, new_62].refused(62);
     let large = folder.sparse("large.bin", 1 << 40);
-    assert!(run!["fmap", "carry", large, new_62].refused(40).contains("the old image"));
-    assert!(run!["fmap", "carry", old, large].refused(40).contains("the new image"));
+    assert!(run!["fmap", "carry", large, new_62].refused(40).contains("large.bin: the image length"));
+    assert!(run!["fmap", "carry", old, large].refused(40).contains("large.bin: the image length"));
 }
 
 #[test]
@@ -180,9 +183,12 @@ fn extract_gives_the_bytes() {
     run!["fmap", "extract", old, "RW_CAL", "-o", longer].done();
     assert_eq!(fs::read(&target).unwrap(), [0xCA; 0x100]);
     run!["fmap", "extract", old, "RW_CAL", "-o", "/dev/null"].done();
+    let ended = run!["fmap", "extract", old, "RW_CAL", "-o", "-"];
+    assert_eq!((ended.status, ended.bytes, ended.err.as_str()), (Some(0), vec![0xCA; 0x100], ""));
     for name in ["RW_CA", "", "rw_cal"] {
-        let said = run!["fmap", "extract", old, name].refused(255);
-        assert_eq!(said, format!("no area has that name: {name}"));
+        let ended = run!["fmap", "extract", old, name];
+        assert_eq!(ended.hint(), "the map has RW_CAL, TOP, FMAP, ALIAS");
+        assert_eq!(ended.refused(255), format!("{}: no area has that name: {name}", old.display()));
     }
     let before = fs::read(&old).unwrap();
     run!["fmap", "extract", old, "RW_CAL", "-o", old].usage("are the same file");

@@ -137,7 +137,7 @@ fn a_new_image_is_made() {
     let folder = Folder::new();
     let layout = folder.file("board.fmd", SAMPLE);
     let image = folder.path("image.bin");
-    run!["fmd", "write", layout, image].unusable("does not exist; --create makes a new image");
+    run!["fmd", "write", layout, image].unusable("--create makes a new image");
     let told = run!["fmd", "write", layout, image, "--create", "--dry-run"].done();
     assert!(told.contains("a new image of 8388608 bytes (8 MiB)") && !image.exists(), "{told}");
     assert_eq!(
@@ -152,19 +152,4 @@ fn a_new_image_is_made() {
     assert_eq!(fs::read(&image).expect("an image"), bytes);
     run!["fmd", "write", layout, folder.path("no/image.bin"), "--create"]
         .unusable("its folder does not exist");
-}
-
-#[test]
-fn a_lower_map_is_noted() {
-    let folder = Folder::new();
-    let low = folder.file("low.fmd", "CHIP 1K { FMAP 98 }");
-    let high = folder.file("high.fmd", "CHIP 1K { FMAP@512 98 }");
-    let image = folder.path("image.bin");
-    run!["fmd", "write", low, image, "--create"].done();
-    let ended = run!["fmd", "write", high, image];
-    assert_eq!(ended.status, Some(0));
-    assert_eq!(
-        ended.err,
-        "usigrambal: warning: another good map stands lower, at 0x00000000; readers find that one\n"
-    );
 }

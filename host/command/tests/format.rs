@@ -73,7 +73,11 @@ fn other_bytes() {
 #[test]
 fn a_good_table() {
     let folder = Folder::new();
-    let path = disk(&folder, "disk.img", 2048);
+    let path = folder.sparse("disk.img", LEN as u64);
+    let guid = "01234567-89AB-4CDE-8F01-23456789ABCD";
+    run!["gpt", "format", path, "--guid", guid].done();
+    // Also where no byte would change.
+    run!["gpt", "format", path, "--guid", guid].needed("holds a good GPT with 0 partitions");
     kept(&path, "a good GPT with 0 partitions");
     add(&path, "10", "a");
     kept(&path, "a good GPT with 1 partition");
@@ -105,8 +109,8 @@ fn a_table_that_is_not_good() {
 fn an_mbr() {
     let folder = Folder::new();
     let record = |kind: u8| [0, 0, 2, 0, kind, 0, 0, 0, 8, 0, 0, 0, 100, 0, 0, 0];
-    let path = with(&folder, "a.img", &[(446, &record(0x83)), (462, &record(0x0C)), (510, b"\x55\xAA")]);
-    kept(&path, "an MBR with 2 partitions (types 83, 0c hex)");
+    let path = with(&folder, "a.img", &[(446, &record(0x83)), (478, &record(0x0C)), (510, b"\x55\xAA")]);
+    kept(&path, "an MBR with 2 partitions (1: type 83 hex, 50 KiB; 3: type 0c hex, 50 KiB)");
     let path =
         with(&folder, "b.img", &[(446, &record(0x07)), (510, b"\x55\xAA"), (0, b"\xEB\x63\x90 boot code")]);
     let ended = run!["gpt", "format", path];
@@ -120,7 +124,7 @@ fn an_mbr() {
     assert!(ended.status == Some(0) && ended.err.ends_with("warning: the boot code in block 0 is gone\n"));
     let json = json::parse(&ended.out).expect("JSON");
     assert_eq!(json.list("warnings"), [json::Json::Text("the boot code in block 0 is gone".into())]);
-    assert_eq!(json.text("replaced"), "an MBR with 1 partition (type 07 hex)");
+    assert_eq!(json.text("replaced"), "an MBR with 1 partition (1: type 07 hex, 50 KiB)");
     assert!(fs::read(&path).expect("an image")[..446].iter().all(|byte| *byte == 0));
 }
 
@@ -151,7 +155,23 @@ fn a_table_by_sfdisks_defaults() {
     kept(&path, &format!("a GPT that is not good (both copies: {why})"));
     let path = folder.sparse("mbr.img", 64 << 20);
     peer::feed("sfdisk", ["-q".as_ref(), path.as_os_str()], "label: dos\n,10M\n,5M,c\n");
-    kept(&path, "an MBR with 2 partitions (types 83, 0c hex)");
+    kept(&path, "an MBR with 2 partitions (1: type 83 hex, 10 MiB; 2: type 0c hex, 5 MiB)");
+}
+
+/// A mounted file system, unmounted when it is dropped.
+struct Mounted(PathBuf);
+
+impl Mounted {
+    fn new(device: &Path, at: &Path) -> Option<Mounted> {
+        let mounted = Command::new("mount").arg(device).arg(at).status();
+        mounted.is_ok_and(|mounted| mounted.success()).then(|| Mounted(at.to_path_buf()))
+    }
+}
+
+impl Drop for Mounted {
+    fn drop(&mut self) {
+        let _ = Command::new("umount").arg(&self.0).status();
+    }
 }
 
 /// A mounted partition, which --replace does not lift; the disk's file is in use as the device.
@@ -169,11 +189,10 @@ fn in_use_is_judged_first() {
     let made = Command::new("mkfs.ext4").arg("-q").arg(&part).status();
     let at = folder.path("mounted");
     fs::create_dir(&at).expect("a folder");
-    let mounted = Command::new("mount").arg(&part).arg(&at).status();
-    if !made.is_ok_and(|made| made.success()) || !mounted.is_ok_and(|mounted| mounted.success()) {
+    let Some(mounted) = Mounted::new(&part, &at).filter(|_| made.is_ok_and(|made| made.success())) else {
         common::skipped("mounted partitions of loop devices");
         return;
-    }
+    };
     let before = fs::read(&file).expect("an image");
     let in_use = format!("is in use ({} is mounted at {})", part.display(), at.display());
     run!["gpt", "format", device.0].needed(&in_use);
@@ -188,7 +207,7 @@ fn in_use_is_judged_first() {
     let as_device = format!("is in use (it is the device {} too)", device.0.display());
     run!["gpt", "format", file].needed(&as_device);
     run!["gpt", "format", file, "--replace"].needed(&as_device);
-    assert!(Command::new("umount").arg(&at).status().expect("umount").success());
+    drop(mounted);
     let partition = |bytes: &[u8]| bytes[..17_408].to_vec();
     assert_eq!(partition(&fs::read(&file).expect("an image")), partition(&before));
     let ended = run!["gpt", "format", device.0, "--replace"];

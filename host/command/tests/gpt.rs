@@ -22,7 +22,7 @@ fn a_disk_of_100_blocks() {
     assert_eq!(placed(add(&image, "11", "c")), (1, 49, 59));
     assert_eq!(placed(add(&image, "10", "d")), (3, 34, 43));
     let free = run!["gpt", "free", image].done();
-    let runs = "Free  First  Last  Blocks     Size\n         60    66       7  3.5 KiB\n";
+    let runs = "  Free  First  Last  Blocks     Size\n           60    66       7  3.5 KiB\n";
     let expected = "free:        7 blocks (3.5 KiB)\nlongest run: 7 blocks (3.5 KiB)\n";
     assert_eq!(free, format!("{}:\n{expected}\n{runs}", image.display()));
     let words = run!["gpt", "resize", image, "1", "19"].refused(25);
@@ -59,8 +59,8 @@ Number  First  Last  Blocks    Size  Type                                  Uniqu
      1     34    57      24  12 KiB  system                                {unique}  0x0         boot
      2     58    81      24  12 KiB  {foreign}  {GUID}  0x5
 
-Free  First  Last  Blocks    Size
-         82   129      48  24 KiB
+  Free  First  Last  Blocks    Size
+           82   129      48  24 KiB
 
 1{part}2{part}{free}
 ",
@@ -206,7 +206,7 @@ fn the_number_of_blocks_is_judged() {
     {
         let image = folder.sparse("disk.img", n * 512);
         let words = run!["gpt", "show", image].refused(number);
-        assert!(number != 2 || words.contains(&format!(": {n} blocks")), "{words}");
+        assert!(number != 2 || words.contains(&format!(": {n} block")), "{words}");
         let format = run!["gpt", "format", image];
         match number {
             2 => drop(format.refused(2)),
@@ -354,46 +354,4 @@ fn between_head_and_tail_nothing_is_written() {
     add(&large, "1T", "a");
     assert!(fs::metadata(&large).expect("a file").blocks() < 256);
     assert_eq!(run!["gpt", "show", large, "--json"].json().list("partitions")[0].number("blocks"), 1 << 31);
-}
-
-/// Each disk has its own answer; the exit status is the worst.
-#[test]
-fn several_disks_in_one_call() {
-    let folder = Folder::new();
-    let (good, spoiled) = (disk(&folder, "good.img", 100), disk(&folder, "spoiled.img", 100));
-    let (empty, missing) = (folder.sparse("empty.img", 51_200), folder.path("missing.img"));
-    spoil(&spoiled, 512);
-    let ended = run!["gpt", "verify", good, spoiled];
-    let lines: Vec<&str> = ended.out.lines().collect();
-    assert_eq!((ended.status, lines.len(), ended.err.as_str()), (Some(1), 3, ""), "{}", ended.out);
-    assert_eq!(lines[0], format!("{}: both copies are good and the same", good.display()));
-    assert!(lines[1].starts_with(&format!("{}: the primary copy is not good", spoiled.display())));
-    let ended = run!["gpt", "verify", "--json", good, spoiled, empty, missing, good];
-    assert_eq!(ended.status, Some(3));
-    let Json::List(answers) = json::parse(&ended.out).expect("JSON") else { panic!("{}", ended.out) };
-    let told = |answer: &Json| (answer.at("verified").clone(), answer.at("state").clone());
-    let (yes, no) = (Json::Bool(true), Json::Bool(false));
-    let expected = [
-        (yes.clone(), Json::Number(1)),
-        (no.clone(), Json::Number(4)),
-        (no.clone(), Json::Null),
-        (no, Json::Null),
-        (yes, Json::Number(1)),
-    ];
-    assert_eq!(answers.iter().map(told).collect::<Vec<_>>(), expected);
-    let disks: Vec<&str> = answers.iter().map(|answer| answer.text("disk")).collect();
-    let paths = [&good, &spoiled, &empty, &missing, &good].map(|path| path.to_str().expect("UTF-8"));
-    assert_eq!(disks, paths);
-    assert_eq!(answers[2].number("refused"), 10);
-    assert!(answers[3].text("error").ends_with("missing.img does not exist"));
-    for verb in ["show", "free"] {
-        let ended = run!["gpt", verb, good, missing, spoiled];
-        assert_eq!(ended.status, Some(3), "{}", ended.err);
-        assert_eq!(ended.err, format!("usigrambal: {} does not exist\n", missing.display()));
-        let first = run!["gpt", verb, good].done();
-        let second = run!["gpt", verb, spoiled].done();
-        assert_eq!(ended.out, format!("{first}\n{second}"));
-    }
-    assert_eq!(run!["gpt", "verify", good, empty].status, Some(1));
-    run!["gpt", "repair", good, spoiled].usage("is one operand too many");
 }

@@ -105,7 +105,8 @@ fn tables_that_cannot_be_edited() {
     let hint = format!("the backup copy is not good; the primary is used; {repair} backup from the primary");
     refused(&["gpt", "add", path, "--size", "1"], 11, said, &hint);
     spoil(&image, 512);
-    let hint = format!("both copies: no GPT signature; usigrambal gpt format {path} tells what is there");
+    let hint =
+        format!("both copies: no GPT signature; usigrambal gpt format {path} --dry-run tells what is there");
     for verb in ["show", "free", "verify", "repair"] {
         refused(&["gpt", verb, path], 10, "neither GPT copy is good", &hint);
     }
@@ -157,7 +158,7 @@ fn partitions_by_name() {
     // Now the text is a name alone.
     assert!(told(&["delete", GUID]).done().starts_with("deleted partition 5"));
     let ended = told(&["rename", "Boot", "x"]);
-    assert_eq!(ended.hint(), "the numbers in use are 1 to 4");
+    assert_eq!(ended.hint(), r#"there are 1 "boot", 2 "pages", 3 "pages", 4 "7""#);
     ended.usage("no partition has the number, the name or the unique GUID \"Boot\"");
     // Digits are a number.
     told(&["delete", "7"]).refused(13);

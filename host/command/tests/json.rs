@@ -166,6 +166,18 @@ fn images(printed: &mut Printed, folder: &Folder) {
     call("fmap show board.bin");
     call("fmap show empty.bin");
     call("fmap carry board.bin other.bin");
+    call("fmap diff board.bin other.bin");
+    call("fmap carry board.bin empty.bin");
+    call("fmap diff empty.bin board.bin");
+    folder.file(
+        "behind.fmd",
+        "BOARD 64K { FMAP@16K 4K RW_CAL(PRESERVE)@32K 4K { IN 1K } RW_LOG(PRESERVE) 4K NEW(PRESERVE) }",
+    );
+    call("fmd write behind.fmd other.bin");
+    call("fmd write behind.fmd other.bin --retire");
+    call("fmap carry board.bin other.bin");
+    call("fmap diff board.bin other.bin --svg update.svg");
+    call("fmap diff other.bin board.bin");
 }
 
 /// Warnings are texts wherever there are any.

@@ -252,7 +252,7 @@ fn a_short_write_of_a_flash_device() {
     let Some(device) = Loop::new(&file, &[]) else { return };
     let words = ["fmap", "carry", old.to_str().expect("UTF-8"), device.0.to_str().expect("UTF-8")];
     let ended = disturbed("short:1", &folder.path("log"), &words);
-    let said = "could not be written: 600 of 1024 bytes were, then: No space left on device; the same call again writes what is missing";
+    let said = "could not be written: 600 of 1024 bytes were, then: No space left on device\nhint: the same call again writes what is missing";
     assert_eq!(ended.status, Some(3));
     assert!(ended.err.contains(said), "{}", ended.err);
     let bytes = fs::read(&device.0).expect("a device");

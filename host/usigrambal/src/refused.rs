@@ -87,13 +87,15 @@ impl Detail {
 impl fmt::Display for Detail {
     fn fmt(&self, f: &mut fmt::Formatter<'_>) -> fmt::Result {
         match self {
-            Detail::Blocks(n) => write!(f, "{n} blocks"),
+            Detail::Blocks(n) => write!(f, "{n} block{}", s(*n)),
             Detail::Bytes(len) => bytes(f, *len, IMAGE_MAX),
             Detail::Text(len) => bytes(f, *len, TEXT_MAX),
             Detail::Image(which) => write!(f, "the {which} image"),
             Detail::Slot(slot) => write!(f, "slot {slot}"),
-            Detail::NewSize(size) => write!(f, "no run of {size} free blocks"),
-            Detail::SlotSize(slot, size) => write!(f, "slot {slot} cannot have {size} blocks"),
+            Detail::NewSize(size) => write!(f, "no run of {size} free block{}", s(*size)),
+            Detail::SlotSize(slot, size) => {
+                write!(f, "slot {slot} cannot have {size} block{}", s(*size))
+            }
             Detail::Stated(len, stated) => {
                 f.write_str("the image has ")?;
                 bytes(f, *len, IMAGE_MAX)?;
@@ -112,7 +114,16 @@ fn bytes(f: &mut fmt::Formatter<'_>, len: usize, max: usize) -> fmt::Result {
     if len > max {
         return write!(f, "more than {max} bytes");
     }
-    write!(f, "{len} bytes")
+    write!(f, "{len} byte{}", s(len as u64))
+}
+
+/// The end of a noun of which there are so many.
+fn s(count: u64) -> &'static str {
+    if count == 1 {
+        ""
+    } else {
+        "s"
+    }
 }
 
 impl fmt::Display for Refused {
@@ -141,5 +152,8 @@ mod tests {
             refused(Refusal::NoRoom, &[Detail::NewSize(4096)]),
             "25: no room: no run of 4096 free blocks"
         );
+        assert_eq!(refused(Refusal::NoRoom, &[Detail::NewSize(1)]), "25: no room: no run of 1 free block");
+        let one = refused(Refusal::BlockCount, &[Detail::Blocks(1)]);
+        assert_eq!(one, "2: the number of blocks is outside its range: 1 block");
     }
 }

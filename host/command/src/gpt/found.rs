@@ -1,10 +1,11 @@
 //! What stands on a disk that a new table would overwrite.
 
+use super::probe;
 use super::why;
 use super::words::copies;
 use crate::disk::Ends;
 use crate::failure::Failure;
-use crate::sizes::{plural, BLOCK_LEN};
+use crate::sizes::{human, plural, BLOCK_LEN};
 use crate::storage::unusable;
 use std::fs::File;
 use std::os::unix::fs::FileExt;
@@ -74,86 +75,25 @@ fn table(ends: &mut Ends, front: &[u8]) -> Option<String> {
 fn records(block: &[u8], has_table: bool) -> Option<String> {
     let records: Vec<&[u8]> = block[RECORDS..].chunks_exact(RECORD_LEN).take(4).collect();
     let well_formed = block[510..512] == [0x55, 0xAA] && records.iter().all(|record| record[0] & 0x7F == 0);
-    let used: Vec<&&[u8]> =
-        records.iter().filter(|record| record[4] != 0 && !even(&record[12..16])).collect();
-    let protective = records.iter().all(|record| [0, 0xEE].contains(&record[4]));
+    let used: Vec<(usize, &[u8])> =
+        (1..).zip(records).filter(|(_, record)| record[4] != 0 && !even(&record[12..])).collect();
+    let protective = used.iter().all(|(_, record)| record[4] == 0xEE);
     match used.len() {
         0 => None,
         _ if !well_formed || (protective && has_table) => None,
         _ if protective => Some("a protective MBR without its GPT".to_string()),
         many => {
-            let types: Vec<String> = used.iter().map(|record| format!("{:02x}", record[4])).collect();
-            let noun = if many == 1 { "type" } else { "types" };
-            let count = plural(many as u64, "partition");
-            Some(format!("an MBR with {count} ({noun} {} hex)", types.join(", ")))
+            let parts: Vec<String> =
+                used.iter().map(|(number, record)| record_words(*number, record)).collect();
+            Some(format!("an MBR with {} ({})", plural(many as u64, "partition"), parts.join("; ")))
         }
     }
 }
 
-/// Other programs' judgement.
-mod probe {
-    use crate::show::printable;
-    use std::ffi::OsString;
-    use std::path::Path;
-    use std::process::{Command, Stdio};
-
-    /// A file system, or what else is no partition table, by blkid or wipefs, where one is installed.
-    pub fn signature(path: &Path) -> Option<String> {
-        let blkid = answer("blkid", &["-p", "-o", "export"], path).and_then(|text| exported(&text));
-        blkid.or_else(|| answer("wipefs", &["-n", "-p"], path).and_then(|text| listed(&text)))
-    }
-
-    /// What it prints, also where it does not succeed; none where it is not installed.
-    fn answer(program: &str, options: &[&str], path: &Path) -> Option<String> {
-        let mut operand = OsString::from(if path.is_absolute() { "" } else { "./" });
-        operand.push(path);
-        let run = |program: &str| {
-            let mut command = Command::new(program);
-            command.args(options).arg(&operand).stdin(Stdio::null()).stderr(Stdio::null()).output().ok()
-        };
-        let output =
-            ["", "/usr/sbin/", "/sbin/"].iter().find_map(|folder| run(&format!("{folder}{program}")));
-        output.map(|output| String::from_utf8_lossy(&output.stdout).into_owned())
-    }
-
-    /// `NAME=value` lines.
-    fn exported(text: &str) -> Option<String> {
-        let value = |name: &str| text.lines().find_map(|line| line.strip_prefix(name)?.strip_prefix('='));
-        let kind = printable(value("TYPE")?);
-        let label =
-            value("LABEL").map_or(String::new(), |label| format!(", labelled \"{}\"", printable(label)));
-        Some(match value("USAGE") {
-            Some("filesystem") => format!("a file system, {kind}{label}"),
-            Some("raid") => format!("a part of an array, {kind}{label}"),
-            Some("crypto") => format!("an encrypted volume, {kind}{label}"),
-            _ => format!("a signature of {kind}{label}"),
-        })
-    }
-
-    /// `offset,uuid,label,type` lines; several where blkid could not decide.
-    fn listed(text: &str) -> Option<String> {
-        let rows = text.lines().filter(|line| !line.starts_with('#'));
-        let mut kinds: Vec<&str> = rows.filter_map(|line| line.rsplit(',').next()).collect();
-        kinds.retain(|kind| !["", "gpt", "PMBR", "dos"].contains(kind));
-        kinds.dedup();
-        (!kinds.is_empty()).then(|| format!("signatures of {}", printable(&kinds.join(", "))))
-    }
-
-    #[cfg(test)]
-    mod tests {
-        use super::*;
-
-        #[test]
-        fn what_other_programs_print() {
-            let said = exported("DEVNAME=x\nLABEL=pages\nTYPE=ext4\nUSAGE=filesystem\n");
-            assert_eq!(said.as_deref(), Some("a file system, ext4, labelled \"pages\""));
-            assert_eq!(exported("TYPE=swap\nUSAGE=other\n").as_deref(), Some("a signature of swap"));
-            assert_eq!(exported("PTTYPE=gpt\n"), None);
-            let said = listed("# offset,uuid,label,type\n0x438,1-2,,ext4\n0x36,,,vfat\n0x1fe,,,dos\n");
-            assert_eq!(said.as_deref(), Some("signatures of ext4, vfat"));
-            assert_eq!(listed("# offset,uuid,label,type\n0x200,,,gpt\n"), None);
-        }
-    }
+/// `1: type 83 hex, 10 MiB`
+fn record_words(number: usize, record: &[u8]) -> String {
+    let blocks = u32::from_le_bytes(record[12..16].try_into().expect("4 bytes"));
+    format!("{number}: type {:02x} hex, {}", record[4], human(u64::from(blocks) * BLOCK_LEN))
 }
 
 #[cfg(test)]
@@ -182,7 +122,7 @@ mod tests {
         assert_eq!(records(&block, false).as_deref(), Some("a protective MBR without its GPT"));
         assert_eq!(records(&block, true), None);
         put(&mut block, 2, 0x83);
-        let said = "an MBR with 2 partitions (types ee, 83 hex)";
+        let said = "an MBR with 2 partitions (1: type ee hex, 512 B; 3: type 83 hex, 512 B)";
         assert_eq!(records(&block, true).as_deref(), Some(said));
         block[RECORDS] = 1;
         assert_eq!(records(&block, true), None);

@@ -24,9 +24,11 @@ pub fn advised(refused: Refused, path: &Path, disk: &Disk) -> Failure {
             human(BLOCKS_MAX * BLOCK_LEN)
         )),
         Refusal::NoDiskGuid => Some("without --guid a random one is taken".into()),
-        Refusal::NeitherGood => {
-            Some(format!("{}; usigrambal gpt format {} tells what is there", why::both(disk), quoted(path)))
-        }
+        Refusal::NeitherGood => Some(format!(
+            "{}; usigrambal gpt format {} --dry-run tells what is there",
+            why::both(disk),
+            quoted(path)
+        )),
         Refusal::NotTheSame => disk.state().ok().map(|state| repairable(state, path)),
         Refusal::NoSuchSlot | Refusal::SlotUnused => disk.partitions().ok().map(|held| used(&held)),
         Refusal::NoSize => Some(format!("the least is {}", of_blocks(1))),
@@ -71,6 +73,16 @@ pub fn used(partitions: &[Partition]) -> String {
         0 => "the table has no partitions".to_string(),
         1 => format!("the one partition has number {}", told(&runs[0])),
         _ => format!("the numbers in use are {}", runs.iter().map(told).collect::<Vec<_>>().join(", ")),
+    }
+}
+
+/// The partitions with their names, where they are few.
+fn named(partitions: &[Partition]) -> String {
+    let named =
+        |partition: &Partition| format!("{} \"{}\"", partition.slot, printable(&partition.name.to_text()));
+    match partitions.len() {
+        0 | 9.. => used(partitions),
+        _ => format!("there are {}", partitions.iter().map(named).collect::<Vec<_>>().join(", ")),
     }
 }
 
@@ -147,7 +159,7 @@ pub fn slot(disk: &Disk, path: &Path, text: &str) -> Result<u64, Failure> {
         [] => Err(Failure::usage(format!(
             "no partition has the number, the name or the unique GUID \"{told}\""
         ))
-        .hint(used(&held))),
+        .hint(named(&held))),
         _ => {
             let numbers: Vec<String> = alike.iter().map(|partition| partition.slot.to_string()).collect();
             Err(Failure::usage(format!("{} are called \"{told}\"", plural(alike.len() as u64, "partition")))

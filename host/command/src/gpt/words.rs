@@ -89,7 +89,7 @@ pub fn partition_table(partitions: &[Partition]) -> String {
 /// The free runs in the order of their blocks.
 pub fn run_table(runs: &[Run]) -> String {
     let mut table = Table::new([
-        ("Free", Side::Right),
+        ("  Free", Side::Right),
         ("First", Side::Right),
         ("Last", Side::Right),
         ("Blocks", Side::Right),

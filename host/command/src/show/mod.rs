@@ -3,6 +3,7 @@
 mod areas;
 mod bar;
 mod progress;
+pub mod svg;
 mod table;
 mod tree;
 

@@ -10,7 +10,7 @@ mod users;
 
 pub use open::{open, Access, Opened};
 pub use put::{changed_runs, put, put_told, Unwritten};
-pub use replace::{create, folder, replace};
+pub use replace::{create, folder, replace, save};
 pub use users::{attached, in_use};
 
 use crate::failure::Failure;

@@ -1,10 +1,10 @@
 //! Whole files: a new one beside the old takes its place, so that at every moment one of the two is there.
 
 use super::beside::Beside;
-use super::{about, needed, unusable};
+use super::{about, kind, needed, open, same, same_file, unusable, Access, Kind};
 use crate::failure::{words, Failure};
-use std::fs::{self, File, Metadata};
-use std::io;
+use std::fs::{self, File, Metadata, OpenOptions};
+use std::io::{self, Write};
 use std::os::unix::fs::{fchown, MetadataExt};
 use std::path::{Path, PathBuf};
 
@@ -30,6 +30,24 @@ pub fn create(path: &Path, bytes: &[u8]) -> Result<(), Failure> {
         _ => about(path, &format!("was not made: {}", words(&error))),
     })?;
     flushed(path, path)
+}
+
+/// Writes what a call has made: into a new file, or in place of an old one, or to what is no regular file. It may not be
+/// a file that the call reads.
+pub fn save(target: &Path, bytes: &[u8], read: &[(&Path, &Metadata)]) -> Result<(), Failure> {
+    let Ok(metadata) = fs::metadata(target) else {
+        return create(target, bytes);
+    };
+    if let Some((path, _)) = read.iter().find(|(_, read)| same_file(read, &metadata)) {
+        return Err(same(path, target));
+    }
+    if kind(&metadata) == Kind::Regular {
+        let opened = open(target, Access::Write { force: false })?;
+        return replace(target, &opened.metadata, bytes);
+    }
+    let opened = OpenOptions::new().write(true).open(target);
+    let written = opened.and_then(|mut file| file.write_all(bytes));
+    written.map_err(|error| unusable(target, "cannot be written", &error))
 }
 
 fn filled(target: &Path, mode: u32, bytes: &[u8]) -> io::Result<Beside> {

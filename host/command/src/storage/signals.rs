@@ -33,8 +33,8 @@ static UNFINISHED: AtomicPtr<c_char> = AtomicPtr::new(ptr::null_mut());
 /// Makes a file, and has it removed if the call is ended before `finished`. No signal comes between the two: a file
 /// that was there before is never removed.
 pub fn unfinished<T>(path: &CStr, make: impl FnOnce() -> io::Result<T>) -> io::Result<T> {
-    ENDING.into_iter().for_each(heed);
     let before = held_back();
+    ENDING.into_iter().for_each(heed);
     let made = make();
     if made.is_ok() {
         note(path.to_owned().into_raw());

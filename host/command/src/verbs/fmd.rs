@@ -21,15 +21,17 @@ pub static VERBS: &[Verb] = &[
         operands: &["LAYOUT", "IMAGE"],
         options: &[
             flag("--create", "make a new image of the stated size, filled with FF hex"),
+            flag("--retire", "overwrite the signature of each good map in front of the new one with FF hex"),
             DRY,
             FORCE,
             JSON,
         ],
         required: 0,
-        about: "Write the flash map of a layout text into an image, at the start of section FMAP; no other byte changes.",
+        about: "Write the flash map of a layout text into an image, at the start of section FMAP; no other byte changes. Where another good map would stay in front of it, nothing is written: readers take the lowest.",
         examples: &[
             "usigrambal fmd write board.fmd board.bin --create",
             "usigrambal fmd write board.fmd board.bin --dry-run",
+            "usigrambal fmd write board.fmd board.bin --retire",
         ],
         always: &[],
         run: layout::write,

@@ -32,7 +32,7 @@ impl Verb {
 
 pub const GROUPS: [(&str, &str); 3] = [
     ("fmd", "layout texts: list their sections, write their flash map into an image"),
-    ("fmap", "flash images: show the map, carry preserved areas, extract an area"),
+    ("fmap", "flash images: show the map, compare two, carry preserved areas, extract an area"),
     ("gpt", "disks with a GUID partition table: show, check, format, edit and repair them"),
 ];
 

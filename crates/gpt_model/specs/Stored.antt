@@ -1,0 +1,210 @@
+-- What stands in head and tail, byte by byte, and the claims that reading, formatting, edits and repair go by it.
+-- The rules are said here a second time, in byte positions: no field, entry or place is taken from Table, Disk or Calls.
+use mathlib.Core.Path.{_≡_}
+use mathlib.Core.Logic.{_≢_, _↔_}
+use mathlib.Core.Bool.{true, false}
+use mathlib.Core.List.{List, [], _∷_}
+use mathlib.Core.Option.{none}
+use Prim.Native.Nat.{ℕ, suc, _+_, _-_, _*_, _≤_, _<_}
+use lib.ListN.{length, getD}
+use Rattle.octets.specs.Ascii.{ascii}
+use Rattle.octets.specs.Rows.{refusal}
+use Rattle.octets.specs.Bytes.{le, unle, part, put, zeros, isZero}
+use Rattle.crc_lanes.specs.Crc.{crc32}
+use Rattle.gpt_model.specs.Table.{slots}
+use Rattle.gpt_model.specs.Disk.{Shape, primary, backup, goodCopy, tableOf}
+use Rattle.gpt_model.specs.Ranges.{lies}
+use Rattle.gpt_model.specs.Calls.{Edit, add, delete, resize, rename, read, repair, edit, Answer, refused, accepted, Out, rowsOf, step, format}
+use Rattle.gpt_model.specs.Claims.{FreeFrom, Outside}
+
+-- ---- a table: 128 entries of 128 bytes, counted from 0
+
+-- D6: An entry is unused when all its 128 bytes are zero .. a used entry is one that is not unused.
+abbrev pub UsedAt : List ℕ → ℕ → Type 0
+UsedAt es i = isZero (part (i * 128) 128 es) ≡ false
+
+-- D5: type GUID 0, unique GUID 16, first block 32, last block (inclusive) 40
+abbrev pub typeAt : List ℕ → ℕ → List ℕ
+typeAt es i = part (i * 128) 16 es
+
+abbrev pub uniqueAt : List ℕ → ℕ → List ℕ
+uniqueAt es i = part (i * 128 + 16) 16 es
+
+abbrev pub firstAt : List ℕ → ℕ → ℕ
+firstAt es i = unle (part (i * 128 + 32) 8 es)
+
+abbrev pub lastAt : List ℕ → ℕ → ℕ
+lastAt es i = unle (part (i * 128 + 40) 8 es)
+
+-- D21: A block lies in a partition when it is one of first to last of a used entry
+abbrev pub LiesAt : List ℕ → ℕ → ℕ → Type 0
+LiesAt es i b = UsedAt es i × (firstAt es i ≤ b) × (b ≤ lastAt es i)
+
+pub record TableRules (first last : ℕ) (es : List ℕ) : Type 0 where
+  -- D7: A used entry has nonzero type and unique GUID
+  pub guids : (i : ℕ) → i < 128 → UsedAt es i → (isZero (typeAt es i) ≡ false) × (isZero (uniqueAt es i) ≡ false)
+  -- and 34 ≤ first ≤ last ≤ N−34
+  pub range : (i : ℕ) → i < 128 → UsedAt es i → (first ≤ firstAt es i) × (firstAt es i ≤ lastAt es i) × (lastAt es i ≤ last)
+  -- unique GUIDs differ
+  pub differ : (i j : ℕ) → i < 128 → j < 128 → i ≢ j → UsedAt es i → UsedAt es j → uniqueAt es i ≢ uniqueAt es j
+  -- ranges share no block
+  pub apart : (i j b : ℕ) → i < 128 → j < 128 → i ≢ j → LiesAt es i b → ¬ LiesAt es j b
+
+-- ---- a header: the 92 bytes x, beside the table es
+
+-- D1: Header fields at byte .. All stored numbers are little-endian (Q6).
+pub record HeaderSays (own other first last table : ℕ) (es x : List ℕ) : Type 0 where
+  pub signature : part 0 8 x ≡ ascii "EFI PART"
+  pub revision : part 8 4 x ≡ 0 ∷ 0 ∷ 1 ∷ 0 ∷ []
+  pub headerSize : part 12 4 x ≡ le 4 92
+  -- D4: The header CRC covers 92 bytes with its own field as zero.
+  pub headerCrc : part 16 4 x ≡ le 4 (crc32 (put 16 (zeros 4) x))
+  pub reserved : part 20 4 x ≡ zeros 4
+  pub ownBlock : part 24 8 x ≡ le 8 own
+  pub otherBlock : part 32 8 x ≡ le 8 other
+  pub firstUsable : part 40 8 x ≡ le 8 first
+  pub lastUsable : part 48 8 x ≡ le 8 last
+  pub entriesBlock : part 72 8 x ≡ le 8 table
+  pub entryCount : part 80 4 x ≡ le 4 128
+  pub entrySize : part 84 4 x ≡ le 4 128
+  -- 88 CRC of all 16,384 entry bytes
+  pub entriesCrc : part 88 4 x ≡ le 4 (crc32 es)
+
+-- ---- head and tail. At 512-byte blocks the first usable block is 34: the head's header stands at byte 512, its entries at 1,024
+
+-- the head: block 0, the header's block, the entries. D2: The primary header is block 1 with entries from 2
+abbrev pub HeadGood : Shape → ℕ → List ℕ → Type 0
+HeadGood g n h =
+    let es = part (2 * g .block) 16384 h in
+    HeaderSays 1 (n - 1) (g .first) (n - g .first) 2 es (part (g .block) 92 h) × TableRules (g .first) (n - g .first) es
+
+-- the tail: the entries, the header's block. D2: the backup header is block N−1 with entries from N−33
+abbrev pub TailGood : Shape → ℕ → List ℕ → Type 0
+TailGood g n t =
+    let es = part 0 16384 t in
+    HeaderSays (n - 1) 1 (g .first) (n - g .first) (suc (n - g .first)) es (part 16384 92 t) × TableRules (g .first) (n - g .first) es
+
+-- D10: equal disk GUID and entries
+abbrev pub Alike : Shape → List ℕ → List ℕ → Type 0
+Alike g h t = (part (g .block + 56) 16 h ≡ part (16384 + 56) 16 t) × (part (2 * g .block) 16384 h ≡ part 0 16384 t)
+
+-- head and tail have their lengths, and N is in its range
+pub record Lent (g : Shape) (n : ℕ) (h t : List ℕ) : Type 0 where
+  pub wide : 92 ≤ g .block
+  pub head : length h ≡ 2 * g .block + 16384
+  pub tail : length t ≡ 16384 + g .block
+  pub low : 2 * g .first ≤ n
+  pub high : n ≤ 4294967296
+
+-- ---- the claims
+
+-- a block lies in a partition of the table es, by the definitions, exactly when the bytes say so
+abbrev pub LiesByBytes : Type 0
+LiesByBytes = (es : List ℕ) (b : ℕ) → (lies (slots es) b ≡ true) ↔ ((i : ℕ) × (i < 128) × LiesAt es i b)
+
+-- D8: A copy is good when every named header field, both CRCs and all entry rules hold.
+abbrev pub GoodByBytes : Type 0
+GoodByBytes =
+    (g : Shape) (n : ℕ) (h t : List ℕ) → Lent g n h t
+    → ((goodCopy g n primary h ≡ true) ↔ HeadGood g n h) × ((goodCopy g n backup t ≡ true) ↔ TailGood g n t)
+
+-- D10: Reading answers: 1 both good with equal disk GUID and entries, 2 both good but different (primary used), 3 primary only, 4 backup only. R7: 10: neither
+pub record ReadSays (g : Shape) (n : ℕ) (h t : List ℕ) (a : Answer) (es : List ℕ) : Type 0 where
+  pub one : (a ≡ accepted (1 ∷ [])) ↔ (HeadGood g n h × TailGood g n t × Alike g h t)
+  pub two : (a ≡ accepted (2 ∷ [])) ↔ (HeadGood g n h × TailGood g n t × (¬ Alike g h t))
+  pub three : (a ≡ accepted (3 ∷ [])) ↔ (HeadGood g n h × (¬ TailGood g n t))
+  pub four : (a ≡ accepted (4 ∷ [])) ↔ ((¬ HeadGood g n h) × TailGood g n t)
+  pub neither : (a ≡ refused 10) ↔ ((¬ HeadGood g n h) × (¬ TailGood g n t))
+  -- D11: the 16,384 entry bytes inside whichever of the two lent buffers was used
+  pub inHead : a ≢ accepted (4 ∷ []) → es ≡ part (2 * g .block) 16384 h
+  pub inTail : a ≡ accepted (4 ∷ []) → es ≡ part 0 16384 t
+
+abbrev pub ReadByBytes : Type 0
+ReadByBytes = (g : Shape) (n : ℕ) (h t : List ℕ) → Lent g n h t → ReadSays g n h t (step g n h t read .answer) (tableOf g n h t)
+
+-- ---- what formatting writes
+
+pub record Formatted (g : Shape) (n : ℕ) (guid h t : List ℕ) : Type 0 where
+  -- D13: Formatting writes both copies with no entries
+  pub head : HeadGood g n h
+  pub tail : TailGood g n t
+  pub guids : (part (g .block + 56) 16 h ≡ guid) × (part (16384 + 56) 16 t ≡ guid)
+  pub entries : (part (2 * g .block) 16384 h ≡ zeros 16384) × (part 0 16384 t ≡ zeros 16384)
+  -- D14: All header tails are zero.
+  pub tails : (part (g .block + 92) (g .block - 92) h ≡ zeros (g .block - 92)) × (part (16384 + 92) (g .block - 92) t ≡ zeros (g .block - 92))
+  -- D13: and block 0: zeros, except at 446 the record 00, 00 02 00, EE, FF FF FF, 1, N−1 (last two 32-bit), and 55 AA at 510.
+  pub block0 : part 0 446 h ≡ zeros 446
+  pub at446 : part 446 8 h ≡ 0 ∷ 0 ∷ 2 ∷ 0 ∷ 0xEE ∷ 0xFF ∷ 0xFF ∷ 0xFF ∷ []
+  pub at454 : part 454 4 h ≡ le 4 1
+  pub at458 : part 458 4 h ≡ le 4 (n - 1)
+  pub at462 : part 462 48 h ≡ zeros 48
+  pub at510 : part 510 2 h ≡ 0x55 ∷ 0xAA ∷ []
+  pub at512 : part 512 (g .block - 512) h ≡ zeros (g .block - 512)
+
+-- P2: formatting is accepted for every legal N and nonzero GUID. It is refused for every other
+abbrev pub FormatWrites : Type 0
+FormatWrites =
+    (g : Shape) (n : ℕ) (guid h t : List ℕ) → 512 ≤ g .block
+    → let o = format g n guid h t in
+    ((o .answer ≡ accepted []) ↔ (Lent g n h t × (length guid ≡ 16) × (isZero guid ≡ false)))
+    × (o .answer ≡ accepted [] → Formatted g n guid (o .head) (o .tail))
+
+-- ---- what an edit writes into the table
+
+-- D5: name 56 as 36 16-bit units
+abbrev pub NameAt : List ℕ → ℕ → List ℕ → Type 0
+NameAt es i name = (u : ℕ) → u < 36 → part (i * 128 + 56 + 2 * u) 2 es ≡ le 2 (getD name u 0)
+
+-- every byte but the w bytes from at on is as it was
+abbrev pub StaysBut : ℕ → ℕ → List ℕ → List ℕ → Type 0
+StaysBut at w es es′ = (k : ℕ) → Outside at w k → getD es′ k 0 ≡ getD es k 0
+
+-- what an add writes into entry i, at start s
+pub record Added (g : Shape) (n : ℕ) (type unique : List ℕ) (size attributes : ℕ) (name es es′ : List ℕ) (i s : ℕ) : Type 0 where
+  -- D15: and takes the lowest unused slot
+  pub slot : (i < 128) × (¬ UsedAt es i) × ((j : ℕ) → j < i → UsedAt es j)
+  -- and the lowest start with enough free blocks
+  pub start : FreeFrom g n (slots es) size s × ((b : ℕ) → b < s → ¬ FreeFrom g n (slots es) size b)
+  -- D15: Add is given type, unique GUID (16 stored bytes each), size in blocks, attributes and name (36 units)
+  pub typeGuid : typeAt es′ i ≡ type
+  pub uniqueGuid : uniqueAt es′ i ≡ unique
+  pub first : part (i * 128 + 32) 8 es′ ≡ le 8 s
+  pub last : part (i * 128 + 40) 8 es′ ≡ le 8 (s + size - 1)
+  pub bits : part (i * 128 + 48) 8 es′ ≡ le 8 attributes
+  pub units : NameAt es′ i name
+  pub others : StaysBut (i * 128) 128 es es′
+
+-- the answer a of an edit, the table es before it and es′ after it
+abbrev pub EditSays : Shape → ℕ → Edit → Answer → List ℕ → List ℕ → Type 0
+-- R3: Accepted, add answers slot and first block
+EditSays g n (add type unique size attributes name) a es es′ =
+    (i : ℕ) × (s : ℕ) × (a ≡ accepted (suc i ∷ s ∷ [])) × Added g n type unique size attributes name es es′ i s
+-- D16: Delete zeroes the slot.
+EditSays g n (delete k) a es es′ = (a ≡ accepted []) × (part ((k - 1) * 128) 128 es′ ≡ zeros 128) × StaysBut ((k - 1) * 128) 128 es es′
+-- D18: Resize sets the last block alone, to the size asked
+EditSays g n (resize k size) a es es′ =
+    (a ≡ accepted []) × (part ((k - 1) * 128 + 40) 8 es′ ≡ le 8 (firstAt es (k - 1) + size - 1)) × StaysBut ((k - 1) * 128 + 40) 8 es es′
+-- D17: Rename sets the entry's 72 name bytes alone, to 36 given units.
+EditSays g n (rename k name) a es es′ = (a ≡ accepted []) × NameAt es′ (k - 1) name × StaysBut ((k - 1) * 128 + 56) 72 es es′
+
+abbrev pub EditWrites : Type 0
+EditWrites =
+    (g : Shape) (n : ℕ) (h t : List ℕ) (d : Edit) → 92 ≤ g .block → refusal (rowsOf g n h t (edit d)) ≡ none
+    → let o = step g n h t (edit d) in EditSays g n d (o .answer) (tableOf g n h t) (tableOf g n (o .head) (o .tail))
+
+-- ---- what repair writes
+
+-- D24: Repair in state 1 changes nothing; otherwise it writes the other copy's 33 blocks from the good one (state 2: from the primary), header tail zero.
+pub record RepairSays (g : Shape) (n : ℕ) (h t : List ℕ) (o : Out) : Type 0 where
+  pub one : o .answer ≡ accepted (1 ∷ []) → (o .head ≡ h) × (o .tail ≡ t)
+  pub primaryUsed : (s : ℕ) → o .answer ≡ accepted (s ∷ []) → s ≢ 1 → s ≢ 4
+      → (o .head ≡ h) × TailGood g n (o .tail) × Alike g h (o .tail) × (part (16384 + 92) (g .block - 92) (o .tail) ≡ zeros (g .block - 92))
+  pub backupUsed : o .answer ≡ accepted (4 ∷ [])
+      → (o .tail ≡ t) × HeadGood g n (o .head) × Alike g (o .head) t × (part (g .block + 92) (g .block - 92) (o .head) ≡ zeros (g .block - 92))
+      × (part 0 (g .block) (o .head) ≡ part 0 (g .block) h)
+
+-- R3: Accepted, .. repair [answers] the state found, as reading does
+abbrev pub RepairWrites : Type 0
+RepairWrites =
+    (g : Shape) (n : ℕ) (h t : List ℕ) → Lent g n h t
+    → let o = step g n h t repair in (o .answer ≡ step g n h t read .answer) × RepairSays g n h t o
