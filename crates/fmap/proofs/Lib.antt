@@ -7,3 +7,5 @@ pub mod Letters
 pub mod Promises
 pub mod Written
 pub mod Named
+pub mod InBytes
+pub mod Kept

@@ -6,3 +6,4 @@ pub mod Areas
 pub mod Carry
 pub mod Promises
 pub mod Written
+pub mod InBytes
