@@ -158,6 +158,22 @@ fn a_table_by_sfdisks_defaults() {
     kept(&path, "an MBR with 2 partitions (1: type 83 hex, 10 MiB; 2: type 0c hex, 5 MiB)");
 }
 
+/// A mounted file system, unmounted when it is dropped.
+struct Mounted(PathBuf);
+
+impl Mounted {
+    fn new(device: &Path, at: &Path) -> Option<Mounted> {
+        let mounted = Command::new("mount").arg(device).arg(at).status();
+        mounted.is_ok_and(|mounted| mounted.success()).then(|| Mounted(at.to_path_buf()))
+    }
+}
+
+impl Drop for Mounted {
+    fn drop(&mut self) {
+        let _ = Command::new("umount").arg(&self.0).status();
+    }
+}
+
 /// A mounted partition, which --replace does not lift; the disk's file is in use as the device.
 #[test]
 fn in_use_is_judged_first() {
@@ -173,11 +189,10 @@ fn in_use_is_judged_first() {
     let made = Command::new("mkfs.ext4").arg("-q").arg(&part).status();
     let at = folder.path("mounted");
     fs::create_dir(&at).expect("a folder");
-    let mounted = Command::new("mount").arg(&part).arg(&at).status();
-    if !made.is_ok_and(|made| made.success()) || !mounted.is_ok_and(|mounted| mounted.success()) {
+    let Some(mounted) = Mounted::new(&part, &at).filter(|_| made.is_ok_and(|made| made.success())) else {
         common::skipped("mounted partitions of loop devices");
         return;
-    }
+    };
     let before = fs::read(&file).expect("an image");
     let in_use = format!("is in use ({} is mounted at {})", part.display(), at.display());
     run!["gpt", "format", device.0].needed(&in_use);
@@ -192,7 +207,7 @@ fn in_use_is_judged_first() {
     let as_device = format!("is in use (it is the device {} too)", device.0.display());
     run!["gpt", "format", file].needed(&as_device);
     run!["gpt", "format", file, "--replace"].needed(&as_device);
-    assert!(Command::new("umount").arg(&at).status().expect("umount").success());
+    drop(mounted);
     let partition = |bytes: &[u8]| bytes[..17_408].to_vec();
     assert_eq!(partition(&fs::read(&file).expect("an image")), partition(&before));
     let ended = run!["gpt", "format", device.0, "--replace"];

@@ -14,7 +14,8 @@ pub static VERBS: &[Verb] = &[
         operands: &["DISK..."],
         options: &[value("--width", "N", "columns of the drawing, 64 if not given"), JSON],
         required: 0,
-        about: "Show the partitions of a disk, the state of its two table copies, and its blocks drawn to scale: a partition as its number and =, free blocks as dots.",
+        about: "Show the partitions of a disk, the state of its two table copies, its free runs, \
+                and its blocks drawn to scale: a partition as its number and =, free blocks as dots.",
         examples: &[
             "usigrambal gpt show disk.img",
             "usigrambal gpt show /dev/sdb --width 100",
@@ -46,7 +47,9 @@ pub static VERBS: &[Verb] = &[
             JSON,
         ],
         required: 0,
-        about: "Write an empty table in both copies, and block 0, on a disk that holds nothing: its first 128 KiB and last 33 blocks are all 00 or all FF. What is there is named, and --replace goes on. Bytes between head and tail stay.",
+        about: "Write an empty table in both copies, and block 0, on a disk that holds nothing: \
+                its first 128 KiB and last 33 blocks are all 00 or all FF. What is there is named, and --replace \
+                goes on. Bytes between head and tail stay.",
         examples: &[
             "truncate -s 64M disk.img && usigrambal gpt format disk.img",
             "usigrambal gpt format disk.img --guid 01234567-89AB-4CDE-8F01-23456789ABCD --replace",
@@ -127,7 +130,8 @@ pub static VERBS: &[Verb] = &[
         operands: &["DISK..."],
         options: &[JSON],
         required: 0,
-        about: "Check both copies of the table, and the record of block 0 by which other systems see it. Exit status 0 only if the copies are good and the same and the record is there, else 1.",
+        about: "Check both copies of the table, and the record of block 0 by which other systems see it. \
+                Exit status 0 only if the copies are good and the same and the record is there, 1 where one of them is not.",
         examples: &["usigrambal gpt verify disk.img && echo good", "usigrambal gpt verify disk.img /dev/sdb --json"],
         always: &UNVERIFIED,
         run: gpt::verify,
