@@ -41,7 +41,9 @@ pub fn write(path: &Path, image: &Image, after: &[u8], force: bool) -> Result<()
         return storage::replace(path, &opened.metadata, after);
     }
     let progress = Progress::new();
-    let runs = changed_runs(&image.bytes, after);
+    // The highest first: a new map stands before those in front of it are retired.
+    let mut runs = changed_runs(&image.bytes, after);
+    runs.reverse();
     let written = put_told(&opened.file, after, 0, &runs, |done, all| progress.tell(done, all));
     drop(progress);
     written.map_err(|unwritten| {

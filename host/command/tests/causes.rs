@@ -148,3 +148,43 @@ fn carries() {
         assert!(ended.refused(number).contains("new.bin: "), "{number}");
     }
 }
+
+/// 42: each signature with the rule that the map there breaks.
+#[test]
+fn maps_that_are_not_good() {
+    let folder = Folder::new();
+    let good = |position: u32| {
+        let areas = vec![area("FMAP", position, 0x100, 0), area("CAL", 0x2000, 0x100, 8)];
+        Map {
+            major: 1,
+            minor: 1,
+            base: 0,
+            size: 0x4000,
+            name: b"CHIP".to_vec(),
+            areas,
+            position: position as usize,
+        }
+    };
+    let shown = |maps: &[Map]| {
+        let mut image = vec![0; 0x4000];
+        maps.iter().for_each(|map| map.write(&mut image));
+        let path = folder.file("image.bin", image);
+        let ended = run!["fmap", "show", path];
+        let hint = ended.hint();
+        ended.refused(42);
+        hint
+    };
+    let minor = Map { minor: 2, ..good(0x10) };
+    let size = Map { size: 0x8000, ..good(0x400) };
+    let crossing =
+        Map { areas: [good(0x800).areas, vec![area("LOG", 0x2080, 0x100, 0)]].concat(), ..good(0x800) };
+    assert_eq!(shown(&[minor.clone()]), "at 0x00000010: minor version 2");
+    let three = "at 0x00000010: minor version 2; \
+                 at 0x00000400: image size 32768 in the map, and the image has 16384 bytes; \
+                 at 0x00000800: two areas share bytes, and neither lies in the other";
+    assert_eq!(shown(&[minor, size, crossing]), three);
+    let elsewhere = Map { position: 0x1000, ..good(0x1004) };
+    assert_eq!(shown(&[elsewhere]), "at 0x00001000: no area FMAP starts at the map and holds all of it");
+    let many: Vec<Map> = (0..9).map(|k| Map { major: 3, ..good(0x200 * k) }).collect();
+    assert!(shown(&many).ends_with("at 0x00000600: major version 3; and 5 more"));
+}

@@ -8,7 +8,7 @@ use std::process::Command;
 
 const VERBS: [(&str, &[&str]); 3] = [
     ("fmd", &["list", "write"]),
-    ("fmap", &["show", "carry", "extract"]),
+    ("fmap", &["show", "diff", "carry", "extract"]),
     ("gpt", &["show", "free", "format", "add", "delete", "resize", "rename", "repair", "verify"]),
 ];
 

@@ -260,3 +260,21 @@ fn a_short_write_of_a_flash_device() {
     run!["fmap", "carry", old, device.0].done();
     assert_eq!(fs::read(&device.0).expect("a device")[2048..3072], [0xFF; 1024]);
 }
+
+/// The new map stands before the one in front of it is retired: cut in between, the device still has a map.
+#[test]
+fn a_map_in_front_is_retired_last() {
+    let folder = Folder::new();
+    let low = folder.file("low.fmd", "CHIP 64K { FMAP 1K }");
+    let high = folder.file("high.fmd", "CHIP 64K { FMAP@16K 1K }");
+    let file = folder.file("new.bin", vec![0; 65_536]);
+    run!["fmd", "write", low, file].done();
+    let Some(device) = Loop::new(&file, &[]) else { return };
+    let path = device.0.to_str().expect("UTF-8");
+    let words = ["fmd", "write", high.to_str().expect("UTF-8"), path, "--retire"];
+    let ended = disturbed("kill:2", &folder.path("log"), &words);
+    assert_eq!(ended.status, None);
+    assert_eq!(run!["fmap", "show", path, "--json"].status, Some(0));
+    run!["fmd", "write", high, path, "--retire"].done();
+    assert_eq!(run!["fmap", "show", path, "--json"].json().number("position"), 0x4000);
+}

@@ -5,7 +5,7 @@ use crate::failure::Failure;
 use crate::paths::{quoted, shown};
 use crate::sizes::human;
 use std::path::Path;
-use usigrambal::flash::Area;
+use usigrambal::flash::{self, Area};
 use usigrambal::{Refusal, Refused, IMAGE_MAX};
 
 const IMAGE_MIN: usize = 98;
@@ -25,12 +25,15 @@ pub fn of_image(refused: Refused, what: &'static str, path: &Path, image: &[u8])
     }
 }
 
-/// Where signatures stand, the first of them.
+/// Why the map at each signature is not good.
 fn signatures(image: &[u8]) -> String {
     let places = image.windows(SIGNATURE.len()).enumerate().filter(|(_, bytes)| *bytes == SIGNATURE);
-    let lines: Vec<String> =
-        places.map(|(at, _)| format!("a signature stands at {at:#010x}, but no good map")).collect();
-    told(&lines).unwrap_or_default()
+    let places: Vec<u64> = places.map(|(at, _)| at as u64).collect();
+    let fault = |at: &u64| {
+        let rule = flash::fault_at(image, *at).ok().flatten();
+        format!("at {at:#010x}: {}", rule.map_or(String::new(), |rule| rule.found(image, *at)))
+    };
+    told(&places, fault).unwrap_or_default()
 }
 
 /// A carry between two images that have their maps.
@@ -71,7 +74,7 @@ pub fn carry_hint(refusal: Refusal, old: &Mapped, new: &Mapped) -> Option<String
         }
         _ => Vec::new(),
     };
-    told(&causes)
+    told(&causes, String::clone)
 }
 
 fn bytes(area: &Area) -> String {
@@ -91,10 +94,10 @@ fn sharing<'a>(areas: &'a [&Area], path: &'a str) -> impl Iterator<Item = String
 }
 
 /// The first of them in a line.
-fn told(causes: &[String]) -> Option<String> {
+fn told<T>(causes: &[T], words: impl Fn(&T) -> String) -> Option<String> {
     const TOLD: usize = 4;
     let more = causes.len().saturating_sub(TOLD);
     let rest = (more > 0).then(|| format!("and {more} more"));
-    let lines: Vec<String> = causes.iter().take(TOLD).cloned().chain(rest).collect();
+    let lines: Vec<String> = causes.iter().take(TOLD).map(words).chain(rest).collect();
     (!lines.is_empty()).then(|| lines.join("; "))
 }

@@ -1,6 +1,7 @@
 use super::mapped;
 use crate::arguments::Given;
 use crate::failure::Failure;
+use crate::paths::shown;
 use crate::report::{self, Report};
 use crate::storage;
 use std::io::{self, IsTerminal};
@@ -21,7 +22,7 @@ pub fn extract(given: &Given) -> Result<Report, Failure> {
     let area = found.map(|k| flash::area(image, k)).transpose()?.flatten();
     let Some(area) = area else {
         let names: Vec<&str> = mapped.map.areas.iter().map(|area| area.name.as_str()).collect();
-        let words = format!("no area has that name: {}", name.display());
+        let words = format!("no area has that name: {}", shown(Path::new(name)));
         let failure = Failure::refused(Refusal::NoSuchArea, words).on("image", path);
         return Err(failure.hint(format!("the map has {}", names.join(", "))).warn(mapped.several));
     };

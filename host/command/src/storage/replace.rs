@@ -42,7 +42,8 @@ pub fn save(target: &Path, bytes: &[u8], read: &[(&Path, &Metadata)]) -> Result<
         return Err(same(path, target));
     }
     if kind(&metadata) == Kind::Regular {
-        let opened = open(target, Access::Write { force: false })?;
+        let opened = open(target, Access::Write { force: false });
+        let opened = opened.map_err(|failure| failure.hint("another file can be named"))?;
         return replace(target, &opened.metadata, bytes);
     }
     let opened = OpenOptions::new().write(true).open(target);

@@ -24,7 +24,9 @@ pub static VERBS: &[Verb] = &[
             JSON,
         ],
         required: 0,
-        about: "Tell what the update from OLD to NEW would do: each area same, moved, resized or in one map alone, its bytes equal or not, carried or lost. Lost is an area of OLD that a map marks PRESERVE and that a carry would not bring. Nothing is written but the drawing. Exit status 1 if something would be lost.",
+        about: "Tell what the update from OLD to NEW would do: each area same, moved, resized or in one map alone, its bytes \
+                equal or not, carried or lost. Lost is an area of OLD that a map marks PRESERVE and that a carry would not bring. \
+                Nothing is written but the drawing. Exit status 1 if something would be lost.",
         examples: &[
             "usigrambal fmap diff running.bin update.bin",
             "usigrambal fmap diff running.bin update.bin --svg update.svg",
@@ -43,7 +45,8 @@ pub static VERBS: &[Verb] = &[
             JSON,
         ],
         required: 0,
-        about: "Carry each area that the map of OLD marks PRESERVE, byte for byte, into the same-named area of NEW, and tell what becomes of every area. OLD is only read. On a device that was cut off, the same call again carries the rest.",
+        about: "Carry each area that the map of OLD marks PRESERVE, byte for byte, into the same-named area of NEW, and tell \
+                what becomes of every area. OLD is only read. A carry onto a device that was cut is made whole by calling it again.",
         examples: &[
             "usigrambal fmap carry running.bin update.bin --dry-run",
             "usigrambal fmap carry running.bin update.bin",

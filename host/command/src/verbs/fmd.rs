@@ -27,7 +27,8 @@ pub static VERBS: &[Verb] = &[
             JSON,
         ],
         required: 0,
-        about: "Write the flash map of a layout text into an image, at the start of section FMAP; no other byte changes. Where another good map would stay in front of it, nothing is written: readers take the lowest.",
+        about: "Write the flash map of a layout text into an image, at the start of section FMAP; no other byte changes. \
+                Where another good map would stay in front of it, nothing is written: readers take the lowest.",
         examples: &[
             "usigrambal fmd write board.fmd board.bin --create",
             "usigrambal fmd write board.fmd board.bin --dry-run",

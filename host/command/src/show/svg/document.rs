@@ -139,30 +139,32 @@ fn bands(out: &mut String, measures: &Measures, drawing: &Drawing, old: &Across,
         let ((a, b), (c, d)) =
             (measures.extent(from.offset, from.end()), measures.extent(to.offset, to.end()));
         let (left, right) = (old.inner, new.inner);
-        put(out, format_args!(
-            "<path d=\"M{left:.1} {a:.1}C{middle:.1} {a:.1} {middle:.1} {c:.1} {right:.1} {c:.1}V{d:.1}C{middle:.1} {d:.1} {middle:.1} {b:.1} {left:.1} {b:.1}Z\" class=\"band\"/>"
-        ));
+        put(
+            out,
+            format_args!(
+                "<path d=\"M{left:.1} {a:.1}C{middle:.1} {a:.1} {middle:.1} {c:.1} {right:.1} {c:.1}\
+             V{d:.1}C{middle:.1} {d:.1} {middle:.1} {b:.1} {left:.1} {b:.1}Z\" class=\"band\"/>"
+            ),
+        );
     }
 }
 
 /// What would be lost goes nowhere.
 fn stubs(out: &mut String, measures: &Measures, drawing: &Drawing, old: &Across) {
-    for shape in drawing.old.shapes.iter().filter(|shape| shape.look == Look::Lost) {
+    let (left, x) = (old.inner, old.inner + STUB);
+    let middle = (left + x) / 2.0;
+    for (shape, y) in measures.lost(&drawing.old) {
         let (top, bottom) = measures.extent(shape.span.offset, shape.span.end());
-        let (x, y) = (old.inner + STUB, (top + bottom) / 2.0);
+        let (above, below) = (y - 1.0, y + 1.0);
         put(
             out,
             format_args!(
-                "<rect x=\"{:.1}\" y=\"{top:.1}\" width=\"{STUB:.1}\" height=\"{:.1}\" class=\"stub\"/>",
-                old.inner,
-                bottom - top
+                "<path d=\"M{left:.1} {top:.1}C{middle:.1} {top:.1} {middle:.1} {above:.1} {x:.1} {above:.1}\
+                 V{below:.1}C{middle:.1} {below:.1} {middle:.1} {bottom:.1} {left:.1} {bottom:.1}Z\" class=\"stub\"/>"
             ),
         );
-        put(
-            out,
-            format_args!("<path d=\"M{:.1} {:.1}l10 10m0 -10l-10 10\" class=\"cross\"/>", x - 5.0, y - 5.0),
-        );
-        text(out, (x + 13.0, y + 4.2), "bad-name halo", "lost");
+        put(out, format_args!("<path d=\"M{:.1} {:.1}l8 8m0 -8l-8 8\" class=\"cross\"/>", x - 4.0, y - 4.0));
+        text(out, (x + 11.0, y + 4.2), "bad-name halo", "lost");
     }
 }
 

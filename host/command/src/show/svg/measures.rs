@@ -11,8 +11,10 @@ const TO_LEGEND: f64 = 38.0;
 const ROW: f64 = 22.0;
 const FOOT: f64 = 52.0;
 pub const SWATCH: f64 = 14.0;
-/// The width of a character of the legend.
+/// The width of a character of the legend, of the title and of the lines under it.
 const LETTER: f64 = 6.7;
+const TITLE: f64 = 12.0;
+const VERDICT: f64 = 8.2;
 pub const BAR: f64 = 128.0;
 pub const BETWEEN: f64 = 250.0;
 /// From a bar to its labels, at least and at most; and for each unit that a label stands away from its area.
@@ -38,6 +40,8 @@ pub struct Measures {
     names: [f64; 2],
     sizes: [f64; 2],
     leader: f64,
+    /// What the lines on top need.
+    least: f64,
 }
 
 /// Where an area's label would best stand, and where it does.
@@ -77,6 +81,11 @@ impl Measures {
             names: columns.map(names),
             sizes: columns.map(sizes),
             leader: LEADER.0,
+            least: drawing
+                .verdict
+                .iter()
+                .map(|line| wide_as(line, VERDICT))
+                .fold(wide_as(&drawing.title, TITLE), f64::max),
         };
         let away = columns.iter().flat_map(|column| measures.labels(column));
         let farthest = away.map(|label| (label.y - label.wanted).abs()).fold(0.0, f64::max);
@@ -92,6 +101,19 @@ impl Measures {
         let placed = spread(&wanted, LINE, (HEAD + LINE / 2.0, HEAD + self.bars - LINE / 2.0));
         let label = |((shape, wanted), y)| Label { shape, wanted, y };
         shapes.into_iter().zip(wanted).zip(placed).map(label).collect()
+    }
+
+    /// What would be lost, each with the place of its mark.
+    pub fn lost<'a>(&self, column: &'a Column) -> Vec<(&'a Shape, f64)> {
+        let middle = |shape: &Shape| {
+            let (top, bottom) = self.extent(shape.span.offset, shape.span.end());
+            (top + bottom) / 2.0
+        };
+        let mut shapes: Vec<&Shape> = column.shapes.iter().filter(|shape| shape.look == Look::Lost).collect();
+        shapes.sort_by(|a, b| middle(a).total_cmp(&middle(b)));
+        let wanted: Vec<f64> = shapes.iter().map(|shape| middle(shape)).collect();
+        let placed = spread(&wanted, LINE, (HEAD + LINE / 2.0, HEAD + self.bars - LINE / 2.0));
+        shapes.into_iter().zip(placed).collect()
     }
 
     pub fn across(&self, new: bool) -> Across {
@@ -119,7 +141,7 @@ impl Measures {
     }
 
     pub fn width(&self) -> f64 {
-        self.across(true).size + MARGIN
+        (self.across(true).size + MARGIN).max(self.least + 2.0 * MARGIN)
     }
 
     pub fn height(&self) -> f64 {
@@ -164,4 +186,8 @@ impl Measures {
             false => (top + bottom) / 2.0,
         }
     }
+}
+
+fn wide_as(text: &str, character: f64) -> f64 {
+    text.chars().count() as f64 * character
 }
