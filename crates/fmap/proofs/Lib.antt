@@ -6,3 +6,5 @@ pub mod Reading
 pub mod Letters
 pub mod Promises
 pub mod Named
+pub mod InBytes
+pub mod Kept

@@ -142,5 +142,11 @@ module _ (old : List ℕ) (at : ℕ) (new : List ℕ) (bt : ℕ) (image : List �
   pub new-good : goodMap new bt ≡ true
   new-good = good-there new bt (others-stand .0)
 
+  pub new-stands : refusal (placeRows new bt) ≡ none
+  new-stands = others-stand .0
+
+  pub rows-pass : refusal (carryRows (areasOf (rest at old)) (areasOf (rest bt new))) ≡ none
+  rows-pass = others-stand .1
+
   pub by-the-areas : carryAreas old (areasOf (rest at old)) new (areasOf (rest bt new)) ≡ record { answer = none; image = image }
   by-the-areas = both-stand old at new bt old-stands (others-stand .0) ∙ e

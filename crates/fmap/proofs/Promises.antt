@@ -33,7 +33,7 @@ finds-lowest image p e = record { good = found-good image p e; none-lower = foun
 
 -- ---- carrying
 
-arrives : (old : List ℕ) (at : ℕ) (new : List ℕ) (bt : ℕ) (image : List ℕ) → carryAt old at new bt ≡ record { answer = none; image = image }
+pub arrives : (old : List ℕ) (at : ℕ) (new : List ℕ) (bt : ℕ) (image : List ℕ) → carryAt old at new bt ≡ record { answer = none; image = image }
     → Arrived old (areasOf (rest at old)) new (areasOf (rest bt new)) image
 arrives old at new bt image e =
     accepted-areas old (areasOf (rest at old)) new (areasOf (rest bt new)) image

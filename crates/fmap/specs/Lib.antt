@@ -5,3 +5,4 @@ pub mod Faults
 pub mod Areas
 pub mod Carry
 pub mod Promises
+pub mod InBytes

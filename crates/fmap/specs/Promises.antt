@@ -3,17 +3,17 @@ use mathlib.Core.Path.{_≡_}
 use mathlib.Core.Bool.{true, false}
 use mathlib.Core.List.{List}
 use mathlib.Core.Option.{none, some}
-use Prim.Native.Nat.{ℕ, _≤_, _<_}
-use lib.ListN.{length}
-use Rattle.octets.specs.Bytes.{rest, put}
+use Prim.Native.Nat.{ℕ, _+_, _*_, _≤_, _<_}
+use lib.ListN.{length, getD}
+use Rattle.octets.specs.Bytes.{part, rest, field, put}
 use Rattle.fmap_rules.specs.declared.ImagePosition.{ImagePosition}
 use Rattle.fmap_rules.specs.declared.Area.{Area}
 use Rattle.fmap_rules.specs.Map.{position, areasOf, goodMap}
-use Rattle.fmap_rules.specs.Written.{mapBytes, Writable}
+use Rattle.fmap_rules.specs.Written.{areaBytes, mapBytes, Writable}
 use Rattle.fmap_carry.specs.Arrived.{Arrived}
 use Rattle.fmap.specs.Find.{accepted, findMap}
 use Rattle.fmap.specs.Areas.{areaNumbered, areaNamed, indexNamed}
-use Rattle.fmap.specs.Carry.{carryImages}
+use Rattle.fmap.specs.Carry.{carryAt, carryImages}
 
 -- (M10) what is found is a good map, and no lower position has one
 pub record Lowest (image : List ℕ) (p : ImagePosition) : Type 0 where
@@ -51,3 +51,20 @@ abbrev pub IndexIsNamed : Type 0
 IndexIsNamed =
     (image name : List ℕ) (k : ℕ) → indexNamed image name ≡ accepted (some k)
     → (areaNamed image name .answer ≡ accepted true) × (areaNumbered image k ≡ areaNamed image name)
+
+-- (M2) the 42 bytes of area k of the map that is found are record k of the map, as the image has it
+abbrev pub AreaBytesAreTheMaps : Type 0
+AreaBytesAreTheMaps =
+    (image : List ℕ) → ((i : ℕ) → getD image i 0 < 256) → (p : ImagePosition) (k : ℕ) → findMap image ≡ accepted p → areaNumbered image k .answer ≡ accepted true
+    → areaBytes (areaNumbered image k .area) ≡ part (p .0 + (56 + 42 * k)) 42 image
+
+-- (M12), (R24) an accepted carry leaves the new map in its place, byte for byte and good; a search finds it unless a lower good map exists,
+-- which the bytes of a carried area may hold
+pub record MapKept (new : List ℕ) (bt : ℕ) (image : List ℕ) : Type 0 where
+  pub bytes : part bt (56 + 42 * field (bt + 54) 2 new) image ≡ part bt (56 + 42 * field (bt + 54) 2 new) new
+  pub good : goodMap image bt ≡ true
+  pub found : ((j : ℕ) → j < bt → goodMap image j ≡ false) → findMap image ≡ accepted (position bt)
+
+abbrev pub CarryKeepsMap : Type 0
+CarryKeepsMap =
+    (old : List ℕ) (at : ℕ) (new : List ℕ) (bt : ℕ) (image : List ℕ) → carryAt old at new bt ≡ record { answer = none; image = image } → MapKept new bt image

@@ -14,7 +14,8 @@ use Rattle.octets.specs.Bytes.{part}
 use Rattle.octets.proofs.Parts.{getD-part}
 use Rattle.fmap_rules.specs.declared.Area.{Area}
 use Rattle.fmap_rules.specs.Map.{blank, endOf}
-use Rattle.fmap_carry.specs.Carry.{target, carryRows, carried, Outcome, outcome, carryAreas, endsIn}
+use Rattle.fmap_carry.specs.Carry.{target, carryRows, carried, Outcome, outcome, carryAreas}
+use Rattle.fmap_carry.specs.Invariants.{endsIn}
 use Rattle.fmap_carry.specs.Arrived.{Arrived}
 use Rattle.fmap_carry.proofs.Passed.{all-apart, fitting}
 use Rattle.fmap_carry.proofs.Carrying.{length-carried, part-carried, arrives}

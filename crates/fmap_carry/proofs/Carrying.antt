@@ -21,7 +21,8 @@ use Rattle.fmap_rules.specs.declared.Extent.{Extent}
 use Rattle.fmap_rules.specs.declared.Area.{Area}
 use Rattle.fmap_rules.specs.Map.{areaOf, areasIn, blank, endOf, disjoint}
 use Rattle.fmap_rules.proofs.Areas.{length-areas}
-use Rattle.fmap_carry.specs.Carry.{preserved, target, clearBy, clear, carryArea, carried, Fit, Fitting}
+use Rattle.fmap_carry.specs.Carry.{preserved, target, clearBy, clear, carryArea, carried}
+use Rattle.fmap_carry.specs.Invariants.{Fit, Fitting}
 
 apart : (x y : Extent) → disjoint x y ≡ true → (endOf x ≤ y .start .0) ⊎ (endOf y ≤ x .start .0)
 unfolding disjoint

@@ -16,7 +16,8 @@ use Rattle.fmap_rules.specs.declared.Extent.{Extent}
 use Rattle.fmap_rules.specs.declared.Area.{Area}
 use Rattle.fmap_rules.specs.Map.{areaOf, areasIn, blank, named, fmapName, position, disjoint}
 use Rattle.fmap_rules.proofs.Areas.{length-areas}
-use Rattle.fmap_carry.specs.Carry.{preserved, withName, target, missing, otherSize, clearBy, clear, onMap, Matched}
+use Rattle.fmap_carry.specs.Carry.{preserved, withName, target, missing, otherSize, clearBy, clear, onMap}
+use Rattle.fmap_carry.specs.Invariants.{Matched}
 
 pub place-none : (xs : List ℕ) (k : ℕ) → length xs / 42 ≤ k → record { start = position 0; size = 0 } ≡ getD (areasIn xs) k blank .place
 place-none xs k h = ap (λ (a : Area). a .place) (sym (List·getD-eq-default (areasIn xs) blank (omega (arith, length-areas xs))))

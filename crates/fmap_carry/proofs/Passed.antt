@@ -15,7 +15,8 @@ use Rattle.octets.proofs.Rows.{passes, pick-true, pick-false}
 use Rattle.fmap_rules.specs.declared.Area.{Area}
 use Rattle.fmap_rules.specs.Map.{areasIn, areasOf, blank, named, goodMap}
 use Rattle.fmap_rules.proofs.Good.{good-areas, ends-in}
-use Rattle.fmap_carry.specs.Carry.{preserved, withName, target, missing, otherSize, clear, onMap, carryRows, carried, outcome, carryAreas, Fitting, endsIn}
+use Rattle.fmap_carry.specs.Carry.{preserved, withName, target, missing, otherSize, clear, onMap, carryRows, carried, outcome, carryAreas}
+use Rattle.fmap_carry.specs.Invariants.{Fitting, endsIn}
 
 module _ (olds news : List Area) (e : refusal (carryRows olds news) ≡ none) where
   pub present : (i : ℕ) → i < length olds → preserved (getD olds i blank) ≡ true → any (named (getD olds i blank .name)) news ≡ true

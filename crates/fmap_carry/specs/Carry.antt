@@ -1,17 +1,16 @@
 -- Carrying preserved areas by the areas of two maps: the refusals, and the new image afterwards. Definitions only.
-use mathlib.Core.Path.{_≡_}
-use mathlib.Core.Bool.{Bool, true, not, cond}
+use mathlib.Core.Bool.{Bool, not, cond}
 use mathlib.Core.List.{List, [], _∷_}
 use mathlib.Core.Option.{Option, none, some}
-use Prim.Native.Nat.{ℕ, _/_, _%_, _≤_, _<_}
-use lib.ListN.{length, getD}
-use lib.Dec.{eqb, leb}
+use Prim.Native.Nat.{ℕ, _/_, _%_}
+use lib.ListN.{getD}
+use lib.Dec.{eqb}
 use Rattle.octets.specs.Tests.{_and_, _or_, any, pairs, findIx}
 use Rattle.octets.specs.Rows.{Row, row, refusal}
 use Rattle.octets.specs.Bytes.{part, put}
 use Rattle.fmap_rules.specs.declared.Extent.{Extent}
 use Rattle.fmap_rules.specs.declared.Area.{Area}
-use Rattle.fmap_rules.specs.Map.{blank, named, fmapName, endOf, disjoint}
+use Rattle.fmap_rules.specs.Map.{blank, named, fmapName, disjoint}
 use Rattle.fmap_carry.specs.declared.Judged.{Judged}
 use Rattle.fmap_carry.specs.declared.Judged.the-variants.{Free, Missing, OtherSize, Shared, OnMap}
 
@@ -83,24 +82,3 @@ outcome (some k) done new = record { answer = some k; image = new }
 
 unfoldable pub carryAreas : List ℕ → List Area → List ℕ → List Area → Outcome
 carryAreas old olds new news = outcome (refusal (carryRows olds news)) (carried old news olds new) new
-
--- ---- what the functions hand each other
-
--- for each old area the number of the new one with its name; their count where there is none
-pub record Matched (olds news : List Area) (matches : List ℕ) : Type 0 where
-  pub long : length olds ≤ length matches
-  pub each : (i : ℕ) → i < length olds → getD matches i 0 ≡ findIx (named (getD olds i blank .name)) news
-
--- an area that is carried lies in the old image, and where it goes lies in the new one and has its size
-pub record Fit (oldLength newLength : ℕ) (news : List Area) (a : Area) : Type 0 where
-  pub from : endOf (a .place) ≤ oldLength
-  pub to : endOf (target news a) ≤ newLength
-  pub size : a .place .size ≡ target news a .size
-
-abbrev pub Fitting : ℕ → ℕ → List Area → List Area → Type 0
-Fitting oldLength newLength news olds =
-    (i : ℕ) → i < length olds → preserved (getD olds i blank) ≡ true → Fit oldLength newLength news (getD olds i blank)
-
--- (M6) each area ends in the image
-unfoldable pub endsIn : ℕ → Area → Bool
-endsIn len a = leb (endOf (a .place)) len

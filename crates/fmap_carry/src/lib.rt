@@ -8,7 +8,8 @@ ghost use Rattle.octets.specs.Tests.{all, any, pairs, findIx};
 ghost use Rattle.octets.specs.Rows.{refusal};
 ghost use Rattle.octets.specs.Bytes.{part, rest, put};
 ghost use Rattle.fmap_rules.specs.Map.{areaOf, areasIn, areasOf, blank, named, fmapName, endOf, goodMap};
-ghost use Rattle.fmap_carry.specs.Carry.{preserved, withName, missing, otherSize, clearBy, clear, onMap, carryRows, judgedNumber, carryArea, carried, carryAreas, Matched, Fit, Fitting, endsIn};
+ghost use Rattle.fmap_carry.specs.Carry.{preserved, withName, missing, otherSize, clearBy, clear, onMap, carryRows, judgedNumber, carryArea, carried, carryAreas};
+ghost use Rattle.fmap_carry.specs.Invariants.{Matched, Fit, Fitting, endsIn};
 use fmap_rules::Extent;
 use fmap_rules::ImagePosition;
 

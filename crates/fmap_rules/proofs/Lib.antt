@@ -6,3 +6,4 @@ pub mod Signature
 pub mod Header
 pub mod Good
 pub mod Written
+pub mod Records

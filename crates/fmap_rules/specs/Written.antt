@@ -6,11 +6,15 @@ use Prim.Native.Nat.{ℕ, _≤_, _<_, _^_}
 use lib.ListN.{length, getD}
 use Rattle.octets.specs.Bytes.{le, rest, put, flat}
 use Rattle.fmap_rules.specs.declared.Area.{Area}
-use Rattle.fmap_rules.specs.Map.{signature, majorOf, minorOf, baseOf, sizeOf, nameOf, areasOf, legalName, blank, goodAreas, goodMap}
+use Rattle.fmap_rules.specs.Map.{signature, majorOf, minorOf, baseOf, sizeOf, nameOf, areaOf, areasOf, legalName, blank, goodAreas, goodMap}
 
 -- (M2) the 42 bytes of an area
 unfoldable pub areaBytes : Area → List ℕ
 areaBytes a = le 4 (a .place .start .0) ++ (le 4 (a .place .size) ++ (a .name ++ le 2 (a .flags)))
+
+-- (M2) the bytes of an area that bytes hold are these bytes
+abbrev pub AreaIsItsBytes : Type 0
+AreaIsItsBytes = (b : List ℕ) → length b ≡ 42 → ((i : ℕ) → i < 42 → getD b i 0 < 256) → areaBytes (areaOf b) ≡ b
 
 -- (M1) the bytes of a map: version 1.minor, of an image of len bytes
 unfoldable pub mapBytes : ℕ → List ℕ → ℕ → ℕ → List Area → List ℕ

@@ -76,6 +76,8 @@ fn every_flash_map_call_needs_at_most_24_kib_of_stack() {
         let (mut number, mut area) = (1, [0; 42]);
         assert_eq!(raw::fmap_find(&old, &mut number), 0);
         assert_eq!(number, 0);
+        assert_eq!(raw::fmap_fault(&old, 0, &mut number), 0);
+        assert_eq!(number, 0);
         assert_eq!(raw::fmap_area(&old, 127, &mut area), 0);
         assert_eq!(raw::fmap_named(&old, b"AREA_126", &mut number), 0);
         assert_eq!(number, 127);
