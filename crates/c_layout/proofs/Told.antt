@@ -2,13 +2,13 @@
 use mathlib.Core.Path.{_≡_, sym, ap, _∙_}
 use mathlib.Core.Logic.{_≢_}
 use mathlib.Core.List.{List, [], _∷_}
-use mathlib.Core.Option.{Option}
 use Prim.Native.Nat.{ℕ}
 use native.Mathlib.Omega.{arith}
 use lib.ListN.{length}
 use borrow.Author.Tests.{eq-eqb, ne-eqb}
 use Rattle.octets.specs.Rows.{codeOf}
-use Rattle.fmd.specs.Calls.{numberOf, reading, Read, Recorded, Written}
+use Rattle.fmd.specs.Calls.{numberOf, reading, Read, Recorded, Written, written}
+use Rattle.fmd.specs.declared.Writing.{Writing}
 use Rattle.fmd.specs.declared.Reading.{Reading}
 use Rattle.fmd.proofs.Answers.{refused-by, accepted-by}
 use Rattle.octets.specs.Bytes.{put}
@@ -53,6 +53,6 @@ records-tell x o r old count e p q = rw (p, q) (ap (recordsTold old) e)
 
 -- ---- writing
 
-pub write-tells : (n : Option ℕ) (r : ℕ) (b : List ℕ) (o : Written) → record { answer = n; image = b } ≡ o → r ≡ codeOf n
+pub write-tells : (w : Writing) (r : ℕ) (b : List ℕ) (o : Written) → written w b ≡ o → r ≡ codeOf (numberOf (w .answer))
     → _≡_ {A = WriteTold} (record { result = r; image = b }) (writeTold o)
-write-tells n r b o e q = ap (λ (k : ℕ). record { result = k; image = b }) q ∙ ap writeTold e
+write-tells w r b o e q = ap (λ (k : ℕ). record { result = k; image = b }) q ∙ ap writeTold e

@@ -70,5 +70,7 @@ pub extern "C" fn usi_fmd_records(text: &[u8], records: &mut [u8], count: &mut u
 pub extern "C" fn usi_fmd_write(text: &[u8], image: &mut [u8]) -> u32
     ensures { λ r. ⌜ record { result = r; image = now (image .exit) } ≡ writeTold (writeText (now (text .entry)) (now (image .entry))) ⌝ }
 {
-    fmd::number(fmd::write_map(text, image))
+    let w = fmd::write_map(text, image);
+    let answer = w.answer;
+    fmd::number(answer)
 }

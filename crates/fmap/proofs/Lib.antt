@@ -5,6 +5,7 @@ pub mod Places
 pub mod Reading
 pub mod Letters
 pub mod Promises
+pub mod Written
 pub mod Named
 pub mod InBytes
 pub mod Kept

@@ -10,7 +10,7 @@ use Rattle.octets.specs.Bytes.{part, field}
 use Rattle.fmap_rules.specs.Map.{goodMap}
 use Rattle.fmap.specs.Carry.{carryAt}
 
--- M1, M2: where record k of a map begins, 56 bytes behind the map's position and 42 a record
+-- (M1), (M2) where record k of a map begins, 56 bytes behind the map's position and 42 a record
 abbrev pub recordOf : ℕ → ℕ → ℕ
 recordOf at k = at + (56 + 42 * k)
 
@@ -28,7 +28,7 @@ sizeIn image r = field (r + 4) 4 image
 abbrev pub nameIn : List ℕ → ℕ → List ℕ
 nameIn image r = part (r + 8) 32 image
 
--- M7: two records' areas are disjoint, or one lies in the other
+-- (M7) two records' areas are disjoint, or one lies in the other
 abbrev pub endIn : List ℕ → ℕ → ℕ
 endIn image r = startIn image r + sizeIn image r
 
@@ -37,7 +37,7 @@ Apart image r s =
     ((endIn image r ≤ startIn image s) ⊎ (endIn image s ≤ startIn image r))
     ⊎ (((startIn image s ≤ startIn image r) × (endIn image r ≤ endIn image s)) ⊎ ((startIn image r ≤ startIn image s) × (endIn image s ≤ endIn image r)))
 
--- M3, M5 to M8 of the map at a position
+-- (M3), (M5), (M6), (M7), (M8) of the map at a position
 pub record MapAt (image : List ℕ) (at : ℕ) : Type 0 where
   pub signature : part at 8 image ≡ 95 ∷ 95 ∷ 70 ∷ 77 ∷ 65 ∷ 80 ∷ 95 ∷ 95 ∷ []
   pub major : getD image (at + 8) 0 ≡ 1
@@ -58,14 +58,14 @@ pub record MapAt (image : List ℕ) (at : ℕ) : Type 0 where
 abbrev pub GoodIsMap : Type 0
 GoodIsMap = (image : List ℕ) (at : ℕ) → goodMap image at ≡ true → MapAt image at
 
--- M11: record i of the old map is marked PRESERVE, and record j of the new map has its name
+-- (M11) record i of the old map is marked PRESERVE, and record j of the new map has its name
 pub record Goes (old : List ℕ) (at : ℕ) (new : List ℕ) (bt i j : ℕ) : Type 0 where
   pub old-record : i < countIn old at
   pub new-record : j < countIn new bt
   pub preserve : field (recordOf at i + 40) 2 old / 8 % 2 ≡ 1
   pub same-name : nameIn old (recordOf at i) ≡ nameIn new (recordOf bt j)
 
--- M11, M12: the bytes that record i says go where record j says, and every other byte stays
+-- (M11), (M12) the bytes that record i says go where record j says, and every other byte stays
 pub record CarriedBytes (old : List ℕ) (at : ℕ) (new : List ℕ) (bt : ℕ) (image : List ℕ) : Type 0 where
   pub same-length : length image ≡ length new
   pub none-lost : (i : ℕ) → i < countIn old at → field (recordOf at i + 40) 2 old / 8 % 2 ≡ 1 → (j : ℕ) × Goes old at new bt i j

@@ -5,4 +5,5 @@ pub mod Faults
 pub mod Areas
 pub mod Carry
 pub mod Promises
+pub mod Written
 pub mod InBytes

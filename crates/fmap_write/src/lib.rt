@@ -8,12 +8,6 @@ ghost use Rattle.octets.specs.Bytes.{part, put};
 ghost use Rattle.fmap_rules.specs.Written.{areaBytes, mapBytes};
 use fmap_rules::Area;
 
-// Up to 128 areas, in the map's order.
-pub struct Areas {
-    pub items: [Area; 128],
-    pub count: usize,
-}
-
 // An area's 42 bytes.
 pub fn put_area(to: &mut [u8], at: usize, a: Area)
     requires { ⌜ at + 42 ≤ length (now to) ⌝ }

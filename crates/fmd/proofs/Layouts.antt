@@ -1,36 +1,34 @@
 -- The layout of a text that is accepted: its areas by value, and room for its map.
 use mathlib.Core.Path.{_≡_, sym, ap, _∙_}
 use mathlib.Core.List.{List, [], map}
-use mathlib.Core.Option.{Option, none}
+use mathlib.Core.Logic.{_≢_}
+use mathlib.Core.Option.{none, some}
 use Prim.Native.Nat.{ℕ, _+_, _*_, _≤_, _<_}
 use native.Mathlib.Omega.{arith}
 use lib.ListN.{length}
-use lib.Seq.{length-take-le}
-use borrow.Author.Tests.{eq-eqb}
+use borrow.Author.Tests.{eq-eqb, ne-eqb}
 use Rattle.octets.specs.Bytes.{part, put, flat}
 use Rattle.fmap_rules.specs.Written.{areaBytes, mapBytes}
 use Rattle.fmap_rules.specs.declared.Area.{Area}
-use Rattle.fmap_write.specs.Areas.{listOf, Sound}
-use Rattle.fmap_write.specs.declared.Areas.{Areas}
 use Rattle.fmap_write.proofs.Fields.{map-written}
 use Rattle.fmd_table.specs.Table.{sectionsIn, placedIn, HasRows, HasSpots}
 use Rattle.fmd_table.proofs.Table.{length-sections}
 use Rattle.fmd_parse.specs.declared.Image.{Image}
-use Rattle.fmd_table.proofs.Spots.{length-placed}
+use Rattle.fmd_table.proofs.Spots.{length-placed, none-placed}
 use Rattle.fmd_check.specs.Check.{fault, good, checkText}
 use Rattle.fmd_check.specs.declared.Place.{Place}
 use Rattle.fmd_check.specs.Facts.{Numbered}
 use Rattle.fmd_check.proofs.Facts.{check-facts}
-use Rattle.fmd_areas.specs.Areas.{areaFrom, areaAt, areasOf, Laid}
+use Rattle.fmd_areas.specs.Areas.{areaFrom, areaAt, areasFrom, areasOf}
+use Rattle.fmd_areas.specs.Invariants.{Laid}
 use Rattle.fmd_areas.proofs.Names.{name-short, length-stored}
 use Rattle.fmd_areas.proofs.Places.{ends}
 use Rattle.fmd_areas.proofs.Shape.{length-areas}
-use Rattle.fmd.specs.Calls.{Held, imageOf, saidBy, Read, Written, writeBy}
+use Rattle.fmd.specs.Calls.{blank, imageOf, saidBy, layoutIn, layoutFor, Said, refusedWith, Read, reading, Written, withMap, writeBy}
+use Rattle.fmd.specs.Invariants.{Held, ReadFor}
 use Rattle.fmd.specs.declared.Image.{Image as SaidImage}
-
--- no areas, by value
-pub no-areas : (r : Areas) → Sound r → listOf r ≡ [] → r .count ≡ 0
-no-areas r w e = sym (length-take-le (r .count) (r .items) (omega (arith, w .room, w .full))) ∙ ap length e
+use Rattle.fmd.specs.declared.Answer.the-variants.{Accepted}
+use Rattle.fmd.specs.declared.Reading.{Reading}
 
 -- ---- the tables of a text that is accepted
 
@@ -79,9 +77,16 @@ module _ {s : List ℕ} {i : Image} {rows spots : List ℕ} {n m : ℕ} (g : Hel
     image-is : x ≡ imageOf s i (length (sectionsIn n rows))
     image-is = rw (length-sections n rows) e
 
-    pub said-is : (xs : List Area) (a : Area) → xs ≡ areasOf s (sectionsIn n rows) (placedIn n spots) → a ≡ areaAt s (sectionsIn n rows) (placedIn n spots) m
-        → record { answer = none; image = x; areas = xs; at = a .place .start } ≡ saidBy s (good i (sectionsIn n rows) (placedIn n spots) m)
-    said-is xs a p q = rw (image-is, p, q)
+    pub counted : (places : ℕ) → places ≡ 128 → good i (sectionsIn n rows) (placedIn n spots) m ≡ checkText s
+        → ReadFor s places rows spots (record { reading = record { answer = Accepted; image = x }; count = n })
+    unfolding layoutFor layoutIn
+    counted places h c = record {
+      fits = omega (arith, few);
+      laid = λ _. laid;
+      answer = rw (eq-eqb places 128 h, sym c);
+      image = rw (eq-eqb places 128 h, sym c) image-is;
+      areas = rw (eq-eqb places 128 h, sym c);
+    }
 
     pub read-is :
         _≡_ {A = Read} (record { answer = none; image = x })
@@ -92,7 +97,7 @@ module _ {s : List ℕ} {i : Image} {rows spots : List ℕ} {n m : ℕ} (g : Hel
       pub map-is : (a : Area) (one two : List ℕ) → a ≡ areaAt s (sectionsIn n rows) (placedIn n spots) m
           → ((areas : List Area) → n ≡ length areas → one ≡ put (a .place .start .0) (part 0 56 (mapBytes (x .size) (x .name) (x .address) 1 areas)) image)
           → two ≡ put (a .place .start .0 + 56) (flat (map areaBytes (areasOf s (sectionsIn n rows) (placedIn n spots)))) one
-          → record { answer = none; image = two } ≡ writeBy (saidBy s (good i (sectionsIn n rows) (placedIn n spots) m)) image none
+          → record { answer = none; at = a .place .start; image = two } ≡ writeBy (saidBy s (good i (sectionsIn n rows) (placedIn n spots) m)) image none
       unfolding imageOf
       map-is a one two d p q =
           let areas = areasOf s (sectionsIn n rows) (placedIn n spots) in
@@ -100,4 +105,30 @@ module _ {s : List ℕ} {i : Image} {rows spots : List ℕ} {n m : ℕ} (g : Hel
           let w =
           map-written (x .size) (x .name) (x .address) 1 wide (a .place .start .0) areas image one two
           (p areas (sym (length-areas s (sectionsIn n rows) (placedIn n spots) ∙ length-placed n spots))) q in
-          rw (eq-eqb (length image) (i .size) h) (ap {B = Written} (λ (y : List ℕ). record { answer = none; image = y }) (w ∙ rw (e, d, h)))
+          let x = saidBy s (good i (sectionsIn n rows) (placedIn n spots) m) in
+          rw (eq-eqb (length image) (i .size) h) (ap {B = Written} (λ (y : List ℕ). record { answer = none; at = a .place .start; image = y }) (w ∙ rw (e, d, h))
+          ∙ ap {B = Written} (λ (z : Area). record { answer = none; at = z .place .start; image = withMap x image }) d)
+
+-- ---- a text that is refused: the tables hold no section
+
+no-areas : (s rows spots : List ℕ) → areasOf s (sectionsIn 0 rows) (placedIn 0 spots) ≡ []
+unfolding areasOf areasFrom
+no-areas s rows spots = rw (none-placed spots)
+
+pub counted-none : {s : List ℕ} (places : ℕ) (rows spots : List ℕ) {r : Reading} (k : ℕ) → layoutFor s places ≡ refusedWith (some k)
+    → reading r ≡ record { answer = some k; image = blank } → ReadFor s places rows spots (record { reading = r; count = 0 })
+counted-none {s} places rows spots {r} k e d = record {
+  fits = omega arith;
+  laid = λ h. absurd (omega arith);
+  answer = ap (λ (y : Read). y .answer) d ∙ sym (ap (λ (y : Said). y .answer) e);
+  image = ap (λ (y : Read). y .image) d ∙ sym (ap (λ (y : Said). y .image) e);
+  areas = no-areas s rows spots ∙ sym (ap (λ (y : Said). y .areas) e);
+}
+
+pub wrong-places : (s : List ℕ) (places : ℕ) → places ≢ 128 → layoutFor s places ≡ refusedWith (some 1)
+unfolding layoutFor
+wrong-places s places h = rw (ne-eqb places 128 h)
+
+pub text-fault : (s : List ℕ) (places n : ℕ) (p : Place) → places ≡ 128 → fault n p ≡ checkText s → layoutFor s places ≡ refusedWith (some n)
+unfolding layoutFor layoutIn
+text-fault s places n p h c = rw (eq-eqb places 128 h, sym c)

@@ -2,5 +2,7 @@ pub mod Answers
 pub mod Filled
 pub mod Records
 pub mod Layouts
+pub mod Tables
 pub mod Writable
 pub mod Promises
+pub mod Listings

@@ -1,5 +1,5 @@
 -- What users rely on besides the equations of the calls.
-use mathlib.Core.Path.{_≡_, refl, sym, subst}
+use mathlib.Core.Path.{_≡_, refl, sym, ap, subst, _∙_}
 use mathlib.Core.List.{List}
 use mathlib.Core.Option.{Option, none, some}
 use Prim.Native.Nat.{ℕ, _≤_, _<_, _^_}
@@ -7,12 +7,12 @@ use native.Mathlib.Omega.{arith}
 use lib.Dec.{eqb}
 use lib.ListN.{length}
 use borrow.Author.Tests.{eqb-true}
-use Rattle.octets.specs.Bytes.{rest}
 use Rattle.octets.proofs.Bools.{choice, some-none}
-use Rattle.octets.proofs.Puts.{length-put, getD-put-out}
-use Rattle.fmap_rules.specs.Written.{mapBytes, Writable, Headed}
-use Rattle.fmap_rules.proofs.Written.{bytes-length, written-is-good, written-header}
-use Rattle.fmap.proofs.Promises.{written-is-found}
+use Rattle.fmap_rules.specs.Written.{Writable}
+use Rattle.fmap_rules.specs.declared.Area.{Area}
+use Rattle.fmap_rules.specs.declared.ImagePosition.{ImagePosition}
+use Rattle.fmap.specs.Written.{Holds}
+use Rattle.fmap.proofs.Written.{map-holds}
 use Rattle.fmd_parse.specs.Trees.{AddressFits}
 use Rattle.fmd_parse.specs.declared.Address.{Address}
 use Rattle.fmd_parse.specs.declared.Address.the-variants.{Given, Omitted}
@@ -20,14 +20,16 @@ use Rattle.fmd_check.specs.Check.{Judged, fault, good, checkText}
 use Rattle.fmd_check.specs.Facts.{CheckedFacts}
 use Rattle.fmd_check.proofs.Facts.{check-facts}
 use Rattle.fmd_areas.proofs.Shape.{area-at}
+use Rattle.fmd_areas.specs.Areas.{areaFrom, areaAt}
 use Rattle.fmd_areas.proofs.Nested.{areas-nested}
+use Rattle.fmd_areas.proofs.Stands.{areas-stand}
 use Rattle.fmd.specs.Calls.{Said, baseOf, imageOf, saidBy, layoutIn, Written, withMap, writeBy, writeText}
-use Rattle.fmd.specs.Promises.{SectionsNested, SectionsInOrder, SaidIsWritable, Holds, WrittenHolds, RefusedStays}
+use Rattle.fmd.specs.Promises.{SectionsNested, SectionsInOrder, SaidIsWritable, WrittenHolds, WrittenAtFmap, RefusedStays}
 use Rattle.fmd.proofs.Writable.{writable}
 
 -- ---- what an accepted text says
 
-record Sayable (x : Said) : Type 0 where
+pub record Sayable (x : Said) : Type 0 where
   pub writes : Writable (x .image .size) (x .at .0) (x .image .name) 1 (x .areas)
   pub low : 98 ≤ x .image .size
   pub high : x .image .size ≤ 16777216
@@ -46,25 +48,11 @@ sayable s (good i l ps m) f e =
 -- ---- the image with the map of what it says
 
 module _ (x : Said) (image : List ℕ) (f : Sayable x) (e : length image ≡ x .image .size) where
-  abbrev bytes : List ℕ
-  bytes = mapBytes (length image) (x .image .name) (x .image .address) 1 (x .areas)
+  abbrev Held : ImagePosition → List ℕ → Type 0
+  Held at new = Holds (at .0) (x .image .name) (x .image .address) 1 (x .areas) image new
 
-  fits : Writable (length image) (x .at .0) (x .image .name) 1 (x .areas)
-  fits = rw e (f .writes)
-
-  holds : Holds x image (withMap x image)
-  holds =
-      let w = written-is-good image (x .at .0) (x .image .name) (x .image .address) 1 (x .areas) fits in
-      let l = bytes-length image (x .at .0) (x .image .name) (x .image .address) 1 (x .areas) fits in
-      let h = written-header image (x .at .0) (x .image .name) (x .image .address) 1 (x .areas) fits (f .base) in
-      record {
-        same-length = length-put (x .at .0) bytes image;
-        there = w .good;
-        lists = w .same-areas;
-        headed = subst (λ (n : ℕ). Headed (rest (x .at .0) (withMap x image)) n (x .image .name) (x .image .address) 1) e h;
-        elsewhere = λ k o. getD-put-out bytes image (x .at .0) k (rw l o);
-        found = written-is-found image (x .at .0) (x .image .name) (x .image .address) 1 (x .areas) fits (rw e (f .low)) (rw e (f .high));
-      }
+  holds : Held (x .at) (withMap x image)
+  holds = map-holds image (x .at .0) (x .image .name) (x .image .address) 1 (x .areas) (rw e (f .writes)) (f .base) (rw e (f .low)) (rw e (f .high))
 
 -- ---- the calls
 
@@ -76,9 +64,9 @@ sections-nested s i l ps m e =
 pub sections-in-order : SectionsInOrder
 unfolding layoutIn
 sections-in-order s i l ps m e k h =
-    let f = subst (CheckedFacts s) e (check-facts s) in rw e (area-at s l ps k (rw (f .fitted .count) h))
+    let f = subst (CheckedFacts s) e (check-facts s) in rw e (areas-stand s (i .size) l ps (f .tree) (f .fitted) k h)
 
-said : (s : List ℕ) → layoutIn s .answer ≡ none → Sayable (layoutIn s)
+pub said : (s : List ℕ) → layoutIn s .answer ≡ none → Sayable (layoutIn s)
 unfolding layoutIn
 said s e = sayable s (checkText s) (check-facts s) e
 
@@ -86,11 +74,19 @@ pub said-is-writable : SaidIsWritable
 said-is-writable s e = said s e .writes
 
 module _ (image : List ℕ) (x : Said) where
-  wrote : (o : Option ℕ) → x .answer ≡ o → (x .answer ≡ none → Sayable x) → writeBy x image o .answer ≡ none → Holds x image (writeBy x image o .image)
+  abbrev Wrote : Written → Type 0
+  Wrote w = (length image ≡ x .image .size) × Holds (w .at .0) (x .image .name) (x .image .address) 1 (x .areas) image (w .image)
+
+  wrote : (o : Option ℕ) → x .answer ≡ o → (x .answer ≡ none → Sayable x) → writeBy x image o .answer ≡ none → Wrote (writeBy x image o)
   wrote (some n) q f e = absurd (some-none e)
   wrote none q f e =
-      choice (λ (w : Written). w .answer ≡ none → Holds x image (w .image)) (eqb (length image) (x .image .size)) _ _
-      (λ b _. holds x image (f q) (eqb-true _ _ b)) (λ _ a. absurd (some-none a)) e
+      choice (λ (w : Written). w .answer ≡ none → Wrote w) (eqb (length image) (x .image .size)) _ _
+      (λ b _. (eqb-true _ _ b, holds x image (f q) (eqb-true _ _ b))) (λ _ a. absurd (some-none a)) e
+
+  wrote-at : (o : Option ℕ) → writeBy x image o .answer ≡ none → writeBy x image o .at ≡ x .at
+  wrote-at (some n) e = absurd (some-none e)
+  wrote-at none e =
+      choice (λ (w : Written). w .answer ≡ none → w .at ≡ x .at) (eqb (length image) (x .image .size)) _ _ (λ _ _. refl) (λ _ a. absurd (some-none a)) e
 
   stays : (o : Option ℕ) (n : ℕ) → writeBy x image o .answer ≡ some n → writeBy x image o .image ≡ image
   stays (some k) n e = refl
@@ -101,6 +97,13 @@ module _ (image : List ℕ) (x : Said) where
 pub written-holds : WrittenHolds
 unfolding writeText
 written-holds s image e = wrote image (layoutIn s) (layoutIn s .answer) refl (said s) e
+
+pub written-at-fmap : WrittenAtFmap
+unfolding writeText layoutIn areaAt areaFrom
+written-at-fmap s image i l ps m e a =
+    let f = subst (CheckedFacts s) e (check-facts s) in
+    ap (λ (p : ImagePosition). p .0) (wrote-at image (layoutIn s) (layoutIn s .answer) a)
+    ∙ rw e (sym (ap (λ (x : Area). x .place .start .0) (area-at s l ps m (omega (arith, f .there, f .fitted .count)))))
 
 pub refused-stays : RefusedStays
 unfolding writeText

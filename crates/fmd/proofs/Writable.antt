@@ -23,7 +23,7 @@ use Rattle.fmd_check.specs.Facts.{Accepted}
 use Rattle.fmd_areas.specs.Areas.{storedName, flagsOf, areaFrom, areaAt, areasOf}
 use Rattle.fmd_areas.specs.Nested.{Nested}
 use Rattle.fmd_areas.proofs.Shape.{length-areas, area-at}
-use Rattle.fmd_areas.proofs.Nested.{areas-nested}
+use Rattle.fmd_areas.proofs.Nested.{areas-nested, apart-test}
 use Rattle.fmd_areas.proofs.Names.{length-stored, stored-legal, area-legal, area-name-length, area-fmap, area-names-differ}
 
 flags-small : (b : Bool) → flagsOf b < 256 ^ 2
@@ -49,6 +49,9 @@ module _ (s : List ℕ) (i : Image) (l : List Section) (ps : List Placed) (m : �
 
   legal-at : (k : ℕ) → k < length areas → legalName (getD areas k blankArea .name) ≡ true
   legal-at k h = rw (area-is k h) (area-legal s l ps (a .tree) k (there k h))
+
+  size-some : (k : ℕ) → k < length areas → 1 ≤ getD areas k blankArea .place .size
+  size-some k h = omega (arith, nested .some k h)
 
   stored : (k : ℕ) → k < length areas → Stored (getD areas k blankArea)
   unfolding areaAt areaFrom
@@ -81,7 +84,9 @@ module _ (s : List ℕ) (i : Image) (l : List Section) (ps : List Placed) (m : �
       (and-i _ _ (eq-eqb at at refl) (le-leb _ _ large))))
 
   pub good-areas : goodAreas (i .size) at areas ≡ true
-  good-areas = areas-good (i .size) at areas (nested .some) (nested .within) legal-at holder names-differ (λ j k g h. nested .apart j k (omega arith) h)
+  good-areas =
+      areas-good (i .size) at areas size-some (nested .within) legal-at holder names-differ
+      (λ j k g h. apart-test _ _ (nested .apart j k (omega arith) h))
 
   pub writable : Writable (i .size) at (storedName s (i .place) (i .length)) 1 areas
   writable =

@@ -2,7 +2,6 @@
 use mathlib.Core.Bool.{cond}
 use mathlib.Core.List.{List, [], _++_, map}
 use mathlib.Core.Option.{Option, none, some}
-use mathlib.Core.Path.{_≡_}
 use Prim.Native.Nat.{ℕ}
 use lib.Dec.{eqb}
 use lib.ListN.{length, drop}
@@ -11,20 +10,17 @@ use Rattle.fmap_rules.specs.Map.{position}
 use Rattle.fmap_rules.specs.Written.{areaBytes, mapBytes}
 use Rattle.fmap_rules.specs.declared.ImagePosition.{ImagePosition}
 use Rattle.fmap_rules.specs.declared.Area.{Area}
-use Rattle.fmap_write.specs.Areas.{listOf}
 use Rattle.fmd_parse.specs.declared.Address.{Address}
 use Rattle.fmd_parse.specs.declared.Address.the-variants.{Given, Omitted}
 use Rattle.fmd_parse.specs.declared.Image.{Image as TextImage}
 use Rattle.fmd_check.specs.Check.{Judged, fault, good, checkText}
-use Rattle.fmd_check.specs.Facts as Text
-use Rattle.fmd_table.specs.Table.{sectionsIn, placedIn, HasRows, HasSpots}
 use Rattle.fmd_areas.specs.Areas.{storedName, areaAt, areasOf}
 use Rattle.fmd.specs.declared.Answer.{Answer}
 use Rattle.fmd.specs.declared.Answer.the-variants.{Accepted, WrongLength, TooLong, OutOfGrammar, BadNumber, BadName, NameTwice, TooMany, BadFlag, Undecided, Unfit, NoMapSection}
 use Rattle.fmd.specs.declared.Image.{Image}
 use Rattle.fmd.specs.declared.Reading.{Reading}
 use Rattle.fmd.specs.declared.Section.{Section}
-use Rattle.fmd.specs.declared.Layout.{Layout}
+use Rattle.fmd.specs.declared.Writing.{Writing}
 
 -- (W15) the number of each answer
 abbrev pub numberOf : Answer → Option ℕ
@@ -126,9 +122,14 @@ recordText s bs = cond (eqb (length bs) 5376) (recordBy (layoutIn s) bs) (record
 
 -- ---- writing
 
+-- a refusal's number or none, the position of the map that was written, and the image afterwards
 pub record Written : Type 0 where
   pub answer : Option ℕ
+  pub at : ImagePosition
   pub image : List ℕ
+
+abbrev pub unwritten : ℕ → List ℕ → Written
+unwritten n image = record { answer = some n; at = position 0; image = image }
 
 -- L18: It is written at the start of section FMAP. L17: version 1.1, base the address or 0
 abbrev pub withMap : Said → List ℕ → List ℕ
@@ -136,23 +137,14 @@ withMap x image = put (x .at .0) (mapBytes (length image) (x .image .name) (x .i
 
 -- R34: Writing a map into an image: FMD's refusals, then 1 where the image length is not the stated size.
 abbrev pub writeBy : Said → List ℕ → Option ℕ → Written
-writeBy x image (some n) = record { answer = some n; image = image }
+writeBy x image (some n) = unwritten n image
 writeBy x image none =
-    cond (eqb (length image) (x .image .size)) (record { answer = none; image = withMap x image }) (record { answer = some 1; image = image })
+    cond (eqb (length image) (x .image .size)) (record { answer = none; at = x .at; image = withMap x image }) (unwritten 1 image)
 
 unfoldable pub writeText : List ℕ → List ℕ → Written
 writeText s image = writeBy (layoutIn s) image (layoutIn s .answer)
 
 -- ---- what the values of the code say
-
--- a text that is accepted, with the tables of its n sections; section m is FMAP
-pub record Held (s : List ℕ) (i : TextImage) (rows spots : List ℕ) (n m : ℕ) : Type 0 where
-  pub rows-room : HasRows 128 rows
-  pub spots-room : HasSpots 128 spots
-  pub accepted : Text.Accepted s i (sectionsIn n rows) (placedIn n spots) m
-
-abbrev pub said : Layout → Said
-said r = record { answer = numberOf (r .reading .answer); image = r .reading .image; areas = listOf (r .areas); at = r .at }
 
 abbrev pub reading : Reading → Read
 reading r = record { answer = numberOf (r .answer); image = r .image }
@@ -163,5 +155,5 @@ listed r ys = record { answer = numberOf (r .answer); image = r .image; sections
 abbrev pub recorded : Reading → List ℕ → Recorded
 recorded r bs = record { answer = numberOf (r .answer); image = r .image; records = bs }
 
-abbrev pub written : Answer → List ℕ → Written
-written r image = record { answer = numberOf r; image = image }
+abbrev pub written : Writing → List ℕ → Written
+written r image = record { answer = numberOf (r .answer); at = r .at; image = image }

@@ -1,24 +1,22 @@
 -- What users rely on besides the equations of the calls. Statements only.
 use mathlib.Core.Path.{_≡_}
-use mathlib.Core.Logic.{_⊎_}
-use mathlib.Core.Bool.{true, false}
-use mathlib.Core.List.{List}
+use mathlib.Core.List.{List, []}
 use mathlib.Core.Option.{none, some}
-use Prim.Native.Nat.{ℕ, _+_, _≤_, _<_}
+use Prim.Native.Nat.{ℕ, _≤_, _<_}
 use lib.ListN.{length, getD}
-use Rattle.octets.specs.Bytes.{rest}
 use Rattle.octets.specs.Rows.{codeOf}
-use Rattle.fmap_rules.specs.Map.{blank, mapSize, areasOf, goodMap}
-use Rattle.fmap_rules.specs.Written.{Writable, Headed}
-use Rattle.fmap.specs.Find.{accepted, findMap}
+use Rattle.fmap_rules.specs.Map.{position, blank}
+use Rattle.fmap_rules.specs.Written.{Writable}
+use Rattle.fmap_rules.specs.declared.Area.{Area}
+use Rattle.fmap.specs.Written.{Holds}
 use Rattle.fmd_table.specs.declared.Section.{Section}
-use Rattle.fmd_parse.specs.declared.Image.{Image as TextImage}
 use Rattle.fmd_table.specs.declared.Placed.{Placed}
+use Rattle.fmd_parse.specs.declared.Image.{Image as TextImage}
 use Rattle.fmd_check.specs.Check.{good, checkText}
-use Rattle.fmd_areas.specs.Areas.{areaAt}
-use Rattle.fmd_areas.specs.Nested.{Nested}
-use Rattle.fmd.specs.Calls.{numberOf, Said, layoutIn, writeText}
+use Rattle.fmd_areas.specs.Nested.{startAt, Nested, Stands}
+use Rattle.fmd.specs.Calls.{numberOf, layoutIn, listText, recordText, writeText}
 use Rattle.fmd.specs.declared.Answer.{Answer}
+use Rattle.fmd.specs.declared.Section.{Section as Listed}
 
 -- no refusal's number is 0
 abbrev pub ZeroIsAccepted : Type 0
@@ -30,11 +28,34 @@ SectionsNested =
     (s : List ℕ) (i : TextImage) (l : List Section) (ps : List Placed) (m : ℕ) → checkText s ≡ good i l ps m
     → Nested (layoutIn s .image .size) l (layoutIn s .areas)
 
--- (L17) what is listed, and written: each section, resolved, in text order; Nested has the count
+-- (L15), (L17), (M4) what is listed, and written, of section k of the text: position, size, flags and name; Nested has the count
 abbrev pub SectionsInOrder : Type 0
 SectionsInOrder =
     (s : List ℕ) (i : TextImage) (l : List Section) (ps : List Placed) (m : ℕ) → checkText s ≡ good i l ps m
-    → (k : ℕ) → k < length l → getD (layoutIn s .areas) k blank ≡ areaAt s l ps k
+    → (k : ℕ) → k < length l → Stands s l ps (layoutIn s .areas) k
+
+-- what getD answers past the end of a list
+abbrev pub blankListed : Listed
+blankListed = record { position = position 0; size = 0; flags = 0; name = [] }
+
+-- (L16) record k is area k, and behind the last stands what stood there
+pub record Fills (areas : List Area) (ys zs : List Listed) : Type 0 where
+  pub same-length : length zs ≡ length ys
+  pub positions : (k : ℕ) → k < length areas → getD zs k blankListed .position ≡ getD areas k blank .place .start
+  pub sizes : (k : ℕ) → k < length areas → getD zs k blankListed .size ≡ getD areas k blank .place .size
+  pub flags : (k : ℕ) → k < length areas → getD zs k blankListed .flags ≡ getD areas k blank .flags
+  pub names : (k : ℕ) → k < length areas → getD zs k blankListed .name ≡ getD areas k blank .name
+  pub unused : (k : ℕ) → length areas ≤ k → getD zs k blankListed ≡ getD ys k blankListed
+
+abbrev pub ListedFills : Type 0
+ListedFills = (s : List ℕ) (ys : List Listed) → listText s ys .answer ≡ none → Fills (layoutIn s .areas) ys (listText s ys .sections)
+
+-- (R1) a refusal changes no record
+abbrev pub RefusedListStays : Type 0
+RefusedListStays = (s : List ℕ) (ys : List Listed) (n : ℕ) → listText s ys .answer ≡ some n → listText s ys .sections ≡ ys
+
+abbrev pub RefusedRecordsStay : Type 0
+RefusedRecordsStay = (s bs : List ℕ) (n : ℕ) → recordText s bs .answer ≡ some n → recordText s bs .records ≡ bs
 
 -- what an accepted text says can be written as a good map
 abbrev pub SaidIsWritable : Type 0
@@ -42,21 +63,18 @@ SaidIsWritable =
     (s : List ℕ) → layoutIn s .answer ≡ none
     → Writable (layoutIn s .image .size) (layoutIn s .at .0) (layoutIn s .image .name) 1 (layoutIn s .areas)
 
--- the image as it then is holds the map of what a text says, and is the image as it was elsewhere
-pub record Holds (x : Said) (image new : List ℕ) : Type 0 where
-  pub same-length : length new ≡ length image
-  -- L18: It is written at the start of section FMAP
-  pub there : goodMap new (x .at .0) ≡ true
-  -- L17: The map lists sections in text order, version 1.1, base the address or 0; with the image's size and name
-  pub lists : areasOf (rest (x .at .0) new) ≡ x .areas
-  pub headed : Headed (rest (x .at .0) new) (x .image .size) (x .image .name) (x .image .address) 1
-  -- (L18) which needs 56 + 42 × count bytes; no other byte changes
-  pub elsewhere : (k : ℕ) → (k < x .at .0) ⊎ (x .at .0 + mapSize (length (x .areas)) ≤ k) → getD new k 0 ≡ getD image k 0
-  -- L19: A search finds it unless a lower good map exists.
-  pub found : ((j : ℕ) → j < x .at .0 → goodMap new j ≡ false) → findMap new ≡ accepted (x .at)
-
+-- (L17), (L18), L19, (R34) the image has the stated size and holds the map where the answer says
 abbrev pub WrittenHolds : Type 0
-WrittenHolds = (s image : List ℕ) → writeText s image .answer ≡ none → Holds (layoutIn s) image (writeText s image .image)
+WrittenHolds =
+    (s image : List ℕ) → writeText s image .answer ≡ none
+    → (length image ≡ layoutIn s .image .size)
+    × Holds (writeText s image .at .0) (layoutIn s .image .name) (layoutIn s .image .address) 1 (layoutIn s .areas) image (writeText s image .image)
+
+-- L18: It is written at the start of section FMAP. Section m is FMAP.
+abbrev pub WrittenAtFmap : Type 0
+WrittenAtFmap =
+    (s image : List ℕ) (i : TextImage) (l : List Section) (ps : List Placed) (m : ℕ) → checkText s ≡ good i l ps m
+    → writeText s image .answer ≡ none → writeText s image .at .0 ≡ startAt (layoutIn s .areas) m
 
 -- (R1) a refusal changes no lent byte
 abbrev pub RefusedStays : Type 0

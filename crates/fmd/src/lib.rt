@@ -3,18 +3,17 @@ ghost use mathlib.Core.List.{map};
 ghost use mathlib.Core.Option.{none, some};
 ghost use mathlib.Core.Path.{_≡_};
 ghost use Prim.Native.Nat.{_+_, _≤_, _<_};
-ghost use lib.ListN.{length, getD};
+ghost use lib.ListN.{length};
 ghost use Rattle.octets.specs.Rows.{codeOf};
-ghost use Rattle.fmap_rules.specs.Map.{blank};
-ghost use Rattle.fmap_write.specs.Areas.{listOf, Sound};
-ghost use Rattle.fmd_table.specs.Table.{sectionsIn, placedIn};
+ghost use Rattle.fmap_rules.specs.Map.{position};
+ghost use Rattle.fmd_table.specs.Table.{sectionsIn, placedIn, HasRows, HasSpots};
 ghost use Rattle.fmd_check.specs.Check.{good};
 ghost use Rattle.fmd_check.specs.Facts.{Numbered};
-ghost use Rattle.fmd.specs.Calls.{numberOf, Held, said, refusedWith, blank as blankImage, baseOf, imageOf, saidBy, layoutIn, layoutFor, reading, readText, sectionOf, filled, listed, listText, recorded, recordText, written, writeBy, writeText};
-use fmap_rules::Area;
-use fmap_rules::Extent;
+ghost use Rattle.fmd_areas.specs.Areas.{areaAt, areasOf};
+ghost use Rattle.fmd_areas.specs.Invariants.{Laid};
+ghost use Rattle.fmd.specs.Calls.{numberOf, blank as blankImage, baseOf, imageOf, saidBy, reading, readText, sectionOf, filled, listed, listText, recorded, recordText, written, writeBy, writeText};
+ghost use Rattle.fmd.specs.Invariants.{Held, ReadFor};
 use fmap_rules::ImagePosition;
-use fmap_write::Areas;
 use fmd_areas::area_at;
 use fmd_check::Verdict;
 use fmd_parse::Address;
@@ -60,10 +59,15 @@ pub struct Section {
     pub name: [u8; 32],
 }
 
-// A reading with the sections as areas of a map, and the position of section FMAP; blank unless the answer is Accepted.
-pub struct Layout {
-    pub reading: Reading,
-    pub areas: Areas,
+// A reading with the number of sections that the tables then hold; none unless the answer is Accepted.
+struct Counted {
+    reading: Reading,
+    count: usize,
+}
+
+// What a writer answers: the position of the map that it wrote, 0 unless the answer is Accepted.
+pub struct Writing {
+    pub answer: Answer,
     pub at: ImagePosition,
 }
 
@@ -100,29 +104,6 @@ fn unread(answer: Answer) -> Reading
     Reading {
         answer: answer,
         image: image,
-    }
-}
-
-// No layout.
-fn refused(answer: Answer) -> Layout
-    ensures { λ r. ⌜ Sound (r .areas) × (said r ≡ refusedWith (numberOf answer)) ⌝ }
-{
-    let reading = unread(answer);
-    let a = Area {
-        place: Extent {
-            start: ImagePosition(0),
-            size: 0,
-        },
-        name: [0u8; 32],
-        flags: 0,
-    };
-    Layout {
-        reading: reading,
-        areas: Areas {
-            items: [a; 128],
-            count: 0,
-        },
-        at: ImagePosition(0),
     }
 }
 
@@ -168,38 +149,6 @@ fn image_of(text: &[u8], i: TextImage, count: usize) -> Image
     }
 }
 
-// The layout of a text that is accepted; section m is FMAP.
-fn accepted(text: &[u8], i: TextImage, rows: &[u32], spots: &[u32], n: usize, m: usize) -> Layout
-    requires { ⌜ Held (now text) i (now rows) (now spots) n m ⌝ }
-    ensures { λ r. ⌜ Sound (r .areas) × (said r ≡ saidBy (now (text .entry)) (good i (sectionsIn n (now (rows .entry))) (placedIn n (now (spots .entry))) m)) ⌝ }
-{
-    let a = area_at(text, rows, spots, n, m);
-    let place = a.place;
-    let start = place.start;
-    let image = image_of(text, i, n);
-    let areas = fmd_areas::areas_of(text, rows, spots, n);
-    Layout {
-        reading: Reading {
-            answer: Answer::Accepted,
-            image: image,
-        },
-        areas: areas,
-        at: start,
-    }
-}
-
-// Reads a layout text, whole.
-fn layout_in(text: &[u8]) -> Layout
-    ensures { λ r. ⌜ Sound (r .areas) × (said r ≡ layoutIn (now (text .entry))) ⌝ }
-{
-    let mut rows = [0u32; ROWS];
-    let mut spots = [0u32; SPOTS];
-    match fmd_check::check(text, &mut rows, &mut spots) {
-        Verdict::Good(i, n, m) => accepted(text, i, &rows, &spots, n, m),
-        Verdict::Fault(k, _) => refused(answer_of(k)),
-    }
-}
-
 // Reads a layout text.
 pub fn read(text: &[u8]) -> Reading
     ensures { λ r. ⌜ reading r ≡ readText (now (text .entry)) ⌝ }
@@ -218,22 +167,45 @@ pub fn read(text: &[u8]) -> Reading
     }
 }
 
-// Reads a layout text, for a list of so many places.
-fn layout_for(text: &[u8], places: usize) -> Layout
-    ensures { λ r. ⌜ Sound (r .areas) × (r .areas .count ≤ places) × (said r ≡ layoutFor (now (text .entry)) places) ⌝ }
+// Reads a layout text into the tables, for a list of so many places.
+fn read_for(text: &[u8], places: usize, rows: &mut [u32], spots: &mut [u32]) -> Counted
+    requires { ⌜ HasRows 128 (now rows) × HasSpots 128 (now spots) ⌝ }
+    ensures { λ r. ⌜ ReadFor (now (text .entry)) places (now (rows .exit)) (now (spots .exit)) r ⌝ }
 {
-    if places == 128 {
-        return layout_in(text);
+    if places != 128 {
+        let reading = unread(Answer::WrongLength);
+        return Counted {
+            reading: reading,
+            count: 0,
+        };
     }
-    refused(Answer::WrongLength)
+    match fmd_check::check(text, rows, spots) {
+        Verdict::Good(i, n, _) => {
+            let image = image_of(text, i, n);
+            Counted {
+                reading: Reading {
+                    answer: Answer::Accepted,
+                    image: image,
+                },
+                count: n,
+            }
+        }
+        Verdict::Fault(k, _) => {
+            let reading = unread(answer_of(k));
+            Counted {
+                reading: reading,
+                count: 0,
+            }
+        }
+    }
 }
 
-// Area i as a section of the list.
-fn section_at(areas: Areas, i: usize) -> Section
-    requires { ⌜ Sound areas × (i < areas .count) ⌝ }
-    ensures { λ r. ⌜ r ≡ sectionOf (getD (areas .items) i blank) ⌝ }
+// Section k of n, as the list has it.
+fn section_at(text: &[u8], rows: &[u32], spots: &[u32], n: usize, k: usize) -> Section
+    requires { ⌜ Laid (now text) (now rows) (now spots) n × (k < n) ⌝ }
+    ensures { λ r. ⌜ r ≡ sectionOf (areaAt (now (text .entry)) (sectionsIn n (now (rows .entry))) (placedIn n (now (spots .entry))) k) ⌝ }
 {
-    let a = areas.items[i];
+    let a = area_at(text, rows, spots, n, k);
     let place = a.place;
     let start = place.start;
     let name = a.name;
@@ -245,15 +217,21 @@ fn section_at(areas: Areas, i: usize) -> Section
     }
 }
 
-// The areas as sections, one at a time, from the start of the list on.
-fn fill(sections: &mut [Section], areas: Areas)
-    requires { ⌜ Sound areas × (areas .count ≤ length (now sections)) ⌝ }
-    ensures { λ _. ⌜ now (sections .exit) ≡ filled (map sectionOf (listOf areas)) (now (sections .entry)) ⌝ }
+// The sections, one at a time, from the start of the list on.
+fn fill<'a, 'b, 'c, 'd>(
+    sections: &'a mut [Section],
+    text: &'b [u8],
+    rows: &'c [u32],
+    spots: &'d [u32],
+    n: usize,
+)
+    requires { ⌜ (0 < n → Laid (now text) (now rows) (now spots) n) × (n ≤ length (now sections)) ⌝ }
+    ensures { λ _. ⌜ now (sections .exit)
+        ≡ filled (map sectionOf (areasOf (now (text .entry)) (sectionsIn n (now (rows .entry))) (placedIn n (now (spots .entry))))) (now (sections .entry)) ⌝ }
 {
-    let n = areas.count;
     let mut i: usize = 0;
     while i < n {
-        sections[i] = section_at(areas, i);
+        sections[i] = section_at(text, rows, spots, n, i);
         i += 1;
     }
 }
@@ -262,9 +240,10 @@ fn fill(sections: &mut [Section], areas: Areas)
 pub fn list<'a, 'b>(text: &'a [u8], sections: &'b mut [Section]) -> Reading
     ensures { λ r. ⌜ listed r (now (sections .exit)) ≡ listText (now (text .entry)) (now (sections .entry)) ⌝ }
 {
-    let l = layout_for(text, sections.len());
-    let areas = l.areas;
-    fill(sections, areas);
+    let mut rows = [0u32; ROWS];
+    let mut spots = [0u32; SPOTS];
+    let l = read_for(text, sections.len(), &mut rows, &mut spots);
+    fill(sections, text, &rows, &spots, l.count);
     l.reading
 }
 
@@ -290,6 +269,16 @@ pub fn put_records(text: &[u8], records: &mut [u8]) -> Reading
     }
 }
 
+// No map.
+fn unwritten(answer: Answer) -> Writing
+    ensures { λ r. ⌜ r ≡ record { answer = answer; at = position 0 } ⌝ }
+{
+    Writing {
+        answer: answer,
+        at: ImagePosition(0),
+    }
+}
+
 // Writes the map of a layout into an image; section m is FMAP.
 fn put_layout(
     text: &[u8],
@@ -299,31 +288,36 @@ fn put_layout(
     n: usize,
     m: usize,
     image: &mut [u8],
-) -> Answer
+) -> Writing
     requires { ⌜ Held (now text) i (now rows) (now spots) n m ⌝ }
     ensures { λ r. ⌜ written r (now (image .exit))
         ≡ writeBy (saidBy (now (text .entry)) (good i (sectionsIn n (now (rows .entry))) (placedIn n (now (spots .entry))) m)) (now (image .entry)) none ⌝ }
 {
     if image.len() != i.size as usize {
-        return Answer::WrongLength;
+        return unwritten(Answer::WrongLength);
     }
     let a = area_at(text, rows, spots, n, m);
-    let start = a.place.start.0 as usize;
+    let place = a.place;
+    let at = place.start;
+    let start = at.0 as usize;
     let x = image_of(text, i, n);
     let name = x.name;
     fmap_write::put_header(image, start, x.size, name, x.address as u64, 1, n as u16);
     fmd_areas::put_areas(text, rows, spots, n, image, start + 56);
-    Answer::Accepted
+    Writing {
+        answer: Answer::Accepted,
+        at: at,
+    }
 }
 
-// Writes the map of a layout text into an image.
-pub fn write_map(text: &[u8], image: &mut [u8]) -> Answer
+// Writes the map of a layout text into an image, and answers where the map stands.
+pub fn write_map(text: &[u8], image: &mut [u8]) -> Writing
     ensures { λ r. ⌜ written r (now (image .exit)) ≡ writeText (now (text .entry)) (now (image .entry)) ⌝ }
 {
     let mut rows = [0u32; ROWS];
     let mut spots = [0u32; SPOTS];
     match fmd_check::check(text, &mut rows, &mut spots) {
         Verdict::Good(i, n, m) => put_layout(text, i, &rows, &spots, n, m, image),
-        Verdict::Fault(k, _) => answer_of(k),
+        Verdict::Fault(k, _) => unwritten(answer_of(k)),
     }
 }

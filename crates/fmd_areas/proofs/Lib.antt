@@ -3,3 +3,4 @@ pub mod Shape
 pub mod Nested
 pub mod Names
 pub mod Listed
+pub mod Stands

@@ -2,10 +2,10 @@
 use mathlib.Core.Path.{_≡_, refl, sym, ap, _∙_}
 use mathlib.Core.List.{List}
 use Prim.Native.Nat.{ℕ, zero, suc, _+_, _-_, _≤_, _<_}
-use native.Mathlib.Numerals.{add-one, sub-one}
+use native.Mathlib.Numerals.{sub-one}
 use native.Mathlib.Omega.{arith}
-use lib.ListN.{length, getD, set, take, drop, length-drop}
-use lib.Seq.{take-all, take-suc, take-suc-set}
+use lib.ListN.{length, getD, take, drop, length-drop}
+use lib.Seq.{take-all}
 use Rattle.octets.specs.Bytes.{part, put, zeros}
 use Rattle.octets.proofs.Parts.{length-part, length-zeros, part-zeros}
 use Rattle.octets.proofs.Puts.{put-eq}
@@ -17,7 +17,8 @@ use Rattle.fmd_table.proofs.Table.{length-sections, section-in}
 use Rattle.fmd_parse.specs.Trees.{blank as blankSection}
 use Rattle.fmd_table.specs.declared.Placed.{Placed}
 use Rattle.fmd_table.proofs.Spots.{length-placed, placed-in}
-use Rattle.fmd_areas.specs.Areas.{positionIn, Climbs, storedName, areaFrom, areaAt, areasOf, Laid}
+use Rattle.fmd_areas.specs.Areas.{positionIn, storedName, areaFrom, areaAt, areasOf}
+use Rattle.fmd_areas.specs.Invariants.{Climbs, Laid}
 use Rattle.fmd_areas.proofs.Places.{climbs, ends}
 use Rattle.fmd_areas.proofs.Names.{name-short}
 use Rattle.fmd_areas.proofs.Shape.{length-areas, area-at as area-is-at}
@@ -100,16 +101,3 @@ module _ {s rows spots : List ℕ} {n : ℕ} (g : Laid s rows spots n) where
         pub area-made : {a : Area} (at : ℕ) → a ≡ areaFrom s x q at → at ≡ positionIn (q .level) (placedIn n spots) k → a ≡ areaAt s (sectionsIn n rows) (placedIn n spots) k
         unfolding areaAt
         area-made at p r = rw (p, r, section-in n rows k blankSection h, placed-in n spots k h, d, e)
-
-  -- areas by value, up to k
-  pub taken-on : (items : List Area) (k : ℕ) → k < n → length items ≡ 128 → {a : Area} → a ≡ areaAt s (sectionsIn n rows) (placedIn n spots) k
-      → take k items ≡ take k (areasOf s (sectionsIn n rows) (placedIn n spots))
-      → take (k + 1) (set items k a) ≡ take (k + 1) (areasOf s (sectionsIn n rows) (placedIn n spots))
-  taken-on items k h w {a} e q =
-      let l = g .tree .room in
-      let m = length-sections n rows in
-      rw (add-one k, take-suc-set items k a (omega arith), q, take-suc (areasOf s (sectionsIn n rows) (placedIn n spots)) k blankArea (omega (arith, many)), area-in k h, e)
-
-  pub taken-all : (items : List Area) (k : ℕ) → k ≡ n → take k items ≡ take k (areasOf s (sectionsIn n rows) (placedIn n spots))
-      → take n items ≡ areasOf s (sectionsIn n rows) (placedIn n spots)
-  taken-all items k e q = rw e at q ∙ take-all n (areasOf s (sectionsIn n rows) (placedIn n spots)) (omega (arith, many))

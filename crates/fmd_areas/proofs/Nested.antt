@@ -49,14 +49,26 @@ clear-swap : {x y : Extent} → Clear x y → Clear y x
 clear-swap (before h) = behind h
 clear-swap (behind h) = before h
 
-in-inside : {x y : Extent} → In x y → inside x y ≡ true
-unfolding inside
-in-inside a = and-i _ _ (le-leb _ _ (a .from)) (le-leb _ _ (a .to))
+abbrev Within : Extent → Extent → Type 0
+Within x y = (y .start .0 ≤ x .start .0) × (endOf x ≤ endOf y)
 
-clear-apart : {x y : Extent} → Clear x y → disjointOrNested x y ≡ true
+abbrev Apart : Extent → Extent → Type 0
+Apart x y = ((endOf x ≤ y .start .0) ⊎ (endOf y ≤ x .start .0)) ⊎ (Within x y ⊎ Within y x)
+
+clear-apart : {x y : Extent} → Clear x y → Apart x y
+clear-apart (before h) = inl (inl h)
+clear-apart (behind h) = inl (inr h)
+
+-- the rule of a map says the same by a test
+within-inside : (x y : Extent) → Within x y → inside x y ≡ true
+unfolding inside
+within-inside x y a = and-i _ _ (le-leb _ _ (a .0)) (le-leb _ _ (a .1))
+
+pub apart-test : (x y : Extent) → Apart x y → disjointOrNested x y ≡ true
 unfolding disjointOrNested disjoint
-clear-apart (before h) = or-il _ _ (or-il _ _ (le-leb _ _ h))
-clear-apart (behind h) = or-il _ _ (or-ir _ _ (le-leb _ _ h))
+apart-test x y a =
+    ⊎-elim (λ c. or-il _ _ (⊎-elim (λ h. or-il _ _ (le-leb _ _ h)) (λ h. or-ir _ _ (le-leb _ _ h)) c))
+    (λ w. or-ir _ _ (⊎-elim (λ i. or-il _ _ (within-inside x y i)) (λ i. or-ir _ _ (within-inside y x i)) w)) a
 
 -- ---- section k of the list
 
@@ -150,13 +162,12 @@ module _ (s : List ℕ) (z : ℕ) (l : List Section) (ps : List Placed) (t : Tre
           ⊎-elim (λ c. inl (clear-in in-self (child-in ps k a) c)) (λ i. inr (in-on (child-in ps k a) i))
           (r j (parentAt ps k) g (omega arith) (omega arith) (omega arith))
 
-  apart : (j k : ℕ) → There j → There k → disjointOrNested (at ps j) (at ps k) ≡ true
-  unfolding disjointOrNested
+  apart : (j k : ℕ) → There j → There k → Apart (at ps j) (at ps k)
   apart j k g h =
-      ⊎-elim (λ e. ⊎-elim clear-apart (λ i. or-ir _ _ (or-ir _ _ (in-inside i))) (deeper-apart (levelAt ps k) j k g h refl (leb-true _ _ e)))
+      ⊎-elim (λ e. ⊎-elim clear-apart (λ i. inr (inr (i .from, i .to))) (deeper-apart (levelAt ps k) j k g h refl (leb-true _ _ e)))
       (λ e.
       let q = leb-false (levelAt ps j) (levelAt ps k) e in
-      ⊎-elim (λ c. clear-apart (clear-swap c)) (λ i. or-ir _ _ (or-il _ _ (in-inside i))) (deeper-apart (levelAt ps j) k j h g refl (omega arith)))
+      ⊎-elim (λ c. clear-apart (clear-swap c)) (λ i. inr (inl (i .from, i .to))) (deeper-apart (levelAt ps j) k j h g refl (omega arith)))
       (bool-cases (leb (levelAt ps j) (levelAt ps k)))
 
   -- ---- the areas
@@ -171,19 +182,19 @@ module _ (s : List ℕ) (z : ℕ) (l : List Section) (ps : List Placed) (t : Tre
   unfolding at areaAt areaFrom
   place-at k h = ap (λ (a : Area). a .place) (area-at s l ps k h)
 
-  in-parent : (k p : ℕ) → There k → parentAt ps k ≡ p → p < k → inside (getD areas k blankArea .place) (getD areas p blankArea .place) ≡ true
+  in-parent : (k p : ℕ) → There k → parentAt ps k ≡ p → p < k → Within (getD areas k blankArea .place) (getD areas p blankArea .place)
   in-parent k p h e q = rw (place-at k h, place-at p (omega arith)) (go (above s z l ps t f k h))
     where
-      go : Above k → inside (at ps k) (at ps p) ≡ true
+      go : Above k → Within (at ps k) (at ps p)
       go (inl a) = absurd (omega (arith, a .parent, t .room, f .count))
-      go (inr a) = in-inside (subst (λ (i : ℕ). In (at ps k) (at ps i)) e (child-in ps k a))
+      go (inr a) = let w = subst (λ (i : ℕ). In (at ps k) (at ps i)) e (child-in ps k a) in (w .from, w .to)
 
-  two-apart : (j k : ℕ) → There j → There k → disjointOrNested (getD areas j blankArea .place) (getD areas k blankArea .place) ≡ true
+  two-apart : (j k : ℕ) → There j → There k → Apart (getD areas j blankArea .place) (getD areas k blankArea .place)
   two-apart j k g h = rw (place-at j g, place-at k h) (apart j k g h)
 
-  size-some : (k : ℕ) → There k → 1 ≤ getD areas k blankArea .place .size
+  size-some : (k : ℕ) → There k → getD areas k blankArea .place .start .0 < endOf (getD areas k blankArea .place)
   unfolding at
-  size-some k h = rw (place-at k h) (f .each k h .some)
+  size-some k h = rw (place-at k h) (omega (arith, f .each k h .some))
 
   end-within : (k : ℕ) → There k → endOf (getD areas k blankArea .place) ≤ z
   unfolding at

@@ -13,7 +13,8 @@ use Rattle.fmd_table.specs.Table.{blank}
 use Rattle.fmd_plan.specs.Plans.{endOf, roomOf}
 use Rattle.fmd_plan.specs.Fitted.{Fitted}
 use Rattle.fmd_table.specs.declared.Placed.{Placed}
-use Rattle.fmd_areas.specs.Areas.{positionIn, Climbs}
+use Rattle.fmd_areas.specs.Areas.{positionIn}
+use Rattle.fmd_areas.specs.Invariants.{Climbs}
 
 -- ---- a parent's size
 

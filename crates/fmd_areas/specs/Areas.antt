@@ -1,26 +1,20 @@
 -- The sections of a layout as areas of a map, in the text's order.
 use mathlib.Core.Bool.{Bool, cond}
 use mathlib.Core.List.{List, [], _∷_, _++_}
-use Prim.Native.Nat.{ℕ, zero, suc, _+_, _*_, _-_, _≤_, _<_}
+use Prim.Native.Nat.{ℕ, zero, suc, _+_, _-_}
 use lib.ListN.{length, getD}
 use Rattle.octets.specs.Bytes.{part, zeros}
 use Rattle.fmap_rules.specs.Map.{position}
 use Rattle.fmap_rules.specs.declared.Area.{Area}
-use Rattle.fmd_table.specs.Table.{blank, sectionsIn, placedIn, HasRows, HasSpots}
-use Rattle.fmd_parse.specs.Trees.{blank as blankSection, Tree}
+use Rattle.fmd_table.specs.Table.{blank}
+use Rattle.fmd_parse.specs.Trees.{blank as blankSection}
 use Rattle.fmd_table.specs.declared.Section.{Section}
-use Rattle.fmd_plan.specs.Fitted.{Fitted}
 use Rattle.fmd_table.specs.declared.Placed.{Placed}
 
 -- L15: A section's position in the image is its offset plus its parent's position. Section k, of a level; level 0 is the image.
 unfoldable pub positionIn : ℕ → List Placed → ℕ → ℕ
 positionIn zero ps k = 0
 positionIn (suc lv) ps k = getD ps k blank .offset .0 + positionIn lv ps (getD ps k blank .parent)
-
--- section k and all sections above it stand in the list
-abbrev pub Climbs : ℕ → List Placed → ℕ → Type 0
-Climbs zero ps k = Unit {0}
-Climbs (suc lv) ps k = (k < length ps) × Climbs lv ps (getD ps k blank .parent)
 
 -- (M4) a name of n bytes at a place of the text, then zeros
 unfoldable pub storedName : List ℕ → ℕ → ℕ → List ℕ
@@ -46,14 +40,3 @@ areasFrom s l ps (suc n) k = areaAt s l ps k ∷ areasFrom s l ps n (suc k)
 
 unfoldable pub areasOf : List ℕ → List Section → List Placed → List Area
 areasOf s l ps = areasFrom s l ps (length ps) 0
-
--- ---- the tables that are lent
-
--- n sections of the text s and their places, in an image whose size fits 32 bits
-pub record Laid (s rows spots : List ℕ) (n : ℕ) : Type 0 where
-  pub rows-room : HasRows n rows
-  pub spots-room : HasSpots n spots
-  pub tree : Tree s (sectionsIn n rows)
-  pub size : ℕ
-  pub small : size ≤ 4294967295
-  pub fitted : Fitted size (sectionsIn n rows) (placedIn n spots)

@@ -1,3 +1,4 @@
 -- The sections of a layout as areas of a map.
 pub mod Areas
+pub mod Invariants
 pub mod Nested

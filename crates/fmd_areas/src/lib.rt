@@ -6,13 +6,12 @@ ghost use Prim.Native.Nat.{ℕ, _+_, _*_, _≤_, _<_};
 ghost use lib.ListN.{length};
 ghost use Rattle.octets.specs.Bytes.{put, flat};
 ghost use Rattle.fmap_rules.specs.Written.{areaBytes};
-ghost use Rattle.fmap_write.specs.Areas.{listOf, Sound};
 ghost use Rattle.fmd_table.specs.Table.{sectionsIn, placedIn, HasSpots};
-ghost use Rattle.fmd_areas.specs.Areas.{positionIn, Climbs, storedName, areaFrom, areaAt, areasOf, Laid};
+ghost use Rattle.fmd_areas.specs.Areas.{positionIn, storedName, areaFrom, areaAt, areasOf};
+ghost use Rattle.fmd_areas.specs.Invariants.{Climbs, Laid};
 use fmap_rules::Area;
 use fmap_rules::Extent;
 use fmap_rules::ImagePosition;
-use fmap_write::Areas;
 use fmap_write::put_area;
 use fmd_table::Placed;
 use fmd_table::Section;
@@ -82,30 +81,5 @@ pub fn put_areas(text: &[u8], rows: &[u32], spots: &[u32], n: usize, to: &mut [u
         let a = area_at(text, rows, spots, n, k);
         put_area(to, at + 42 * k, a);
         k += 1;
-    }
-}
-
-// All areas by value.
-pub fn areas_of(text: &[u8], rows: &[u32], spots: &[u32], n: usize) -> Areas
-    requires { ⌜ Laid (now text) (now rows) (now spots) n ⌝ }
-    ensures { λ r. ⌜ Sound r × (listOf r ≡ areasOf (now (text .entry)) (sectionsIn n (now (rows .entry))) (placedIn n (now (spots .entry)))) ⌝ }
-{
-    let a = Area {
-        place: Extent {
-            start: ImagePosition(0),
-            size: 0,
-        },
-        name: [0u8; 32],
-        flags: 0,
-    };
-    let mut items = [a; 128];
-    let mut k: usize = 0;
-    while k < n {
-        items[k] = area_at(text, rows, spots, n, k);
-        k += 1;
-    }
-    Areas {
-        items: items,
-        count: n,
     }
 }

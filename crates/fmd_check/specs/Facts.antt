@@ -21,9 +21,9 @@ abbrev pub Numbered : ℕ → Type 0
 Numbered n = (50 ≤ n) × (n ≤ 59)
 
 -- a fault's place is one of the text, or its end
-abbrev pub Standing : List ℕ → Place → Type 0
-Standing s (Byte p) = p ≤ length s
-Standing s NoPlace = Unit {0}
+abbrev pub InText : List ℕ → Place → Type 0
+InText s (Byte p) = p ≤ length s
+InText s NoPlace = Unit {0}
 
 -- image, sections, their places, and the index of section FMAP
 pub record Accepted (s : List ℕ) (i : Image) (l : List Section) (ps : List Placed) (m : ℕ) : Type 0 where
@@ -39,5 +39,5 @@ pub record Accepted (s : List ℕ) (i : Image) (l : List Section) (ps : List Pla
   pub room : mapSize (length l) ≤ getD ps m blank .size
 
 abbrev pub CheckedFacts : List ℕ → Judged → Type 0
-CheckedFacts s (fault n p) = Numbered n × Standing s p
+CheckedFacts s (fault n p) = Numbered n × InText s p
 CheckedFacts s (good i l ps m) = Accepted s i l ps m

@@ -62,7 +62,7 @@ fn works(disks: &Disks) -> [Work<'_>; 4] {
 
 pub fn rows<'a>(t: &mut Table<'a>, disks: &'a Disks) {
     if !command().is_file() {
-        t.left_out.push("usigrambal (`cargo build --release` in host/ builds it)".into());
+        t.left_out.push("usigrambal (`make command` builds it)".into());
         return;
     }
     let mut there = Vec::new();
@@ -84,15 +84,16 @@ pub fn start_of_a_program() -> f64 {
     runs(|| (), run)(STARTS)
 }
 
-/// The command that cargo builds beside the benchmark.
+/// The command as it is shipped.
 fn command() -> PathBuf {
-    testkit::host().join("../target/host/release/usigrambal")
+    testkit::host().join("../target/command/release/usigrambal")
 }
 
 fn row<'a>(t: &mut Table<'a>, work: &Work<'a>, peer: &'static str) {
     let shown = |line: &str| line.replace(" DISK", "");
-    let label =
-        Label::new(shown(work.ours), shown(peer)).size(format!("{} partitions", work.disk.partitions()));
+    let label = Label::new(shown(work.ours), shown(peer))
+        .size(format!("{} partitions", work.disk.partitions()))
+        .at_least(1.0);
     t.row(label, side(work, work.ours), side(work, peer));
 }
 

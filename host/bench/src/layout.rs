@@ -1,22 +1,27 @@
 //! The rows of the layout language: 128 sections, listed by our program `fmd_list` and compiled by fmaptool, each in a
-//! process of its own; and texts of growing length.
+//! process of its own; the same text read in this process, beside the second implementation, as fmaptool is no library;
+//! and texts of growing length.
 
 use crate::peers;
 use crate::table::{Label, Table};
 use crate::timed::{calls, runs};
 use crate::work::of;
+use second::{fmd_records, RULES};
 use std::fs::{self, File};
+use std::hint::black_box;
 use std::path::PathBuf;
 use std::process::{Command, Stdio};
 use std::rc::Rc;
 use testkit::disk::Scratch;
 use testkit::fmaptool;
+use usigrambal::raw;
 
 const SECTIONS: usize = 128;
 const HEADER_LEN: usize = 56;
 const AREA_LEN: usize = 42;
 
 pub fn rows(t: &mut Table) {
+    records_row(t);
     match Programs::ready() {
         Ok(programs) => list_row(t, Rc::new(programs)),
         Err(why) => t.left_out.push(format!("fmd_list: {why}")),
@@ -24,9 +29,32 @@ pub fn rows(t: &mut Table) {
 }
 
 fn list_row(t: &mut Table, programs: Rc<Programs>) {
-    let label = Label::new("fmd_list", "fmaptool").size("128 sections").at_least(1.0);
+    let label = Label::new("fmd_list", "fmaptool").size("128 sections").at_least(1.15);
     let same = programs.clone();
     t.row(label, runs(|| (), move || programs.list()), runs(|| (), move || same.compile()));
+}
+
+/// The text read into the lent records.
+fn records_row(t: &mut Table) {
+    let text: &'static [u8] = text().into_bytes().leak();
+    let ours = |text: &[u8], records: &mut [u8]| records_of(|count| raw::fmd_records(text, records, count));
+    let second =
+        |text: &[u8], records: &mut [u8]| records_of(|count| fmd_records(&RULES, text, records, count));
+    let label = Label::new("fmd records", "second implementation").size("128 sections").at_least(1.0);
+    t.row(label, calls(over(text, ours)), calls(over(text, second)));
+}
+
+/// A call on the text and on records of its own.
+fn over<A>(text: &'static [u8], call: impl Fn(&[u8], &mut [u8]) -> A) -> impl FnMut() -> A {
+    let mut records = vec![0; raw::RECORDS * raw::RECORD_LEN];
+    move || call(black_box(text), black_box(&mut records))
+}
+
+fn records_of(call: impl FnOnce(&mut u64) -> u32) -> u64 {
+    let mut count = 0;
+    assert_eq!(call(&mut count), 0);
+    assert_eq!(count, SECTIONS as u64);
+    count
 }
 
 /// Both programs, with the same text in a file.
@@ -135,7 +163,7 @@ fn long_text(sections: usize, len: usize) -> &'static [u8] {
 
 fn read(text: &[u8]) -> u64 {
     let (mut name, mut size, mut address, mut count) = ([0; 32], 0, 0, 0);
-    let refusal = usigrambal::raw::fmd_read(text, &mut name, &mut size, &mut address, &mut count);
+    let refusal = raw::fmd_read(text, &mut name, &mut size, &mut address, &mut count);
     assert_eq!(refusal, 0);
     count
 }

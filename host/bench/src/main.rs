@@ -20,12 +20,13 @@ mod work;
 use gpt::Disks;
 use table::{Row, Table, ROUNDS};
 
-const USAGE: &str = "bench [--markdown] [--peers] [--quick]
+const USAGE: &str = "bench [--markdown] [--peers] [--commands] [--quick]
   --markdown  the table in Markdown
   --peers     only the rows beside other programs and libraries, not those of inner functions and of growing inputs
+  --commands  only the rows of the command beside other commands
   --quick     one round, which shows that every row can be measured and no more";
 
-const OPTIONS: [&str; 3] = ["--markdown", "--peers", "--quick"];
+const OPTIONS: [&str; 4] = ["--markdown", "--peers", "--commands", "--quick"];
 
 fn main() {
     let words: Vec<String> = std::env::args().skip(1).collect();
@@ -38,8 +39,12 @@ fn main() {
     std::env::set_var("TMPDIR", "/dev/shm");
     let disks = Disks::new();
     let mut table = Table::default();
-    peer_rows(&mut table, &disks);
-    if !given("--peers") {
+    if given("--commands") {
+        command::rows(&mut table, &disks);
+    } else {
+        peer_rows(&mut table, &disks);
+    }
+    if !given("--peers") && !given("--commands") {
         bound_rows(&mut table, &disks);
     }
     let left_out = std::mem::take(&mut table.left_out);

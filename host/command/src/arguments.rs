@@ -2,6 +2,7 @@
 
 use crate::failure::Failure;
 use crate::help;
+use crate::pages;
 use crate::paths::shown;
 use crate::verbs::{self, Verb, GROUPS};
 use std::ffi::{OsStr, OsString};
@@ -69,6 +70,7 @@ pub fn read(words: &[OsString]) -> Result<Request, Failure> {
         Some("help") => asked(&words[1..]),
         Some("--help" | "-h") => Ok(Request::Say(help::command())),
         Some("--version" | "-V") => Ok(Request::Say(help::version())),
+        Some("--page") => paged(word(1)),
         _ => {
             let group = group(&words[0])?;
             match word(1) {
@@ -89,6 +91,12 @@ fn asked(words: &[OsString]) -> Result<Request, Failure> {
         [_, _, more, ..] => return Err(wrong(&format!("{} is one word too many", told(more)), "")),
     };
     Ok(Request::Say(said))
+}
+
+/// `--page` and `--page NAME`, for whoever installs the command.
+fn paged(name: Option<&str>) -> Result<Request, Failure> {
+    let page = name.map_or_else(|| Some(pages::names()), pages::page);
+    page.map(Request::Say).ok_or_else(|| wrong("there is no such page: --page alone names them", ""))
 }
 
 fn group(word: &OsStr) -> Result<&'static str, Failure> {

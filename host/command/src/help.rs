@@ -4,7 +4,9 @@ use crate::verbs::{self, Verb, GROUPS};
 
 const WIDTH: usize = 100;
 
-const SIZES: &str = "\
+pub const ABOUT: &str = "flash layouts, flash maps and GPT disks";
+
+pub const SIZES: &str = "\
 SIZE: a bare number is blocks of 512 bytes; with B, K, M, G or T (KiB, MiB ...: powers of 1,024) it is bytes,
       which must be whole blocks. Numbers are decimal, or 0x and hex digits.
 DISK, IMAGE: a file or a block device. Of a disk only the first 34 and the last 33 blocks are read and written,
@@ -12,7 +14,7 @@ DISK, IMAGE: a file or a block device. Of a disk only the first 34 and the last 
 -- ends the options, so that a name may begin with -.
 ";
 
-const STATUS: &str = "\
+pub const STATUS: &str = "\
 Exit status: 0 done; 1 refused (`refused NUMBER: FILE: words` on standard error), or a check found something;
       2 usage; 3 input and output; 4 in use, or something is there that needs a word (--force, --replace, --retire).
 ";
@@ -22,7 +24,7 @@ pub fn version() -> String {
 }
 
 pub fn command() -> String {
-    let mut text = "usigrambal: flash layouts, flash maps and GPT disks\n\n".to_string();
+    let mut text = format!("usigrambal: {ABOUT}\n\n");
     for (group, about) in GROUPS {
         text += &format!("{group}: {about}\n");
         text += &usages(group);
@@ -63,7 +65,8 @@ fn usages(group: &str) -> String {
     verbs::of_group(group).map(|verb| format!("  {}\n", wrapped(&usage(verb), 6))).collect()
 }
 
-fn usage(verb: &Verb) -> String {
+/// How a verb is called, in one line.
+pub fn usage(verb: &Verb) -> String {
     let mut words = vec!["usigrambal".to_string(), verb.group.into(), verb.name.into()];
     words.extend(verb.operands.iter().map(|name| name.to_string()));
     for (place, choice) in verb.options.iter().enumerate() {

@@ -2,6 +2,7 @@
 
 mod answers;
 mod arguments;
+mod completion;
 mod disk;
 mod failure;
 mod flash;
@@ -10,6 +11,7 @@ mod help;
 mod image;
 mod json;
 mod layout;
+mod pages;
 mod paths;
 mod report;
 mod show;

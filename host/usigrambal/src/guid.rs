@@ -6,14 +6,14 @@ use std::str::FromStr;
 
 const TEXT_LEN: usize = 36;
 
-/// The short names of types (rule G4).
-const SHORT_NAMES: [&str; 5] = ["system", "msft", "data", "linux", "swap"];
-
 /// A GUID as its 16 stored bytes (rule G2: the first three groups of the text are reversed).
 #[derive(Clone, Copy, Debug, PartialEq, Eq, Hash)]
 pub struct Guid(pub [u8; 16]);
 
 impl Guid {
+    /// The short names of types (rule G4).
+    pub const SHORT_NAMES: [&'static str; 5] = ["system", "msft", "data", "linux", "swap"];
+
     /// Reads a GUID text, hex digits of either case (rule G1).
     pub fn parse(text: impl AsRef<[u8]>) -> Result<Guid, Refused> {
         let mut guid = [0; 16];
@@ -30,7 +30,7 @@ impl Guid {
 
     /// The short name that stands for this type, if there is one.
     pub fn short_name(self) -> Option<&'static str> {
-        SHORT_NAMES.into_iter().find(|name| Guid::parse_type(name) == Ok(self))
+        Guid::SHORT_NAMES.into_iter().find(|name| Guid::parse_type(name) == Ok(self))
     }
 
     /// A GUID of version 4 (RFC 9562) from random bytes. In the text the version is the first digit of the third
@@ -86,7 +86,7 @@ mod tests {
 
     #[test]
     fn short_names_of_types() {
-        for name in SHORT_NAMES {
+        for name in Guid::SHORT_NAMES {
             assert_eq!(Guid::parse_type(name).unwrap().short_name(), Some(name));
         }
         assert_eq!(Guid([7; 16]).short_name(), None);

@@ -13,7 +13,7 @@ same-length : tie.Need-same-length
 same-length c = search needs
 
 returns : tie.Need-returns
-returns c = write-tells _ _ _ _ (c .before .before .before .write-map .ensures) (c .number .ensures)
+returns c = write-tells (c .before .before .before .write-map .result) _ _ _ (c .before .before .before .write-map .ensures) (c .number .ensures)
 
 pub usi-fmd-write-spec : {M : Type 1} → statement M
 usi-fmd-write-spec = tie.close (tie.spec write-map-requires number-requires same-length returns)

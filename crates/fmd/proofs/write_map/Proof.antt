@@ -1,5 +1,7 @@
 use Rattle.fmd.proofs.Layouts.{held, numbered}
-use Rattle.fmd.specs.Calls.{Written, layoutIn, writeText}
+use Rattle.fmap_rules.specs.Map.{position}
+use Rattle.fmd.specs.Calls.{Written, layoutIn, writeText, written}
+use Rattle.fmd.specs.declared.Writing.{Writing}
 use Prim.Native.Nat.{ℕ}
 use mathlib.Core.Option.{Option}
 use mathlib.Core.Path.{sym, ap, _∙_}
@@ -34,6 +36,9 @@ enum-known-k c = search needs
 answer-of-requires : tie.Need-answer-of-requires
 answer-of-requires c κs = numbered _ _ _ (rw (c .before .k .given .1) at (c .before .before .before .before .before .check .ensures))
 
+unwritten-requires : tie.Need-unwritten-requires
+unwritten-requires c κs = search needs
+
 same-length : tie.Need-same-length
 same-length c = search needs
 
@@ -43,7 +48,9 @@ returns c = rw (sym (rw (c .before .before .before .before .before .before .befo
 
 returns-2 : tie.Need-returns-2
 unfolding writeText layoutIn
-returns-2 c = rw (sym (rw (c .before .before .k .given .1) at (c .before .before .before .before .before .before .check .ensures))) (ap {B = Written} (λ (x : Option ℕ). record { answer = x; image = c .before .before .before .before .before .before .before .before .before .before .before .args .image .now }) (c .answer-of .ensures))
+returns-2 c = rw (sym (rw (c .before .before .before .k .given .1) at (c .before .before .before .before .before .before .before .check .ensures)))
+    (ap (λ (w : Writing). written w (c .before .before .before .before .before .before .before .before .before .before .before .before .args .image .now)) (c .unwritten .ensures)
+    ∙ ap {B = Written} (λ (x : Option ℕ). record { answer = x; at = position 0; image = c .before .before .before .before .before .before .before .before .before .before .before .before .args .image .now }) (c .before .answer-of .ensures))
 
 pub write-map-spec : {M : Type 1} → statement M
 write-map-spec =
@@ -58,6 +65,7 @@ write-map-spec =
     put-layout-requires
     enum-known-k
     answer-of-requires
+    unwritten-requires
     same-length
     returns
     returns-2)

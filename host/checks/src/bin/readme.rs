@@ -1,6 +1,7 @@
-//! Runs every command of README.md as it stands there: in each section the lines behind `$ `, in one shell that begins at
-//! the repository's root, and holds what they print to the lines that follow. A command that the gate itself runs, or that
-//! takes minutes, stands without `$ `.
+//! Runs every command of README.md as it stands there: the lines behind `$ `, all in one shell that begins at the
+//! repository's root, and holds what they print to the lines that follow. A program that names its file in its first line,
+//! `/* NAME: ...`, is put into that file where the shell is. A command that the gate itself runs, or that takes minutes,
+//! stands without `$ `.
 //!
 //! usage, from the repository's root: readme FOLDER    (HOME is the folder, and TMPDIR)
 
@@ -18,29 +19,56 @@ struct Step {
 /// A line that no command prints, with the number of the command in front of it.
 const END: &str = "--- end of command";
 
-/// The sections' commands, in order; sections with none are left out.
-fn sections(text: &str) -> Vec<Vec<Step>> {
-    let mut sections = vec![Vec::new()];
-    for line in text.lines() {
-        if line.starts_with("## ") {
-            sections.push(Vec::new());
-        }
-        let Some(line) = line.strip_prefix("    ") else { continue };
-        let steps = sections.last_mut().expect("one at least");
-        match line.strip_prefix("$ ") {
-            Some(command) => steps.push(Step { command: command.to_string(), prints: String::new() }),
-            None => {
-                if let Some(step) = steps.last_mut() {
-                    step.prints += &format!("{line}\n");
-                }
-            }
-        }
-    }
-    sections.retain(|steps| !steps.is_empty());
-    sections
+/// Whose lines stand next in the text.
+enum Open {
+    Nothing,
+    Output,
+    File,
 }
 
-/// What each command of a section prints, standard error with the rest.
+/// The commands in order; a program's is the one that writes its file.
+fn steps(text: &str) -> Vec<Step> {
+    let mut steps: Vec<Step> = Vec::new();
+    let mut open = Open::Nothing;
+    for line in text.lines() {
+        let indented = line.strip_prefix("    ");
+        if let Some(command) = indented.and_then(|line| line.strip_prefix("$ ")) {
+            steps.push(Step { command: command.to_string(), prints: String::new() });
+            open = Open::Output;
+            continue;
+        }
+        match (&open, indented, steps.last_mut()) {
+            (Open::Output, Some(line), Some(step)) => step.prints += &format!("{line}\n"),
+            (Open::File, Some(line), Some(step)) => put(step, line),
+            (Open::File, None, Some(step)) if line.is_empty() => put(step, ""),
+            (_, None, _) if line.is_empty() => {}
+            (_, Some(line), _) => {
+                if let Some(name) = file(line) {
+                    let command = format!("cat >{name} <<'{END}'\n{line}\n{END}");
+                    steps.push(Step { command, prints: String::new() });
+                    open = Open::File;
+                }
+            }
+            _ => open = Open::Nothing,
+        }
+    }
+    steps
+}
+
+/// The file that a program's first line names.
+fn file(line: &str) -> Option<&str> {
+    let (name, _) = line.strip_prefix("/* ")?.split_once(": ")?;
+    let plain = |byte: u8| byte.is_ascii_alphanumeric() || b"._-".contains(&byte);
+    name.bytes().all(plain).then_some(name)
+}
+
+/// Adds a line to the file that the step writes.
+fn put(step: &mut Step, line: &str) {
+    step.command.truncate(step.command.len() - END.len());
+    step.command += &format!("{line}\n{END}");
+}
+
+/// What each command prints, standard error with the rest.
 fn run(steps: &[Step], home: &str) -> io::Result<Vec<String>> {
     let mut shell = Command::new("bash");
     shell.env("HOME", home).env("TMPDIR", home).stdin(Stdio::piped()).stdout(Stdio::piped());
@@ -85,13 +113,12 @@ fn main() -> io::Result<()> {
         process::exit(2)
     };
     let (mut commands, mut wrong) = (0, 0);
-    for steps in sections(&fs::read_to_string("README.md")?) {
-        for (step, printed) in steps.iter().zip(run(&steps, &home)?) {
-            commands += 1;
-            if !agrees(&step.prints, &printed) {
-                wrong += 1;
-                println!("$ {}\nREADME.md shows:\n{}it prints:\n{printed}", step.command, step.prints);
-            }
+    let steps = steps(&fs::read_to_string("README.md")?);
+    for (step, printed) in steps.iter().zip(run(&steps, &home)?) {
+        commands += 1;
+        if !agrees(&step.prints, &printed) {
+            wrong += 1;
+            println!("$ {}\nREADME.md shows:\n{}it prints:\n{printed}", step.command, step.prints);
         }
     }
     println!("README.md: {commands} commands run, {wrong} print something else");
@@ -102,17 +129,32 @@ fn main() -> io::Result<()> {
 mod tests {
     use super::*;
 
+    fn step(command: &str, prints: &str) -> Step {
+        Step { command: command.into(), prints: prints.into() }
+    }
+
     #[test]
-    fn finds_the_commands_of_each_section() {
-        let found = sections("## A\n\n    $ x\n    1\n    2\n    $ y\n\n## B\n    text\n## C\n    $ z\n");
-        let step = |command: &str, prints: &str| Step { command: command.into(), prints: prints.into() };
-        assert_eq!(found, [vec![step("x", "1\n2\n"), step("y", "")], vec![step("z", "")]]);
+    fn finds_the_commands() {
+        let found = steps("## A\n\n    $ x\n    1\n    2\n    $ y\n\ntext\n    no output\n## B\n    $ z\n");
+        assert_eq!(found, [step("x", "1\n2\n"), step("y", ""), step("z", "")]);
+    }
+
+    #[test]
+    fn a_program_is_put_into_its_file() {
+        let found = steps("text\n\n    /* a.c: b */\n    c\n\n      d\n\n    $ x\n    1\n");
+        let written = format!("cat >a.c <<'{END}'\n/* a.c: b */\nc\n\n  d\n\n{END}");
+        assert_eq!(found, [step(&written, ""), step("x", "1\n")]);
+        assert_eq!(steps("    /* a b: c */\n    int x;\n"), []);
     }
 
     #[test]
     fn runs_them_in_one_shell() {
-        let steps = &sections("    $ a=7; false\n    $ echo $a; echo b >&2\n")[0];
-        assert_eq!(run(steps, "/tmp").expect("a shell"), ["", "7\nb\n"]);
+        let text = "    $ cd $HOME; a=7; false\n    $ echo $a; echo b >&2\nA file:\n    /* f: g */\n    h\n    $ cat f; rm f\n";
+        let home = env::temp_dir().join(format!("readme-{}", process::id()));
+        fs::create_dir_all(&home).expect("a folder");
+        let printed = run(&steps(text), home.to_str().expect("a name")).expect("a shell");
+        fs::remove_dir(&home).expect("an empty folder");
+        assert_eq!(printed, ["", "7\nb\n", "", "/* f: g */\nh\n"]);
     }
 
     #[test]

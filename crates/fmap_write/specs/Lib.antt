@@ -1,2 +1,0 @@
--- A list of areas by value.
-pub mod Areas

@@ -1,0 +1,22 @@
+-- For the proofs of the code, not to be believed: what the lent tables hold.
+use mathlib.Core.List.{List}
+use Prim.Native.Nat.{ℕ, zero, suc, _≤_, _<_}
+use lib.ListN.{length, getD}
+use Rattle.fmd_parse.specs.Trees.{Tree}
+use Rattle.fmd_plan.specs.Fitted.{Fitted}
+use Rattle.fmd_table.specs.Table.{blank, sectionsIn, placedIn, HasRows, HasSpots}
+use Rattle.fmd_table.specs.declared.Placed.{Placed}
+
+-- section k and all sections above it stand in the list
+abbrev pub Climbs : ℕ → List Placed → ℕ → Type 0
+Climbs zero ps k = Unit {0}
+Climbs (suc lv) ps k = (k < length ps) × Climbs lv ps (getD ps k blank .parent)
+
+-- n sections of the text s and their places, in an image whose size fits 32 bits
+pub record Laid (s rows spots : List ℕ) (n : ℕ) : Type 0 where
+  pub rows-room : HasRows n rows
+  pub spots-room : HasSpots n spots
+  pub tree : Tree s (sectionsIn n rows)
+  pub size : ℕ
+  pub small : size ≤ 4294967295
+  pub fitted : Fitted size (sectionsIn n rows) (placedIn n spots)

@@ -1,0 +1,171 @@
+"""python/usigrambal.py: its names are those of the header, the samples of the rules come out, and a refusal changes nothing."""
+
+import ctypes
+import re
+import unittest
+from pathlib import Path
+
+import usigrambal as usi
+from usigrambal import Refused, State
+
+HEADER = Path("include/usigrambal.h").read_text()
+DATA = "EBD0A0A2-B9E5-4433-87C0-68B6B72699C7"
+ONE, TWO = bytes([1] * 16), bytes([2] * 16)
+LAYOUT = Path("examples/sample10.fmd").read_text()
+SECTIONS = [
+    (0, 0x200000, b"BOOT", 0),
+    (0, 0x1000, b"FMAP", 0),
+    (0x300000, 0x10000, b"RW_CAL", 8),
+    (0x310000, 0x4F0000, b"RW_LOG", 0),
+]
+
+
+def formatted(n):
+    return usi.gpt_format(bytes(usi.HEAD_LEN), bytes(usi.TAIL_LEN), n, ONE)
+
+
+class Names(unittest.TestCase):
+    def test_refusals_and_rules(self):
+        numbers = {name: int(number) for name, number in re.findall(r"^    USI_(\w+) = (\d+)", HEADER, re.M)}
+        words = dict(re.findall(r'case USI_(\w+): return "(.*)";', HEADER))
+        self.assertEqual(numbers.pop("ACCEPTED"), 0)
+        self.assertEqual(words.pop("ACCEPTED"), "accepted")
+        named = [(one.name, one) for one in usi.Refusal] + [("RULE_" + one.name, one) for one in usi.Rule]
+        self.assertEqual(numbers, {name: int(one) for name, one in named})
+        self.assertEqual(words, {name: one.words for name, one in named})
+
+    def test_constants(self):
+        for name in ["HEAD_LEN", "TAIL_LEN", "ENTRIES_LEN", "ENTRY_LEN", "GUID_LEN", "GUID_TEXT_LEN", "NAME_UNITS", "AREA_LEN", "IMAGE_NAME_LEN", "RECORDS_LEN"]:
+            self.assertIn(f"#define USI_{name} {getattr(usi, name)}\n", HEADER)
+        self.assertIn(f"#define USI_FLAG_PRESERVE {usi.PRESERVE}\n", HEADER)
+        self.assertIn(f'#define USI_VERSION "{usi.__version__}"\n', HEADER)
+        for state in State:
+            self.assertIn(f"#define USI_STATE_{state.name} {int(state)}\n", HEADER)
+
+    def test_calls(self):
+        """Every prototype of the header, with its parameters as the module passes them."""
+        kinds = {"size_t": ctypes.c_size_t, "uint64_t": ctypes.c_uint64, "uint64_t *": ctypes.POINTER(ctypes.c_uint64)}
+        prototypes = re.findall(r"^uint32_t (usi_\w+)\(([^)]*)\);", HEADER, re.M)
+        for name, parameters in prototypes:
+            types = [re.sub(r"\w+$", "", one.strip()).strip() for one in parameters.split(",")]
+            expected = [kinds.get(one, ctypes.c_void_p) for one in types]
+            self.assertEqual(getattr(usi._LIBRARY, name).argtypes, expected, name)
+            self.assertTrue(getattr(usi, name.replace("usi_", "")).__doc__)
+        self.assertEqual({name for name, _ in prototypes}, set(usi._CALLS))
+
+
+class Samples(unittest.TestCase):
+    def refused(self, number, call, *arguments):
+        """The call is refused with that number, and its arguments are as they were."""
+        lent = [bytearray(one) if isinstance(one, bytes) else one for one in arguments]
+        with self.assertRaises(Refused) as caught:
+            call(*lent)
+        self.assertEqual(caught.exception.number, number)
+        self.assertEqual(str(caught.exception), f"{number}: {usi.Refusal(number).words}")
+        self.assertEqual(lent, list(arguments))
+
+    def test_1_and_2(self):
+        self.refused(2, usi.gpt_format, bytes(usi.HEAD_LEN), bytes(usi.TAIL_LEN), 67, ONE)
+        head, tail = formatted(68)
+        head, tail, slot, first = usi.gpt_add(head, tail, 68, TWO, ONE, 1)
+        self.assertEqual((slot, first, usi.gpt_free(head, tail, 68)), (1, 34, (0, 0)))
+        self.refused(25, usi.gpt_add, head, tail, 68, TWO, TWO, 1)
+
+    def test_3(self):
+        head, tail = formatted(100)
+        number = lambda part, at: int.from_bytes(part[at : at + 8], "little")
+        # last usable, the backup header's block, its first block of entries
+        self.assertEqual((number(head, 512 + 48), number(head, 512 + 32), number(tail, 16384 + 72)), (66, 99, 67))
+
+    def test_4_and_5(self):
+        head, tail = formatted(100)
+        placed = []
+        for unique, size in [(1, 10), (2, 5), (None, 1), (3, 11), (4, 10)]:
+            if unique is None:
+                head, tail = usi.gpt_delete(head, tail, 100, size)
+            else:
+                head, tail, slot, first = usi.gpt_add(head, tail, 100, TWO, bytes([unique] * 16), size)
+                placed.append((slot, first))
+        self.assertEqual(placed, [(1, 34), (2, 44), (1, 49), (3, 34)])
+        self.assertEqual(usi.gpt_free(head, tail, 100), (7, 7))
+        self.refused(25, usi.gpt_resize, head, tail, 100, 1, 19)
+        head, tail = usi.gpt_resize(head, tail, 100, 1, 18)
+        self.assertEqual(usi.gpt_free(head, tail, 100), (0, 0))
+        self.refused(25, usi.gpt_add, head, tail, 100, TWO, bytes([5] * 16), 2**64 - 1)  # sample 9
+        self.refused(13, usi.gpt_delete, head, tail, 100, 4)
+        self.refused(12, usi.gpt_delete, head, tail, 100, 129)
+
+    def test_6(self):
+        stored = bytes.fromhex("A2A0D0EBE5B9334487C068B6B72699C7")
+        self.assertEqual((usi.type_read("data"), usi.guid_read(DATA.lower()), usi.guid_write(stored)), (stored, stored, DATA))
+        self.refused(30, usi.type_read, b"Data")
+        self.refused(30, usi.guid_read, b"data")
+        self.refused(1, usi.guid_write, bytes(15))
+
+    def test_7_and_8(self):
+        sections = usi.fmd_records("I 1K { FMAP 512 A 10 K 9 }")
+        self.assertEqual([(size, name) for _, size, name, _ in sections], [(512, b"FMAP"), (10, b"A"), (9, b"K")])
+        self.refused(52, usi.fmd_read, b"I 1K { FMAP 512 A 010 }")
+        self.assertEqual(usi.fmd_records("I 1K { FMAP 512 A 0x10 }")[1][1], 16)
+
+    def test_10(self):
+        self.assertEqual(usi.fmd_read(LAYOUT), (b"PRINTNODE", 0x800000, 0xFF800000, 4))
+        self.assertEqual(usi.fmd_records(LAYOUT), SECTIONS)
+        old = bytearray(usi.fmd_write(LAYOUT, bytes(0x800000)))
+        self.assertEqual((usi.fmap_find(old), usi.fmap_named(old, "RW_CAL"), usi.fmap_area(old, 2)), (0, 2, SECTIONS[2]))
+        self.assertEqual((usi.fmap_fault(old, 0), usi.fmap_fault(old, 1)), (usi.Rule.NONE, usi.Rule.SIGNATURE))
+        old[0x300000:0x300003] = b"cal"
+        new = usi.fmd_write(Path("examples/update.fmd").read_text(), bytes(0x800000))
+        carried = bytearray(new)
+        carried[0x500000:0x500003] = b"cal"
+        self.assertEqual(usi.fmap_carry(old, new), carried)
+        self.refused(1, usi.fmd_write, LAYOUT.encode(), bytes(98))
+        self.refused(255, usi.fmap_area, bytes(old), 4)
+        self.refused(255, usi.fmap_named, bytes(old), b"RW")
+        self.refused(41, usi.fmap_carry, bytes(98), new)
+        self.refused(40, usi.fmap_find, bytes(97))
+
+    def test_copies_names_and_the_rest(self):
+        head, tail = formatted(1 << 32)
+        head, tail, slot, _ = usi.gpt_add(head, tail, 1 << 32, TWO, ONE, 7, attributes=1 << 63, name="Größe")
+        entry = usi.gpt_entries(head, tail, 1 << 32)[: usi.ENTRY_LEN]
+        self.assertEqual((entry[:16], entry[16:32], entry[48:56]), (TWO, ONE, (1 << 63).to_bytes(8, "little")))
+        self.assertEqual(entry[56:].decode("utf-16-le").rstrip("\0"), "Größe")
+        head, tail = usi.gpt_rename(head, tail, 1 << 32, slot, [ord("b")] + [0] * 35)
+        self.assertEqual(usi.gpt_entries(head, tail, 1 << 32)[56:60], b"b\0\0\0")
+        self.refused(23, usi.gpt_rename, head, tail, 1 << 32, 1, [0, 1] + [0] * 34)
+        self.refused(1, usi.gpt_rename, head, tail, 1 << 32, 1, "x" * 37)
+        self.assertEqual((usi.gpt_read(head, tail, 1 << 32), usi.gpt_table(head, tail, 1 << 32)), (State.SAME, (False, 1024)))
+        lost = bytes(1024) + head[1024:]
+        self.assertEqual((usi.gpt_read(lost, tail, 1 << 32), usi.gpt_table(lost, tail, 1 << 32)), (State.BACKUP_ONLY, (True, 0)))
+        self.refused(11, usi.gpt_delete, lost, tail, 1 << 32, 1)
+        repaired = usi.gpt_repair(lost, tail, 1 << 32)
+        self.assertEqual((repaired[0][512:], repaired[1:]), (head[512:], (tail, State.BACKUP_ONLY)))
+        self.assertEqual((usi.crc32(b"123456789"), usi.crc32(b"")), (0xCBF43926, 0))
+        for number in (-1, 1 << 64):
+            with self.assertRaises(OverflowError):
+                usi.gpt_read(head, tail, number)
+
+    def test_a_refusal_changes_no_lent_byte(self):
+        """Below the module's own copies: buffers full of a pattern are as they were."""
+        patterned = lambda size: usi._copy(bytes(k * 7 % 256 for k in range(size)))
+        head, tail = patterned(usi.HEAD_LEN), patterned(usi.TAIL_LEN)
+        guid, answer, other = patterned(16), ctypes.c_uint64(77), ctypes.c_uint64(78)
+        calls = [
+            ("usi_gpt_format", head, tail, 67, guid),
+            ("usi_gpt_read", head, tail, 100, answer),
+            ("usi_gpt_add", head, tail, 100, guid, guid, 1, 0, usi._name("n"), answer, other),
+            ("usi_gpt_repair", head, tail, 100, answer),
+            ("usi_guid_read", guid, patterned(16)),
+            ("usi_fmap_carry", head, tail),
+            ("usi_fmd_records", guid, patterned(usi.RECORDS_LEN), answer),
+        ]
+        for name, *arguments in calls:
+            lent = [bytes(one) for one in arguments if not isinstance(one, (int, ctypes.c_uint64))]
+            self.assertNotEqual(usi._call(name, *arguments), 0, name)
+            self.assertEqual([bytes(one) for one in arguments if not isinstance(one, (int, ctypes.c_uint64))], lent, name)
+            self.assertEqual((answer.value, other.value), (77, 78), name)
+
+
+if __name__ == "__main__":
+    unittest.main()
