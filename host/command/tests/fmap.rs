@@ -188,7 +188,8 @@ fn extract_gives_the_bytes() {
     for name in ["RW_CA", "", "rw_cal"] {
         let ended = run!["fmap", "extract", old, name];
         assert_eq!(ended.hint(), "the map has RW_CAL, TOP, FMAP, ALIAS");
-        assert_eq!(ended.refused(255), format!("{}: no area has that name: {name}", old.display()));
+        let said = if name.is_empty() { "''" } else { name };
+        assert_eq!(ended.refused(255), format!("{}: no area has that name: {said}", old.display()));
     }
     let before = fs::read(&old).unwrap();
     run!["fmap", "extract", old, "RW_CAL", "-o", old].usage("are the same file");
