@@ -3,8 +3,11 @@
 use std::os::unix::ffi::OsStrExt;
 use std::path::Path;
 
-/// A path for a terminal: control characters and what is no UTF-8 are escaped.
+/// A path for a terminal: control characters and what is no UTF-8 are escaped, and one without any character is seen.
 pub fn shown(path: &Path) -> String {
+    if path.as_os_str().is_empty() {
+        return "''".to_string();
+    }
     escaped(path, |c| if c.is_control() { c.escape_debug().to_string() } else { c.to_string() })
 }
 
@@ -78,6 +81,7 @@ mod tests {
     fn control_characters_are_shown_escaped() {
         let shown = |name: &'static [u8]| super::shown(Path::new(OsStr::from_bytes(name)));
         assert_eq!(shown(b"my disk.img"), "my disk.img");
+        assert_eq!(shown(b""), "''");
         assert_eq!(shown(b"a\n\x1b[2J\xFF"), "a\\n\\u{1b}[2J\\xff");
         assert_eq!(shown("Größe\u{9b}".as_bytes()), "Größe\\u{9b}");
     }

@@ -126,6 +126,7 @@ mod tests {
         assert_eq!(human((1 << 20) - 1), "1023.9 KiB");
         assert_eq!(human(2 << 40), "2 TiB");
         assert_eq!(human(u64::MAX), "16777215.9 TiB");
+        assert_eq!((plural(0, "area"), plural(1, "area")), ("0 areas".into(), "1 area".into()));
         assert_eq!(of_blocks(1), "1 block (512 B)");
         assert_eq!(of_blocks(2048), "2048 blocks (1 MiB)");
     }

@@ -2,7 +2,7 @@
 
 mod common;
 
-use common::{add, disk, spoil, Folder, Loop};
+use common::{add, disk, spoil, Ended, Folder, Loop};
 use std::fs::{self, File};
 use std::os::unix::fs::FileExt;
 use std::path::{Path, PathBuf};
@@ -156,6 +156,31 @@ fn a_table_by_sfdisks_defaults() {
     let path = folder.sparse("mbr.img", 64 << 20);
     peer::feed("sfdisk", ["-q".as_ref(), path.as_os_str()], "label: dos\n,10M\n,5M,c\n");
     kept(&path, "an MBR with 2 partitions (1: type 83 hex, 10 MiB; 2: type 0c hex, 5 MiB)");
+}
+
+/// In use by a lock: judged first, not lifted by --replace, and --force lifts nothing else.
+#[test]
+fn a_locked_disk() {
+    let folder = Folder::new();
+    let path = disk(&folder, "disk.img", 2048);
+    let held = File::open(&path).expect("an image");
+    held.lock_shared().expect("a lock");
+    let locked = "is in use (locked by another program)";
+    std::thread::scope(|scope| {
+        for (words, said) in [
+            (&[][..], locked),
+            (&["--replace"], locked),
+            (&["--replace", "--dry-run"], locked),
+            (&["--force"], "holds a good GPT with 0 partitions"),
+        ] {
+            let path = &path;
+            scope.spawn(move || {
+                let output = common::command().args(["gpt", "format"]).args(words).arg(path).output();
+                Ended::from(output.expect("the command")).needed(said);
+            });
+        }
+    });
+    run!["gpt", "format", path, "--force", "--replace"].done();
 }
 
 /// A mounted file system, unmounted when it is dropped.

@@ -177,3 +177,28 @@ fn cbfstool_reads_what_was_carried() {
     );
     assert_eq!(fs::read(&to).expect("an area"), bytes);
 }
+
+/// What the hint advises writes the protective record.
+#[test]
+fn a_lost_protective_record() {
+    if !peer::present("sgdisk", "gdisk") {
+        return;
+    }
+    let folder = Folder::new();
+    let image = filled(&folder);
+    let before = fs::read(&image).expect("an image");
+    let mut without = before.clone();
+    without[..512].fill(0);
+    fs::write(&image, &without).expect("an image");
+    let ended = run!["gpt", "verify", image];
+    let hint = format!(
+        "hint: gpt repair leaves block 0 as it is; sgdisk -e {} writes the record\n",
+        image.display()
+    );
+    assert!(ended.status == Some(1) && ended.out.ends_with(&hint), "{}", ended.out);
+    run!["gpt", "repair", image].done();
+    assert_eq!(fs::read(&image).expect("an image"), without);
+    peer::printed("sgdisk", ["-e".as_ref(), image.as_os_str()]);
+    run!["gpt", "verify", image].done();
+    assert_eq!(fs::read(&image).expect("an image")[512..], before[512..]);
+}

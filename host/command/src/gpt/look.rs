@@ -13,8 +13,6 @@ use usigrambal::State;
 
 const NO_RECORD: &str =
     "block 0 has no protective record (EE at byte 450, 55 AA at byte 510): other systems see no table";
-const KEPT: &str =
-    "no call writes the record of block 0 to a table that is there: gpt repair leaves block 0 as it is";
 
 const BAR_WIDTH: u64 = 64;
 const BAR_MAX: u64 = 10_000;
@@ -98,7 +96,7 @@ pub fn verify(given: &Given) -> Result<Report, Failure> {
         true => {
             format!("usigrambal gpt format {} --replace writes the record, with an empty table", quoted(path))
         }
-        false => KEPT.to_string(),
+        false => format!("gpt repair leaves block 0 as it is; sgdisk -e {} writes the record", quoted(path)),
     };
     let repair = format!("usigrambal gpt repair {} makes both copies alike", quoted(path));
     let hint = match (alike, protected) {

@@ -61,7 +61,8 @@ impl Facts {
         }
         let bytes = self.bytes;
         let ragged = !bytes.is_multiple_of(block_len);
-        ragged.then(|| format!("has {bytes} bytes, which is no multiple of the block size, {block_len}"))
+        let size = crate::sizes::plural(bytes, "byte");
+        ragged.then(|| format!("has {size}, which is no multiple of the block size, {block_len}"))
     }
 
     /// Why it can't be written.

@@ -1,4 +1,4 @@
-use super::users::{busy, busy_device};
+use super::users::{busy, busy_device, LOCKED};
 use super::{about, device, kind, metadata, unusable, Facts, Kind};
 use crate::failure::{words, Failure};
 use std::fs::{File, Metadata, OpenOptions, TryLockError};
@@ -90,13 +90,13 @@ fn opened(path: &Path, access: Access, kind: Kind, device: u64) -> Result<File, 
     };
     match alone {
         true => Ok(file),
-        false => Err(busy(path, "locked by another program")),
+        false => Err(busy(path, LOCKED)),
     }
 }
 
 /// Calls at once follow each other: a reader waits for a writer, and a writer for both. Where locks can't be had it
 /// goes on without.
-fn locked(lock: impl Fn() -> Result<(), TryLockError>) -> bool {
+pub fn locked(lock: impl Fn() -> Result<(), TryLockError>) -> bool {
     patient(PATIENCE, || !matches!(lock(), Err(TryLockError::WouldBlock)))
 }
 

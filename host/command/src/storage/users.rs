@@ -1,6 +1,6 @@
 //! Who uses a block device or a file, as far as Linux tells.
 
-use super::open::{EBUSY, O_EXCL};
+use super::open::{locked, EBUSY, O_EXCL};
 use super::{needed, Kind, Opened};
 use crate::failure::Failure;
 use crate::paths::shown;
@@ -8,17 +8,20 @@ use std::fs::{self, OpenOptions};
 use std::os::unix::fs::{MetadataExt, OpenOptionsExt};
 use std::path::{Path, PathBuf};
 
+pub const LOCKED: &str = "locked by another program";
+
 /// Why something is kept, if it is in use, without being opened for writing: a device by another program or a mount, an
-/// image file as a loop device.
+/// image file as a loop device, both by another program's lock.
 pub fn in_use(path: &Path, opened: &Opened) -> Option<Failure> {
-    match opened.facts.kind {
+    let used = match opened.facts.kind {
         Kind::BlockDevice => {
             let alone = OpenOptions::new().read(true).custom_flags(O_EXCL).open(path);
             let busy = alone.is_err_and(|error| error.raw_os_error() == Some(EBUSY));
             busy.then(|| busy_device(path, opened.metadata.rdev()))
         }
         _ => attached(path),
-    }
+    };
+    used.or_else(|| (!locked(|| opened.file.try_lock())).then(|| busy(path, LOCKED)))
 }
 
 pub fn busy_device(path: &Path, device: u64) -> Failure {
