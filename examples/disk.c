@@ -6,16 +6,16 @@
 
 #define N 1000000
 
-static uint8_t head[17408], tail[16896]; /* blocks 0 to 33, and the last 33 blocks */
+static uint8_t head[USI_HEAD_LEN], tail[USI_TAIL_LEN]; /* blocks 0 to 33, and the last 33 blocks */
 
 static uint32_t add(const uint8_t *kind, const uint8_t *unique, uint64_t size, uint64_t *slot, uint64_t *first) {
-    static const uint16_t name[36] = {'d', 'a', 't', 'a'};
-    return usi_gpt_add(head, sizeof head, tail, sizeof tail, N, kind, 16, unique, 16, size, 0, name, 36, slot, first);
+    static const uint16_t name[USI_NAME_UNITS] = {'d', 'a', 't', 'a'};
+    return usi_gpt_add(head, sizeof head, tail, sizeof tail, N, kind, USI_GUID_LEN, unique, USI_GUID_LEN, size, 0, name, USI_NAME_UNITS, slot, first);
 }
 
 int main(void) {
-    const uint8_t disk[16] = {1}, one[16] = {2}, two[16] = {3};
-    uint8_t kind[16];
+    const uint8_t disk[USI_GUID_LEN] = {1}, one[USI_GUID_LEN] = {2}, two[USI_GUID_LEN] = {3};
+    uint8_t kind[USI_GUID_LEN];
     uint64_t slot = 0, first = 0, free_blocks = 0, longest = 0;
     printf("type %" PRIu32 "\n", usi_type_read((const uint8_t *)"linux", 5, kind, sizeof kind));
     printf("format %" PRIu32 "\n", usi_gpt_format(head, sizeof head, tail, sizeof tail, N, disk, sizeof disk));

@@ -32,7 +32,7 @@ static void write_image(uint8_t *image, uint32_t cal) {
 
 int main(void) {
     static uint8_t old[LEN], new[LEN];
-    uint8_t area[42];
+    uint8_t area[USI_AREA_LEN];
     uint64_t position = 9, k = 9;
     write_image(old, 200);
     write_image(new, 300);

@@ -9,7 +9,7 @@ int main(int argc, char **argv) {
         fprintf(stderr, "usage: guid TYPE, a GUID text or one of system, msft, data, linux, swap\n");
         return 2;
     }
-    uint8_t guid[16], text[36];
+    uint8_t guid[USI_GUID_LEN], text[USI_GUID_TEXT_LEN];
     uint32_t refusal = usi_type_read((const uint8_t *)argv[1], strlen(argv[1]), guid, sizeof guid);
     if (refusal != 0) {
         fprintf(stderr, "refused %u\n", (unsigned)refusal);

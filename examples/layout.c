@@ -19,7 +19,7 @@ static uint32_t number(const uint8_t *bytes, int count) {
 int main(void) {
     const uint8_t *t = (const uint8_t *)text;
     const size_t len = sizeof text - 1;
-    uint8_t name[32];
+    uint8_t name[USI_IMAGE_NAME_LEN];
     uint64_t size = 0, address = 0, count = 0, position = UINT64_MAX;
     uint32_t answer = usi_fmd_read(t, len, name, sizeof name, &size, &address, &count);
     if (answer == 0)

@@ -16,7 +16,8 @@ use Rattle.fmap.specs.declared.AreaCount.the-variants.{Count, WrongLengt
 use Rattle.fmap.specs.declared.Lookup.{Lookup}
 use Rattle.fmap.specs.declared.Lookup.the-variants.{There, Nothing, WrongLength as LengthToo, NoSignature as SignatureToo, NoGoodMap as MapToo}
 use Rattle.fmap.specs.declared.AreaIndex.{AreaIndex}
-use Rattle.fmap.specs.declared.AreaIndex.the-variants.{At as IndexAt, Nothing as NoIndex, WrongLength as IndexLength, NoSignature as IndexSignature, NoGoodMap as IndexMap}
+use Rattle.fmap.specs.declared.AreaIndex.the-variants.{At as IndexAt, Nothing as NoIndex, WrongLength as IndexLength}
+use Rattle.fmap.specs.declared.AreaIndex.the-variants.{NoSignature as IndexSignature, NoGoodMap as IndexMap}
 use Rattle.fmap.specs.declared.AreaFound.{AreaFound}
 
 -- (W15) the number and the value of each answer; accepted false or none: no such area, to which the rules give no number

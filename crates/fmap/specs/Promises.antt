@@ -55,7 +55,8 @@ IndexIsNamed =
 -- (M2) the 42 bytes of area k of the map that is found are record k of the map, as the image has it
 abbrev pub AreaBytesAreTheMaps : Type 0
 AreaBytesAreTheMaps =
-    (image : List ℕ) → ((i : ℕ) → getD image i 0 < 256) → (p : ImagePosition) (k : ℕ) → findMap image ≡ accepted p → areaNumbered image k .answer ≡ accepted true
+    (image : List ℕ) → ((i : ℕ) → getD image i 0 < 256) → (p : ImagePosition) (k : ℕ)
+    → findMap image ≡ accepted p → areaNumbered image k .answer ≡ accepted true
     → areaBytes (areaNumbered image k .area) ≡ part (p .0 + (56 + 42 * k)) 42 image
 
 -- (M12), (R24) an accepted carry leaves the new map in its place, byte for byte and good; a search finds it unless a lower good map exists,

@@ -12,7 +12,8 @@ ghost use Rattle.fmap.specs.Find.{accepted, foundReply, signedAt, findMa
 ghost use Rattle.fmap_carry.specs.Carry.{judgedNumber};
 ghost use Rattle.fmap.specs.Faults.{faultReply, faultAt};
 ghost use Rattle.fmap.specs.Carry.{carriedNumber, standingNumber, placeRows, carryAt, carryTo, carryImages};
-ghost use Rattle.fmap.specs.Areas.{countReply, lookupReply, indexReply, looked, countAreas, areaIn, areaNumbered, areaNamed, called, indexIn, indexNamed};
+ghost use Rattle.fmap.specs.Areas.{countReply, lookupReply, indexReply, looked, countAreas, areaIn, areaNumbered, areaNamed, called, indexIn};
+ghost use Rattle.fmap.specs.Areas.{indexNamed};
 use fmap_carry::Judged;
 use fmap_rules::Area;
 use fmap_rules::Extent;
@@ -97,7 +98,8 @@ fn is_letter(b: u8) -> bool
 // signature hold no start of one.
 fn next_signed(image: &[u8], from: ImagePosition) -> ImagePosition
     requires { ⌜ (from .0 ≤ length (now image)) × (length (now image) ≤ 16777216) ⌝ }
-    ensures { λ r. ⌜ (r .0 ≡ firstFrom (length (now (image .entry)) - from .0) (from .0) (signedAt (now (image .entry)))) × (r .0 ≤ length (now (image .entry))) ⌝ }
+    ensures { λ r. ⌜ (r .0 ≡ firstFrom (length (now (image .entry)) - from .0) (from .0) (signedAt (now (image .entry))))
+        × (r .0 ≤ length (now (image .entry))) ⌝ }
 {
     let mut i = from.0 as usize;
     while i + 8 <= image.len() {
@@ -353,7 +355,8 @@ pub fn carry_at(old: &[u8], at: ImagePosition, new: &mut [u8], bt: ImagePosition
 
 // Carries by the map of the old image at a position to the map that is found in the new one.
 fn carry_from(old: &[u8], at: ImagePosition, new: &mut [u8]) -> Carried
-    ensures { λ r. ⌜ record { answer = carriedNumber r; image = now (new .exit) } ≡ carryTo (now (old .entry)) at (now (new .entry)) (findMap (now (new .entry))) ⌝ }
+    ensures { λ r. ⌜ record { answer = carriedNumber r; image = now (new .exit) }
+        ≡ carryTo (now (old .entry)) at (now (new .entry)) (findMap (now (new .entry))) ⌝ }
 {
     match find(&new[..]) {
         Found::WrongLength => Carried::WrongLength,

@@ -8,7 +8,8 @@ ghost use Rattle.octets.specs.Tests.{all, any, pairs, findIx};
 ghost use Rattle.octets.specs.Rows.{refusal};
 ghost use Rattle.octets.specs.Bytes.{part, rest, put};
 ghost use Rattle.fmap_rules.specs.Map.{areaOf, areasIn, areasOf, blank, named, fmapName, endOf, goodMap};
-ghost use Rattle.fmap_carry.specs.Carry.{preserved, withName, missing, otherSize, clearBy, clear, onMap, carryRows, judgedNumber, carryArea, carried, carryAreas};
+ghost use Rattle.fmap_carry.specs.Carry.{preserved, withName, missing, otherSize, clearBy, clear, onMap, carryRows, judgedNumber, carryArea};
+ghost use Rattle.fmap_carry.specs.Carry.{carried, carryAreas};
 ghost use Rattle.fmap_carry.specs.Invariants.{Matched, Fit, Fitting, endsIn};
 use fmap_rules::Extent;
 use fmap_rules::ImagePosition;
@@ -127,7 +128,8 @@ fn is_clear(a: &[u8], x: Extent, b: &[u8], y: Extent) -> bool
 // Area i goes with each later one.
 fn clear_of_later(olds: &[u8], news: &[u8], matches: &[u8], i: usize) -> bool
     requires { ⌜ Matched (areasIn (now olds)) (areasIn (now news)) (now matches) × (i < length (now olds) / 42) ⌝ }
-    ensures { λ r. ⌜ r ≡ all (clear (areasIn (now (news .entry))) (getD (areasIn (now (olds .entry))) i blank)) (drop (i + 1) (areasIn (now (olds .entry)))) ⌝ }
+    ensures { λ r. ⌜ r ≡ all (clear (areasIn (now (news .entry))) (getD (areasIn (now (olds .entry))) i blank))
+        (drop (i + 1) (areasIn (now (olds .entry)))) ⌝ }
 {
     let x = place_of(news, matches[i] as usize);
     let n = olds.len() / 42;
@@ -176,7 +178,8 @@ fn map_place(news: &[u8]) -> Extent
 }
 
 fn is_on_map(a: &[u8], news: &[u8], k: usize, f: Extent) -> bool
-    requires { ⌜ (length (now a) ≡ 42) × (k ≡ findIx (named (areaOf (now a) .name)) (areasIn (now news))) × (f ≡ withName (areasIn (now news)) fmapName .place) ⌝ }
+    requires { ⌜ (length (now a) ≡ 42) × (k ≡ findIx (named (areaOf (now a) .name)) (areasIn (now news)))
+        × (f ≡ withName (areasIn (now news)) fmapName .place) ⌝ }
     ensures { λ r. ⌜ r ≡ onMap (areasIn (now (news .entry))) (areaOf (now (a .entry))) ⌝ }
 {
     if !is_preserved(a) {
@@ -287,7 +290,8 @@ pub fn carry_areas(old: &[u8], olds: &[u8], new: &mut [u8], news: &[u8]) -> Judg
 // Copies the bytes of the areas of a good map; answers how many.
 fn keep_areas(image: &[u8], at: ImagePosition, kept: &mut [u8]) -> usize
     requires { ⌜ (goodMap (now image) (at .0) ≡ true) × (length (now kept) ≡ 5376) ⌝ }
-    ensures { λ r. ⌜ (areasIn (take r (now (kept .exit))) ≡ areasOf (rest (at .0) (now (image .entry)))) × (r ≤ 5376) × (length (take r (now (kept .exit))) ≡ r) ⌝ }
+    ensures { λ r. ⌜ (areasIn (take r (now (kept .exit))) ≡ areasOf (rest (at .0) (now (image .entry))))
+        × (r ≤ 5376) × (length (take r (now (kept .exit))) ≡ r) ⌝ }
 {
     let areas = fmap_rules::areas_at(image, at);
     octets::copy(kept, 0, areas);

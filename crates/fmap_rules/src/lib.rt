@@ -7,7 +7,8 @@ ghost use lib.ListN.{length, getD, drop};
 ghost use Rattle.octets.specs.Tests.{all, any, pairs, findIx};
 ghost use Rattle.octets.specs.Bytes.{part, rest};
 ghost use Rattle.octets.specs.Rows.{refusal, codeOf};
-ghost use Rattle.fmap_rules.specs.Map.{signed, nameLength, legalName, areaOf, areasIn, areasOf, blank, named, endOf, disjoint, inside, disjointOrNested, mapSize, countOf, holdsMap, headerRows, areaRows, mapRows, goodMap};
+ghost use Rattle.fmap_rules.specs.Map.{signed, nameLength, legalName, areaOf, areasIn, areasOf, blank, named, endOf, disjoint, inside};
+ghost use Rattle.fmap_rules.specs.Map.{disjointOrNested, mapSize, countOf, holdsMap, headerRows, areaRows, mapRows, goodMap};
 ghost use Rattle.fmap_rules.specs.Invariants.{broken, goodPair};
 
 // A byte's position in a flash image.

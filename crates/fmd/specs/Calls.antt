@@ -16,7 +16,8 @@ use Rattle.fmd_parse.specs.declared.Image.{Image as TextImage}
 use Rattle.fmd_check.specs.Check.{Judged, fault, good, checkText}
 use Rattle.fmd_areas.specs.Areas.{storedName, areaAt, areasOf}
 use Rattle.fmd.specs.declared.Answer.{Answer}
-use Rattle.fmd.specs.declared.Answer.the-variants.{Accepted, WrongLength, TooLong, OutOfGrammar, BadNumber, BadName, NameTwice, TooMany, BadFlag, Undecided, Unfit, NoMapSection}
+use Rattle.fmd.specs.declared.Answer.the-variants.{Accepted, WrongLength, TooLong, OutOfGrammar, BadNumber, BadName, NameTwice, TooMany}
+use Rattle.fmd.specs.declared.Answer.the-variants.{BadFlag, Undecided, Unfit, NoMapSection}
 use Rattle.fmd.specs.declared.Image.{Image}
 use Rattle.fmd.specs.declared.Reading.{Reading}
 use Rattle.fmd.specs.declared.Section.{Section}

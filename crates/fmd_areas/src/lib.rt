@@ -74,7 +74,9 @@ pub fn area_at(text: &[u8], rows: &[u32], spots: &[u32], n: usize, k: usize) -> 
 // The bytes of all areas, one after the other.
 pub fn put_areas(text: &[u8], rows: &[u32], spots: &[u32], n: usize, to: &mut [u8], at: usize)
     requires { ⌜ Laid (now text) (now rows) (now spots) n × (at + 42 * n ≤ length (now to)) ⌝ }
-    ensures { λ _. ⌜ now (to .exit) ≡ put at (flat (map areaBytes (areasOf (now (text .entry)) (sectionsIn n (now (rows .entry))) (placedIn n (now (spots .entry)))))) (now (to .entry)) ⌝ }
+    ensures { λ _. ⌜ now (to .exit)
+        ≡ put at (flat (map areaBytes (areasOf (now (text .entry)) (sectionsIn n (now (rows .entry))) (placedIn n (now (spots .entry))))))
+        (now (to .entry)) ⌝ }
 {
     let mut k: usize = 0;
     while k < n {

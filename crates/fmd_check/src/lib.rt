@@ -54,7 +54,8 @@ fn no_map(rows: &[u32], spots: &[u32], n: usize, k: usize) -> bool
 // Row 59.
 fn check_map(text: &[u8], i: Image, rows: &[u32], spots: &[u32], n: usize) -> Verdict
     requires { ⌜ HasRows n (now rows) × HasSpots n (now spots) × (n ≤ 128) × Inside (now text) (sectionsIn n (now rows)) ⌝ }
-    ensures { λ r. ⌜ verdictOf r (now (rows .entry)) (now (spots .entry)) ≡ listFrom 4 (now (text .entry)) i (sectionsIn n (now (rows .entry))) (plan (placedIn n (now (spots .entry)))) ⌝ }
+    ensures { λ r. ⌜ verdictOf r (now (rows .entry)) (now (spots .entry))
+        ≡ listFrom 4 (now (text .entry)) i (sectionsIn n (now (rows .entry))) (plan (placedIn n (now (spots .entry)))) ⌝ }
 {
     match fmd_rows::find_fmap(text, rows, n) {
         Found::Nowhere => Verdict::Fault(59, Place::NoPlace),
@@ -70,7 +71,8 @@ fn check_map(text: &[u8], i: Image, rows: &[u32], spots: &[u32], n: usize) -> Ve
 // Rows 57 and 58, where section k is the first that does not fit.
 fn unfit_at(rows: &[u32], n: usize, k: usize) -> Verdict
     requires { ⌜ HasRows n (now rows) × (k < n) × Sized (sectionsIn n (now rows)) (k + 1) ⌝ }
-    ensures { λ r. ⌜ ((s : List ℕ) (i : Image) (spots : List ℕ) → verdictOf r (now (rows .entry)) spots ≡ listFrom 2 s i (sectionsIn n (now (rows .entry))) (unfit k)) ⌝ }
+    ensures { λ r. ⌜ ((s : List ℕ) (i : Image) (spots : List ℕ) → verdictOf r (now (rows .entry)) spots
+        ≡ listFrom 2 s i (sectionsIn n (now (rows .entry))) (unfit k)) ⌝ }
 {
     match fmd_rows::first_undecided(rows, n, k + 1) {
         Found::At(j) => fault_at(57, rows, n, j),
@@ -81,7 +83,8 @@ fn unfit_at(rows: &[u32], n: usize, k: usize) -> Verdict
 // Rows 57 to 59.
 fn check_places(text: &[u8], i: Image, rows: &[u32], spots: &mut [u32], n: usize) -> Verdict
     requires { ⌜ HasRows n (now rows) × HasSpots n (now spots) × (n ≤ 128) × Inside (now text) (sectionsIn n (now rows)) ⌝ }
-    ensures { λ r. ⌜ verdictOf r (now (rows .entry)) (now (spots .exit)) ≡ listFrom 2 (now (text .entry)) i (sectionsIn n (now (rows .entry))) (resolveFrom (i .size) [] (sectionsIn n (now (rows .entry)))) ⌝ }
+    ensures { λ r. ⌜ verdictOf r (now (rows .entry)) (now (spots .exit))
+        ≡ listFrom 2 (now (text .entry)) i (sectionsIn n (now (rows .entry))) (resolveFrom (i .size) [] (sectionsIn n (now (rows .entry)))) ⌝ }
 {
     match fmd_plan::resolve(rows, n, i.size, spots) {
         Resolution::Unfits(k) => unfit_at(rows, n, k),
@@ -93,7 +96,8 @@ fn check_places(text: &[u8], i: Image, rows: &[u32], spots: &mut [u32], n: usize
 // Rows 56 to 59.
 fn check_marks(text: &[u8], i: Image, rows: &[u32], spots: &mut [u32], n: usize) -> Verdict
     requires { ⌜ HasRows n (now rows) × HasSpots n (now spots) × (n ≤ 128) × Inside (now text) (sectionsIn n (now rows)) ⌝ }
-    ensures { λ r. ⌜ verdictOf r (now (rows .entry)) (now (spots .exit)) ≡ listFrom 1 (now (text .entry)) i (sectionsIn n (now (rows .entry))) (resolveFrom (i .size) [] (sectionsIn n (now (rows .entry)))) ⌝ }
+    ensures { λ r. ⌜ verdictOf r (now (rows .entry)) (now (spots .exit))
+        ≡ listFrom 1 (now (text .entry)) i (sectionsIn n (now (rows .entry))) (resolveFrom (i .size) [] (sectionsIn n (now (rows .entry)))) ⌝ }
 {
     match fmd_rows::first_cbfs(rows, n) {
         Found::At(k) => fault_at(56, rows, n, k),
@@ -104,7 +108,8 @@ fn check_marks(text: &[u8], i: Image, rows: &[u32], spots: &mut [u32], n: usize)
 // Rows 54 to 59.
 fn check_list(text: &[u8], i: Image, rows: &[u32], spots: &mut [u32], n: usize) -> Verdict
     requires { ⌜ HasRows n (now rows) × HasSpots n (now spots) × (n ≤ 128) × Inside (now text) (sectionsIn n (now rows)) ⌝ }
-    ensures { λ r. ⌜ verdictOf r (now (rows .entry)) (now (spots .exit)) ≡ listFrom 0 (now (text .entry)) i (sectionsIn n (now (rows .entry))) (resolveFrom (i .size) [] (sectionsIn n (now (rows .entry)))) ⌝ }
+    ensures { λ r. ⌜ verdictOf r (now (rows .entry)) (now (spots .exit))
+        ≡ listFrom 0 (now (text .entry)) i (sectionsIn n (now (rows .entry))) (resolveFrom (i .size) [] (sectionsIn n (now (rows .entry)))) ⌝ }
 {
     match fmd_rows::first_repeat(text, rows, n) {
         Found::At(k) => fault_at(54, rows, n, k),

@@ -117,7 +117,8 @@ fn spot_in(h: Section, e: u64, room: u32, reach: Reach) -> Spot
 // Section k.
 fn place_at(rows: &[u32], n: usize, k: usize, spots: &[u32], size: u32) -> Spot
     requires { ⌜ HasRows n (now rows) × HasSpots n (now spots) × (k < n) ⌝ }
-    ensures { λ r. ⌜ r ≡ placeOf size (placedIn k (now (spots .entry))) (getD (sectionsIn n (now (rows .entry))) k blankSection) (drop (k + 1) (sectionsIn n (now (rows .entry)))) ⌝ }
+    ensures { λ r. ⌜ r ≡ placeOf size (placedIn k (now (spots .entry))) (getD (sectionsIn n (now (rows .entry))) k blankSection)
+        (drop (k + 1) (sectionsIn n (now (rows .entry)))) ⌝ }
 {
     let h = row_at(rows, k);
     let e = end_in(spots, k, h.parent);

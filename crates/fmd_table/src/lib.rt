@@ -4,7 +4,8 @@
 ghost use mathlib.Core.List.{_++_, _∷_, []};
 ghost use mathlib.Core.Path.{_≡_};
 ghost use Prim.Native.Nat.{_+_};
-ghost use Rattle.fmd_table.specs.Table.{offsetTag, offsetWord, sizeTag, sizeWord, markWord, offsetFrom, sizeFrom, sectionAt, sectionsIn, placedAt, placedIn, HasRows, HasSpots};
+ghost use Rattle.fmd_table.specs.Table.{offsetTag, offsetWord, sizeTag, sizeWord, markWord, offsetFrom, sizeFrom, sectionAt, sectionsIn};
+ghost use Rattle.fmd_table.specs.Table.{placedAt, placedIn, HasRows, HasSpots};
 
 // The words of a section, and of a section with its offset and size.
 const ROW: usize = 10;

@@ -35,6 +35,9 @@ fn several_disks_in_one_call() {
     assert_eq!(disks, paths);
     assert_eq!(answers[2].number("refused"), 10);
     assert!(answers[3].text("error").ends_with("missing.img does not exist"));
+    let misused = json::parse(&run!["gpt", "verify", "--json"].out).expect("JSON");
+    assert_eq!(told(&misused), (Json::Bool(false), Json::Null));
+    assert_eq!(misused.text("error"), "DISK is missing");
     for verb in ["show", "free"] {
         let ended = run!["gpt", verb, good, missing, spoiled];
         assert_eq!(ended.status, Some(3), "{}", ended.err);

@@ -158,8 +158,8 @@ impl Disk<'_> {
 
     /// The runs of free blocks, in order (rule D21).
     pub fn free_runs(&self) -> Result<Vec<Run>, Refused> {
-        let usable = self.usable()?;
         let mut used: Vec<Run> = self.partitions()?.iter().map(Partition::run).collect();
+        let usable = Run { first: FIRST_USABLE, last: self.n - BEHIND_USABLE };
         used.sort_by_key(|run| run.first);
         let starts = std::iter::once(usable.first).chain(used.iter().map(|run| run.last + 1));
         let ends = used.iter().map(|run| run.first).chain([usable.last + 1]);

@@ -196,7 +196,7 @@ mod tests {
         };
         for good in [
             "`octets` Rows: `refusal`, `row`; `crc_lanes` Crc: `crc32`",
-            "`octets` load64/Proof; must-fail `high_half`",
+            "`octets` same/Proof; must-fail `rest_from_start`",
             "`octets::load64`, `store64`; in C `usi_crc32`",
         ] {
             assert_eq!(row(good), [""; 0], "{good}");

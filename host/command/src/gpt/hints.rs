@@ -11,7 +11,7 @@ use usigrambal::{Disk, Guid, Partition, Refusal, Refused, State};
 
 pub const TYPES: &str = "system, msft, data, linux, swap";
 
-/// Rule D2.
+/// Rule Q2.
 const BLOCKS_MIN: u64 = 68;
 const BLOCKS_MAX: u64 = 1 << 32;
 

@@ -30,6 +30,24 @@ pub fn show(given: &Given) -> Result<Report, Failure> {
     let (partitions, runs) = (disk.partitions()?, disk.free_runs()?);
     let (guid, free, usable) = (disk.guid()?, disk.free()?, disk.usable()?);
     let drawing = drawing(&partitions, &runs, width as usize);
+    if given.has("--json") {
+        let json = vec![
+            ("disk", path.into()),
+            ("blocks", disk.n.into()),
+            ("block_bytes", BLOCK_LEN.into()),
+            ("guid", guid.to_string().into()),
+            ("state", (state as u64).into()),
+            ("copies", copies(state).into()),
+            ("first_usable", usable.first.into()),
+            ("last_usable", usable.last.into()),
+            ("free_blocks", free.blocks.into()),
+            ("longest_run", free.longest_run.into()),
+            ("partitions", partitions.iter().map(|partition| Json::Object(described(partition))).collect()),
+            ("free_runs", runs_json(&runs)),
+            ("drawing", drawing.into()),
+        ];
+        return Ok(Report::new("", json).warn(unprotected));
+    }
     let mut text = format!("{}: {} of {BLOCK_LEN} bytes\n", shown(path), of_blocks(disk.n));
     text += &format!("disk GUID:     {guid}\n");
     text += &format!("table:         {}\n", copies(state));
@@ -41,22 +59,7 @@ pub fn show(given: &Given) -> Result<Report, Failure> {
     );
     text += &if partitions.is_empty() { "no partitions\n".to_string() } else { partition_table(&partitions) };
     text += &format!("\n{}\n{drawing}\n", run_table(&runs));
-    let json = vec![
-        ("disk", path.into()),
-        ("blocks", disk.n.into()),
-        ("block_bytes", BLOCK_LEN.into()),
-        ("guid", guid.to_string().into()),
-        ("state", (state as u64).into()),
-        ("copies", copies(state).into()),
-        ("first_usable", usable.first.into()),
-        ("last_usable", usable.last.into()),
-        ("free_blocks", free.blocks.into()),
-        ("longest_run", free.longest_run.into()),
-        ("partitions", partitions.iter().map(|partition| Json::Object(described(partition))).collect()),
-        ("free_runs", runs_json(&runs)),
-        ("drawing", drawing.into()),
-    ];
-    Ok(Report::new(text, json).warn(unprotected))
+    Ok(Report::new(text, Vec::new()).warn(unprotected))
 }
 
 pub fn free(given: &Given) -> Result<Report, Failure> {

@@ -25,14 +25,21 @@ impl Table {
         let width =
             |column: usize| self.rows.iter().map(|row| row[column].chars().count()).max().unwrap_or(0);
         let widths: Vec<usize> = (0..self.sides.len()).map(width).collect();
-        let line = |row: &Vec<String>| {
-            let cells = row.iter().zip(&widths).zip(&self.sides).map(|((cell, width), side)| match side {
-                Side::Left => format!("{cell:<width$}"),
-                Side::Right => format!("{cell:>width$}"),
-            });
-            cells.collect::<Vec<_>>().join("  ").trim_end().to_string() + "\n"
-        };
-        self.rows.iter().map(line).collect()
+        let mut text = String::new();
+        for row in &self.rows {
+            let start = text.len();
+            for ((cell, width), side) in row.iter().zip(&widths).zip(&self.sides) {
+                text += if text.len() > start { "  " } else { "" };
+                let blanks = width - cell.chars().count();
+                let (before, after) = if *side == Side::Left { (0, blanks) } else { (blanks, 0) };
+                text.extend(std::iter::repeat_n(' ', before));
+                text += cell;
+                text.extend(std::iter::repeat_n(' ', after));
+            }
+            text.truncate(start + text[start..].trim_end().len());
+            text.push('\n');
+        }
+        text
     }
 }
 
