@@ -21,17 +21,12 @@ mod verbs;
 
 use answers::Answers;
 use arguments::{Given, Request};
-use failure::{words, Failure, Kind};
+use failure::{Failure, Kind};
 use report::Report;
 use std::env;
 use std::ffi::OsString;
 use std::process::ExitCode;
-use std::thread;
-use storage::signals;
 use verbs::Verb;
-
-/// A layout text needs up to 2 MiB of stack, more than a caller may leave to the main thread (`ulimit -s`).
-const LAYOUT_STACK: usize = 4 << 20;
 
 fn main() -> ExitCode {
     let words: Vec<OsString> = env::args_os().skip(1).collect();
@@ -71,26 +66,5 @@ fn call(verb: &'static Verb, given: &Given) -> u8 {
 }
 
 fn run(verb: &'static Verb, given: &Given) -> Result<Report, Failure> {
-    let run = || (verb.run)(given).map_err(|failure| failure.with(verb.always));
-    if verb.group == "fmd" {
-        return roomy(run);
-    }
-    run()
-}
-
-/// On a thread with a stack of its own, which alone has the signals that end the call.
-fn roomy(run: impl FnOnce() -> Result<Report, Failure> + Send) -> Result<Report, Failure> {
-    let before = signals::held_back();
-    let work = || {
-        signals::let_through(&before);
-        run()
-    };
-    let answer = thread::scope(|scope| {
-        match thread::Builder::new().stack_size(LAYOUT_STACK).spawn_scoped(scope, work) {
-            Ok(thread) => thread.join().unwrap_or_else(|panic| std::panic::resume_unwind(panic)),
-            Err(error) => Err(Failure::input_output(format!("no thread can be had: {}", words(&error)))),
-        }
-    });
-    signals::let_through(&before);
-    answer
+    (verb.run)(given).map_err(|failure| failure.with(verb.always))
 }

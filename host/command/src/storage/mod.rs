@@ -5,7 +5,7 @@ mod device;
 mod open;
 mod put;
 mod replace;
-pub mod signals;
+mod signals;
 mod users;
 
 pub use open::{open, Access, Opened};

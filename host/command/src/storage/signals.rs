@@ -68,7 +68,7 @@ fn heed(number: c_int) {
 }
 
 /// Holds back the signals that end the call, on this thread; what was held back before.
-pub fn held_back() -> Signals {
+fn held_back() -> Signals {
     let (mut set, mut before): (Signals, Signals) = ([0; 16], [0; 16]);
     // Safety: both sets are as long as the C library's.
     unsafe {
@@ -82,7 +82,7 @@ pub fn held_back() -> Signals {
 }
 
 /// This thread has the signals that are not in the set.
-pub fn let_through(before: &Signals) {
+fn let_through(before: &Signals) {
     // Safety: the set is one that was taken, whole.
     unsafe { pthread_sigmask(SIG_SETMASK, before, ptr::null_mut()) };
 }
