@@ -104,7 +104,7 @@ fn a_file_that_it_did_not_make_is_not_taken() {
     let shell = |name: &str, words: &[&OsStr]| -> Ended {
         let script = format!("printf mine > .{name}.usigrambal-$$; exec \"$@\"");
         let mut bash = Command::new("bash");
-        bash.args(["-c", &script, "bash", env!("CARGO_BIN_EXE_usigrambal")]).args(words);
+        bash.args(["-c", &script, "bash", common::program()]).args(words);
         bash.current_dir(&folder.0).output().expect("bash").into()
     };
     let made = folder.path("made.bin");
@@ -198,14 +198,7 @@ fn a_signal_that_is_ignored_stays_ignored() {
     for _ in 0..8 {
         fs::write(&new, &before).expect("an image");
         let mut bash = Command::new("bash");
-        bash.args([
-            "-c",
-            "trap '' INT; exec \"$@\"",
-            "bash",
-            env!("CARGO_BIN_EXE_usigrambal"),
-            "fmap",
-            "carry",
-        ]);
+        bash.args(["-c", "trap '' INT; exec \"$@\"", "bash", common::program(), "fmap", "carry"]);
         let mut child = bash.args([&old, &new]).stdout(Stdio::null()).spawn().expect("bash");
         while hidden(&folder).is_empty() && child.try_wait().expect("a state").is_none() {}
         // Safety: a process of our own; if it has ended, no other can have its number before it is waited for.

@@ -159,7 +159,7 @@ fn a_long_write_shows_how_far_it_is() {
     let folder = Folder::new();
     let (old, new) = dotted(&folder);
     let Some(device) = Loop::new(&new, &[]) else { return };
-    let program = env!("CARGO_BIN_EXE_usigrambal");
+    let program = common::program();
     let line = format!("{program} fmap carry {} {}", old.display(), device.0.display());
     let output = Command::new("script").args(["-qec", &line, "/dev/null"]).stdin(Stdio::null()).output();
     let ended = Ended::from(output.expect("script"));

@@ -132,7 +132,7 @@ fn a_new_file_that_cannot_be_written() {
     let limited = |words: &[&OsStr]| -> Ended {
         let script = "trap '' XFSZ; ulimit -f 8; exec \"$@\"";
         let mut bash = Command::new("bash");
-        bash.args(["-c", script, "bash", env!("CARGO_BIN_EXE_usigrambal")]).args(words);
+        bash.args(["-c", script, "bash", common::program()]).args(words);
         bash.output().expect("bash").into()
     };
     let carry = ["fmap".as_ref(), "carry".as_ref(), old.as_os_str(), new.as_os_str()];
@@ -240,7 +240,7 @@ fn raw_bytes_do_not_go_to_a_terminal() {
     }
     let folder = Folder::new();
     let (_, old, _) = images(&folder);
-    let line = format!("{} fmap extract {} CAL", env!("CARGO_BIN_EXE_usigrambal"), old.display());
+    let line = format!("{} fmap extract {} CAL", common::program(), old.display());
     let output = Command::new("script").args(["-qec", &line, "/dev/null"]).stdin(Stdio::null()).output();
     let ended = Ended::from(output.expect("script"));
     assert_eq!(ended.status, Some(2), "{}", ended.out);

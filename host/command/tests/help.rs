@@ -44,7 +44,7 @@ fn help_and_version() {
 /// In a folder with the files that they name.
 #[test]
 fn examples_run_as_they_stand() {
-    let program = Path::new(env!("CARGO_BIN_EXE_usigrambal")).parent().expect("a folder");
+    let program = Path::new(common::program()).parent().expect("a folder");
     let path = format!("{}:{}", program.display(), std::env::var("PATH").unwrap_or_default());
     let folder = Folder::new();
     let shell = |line: &str| -> Ended {

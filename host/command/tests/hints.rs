@@ -180,7 +180,7 @@ fn paths_are_quoted_and_escaped() {
         assert_eq!(ended.err.lines().count(), 2, "{:?}", ended.err);
         let (_, advised) = hint.split_once("used; usigrambal ").expect("a command");
         let (advised, _) = advised.split_once(" writes the primary").expect("a command");
-        let line = format!("{} {advised}", env!("CARGO_BIN_EXE_usigrambal"));
+        let line = format!("{} {advised}", common::program());
         let repaired: Ended = Command::new("bash").args(["-c", &line]).output().expect("bash").into();
         assert!(repaired.done().ends_with("the primary was written from the backup\n"), "{line}");
         run!["gpt", "verify", path].done();

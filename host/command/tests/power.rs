@@ -24,8 +24,9 @@ fn watcher() -> &'static Path {
     })
 }
 
+/// By LD_PRELOAD, which a statically linked program does not heed: so it is the command that cargo built beside the tests.
 fn disturbed(how: &str, log: &Path, words: &[&str]) -> Ended {
-    let mut command = common::command();
+    let mut command = Command::new(env!("CARGO_BIN_EXE_usigrambal"));
     command.env("LD_PRELOAD", watcher()).env("DISTURB", how).env("WRITES_LOG", log).args(words);
     command.output().expect("the command").into()
 }

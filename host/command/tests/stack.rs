@@ -7,7 +7,7 @@ use std::process::Command;
 
 /// In a shell with `ulimit -s 128`, in the folder.
 fn small(folder: &Folder, line: &str) -> Ended {
-    let script = format!("ulimit -s 128; {}", line.replace("usigrambal", env!("CARGO_BIN_EXE_usigrambal")));
+    let script = format!("ulimit -s 128; {}", line.replace("usigrambal", common::program()));
     Command::new("bash").args(["-euc", &script]).current_dir(&folder.0).output().expect("bash").into()
 }
 
@@ -17,7 +17,9 @@ fn every_call_runs_with_a_stack_of_128_kib() {
     let mut text = testkit::layout::worst_text();
     text.resize(32_768, b' ');
     folder.file("worst.fmd", text);
+    folder.file("deep.fmd", [b"I 9K {".to_vec(), b"A{".repeat(16_000)].concat());
     folder.file("board.fmd", "BOARD 64K { FMAP 4K RW_CAL(PRESERVE) 4K RW_LOG }");
+    folder.file("moved.fmd", "BOARD 64K { FMAP 4K RW_CAL@8K 4K RW_LOG }");
     folder.sparse("disk.img", 64 << 20);
     for line in [
         "usigrambal --help",
@@ -29,7 +31,8 @@ fn every_call_runs_with_a_stack_of_128_kib() {
         "usigrambal fmap show worst.bin",
         "usigrambal fmap show --json worst.bin",
         "usigrambal fmd write board.fmd old.bin --create",
-        "usigrambal fmd write board.fmd new.bin --create",
+        "usigrambal fmd write moved.fmd new.bin --create",
+        "usigrambal fmap diff old.bin new.bin --svg new.svg",
         "usigrambal fmap carry old.bin new.bin",
         "usigrambal fmap extract old.bin RW_CAL -o cal.bin",
         "usigrambal gpt format disk.img",
@@ -47,7 +50,9 @@ fn every_call_runs_with_a_stack_of_128_kib() {
         let ended = small(&folder, line);
         assert_eq!(ended.status, Some(0), "{line}\n{}", ended.err);
     }
-    // What is refused is told with such a stack too.
+    // What is refused is told with such a stack too; of worst.fmd the preserved sections lie in each other.
+    assert_eq!(small(&folder, "usigrambal fmd list deep.fmd").status, Some(1));
+    assert_eq!(small(&folder, "usigrambal fmap diff worst.bin worst.bin --svg worst.svg").status, Some(1));
     assert_eq!(small(&folder, "usigrambal gpt add disk.img --size 1T").status, Some(1));
     assert_eq!(small(&folder, "usigrambal gpt format disk.img").status, Some(4));
 }

@@ -7,6 +7,7 @@ use std::io::Write;
 use std::path::{Path, PathBuf};
 use std::process::{Command, Output, Stdio};
 use std::sync::atomic::{AtomicU32, Ordering};
+use std::sync::OnceLock;
 use testkit::json::{self, Json};
 
 /// A folder of a test's own, removed when it is dropped.
@@ -143,8 +144,15 @@ impl Ended {
     }
 }
 
+/// The command that is tested: the one that USIGRAMBAL_COMMAND names, as it is shipped; else the one that cargo built beside the tests.
+pub fn program() -> &'static str {
+    static NAMED: OnceLock<Option<String>> = OnceLock::new();
+    let named = NAMED.get_or_init(|| std::env::var("USIGRAMBAL_COMMAND").ok());
+    named.as_deref().unwrap_or(env!("CARGO_BIN_EXE_usigrambal"))
+}
+
 pub fn command() -> Command {
-    Command::new(env!("CARGO_BIN_EXE_usigrambal"))
+    Command::new(program())
 }
 
 /// Runs the command with words, paths among them.
