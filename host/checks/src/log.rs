@@ -118,9 +118,13 @@ fn name(word: &str) -> &str {
 const NO_FACTS: [&str; 6] =
     ["has no `", "not in scope", "unresolved import", "unexpected", "does not parse", "was not admitted"];
 
+/// What the prover adds to types that it prints: that names in them can't be written so.
+const PRINTED: &str = "are not in scope here, so what is shown does not paste back";
+
 /// Whether a message tells of a fact that does not hold, not of a name or a text that can't be read.
 pub fn is_fact(message: &str) -> bool {
-    !message.is_empty() && !NO_FACTS.iter().any(|words| message.contains(words))
+    let told = message.replace(PRINTED, "");
+    !told.is_empty() && !NO_FACTS.iter().any(|words| told.contains(words))
 }
 
 #[cfg(test)]
@@ -131,6 +135,13 @@ mod tests {
         /r/target/must-fail/k/far/proofs/m/f/Proof.antt:29:75: error: `returns-2`: computed as far as they go, the two types differ only where one has `(c .before .before .loop .i) / Prim.Native.Nat._%_`\n  \
         (expected) and the other has `now (c .before .args .b)` (found)\n  expected type `a.long.one`\n\
         /r/target/must-fail/k/far/proofs/g/Proof.antt:1:1: error: `g`: x\nlogic=not-proved\n";
+
+    #[test]
+    fn a_type_that_differs_is_a_fact() {
+        let differs = "expected type `a ≤ b + 1`, but this has type `a ≤ b` `a`, `b` are not in scope here, so what is shown does not paste back";
+        assert!(is_fact(differs));
+        assert!(!is_fact("`a` is not in scope"));
+    }
 
     #[test]
     fn reads_the_first_error() {
