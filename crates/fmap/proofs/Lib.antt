@@ -9,5 +9,6 @@ pub mod Written
 pub mod Named
 pub mod NameBytes
 pub mod InBytes
+pub mod FromBytes
 pub mod Called
 pub mod Kept

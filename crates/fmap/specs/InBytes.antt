@@ -72,6 +72,10 @@ pub record MapAt (image : List ℕ) (at : ℕ) : Type 0 where
 abbrev pub GoodIsMap : Type 0
 GoodIsMap = (image : List ℕ) (at : ℕ) → goodMap image at ≡ true → MapAt image at
 
+-- (M9) and nothing else is asked of a map: flags are not judged
+abbrev pub MapIsGood : Type 0
+MapIsGood = (image : List ℕ) (at : ℕ) → MapAt image at → goodMap image at ≡ true
+
 -- the record that begins at r has this name: its bytes, then a zero
 pub record CalledAt (image : List ℕ) (r : ℕ) (name : List ℕ) : Type 0 where
   pub letters : part (r + 8) (length name) image ≡ name
