@@ -20,16 +20,17 @@ use Rattle.octets.proofs.Parts.{getD-part, part-of-rest}
 use Rattle.octets.proofs.Equal.{same-true, same-refl}
 use Rattle.fmap_rules.specs.declared.Extent.{Extent}
 use Rattle.fmap_rules.specs.declared.Area.{Area}
-use Rattle.fmap_rules.specs.Map.{signature, signed, minorOf, mapSize, areaOf, areasOf, blank, named, endOf, disjoint, inside, disjointOrNested, headerRows, areaRows, goodHeader, goodAreas, goodMap, holdsMap, empty, goodPlaces}
+use Rattle.fmap_rules.specs.Map.{signature, signed, minorOf, fmapName, legalName, mapSize, areaOf, areasOf, blank, named, endOf, disjoint, inside, disjointOrNested, headerRows, areaRows, goodHeader, goodAreas, goodMap, holdsMap, empty, goodPlaces}
 use Rattle.fmap_rules.proofs.Rules.{holds-none}
-use Rattle.fmap_rules.proofs.Good.{good-header, good-areas, good-fits, good-within, header-signed, holder, ends-in, names-differ}
+use Rattle.fmap_rules.proofs.Good.{good-header, good-areas, good-fits, good-within, header-signed, holder, ends-in, legal, names-differ}
 use Rattle.fmap_rules.proofs.Signature.{signed-part}
 use Rattle.fmap_rules.proofs.Records.{start-at, size-at, name-at, flags-at, count-at, areas-count, record-at}
 use Rattle.fmap_carry.specs.Carry.{preserved, withName, target, carryRows}
 use Rattle.fmap_carry.specs.Arrived.{Arrived}
 use Rattle.fmap_carry.proofs.Passed.{present, size-same}
 use Rattle.fmap.specs.Carry.{carryAt}
-use Rattle.fmap.specs.InBytes.{recordOf, countIn, startIn, sizeIn, nameIn, endIn, Apart, MapAt, GoodIsMap, Goes, CarriedBytes, CarriesBytes}
+use Rattle.fmap.specs.InBytes.{recordOf, countIn, startIn, sizeIn, nameIn, NameAt, endIn, Apart, MapAt, GoodIsMap, Goes, CarriedBytes, CarriesBytes}
+use Rattle.fmap.proofs.NameBytes.{name-at as name-by-bytes}
 use Rattle.fmap.proofs.Places.{old-good, new-good, rows-pass}
 use Rattle.fmap.proofs.Promises.{arrives}
 
@@ -39,10 +40,10 @@ module _ (image : List ℕ) (at : ℕ) (g : goodMap image at ≡ true) where
   abbrev areas : List Area
   areas = areasOf (rest at image)
 
-  there : (k : ℕ) → k < countIn image at → k < length areas
+  pub there : (k : ℕ) → k < countIn image at → k < length areas
   there k h = omega (arith, areas-count image at g)
 
-  back : (k : ℕ) → k < length areas → k < countIn image at
+  pub back : (k : ℕ) → k < length areas → k < countIn image at
   back k h = omega (arith, areas-count image at g)
 
   start-is : (k : ℕ) → k < countIn image at → getD areas k blank .place .start .0 ≡ startIn image (recordOf at k)
@@ -51,7 +52,7 @@ module _ (image : List ℕ) (at : ℕ) (g : goodMap image at ≡ true) where
   size-is : (k : ℕ) → k < countIn image at → getD areas k blank .place .size ≡ sizeIn image (recordOf at k)
   size-is k h = ap (λ (a : Area). a .place .size) (record-at image at g k h) ∙ size-at image (recordOf at k)
 
-  name-is : (k : ℕ) → k < countIn image at → getD areas k blank .name ≡ nameIn image (recordOf at k)
+  pub name-is : (k : ℕ) → k < countIn image at → getD areas k blank .name ≡ nameIn image (recordOf at k)
   name-is k h = ap (λ (a : Area). a .name) (record-at image at g k h) ∙ name-at image (recordOf at k)
 
   flags-is : (k : ℕ) → k < countIn image at → getD areas k blank .flags ≡ field (recordOf at k + 40) 2 image
@@ -80,6 +81,20 @@ module _ (image : List ℕ) (at : ℕ) (g : goodMap image at ≡ true) where
 
   ends : (k : ℕ) → k < countIn image at → startIn image (recordOf at k) + sizeIn image (recordOf at k) ≤ length image
   ends k h = omega (arith, ends-in (length image) at areas (good-areas image at g) k (there k h), start-is k h, size-is k h)
+
+  header-named : NameAt image (at + 22)
+  header-named =
+      name-by-bytes image (at + 22) (omega (arith, good-within image at g))
+      (ap legalName (sym (part-of-rest 22 32 at image)) ∙ not-f _ (passes 9 (headerRows (length image) (rest at image)) rows))
+
+  pub area-room : (k : ℕ) → k < countIn image at → recordOf at k + 8 + 32 ≤ length image
+  area-room k h = omega (arith, good-within image at g, count-at image at g)
+
+  pub area-legal : (k : ℕ) → k < countIn image at → legalName (nameIn image (recordOf at k)) ≡ true
+  area-legal k h = ap legalName (sym (name-is k h)) ∙ legal (length image) at areas (good-areas image at g) k (there k h)
+
+  area-named : (k : ℕ) → k < countIn image at → NameAt image (recordOf at k + 8)
+  area-named k h = name-by-bytes image (recordOf at k + 8) (area-room k h) (area-legal k h)
 
   differ : (i j : ℕ) → i < j → j < countIn image at → nameIn image (recordOf at i) ≡ nameIn image (recordOf at j) → ⊥
   unfolding named
@@ -123,6 +138,10 @@ module _ (image : List ℕ) (at : ℕ) (g : goodMap image at ≡ true) where
   pub held : (k : ℕ) × (k < length areas) × (holdsMap at (length areas) (getD areas k blank) ≡ true)
   held = any-get (holdsMap at (length areas)) areas blank (holder (length image) at areas (good-areas image at g))
 
+  held-name : nameIn image (recordOf at (held .0)) ≡ fmapName
+  unfolding holdsMap named
+  held-name = sym (name-is (held .0) (back (held .0) (held .1))) ∙ sym (same-true _ _ (and-l _ _ (held .2)))
+
   held-start : startIn image (recordOf at (held .0)) ≡ at
   unfolding holdsMap
   held-start = sym (start-is (held .0) (back (held .0) (held .1))) ∙ eqb-true _ _ (and-l _ _ (and-r _ _ (held .2)))
@@ -147,12 +166,15 @@ good-is-map image at g =
       some = omega (arith, good-fits image at g .some);
       few = omega (arith, good-fits image at g .few);
       ends = omega (arith, good-within image at g);
+      name = header-named image at g;
+      areas-named = area-named image at g;
       areas-some = some-byte image at g;
       areas-end = ends image at g;
       names-differ = differ image at g;
       apart = apart image at g;
       own-area = held image at g .0;
       own-there = back image at g (held image at g .0) (held image at g .1);
+      own-name = held-name image at g;
       own-start = held-start image at g;
       own-size = held-size image at g;
     }

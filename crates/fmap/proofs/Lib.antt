@@ -7,5 +7,8 @@ pub mod Letters
 pub mod Promises
 pub mod Written
 pub mod Named
+pub mod NameBytes
 pub mod InBytes
+pub mod FromBytes
+pub mod Called
 pub mod Kept

@@ -24,7 +24,7 @@ use Rattle.fmap.specs.Promises.{LongNameIsNothing, IndexIsNamed}
 use Rattle.fmap.proofs.Finding.{found-good}
 
 -- where the first is in range, the test holds there
-first-passes : (p : Area → Bool) (areas : List Area) → findIx p areas < length areas → p (getD areas (findIx p areas) blank) ≡ true
+pub first-passes : (p : Area → Bool) (areas : List Area) → findIx p areas < length areas → p (getD areas (findIx p areas) blank) ≡ true
 first-passes p [] h = absurd (not-suc-le-zero h)
 first-passes p (a ∷ areas) h = go (bool-cases (p a)) h (first-passes p areas)
   where
@@ -55,7 +55,7 @@ pub long-name-is-nothing : LongNameIsNothing
 unfolding areaNamed
 long-name-is-nothing image name e = by-find image name (findMap image) refl e
 
-picked : (i n k : ℕ) → _≡_ {A = Reply (Option ℕ)} (accepted (cond (ltb i n) (some i) none)) (accepted (some k)) → (ltb i n ≡ true) × (i ≡ k)
+pub picked : (i n k : ℕ) → _≡_ {A = Reply (Option ℕ)} (accepted (cond (ltb i n) (some i) none)) (accepted (some k)) → (ltb i n ≡ true) × (i ≡ k)
 picked i n k e = go (bool-cases (ltb i n)) e
   where
     go : (ltb i n ≡ true) ⊎ (ltb i n ≡ false) → _≡_ {A = Reply (Option ℕ)} (accepted (cond (ltb i n) (some i) none)) (accepted (some k)) → (ltb i n ≡ true) × (i ≡ k)

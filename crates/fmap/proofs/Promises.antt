@@ -2,28 +2,30 @@
 use mathlib.Core.Path.{_≡_, refl, sym, ap, _∙_}
 use mathlib.Core.Bool.{Bool, true, false, true≢false}
 use mathlib.Core.List.{List}
-use mathlib.Core.Option.{none}
+use mathlib.Core.Option.{Option, none, some}
 use Prim.Native.Nat.{ℕ, _-_, _≤_, _<_}
 use native.Mathlib.Nat.{sub-zero, zero-add}
 use native.Mathlib.Omega.{arith}
 use lib.ListN.{length}
 use lib.Dec.{ltb}
 use borrow.Author.Tests.{ltb-false}
+use Rattle.octets.specs.Rows.{refusal}
 use Rattle.octets.specs.Bytes.{rest}
+use Rattle.octets.proofs.Bools.{some-none}
 use Rattle.octets.proofs.Puts.{length-put}
 use Rattle.fmap_rules.specs.declared.ImagePosition.{ImagePosition}
 use Rattle.fmap_rules.specs.Map.{position, areasOf, goodMap}
 use Rattle.fmap_rules.specs.Written.{mapBytes}
 use Rattle.fmap_rules.proofs.Good.{good-within, good-header, header-signed}
 use Rattle.fmap_rules.proofs.Written.{written-is-good}
-use Rattle.fmap_carry.specs.Carry.{Outcome}
+use Rattle.fmap_carry.specs.Carry.{Outcome, outcome, carried}
 use Rattle.fmap_carry.specs.Arrived.{Arrived}
 use Rattle.fmap_carry.proofs.Passed.{good-ends-of}
 use Rattle.fmap_carry.proofs.Accepted.{accepted as accepted-areas}
 use Rattle.fmap.specs.Lowest.{firstFrom, lowest, someBelow}
 use Rattle.fmap.specs.Find.{Reply, accepted, refused, signedAt, findMap}
-use Rattle.fmap.specs.Carry.{carryAt, carryTo, carryFrom, carryImages}
-use Rattle.fmap.specs.Promises.{FindsLowest, CarriedOver, CarryArrives, WrittenIsFound}
+use Rattle.fmap.specs.Carry.{carryAtRows, carryAt, carryTo, carryFrom, carryImages}
+use Rattle.fmap.specs.Promises.{FindsLowest, CarriedOver, CarryArrives, WrittenIsFound, RefusedCarryStays, RefusedImagesStay}
 use Rattle.fmap.proofs.Lowest.{first-skip, first-stop, first-before}
 use Rattle.fmap.proofs.Finding.{found-good, found-lowest, finds}
 use Rattle.fmap.proofs.Places.{old-good, new-good, by-the-areas}
@@ -56,6 +58,29 @@ module _ (old new image : List ℕ) where
 pub carry-arrives : CarryArrives
 unfolding carryImages
 carry-arrives old new image e = start old new image (findMap old) refl e
+
+-- ---- a carry that is refused
+
+stays : (o : Option ℕ) (done new : List ℕ) (n : ℕ) → outcome o done new .answer ≡ some n → outcome o done new .image ≡ new
+stays none done new n e = absurd (some-none (sym e))
+stays (some k) done new n e = refl
+
+pub refused-carry-stays : RefusedCarryStays
+unfolding carryAt
+refused-carry-stays old at new bt n e =
+    stays (refusal (carryAtRows old at new bt)) (carried old (areasOf (rest bt new)) (areasOf (rest at old)) new) new n e
+
+pub refused-images-stay : RefusedImagesStay
+unfolding carryImages
+refused-images-stay old new n e = from (findMap old) e
+  where
+    to : (p : ImagePosition) (g : Reply ImagePosition) → carryTo old p new g .answer ≡ some n → carryTo old p new g .image ≡ new
+    to p (accepted q) e = refused-carry-stays old (p .0) new (q .0) n e
+    to p (refused k) e = refl
+
+    from : (g : Reply ImagePosition) → carryFrom old new g .answer ≡ some n → carryFrom old new g .image ≡ new
+    from (accepted p) e = to p (findMap new) e
+    from (refused k) e = refl
 
 -- ---- a good map with no lower good one is what a search finds
 

@@ -3,11 +3,14 @@ use mathlib.Core.Path.{_≡_}
 use mathlib.Core.Logic.{_⊎_}
 use mathlib.Core.Bool.{true}
 use mathlib.Core.List.{List, [], _∷_}
-use mathlib.Core.Option.{none}
+use mathlib.Core.Option.{none, some}
 use Prim.Native.Nat.{ℕ, _+_, _*_, _/_, _%_, _≤_, _<_}
 use lib.ListN.{length, getD}
-use Rattle.octets.specs.Bytes.{part, field}
+use Rattle.octets.specs.Bytes.{part, field, zeros}
+use Rattle.fmap_rules.specs.declared.ImagePosition.{ImagePosition}
 use Rattle.fmap_rules.specs.Map.{goodMap}
+use Rattle.fmap.specs.Find.{accepted, findMap}
+use Rattle.fmap.specs.Areas.{indexNamed}
 use Rattle.fmap.specs.Carry.{carryAt}
 
 -- (M1), (M2) where record k of a map begins, 56 bytes behind the map's position and 42 a record
@@ -28,6 +31,14 @@ sizeIn image r = field (r + 4) 4 image
 abbrev pub nameIn : List ℕ → ℕ → List ℕ
 nameIn image r = part (r + 8) 32 image
 
+-- (M4) the 32 bytes from r on are 1 to 31 bytes of 21 to 7E hex, then zeros
+pub record NameAt (image : List ℕ) (r : ℕ) : Type 0 where
+  pub letters : ℕ
+  pub some : 1 ≤ letters
+  pub few : letters ≤ 31
+  pub graphic : (i : ℕ) → i < letters → (33 ≤ getD image (r + i) 0) × (getD image (r + i) 0 ≤ 126)
+  pub then-zeros : (i : ℕ) → letters ≤ i → i < 32 → getD image (r + i) 0 ≡ 0
+
 -- (M7) two records' areas are disjoint, or one lies in the other
 abbrev pub endIn : List ℕ → ℕ → ℕ
 endIn image r = startIn image r + sizeIn image r
@@ -37,7 +48,7 @@ Apart image r s =
     ((endIn image r ≤ startIn image s) ⊎ (endIn image s ≤ startIn image r))
     ⊎ (((startIn image s ≤ startIn image r) × (endIn image r ≤ endIn image s)) ⊎ ((startIn image r ≤ startIn image s) × (endIn image s ≤ endIn image r)))
 
--- (M3), (M5), (M6), (M7), (M8) of the map at a position
+-- (M3), (M4), (M5), (M6), (M7), (M8) of the map at a position
 pub record MapAt (image : List ℕ) (at : ℕ) : Type 0 where
   pub signature : part at 8 image ≡ 95 ∷ 95 ∷ 70 ∷ 77 ∷ 65 ∷ 80 ∷ 95 ∷ 95 ∷ []
   pub major : getD image (at + 8) 0 ≡ 1
@@ -46,17 +57,35 @@ pub record MapAt (image : List ℕ) (at : ℕ) : Type 0 where
   pub some : 1 ≤ countIn image at
   pub few : countIn image at ≤ 128
   pub ends : at + (56 + 42 * countIn image at) ≤ length image
+  pub name : NameAt image (at + 22)
+  pub areas-named : (k : ℕ) → k < countIn image at → NameAt image (recordOf at k + 8)
   pub areas-some : (k : ℕ) → k < countIn image at → 1 ≤ sizeIn image (recordOf at k)
   pub areas-end : (k : ℕ) → k < countIn image at → startIn image (recordOf at k) + sizeIn image (recordOf at k) ≤ length image
   pub names-differ : (i j : ℕ) → i < j → j < countIn image at → nameIn image (recordOf at i) ≡ nameIn image (recordOf at j) → ⊥
   pub apart : (i j : ℕ) → i < j → j < countIn image at → Apart image (recordOf at i) (recordOf at j)
   pub own-area : ℕ
   pub own-there : own-area < countIn image at
+  pub own-name : nameIn image (recordOf at own-area) ≡ 70 ∷ 77 ∷ 65 ∷ 80 ∷ zeros 28
   pub own-start : startIn image (recordOf at own-area) ≡ at
   pub own-size : 56 + 42 * countIn image at ≤ sizeIn image (recordOf at own-area)
 
 abbrev pub GoodIsMap : Type 0
 GoodIsMap = (image : List ℕ) (at : ℕ) → goodMap image at ≡ true → MapAt image at
+
+-- (M9) and nothing else is asked of a map: flags are not judged
+abbrev pub MapIsGood : Type 0
+MapIsGood = (image : List ℕ) (at : ℕ) → MapAt image at → goodMap image at ≡ true
+
+-- the record that begins at r has this name: its bytes, then a zero
+pub record CalledAt (image : List ℕ) (r : ℕ) (name : List ℕ) : Type 0 where
+  pub letters : part (r + 8) (length name) image ≡ name
+  pub then-zero : getD image (r + 8 + length name) 0 ≡ 0
+
+-- the number that is found by a name is that of a record that has it, in the map that is found
+abbrev pub NamedByBytes : Type 0
+NamedByBytes =
+    (image name : List ℕ) (p : ImagePosition) (k : ℕ) → findMap image ≡ accepted p → indexNamed image name ≡ accepted (some k)
+    → (k < countIn image (p .0)) × CalledAt image (recordOf (p .0) k) name
 
 -- (M11) record i of the old map is marked PRESERVE, and record j of the new map has its name
 pub record Goes (old : List ℕ) (at : ℕ) (new : List ℕ) (bt i j : ℕ) : Type 0 where

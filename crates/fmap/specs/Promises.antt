@@ -69,3 +69,11 @@ pub record MapKept (new : List ℕ) (bt : ℕ) (image : List ℕ) : Type 0 where
 abbrev pub CarryKeepsMap : Type 0
 CarryKeepsMap =
     (old : List ℕ) (at : ℕ) (new : List ℕ) (bt : ℕ) (image : List ℕ) → carryAt old at new bt ≡ record { answer = none; image = image } → MapKept new bt image
+
+-- (R1) a carry that is refused changes no byte
+abbrev pub RefusedCarryStays : Type 0
+RefusedCarryStays =
+    (old : List ℕ) (at : ℕ) (new : List ℕ) (bt n : ℕ) → carryAt old at new bt .answer ≡ some n → carryAt old at new bt .image ≡ new
+
+abbrev pub RefusedImagesStay : Type 0
+RefusedImagesStay = (old new : List ℕ) (n : ℕ) → carryImages old new .answer ≡ some n → carryImages old new .image ≡ new

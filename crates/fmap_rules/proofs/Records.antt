@@ -40,27 +40,38 @@ module _ (xs : List ℕ) (r : ℕ) where
 
 -- ---- the records of a good map
 
-module _ (image : List ℕ) (at : ℕ) (g : goodMap image at ≡ true) where
-  pub count-at : countOf (rest at image) ≡ field (at + 54) 2 image
-  count-at = ap unle (part-of-rest 54 2 at image)
+module _ (image : List ℕ) (at : ℕ) where
+  pub count-in : countOf (rest at image) ≡ field (at + 54) 2 image
+  count-in = ap unle (part-of-rest 54 2 at image)
 
-  records : List ℕ
-  records = part 56 (42 * countOf (rest at image)) (rest at image)
+  module _ (w : mapSize (countOf (rest at image)) ≤ length (rest at image)) where
+    records : List ℕ
+    records = part 56 (42 * countOf (rest at image)) (rest at image)
 
-  length-records : length records ≡ 42 * countOf (rest at image)
-  unfolding records
-  length-records = length-part (rest at image) 56 (42 * countOf (rest at image)) (good-fits image at g .whole)
+    length-records : length records ≡ 42 * countOf (rest at image)
+    unfolding records
+    length-records = length-part (rest at image) 56 (42 * countOf (rest at image)) w
 
-  pub areas-count : length (areasOf (rest at image)) ≡ field (at + 54) 2 image
-  unfolding areasOf records
-  areas-count = let l = length-records in length-areas records ∙ omega (arith, count-at)
+    pub count-whole : length (areasOf (rest at image)) ≡ field (at + 54) 2 image
+    unfolding areasOf records
+    count-whole = let l = length-records in length-areas records ∙ omega (arith, count-in)
 
-  pub record-at : (i : ℕ) → i < field (at + 54) 2 image → getD (areasOf (rest at image)) i blank ≡ areaOf (part (at + (56 + 42 * i)) 42 image)
-  unfolding areasOf records
-  record-at i h =
-      let l = length-records in
-      area-part records i (omega (arith, count-at))
-      ∙ ap areaOf (part-part (42 * i) 42 56 (42 * countOf (rest at image)) (rest at image) (omega (arith, count-at)) ∙ part-of-rest (56 + 42 * i) 42 at image)
+    pub record-whole : (i : ℕ) → i < field (at + 54) 2 image → getD (areasOf (rest at image)) i blank ≡ areaOf (part (at + (56 + 42 * i)) 42 image)
+    unfolding areasOf records
+    record-whole i h =
+        let l = length-records in
+        area-part records i (omega (arith, count-in))
+        ∙ ap areaOf (part-part (42 * i) 42 56 (42 * countOf (rest at image)) (rest at image) (omega (arith, count-in)) ∙ part-of-rest (56 + 42 * i) 42 at image)
+
+  module _ (g : goodMap image at ≡ true) where
+    pub count-at : countOf (rest at image) ≡ field (at + 54) 2 image
+    count-at = count-in
+
+    pub areas-count : length (areasOf (rest at image)) ≡ field (at + 54) 2 image
+    areas-count = count-whole (good-fits image at g .whole)
+
+    pub record-at : (i : ℕ) → i < field (at + 54) 2 image → getD (areasOf (rest at image)) i blank ≡ areaOf (part (at + (56 + 42 * i)) 42 image)
+    record-at = record-whole (good-fits image at g .whole)
 
 -- ---- an area's bytes
 

@@ -4,9 +4,9 @@ use mathlib.Core.Bool.{true}
 use mathlib.Core.List.{List, [], _∷_, _++_, map}
 use Prim.Native.Nat.{ℕ, _≤_, _<_, _^_}
 use lib.ListN.{length, getD}
-use Rattle.octets.specs.Bytes.{le, rest, put, flat}
+use Rattle.octets.specs.Bytes.{le, part, rest, field, put, flat}
 use Rattle.fmap_rules.specs.declared.Area.{Area}
-use Rattle.fmap_rules.specs.Map.{signature, majorOf, minorOf, baseOf, sizeOf, nameOf, areaOf, areasOf, legalName, blank, goodAreas, goodMap}
+use Rattle.fmap_rules.specs.Map.{signature, areaOf, areasOf, legalName, blank, goodAreas, goodMap}
 
 -- (M2) the 42 bytes of an area
 unfoldable pub areaBytes : Area → List ℕ
@@ -49,13 +49,13 @@ WrittenIsGood =
     (image : List ℕ) (at : ℕ) (name : List ℕ) (base minor : ℕ) (areas : List Area) → Writable (length image) at name minor areas
     → WrittenThere (put at (mapBytes (length image) name base minor areas) image) at areas
 
--- (M1) its header; m is the image's bytes from the map's position on
+-- (M1) its header, by byte positions; m is the image's bytes from the map's position on
 pub record Headed (m : List ℕ) (len : ℕ) (name : List ℕ) (base minor : ℕ) : Type 0 where
-  pub major-is : majorOf m ≡ 1
-  pub minor-is : minorOf m ≡ minor
-  pub base-is : baseOf m ≡ base
-  pub size-is : sizeOf m ≡ len
-  pub name-is : nameOf m ≡ name
+  pub major-is : field 8 1 m ≡ 1
+  pub minor-is : field 9 1 m ≡ minor
+  pub base-is : field 10 8 m ≡ base
+  pub size-is : field 18 4 m ≡ len
+  pub name-is : part 22 32 m ≡ name
 
 abbrev pub WrittenHeader : Type 0
 WrittenHeader =
