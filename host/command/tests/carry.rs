@@ -2,21 +2,9 @@
 
 mod common;
 
-use common::{Ended, Folder};
+use common::{images, Ended, Folder};
 use std::fs;
-use std::path::PathBuf;
 use testkit::json::{self, Json};
-
-/// Two images by the sections of their layouts, behind FMAP; each is filled with its own byte.
-fn images(folder: &Folder, old: &str, new: &str) -> (PathBuf, PathBuf) {
-    let image = |name: &str, sections: &str, fill: u8| {
-        let layout = folder.file(&format!("{name}.fmd"), format!("CHIP 64K {{ FMAP 4K {sections} }}"));
-        let path = folder.file(&format!("{name}.bin"), vec![fill; 65_536]);
-        run!["fmd", "write", layout, path].done();
-        path
-    };
-    (image("old", old, 0x11), image("new", new, 0x22))
-}
 
 fn fates(json: &Json) -> Vec<(&str, &str)> {
     json.list("areas").iter().map(|area| (area.text("name"), area.text("fate"))).collect()

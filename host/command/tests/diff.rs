@@ -2,21 +2,9 @@
 
 mod common;
 
-use common::Folder;
+use common::{images, Folder};
 use std::fs;
-use std::path::PathBuf;
 use testkit::json::{self, Json};
-
-/// Two images by the sections of their layouts, behind FMAP; each is filled with its own byte.
-fn images(folder: &Folder, old: &str, new: &str) -> (PathBuf, PathBuf) {
-    let image = |name: &str, sections: &str, fill: u8| {
-        let layout = folder.file(&format!("{name}.fmd"), format!("CHIP 64K {{ FMAP 4K {sections} }}"));
-        let path = folder.file(&format!("{name}.bin"), vec![fill; 65_536]);
-        run!["fmd", "write", layout, path].done();
-        path
-    };
-    (image("old", old, 0x11), image("new", new, 0x22))
-}
 
 const OLD: &str =
     "CAL(PRESERVE)@4K 1K LOG@8K 1K GONE@12K 1K BOX(PRESERVE)@16K 4K { IN 1K } SET@32K 1K STAY@40K 1K";

@@ -176,6 +176,17 @@ pub fn fed(words: &[&OsStr], input: &[u8]) -> Ended {
     child.wait_with_output().expect("the command").into()
 }
 
+/// Two images by the sections of their layouts, behind FMAP; each is filled with its own byte.
+pub fn images(folder: &Folder, old: &str, new: &str) -> (PathBuf, PathBuf) {
+    let image = |name: &str, sections: &str, fill: u8| {
+        let layout = folder.file(&format!("{name}.fmd"), format!("CHIP 64K {{ FMAP 4K {sections} }}"));
+        let path = folder.file(&format!("{name}.bin"), vec![fill; 65_536]);
+        run(&[OsStr::new("fmd"), OsStr::new("write"), layout.as_os_str(), path.as_os_str()]).done();
+        path
+    };
+    (image("old", old, 0x11), image("new", new, 0x22))
+}
+
 /// A disk image of n blocks, formatted.
 pub fn disk(folder: &Folder, name: &str, n: u64) -> PathBuf {
     let path = folder.sparse(name, n * 512);
