@@ -5,7 +5,7 @@ mod common;
 use common::{Ended, Folder};
 use std::ffi::{c_int, OsStr};
 use std::fs;
-use std::os::unix::process::ExitStatusExt;
+use std::os::unix::process::{CommandExt, ExitStatusExt};
 use std::path::PathBuf;
 use std::process::{Child, Command, ExitStatus, Stdio};
 
@@ -18,7 +18,10 @@ const SIGTERM: c_int = 15;
 
 extern "C" {
     fn kill(process: c_int, signal: c_int) -> c_int;
+    fn signal(number: c_int, handler: usize) -> usize;
 }
+
+const SIG_DFL: usize = 0;
 
 struct Images {
     folder: Folder,
@@ -122,9 +125,17 @@ fn a_file_that_it_did_not_make_is_not_taken() {
     assert_eq!(fs::read(&made).expect("an image").len(), 16 << 20);
 }
 
+/// With no signal ignored, whatever these tests were started with: a shell's background jobs ignore SIGINT.
 fn spawned(words: &[&OsStr]) -> Child {
     let mut command = common::command();
     command.args(words).stdin(Stdio::null()).stdout(Stdio::null()).stderr(Stdio::null());
+    let heeded = || {
+        // Safety: it may be called between fork and exec.
+        [SIGINT, SIGTERM, SIGHUP].map(|number| unsafe { signal(number, SIG_DFL) });
+        Ok(())
+    };
+    // Safety: the closure calls nothing else.
+    unsafe { command.pre_exec(heeded) };
     command.spawn().expect("the command")
 }
 
