@@ -3,7 +3,7 @@
 // An inner crate: no user calls it, so its functions may have a `requires`, which each caller meets.
 ghost use mathlib.Core.List.{List, []};
 ghost use mathlib.Core.Path.{_≡_};
-ghost use Prim.Native.Nat.{ℕ, _+_, _≤_, _<_};
+ghost use Prim.Native.Nat.{ℕ, _+_, _<_};
 ghost use lib.ListN.{getD};
 ghost use Rattle.fmd_table.specs.Table.{sectionsIn, placedIn, HasRows, HasSpots};
 ghost use Rattle.fmd_table.specs.Invariants.{Linked};
@@ -42,7 +42,7 @@ fn fault_at(number: u16, rows: &[u32], n: usize, k: usize) -> Verdict
 
 // Section k has children, or is too small for a map.
 fn no_map(rows: &[u32], spots: &[u32], n: usize, k: usize) -> bool
-    requires { ⌜ HasRows n (now rows) × HasSpots n (now spots) × (n ≤ 128) × (k < n) × Linked n (now rows) ⌝ }
+    requires { ⌜ HasRows n (now rows) × HasSpots n (now spots) × Linked n (now rows) × (k < n) ⌝ }
     ensures { λ r. ⌜ r ≡ noMap (sectionsIn n (now (rows .entry))) (placedIn n (now (spots .entry))) (Found.At k) ⌝ }
 {
     if fmd_rows::has_child(rows, n, k) {
@@ -54,7 +54,7 @@ fn no_map(rows: &[u32], spots: &[u32], n: usize, k: usize) -> bool
 
 // Row 59.
 fn check_map(text: &[u8], i: Image, rows: &[u32], spots: &[u32], n: usize) -> Verdict
-    requires { ⌜ HasRows n (now rows) × HasSpots n (now spots) × (n ≤ 128) × Inside (now text) (sectionsIn n (now rows)) × Linked n (now rows) ⌝ }
+    requires { ⌜ HasRows n (now rows) × HasSpots n (now spots) × Linked n (now rows) × Inside (now text) (sectionsIn n (now rows)) ⌝ }
     ensures { λ r. ⌜ verdictOf r (now (rows .entry)) (now (spots .entry))
         ≡ listFrom 4 (now (text .entry)) i (sectionsIn n (now (rows .entry))) (plan (placedIn n (now (spots .entry)))) ⌝ }
 {
@@ -83,7 +83,7 @@ fn unfit_at(rows: &[u32], n: usize, k: usize) -> Verdict
 
 // Rows 57 to 59.
 fn check_places(text: &[u8], i: Image, rows: &[u32], spots: &mut [u32], n: usize) -> Verdict
-    requires { ⌜ HasRows n (now rows) × HasSpots n (now spots) × (n ≤ 128) × Inside (now text) (sectionsIn n (now rows)) × Linked n (now rows) ⌝ }
+    requires { ⌜ HasRows n (now rows) × HasSpots n (now spots) × Linked n (now rows) × Inside (now text) (sectionsIn n (now rows)) ⌝ }
     ensures { λ r. ⌜ verdictOf r (now (rows .entry)) (now (spots .exit))
         ≡ listFrom 2 (now (text .entry)) i (sectionsIn n (now (rows .entry))) (resolveFrom (i .size) [] (sectionsIn n (now (rows .entry)))) ⌝ }
 {
@@ -96,7 +96,7 @@ fn check_places(text: &[u8], i: Image, rows: &[u32], spots: &mut [u32], n: usize
 
 // Rows 56 to 59.
 fn check_marks(text: &[u8], i: Image, rows: &[u32], spots: &mut [u32], n: usize) -> Verdict
-    requires { ⌜ HasRows n (now rows) × HasSpots n (now spots) × (n ≤ 128) × Inside (now text) (sectionsIn n (now rows)) × Linked n (now rows) ⌝ }
+    requires { ⌜ HasRows n (now rows) × HasSpots n (now spots) × Linked n (now rows) × Inside (now text) (sectionsIn n (now rows)) ⌝ }
     ensures { λ r. ⌜ verdictOf r (now (rows .entry)) (now (spots .exit))
         ≡ listFrom 1 (now (text .entry)) i (sectionsIn n (now (rows .entry))) (resolveFrom (i .size) [] (sectionsIn n (now (rows .entry)))) ⌝ }
 {
@@ -108,7 +108,7 @@ fn check_marks(text: &[u8], i: Image, rows: &[u32], spots: &mut [u32], n: usize)
 
 // Rows 54 to 59.
 fn check_list(text: &[u8], i: Image, rows: &[u32], spots: &mut [u32], n: usize) -> Verdict
-    requires { ⌜ HasRows n (now rows) × HasSpots n (now spots) × (n ≤ 128) × Inside (now text) (sectionsIn n (now rows)) × Linked n (now rows) ⌝ }
+    requires { ⌜ HasRows n (now rows) × HasSpots n (now spots) × Linked n (now rows) × Inside (now text) (sectionsIn n (now rows)) ⌝ }
     ensures { λ r. ⌜ verdictOf r (now (rows .entry)) (now (spots .exit))
         ≡ listFrom 0 (now (text .entry)) i (sectionsIn n (now (rows .entry))) (resolveFrom (i .size) [] (sectionsIn n (now (rows .entry)))) ⌝ }
 {
