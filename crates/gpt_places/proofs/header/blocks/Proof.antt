@@ -1,9 +1,9 @@
 use mathlib.Core.Path.{refl, ap, _∙_}
 use borrow.Author.Needs.{needs}
 use Rattle.gpt_model.specs.Disk.{Side, headerBlock}
-use Rattle.gpt_copies.proofs.Headers.{stored}
-use Rattle.gpt_copies.proofs.header.blocks.Statement.{statement}
-use Rattle.gpt_copies.proofs.header.blocks.Tie as tie
+use Rattle.gpt_places.proofs.Headers.{stored}
+use Rattle.gpt_places.proofs.header.blocks.Statement.{statement}
+use Rattle.gpt_places.proofs.header.blocks.Tie as tie
 
 header-block-requires : tie.Need-header-block-requires
 header-block-requires c κs = search needs

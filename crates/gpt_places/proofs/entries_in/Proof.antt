@@ -4,10 +4,10 @@ use native.Mathlib.Omega.{arith}
 use lib.ListN.{length}
 use denote.Ref.{now}
 use borrow.Author.Needs.{needs}
-use Rattle.gpt_copies.specs.Sides.{sideOf}
-use Rattle.gpt_copies.proofs.Places.{entries-end, lent-fits, cut, length-cut, part-behind}
-use Rattle.gpt_copies.proofs.entries_in.Statement.{statement}
-use Rattle.gpt_copies.proofs.entries_in.Tie as tie
+use Rattle.gpt_places.specs.Sides.{sideOf}
+use Rattle.gpt_places.proofs.Places.{entries-end, lent-fits, cut, length-cut, part-behind}
+use Rattle.gpt_places.proofs.entries_in.Statement.{statement}
+use Rattle.gpt_places.proofs.entries_in.Tie as tie
 
 entries-at-requires : tie.Need-entries-at-requires
 entries-at-requires c κs = search needs

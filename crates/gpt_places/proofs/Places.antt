@@ -9,7 +9,7 @@ use Rattle.octets.specs.Bytes.{part}
 use Rattle.octets.proofs.Parts.{length-part, part-part}
 use Rattle.gpt_model.specs.Disk.{disk512, Side, primary, backup, lentBytes, headerAt, entriesAt, guidIn}
 use Rattle.gpt_model.proofs.Copies.{header-inside, block-inside, entries-inside}
-use Rattle.gpt_copies.specs.States.{behind}
+use Rattle.gpt_places.specs.Sides.{behind}
 
 pub header-end : (side : Side) → headerAt disk512 side + 92 ≤ lentBytes disk512 side
 header-end side = header-inside disk512 (omega arith) side

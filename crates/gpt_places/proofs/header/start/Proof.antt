@@ -1,8 +1,8 @@
 use mathlib.Core.Path.{ap, _∙_}
 use borrow.Author.Needs.{needs}
 use Rattle.octets.specs.Bytes.{le, put}
-use Rattle.gpt_copies.proofs.header.start.Statement.{statement}
-use Rattle.gpt_copies.proofs.header.start.Tie as tie
+use Rattle.gpt_places.proofs.header.start.Statement.{statement}
+use Rattle.gpt_places.proofs.header.start.Tie as tie
 
 slice-aggregate-copy : tie.Need-slice-aggregate-copy
 slice-aggregate-copy c = search needs

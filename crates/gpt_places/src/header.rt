@@ -6,7 +6,7 @@ ghost use lib.ListN.{length, take, drop};
 ghost use Rattle.crc_lanes.specs.Crc.{crc32 as crcOf};
 ghost use Rattle.gpt_model.specs.Table.{writeAll};
 ghost use Rattle.gpt_model.specs.Disk.{disk512, primary, headerBytes, lentBytes, entriesIn, headerFields, header};
-ghost use Rattle.gpt_copies.specs.Sides.{sideOf, goodHeader};
+ghost use Rattle.gpt_places.specs.Sides.{sideOf, goodHeader};
 use super::ENTRY;
 use super::HEADER;
 use super::SLOTS;

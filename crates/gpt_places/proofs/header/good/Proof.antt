@@ -5,9 +5,9 @@ use denote.Ref.{now}
 use borrow.Author.Needs.{needs}
 use Rattle.octets.specs.Bytes.{same}
 use Rattle.gpt_model.specs.Disk.{disk512, header, entriesIn}
-use Rattle.gpt_copies.specs.Sides.{sideOf}
-use Rattle.gpt_copies.proofs.header.good.Statement.{statement}
-use Rattle.gpt_copies.proofs.header.good.Tie as tie
+use Rattle.gpt_places.specs.Sides.{sideOf}
+use Rattle.gpt_places.proofs.header.good.Statement.{statement}
+use Rattle.gpt_places.proofs.header.good.Tie as tie
 
 slice-aggregate-write : tie.Need-slice-aggregate-write
 slice-aggregate-write c = search needs

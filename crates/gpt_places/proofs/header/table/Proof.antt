@@ -1,8 +1,8 @@
 use mathlib.Core.Path.{refl}
 use borrow.Author.Needs.{needs}
-use Rattle.gpt_copies.proofs.Headers.{stored}
-use Rattle.gpt_copies.proofs.header.table.Statement.{statement}
-use Rattle.gpt_copies.proofs.header.table.Tie as tie
+use Rattle.gpt_places.proofs.Headers.{stored}
+use Rattle.gpt_places.proofs.header.table.Statement.{statement}
+use Rattle.gpt_places.proofs.header.table.Tie as tie
 
 copy-requires : tie.Need-copy-requires
 copy-requires c κs = search needs

@@ -1,6 +1,6 @@
 use borrow.Author.Needs.{needs}
-use Rattle.gpt_copies.proofs.header_block.Statement.{statement}
-use Rattle.gpt_copies.proofs.header_block.Tie as tie
+use Rattle.gpt_places.proofs.header_block.Statement.{statement}
+use Rattle.gpt_places.proofs.header_block.Tie as tie
 
 enum-told : tie.Need-enum-told
 enum-told c = search needs

@@ -1,9 +1,9 @@
 use denote.Ref.{now}
 use borrow.Author.Needs.{needs}
-use Rattle.gpt_copies.specs.Sides.{sideOf}
-use Rattle.gpt_copies.proofs.Headers.{header-written}
-use Rattle.gpt_copies.proofs.header.write.Statement.{statement}
-use Rattle.gpt_copies.proofs.header.write.Tie as tie
+use Rattle.gpt_places.specs.Sides.{sideOf}
+use Rattle.gpt_places.proofs.Headers.{header-written}
+use Rattle.gpt_places.proofs.header.write.Statement.{statement}
+use Rattle.gpt_places.proofs.header.write.Tie as tie
 
 start-requires : tie.Need-start-requires
 start-requires c κs = search needs

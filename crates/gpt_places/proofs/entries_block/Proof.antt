@@ -1,7 +1,7 @@
 use native.Mathlib.Omega.{arith}
 use borrow.Author.Needs.{needs}
-use Rattle.gpt_copies.proofs.entries_block.Statement.{statement}
-use Rattle.gpt_copies.proofs.entries_block.Tie as tie
+use Rattle.gpt_places.proofs.entries_block.Statement.{statement}
+use Rattle.gpt_places.proofs.entries_block.Tie as tie
 
 enum-told : tie.Need-enum-told
 enum-told c = search needs

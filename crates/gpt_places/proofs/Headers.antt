@@ -2,8 +2,8 @@
 use mathlib.Core.Path.{_≡_, ap, ap₂, _∙_}
 use mathlib.Core.List.{List, []}
 use Prim.Native.Nat.{ℕ}
-use lib.ListN.{length, take, drop, replicate}
-use Rattle.octets.specs.Bytes.{le, put, zeros}
+use lib.ListN.{length, take, drop}
+use Rattle.octets.specs.Bytes.{le, put}
 use Rattle.crc_lanes.specs.Crc.{crc32}
 use Rattle.gpt_model.specs.Table.{writeAll}
 use Rattle.gpt_model.specs.Disk.{disk512, Side, primary, headerFields, headerWith, headerCrc, header}
@@ -25,8 +25,3 @@ module _ (n : ℕ) (side : Side) (guid out a b c d : List ℕ) (crc own : ℕ) (
 -- a number stored, one store after the other
 pub stored : (at k : ℕ) {x y : ℕ} {a b c : List ℕ} → b ≡ put at (le k x) a → x ≡ y → a ≡ c → b ≡ put at (le k y) c
 stored at k p e q = p ∙ ap₂ (λ (v : ℕ) (l : List ℕ). put at (le k v) l) e q
-
--- a list filled with zeros
-pub filled : (xs : List ℕ) (k : ℕ) → length xs ≡ k → replicate (length xs) 0 ≡ zeros k
-unfolding zeros
-filled xs k e = ap (λ (m : ℕ). replicate m 0) e
