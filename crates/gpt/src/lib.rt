@@ -4,8 +4,8 @@
 use gpt_checks::Check;
 use gpt_checks::Start;
 use gpt_copies::State;
+use gpt_model::Block;
 use gpt_places::Side;
-use gpt_table::Block;
 ghost use mathlib.Core.Path.{_≡_};
 ghost use mathlib.Core.List.{[], _∷_};
 ghost use Prim.Native.Nat.{_*_, _≤_};
@@ -246,7 +246,7 @@ fn count_in(table: &[u8], n: u64) -> Counted
     ensures { λ r. ⌜ countedOf r ≡ accepted (freeCount (slots (now (table .entry))) (disk512 .first) (lastUsable disk512 n)
         ∷ longestFree (slots (now (table .entry))) (disk512 .first) (lastUsable disk512 n) ∷ []) ⌝ }
 {
-    let free = gpt_table::room::free_counts(
+    let free = gpt_room::free_counts(
         table,
         gpt_places::first_usable(),
         gpt_places::last_usable(n),

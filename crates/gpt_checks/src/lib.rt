@@ -1,12 +1,12 @@
 // The judges of the disk calls: each goes through the call's rows of refusals in the rules' order, to the first that holds. They write nothing.
 // An inner crate: no user calls it, so its functions may have a `requires`, which each caller meets.
 use gpt_copies::State;
+use gpt_model::Block;
 use gpt_places::BLOCK;
 use gpt_places::SLOTS;
 use gpt_places::Side;
 use gpt_places::TABLE;
-use gpt_table::Block;
-use gpt_table::room::Place;
+use gpt_room::Place;
 ghost use mathlib.Core.Path.{_≡_};
 ghost use mathlib.Core.Option.{some};
 ghost use Prim.Native.Nat.{ℕ, _*_, _≤_};
@@ -145,7 +145,7 @@ pub fn resize(head: &[u8], tail: &[u8], n: u64, number: u64, size: u64) -> Check
             if size == 0 {
                 return Check::Stop(20);
             }
-            if gpt_table::room::fits_at(
+            if gpt_room::fits_at(
                 gpt_places::entries_in(head, Side::Primary),
                 number as usize,
                 gpt_places::last_usable(n),
@@ -193,7 +193,7 @@ fn place(table: &[u8], n: u64, kind: &[u8], unique: &[u8], size: u64, name: &[u1
 {
     match new(table, kind, unique, size, name) {
         Check::Stop(k) => Start::Stop(k),
-        Check::Pass => match gpt_table::room::lowest(
+        Check::Pass => match gpt_room::lowest(
             table,
             gpt_places::first_usable(),
             gpt_places::last_usable(n),

@@ -1,8 +1,8 @@
 // The writers of the calls that change a disk, where none of the call's rows of refusals holds: one entry in both copies, or one copy from the other.
 // An inner crate: no user calls it, so its functions may have a `requires`, which each caller meets.
+use gpt_model::Block;
 use gpt_places::ENTRY;
 use gpt_places::Side;
-use gpt_table::Block;
 ghost use mathlib.Core.Path.{_≡_};
 ghost use mathlib.Core.List.{[], _∷_};
 ghost use mathlib.Core.Option.{none, some};

@@ -10,7 +10,7 @@ ghost use Rattle.gpt_model.specs.Table.{tableBytes};
 ghost use Rattle.gpt_model.specs.Disk.{disk512, lastUsable, other as otherSide, headerBlock, entriesBlock, lentBytes, headerAt, entriesAt, headerIn};
 ghost use Rattle.gpt_model.specs.Disk.{guidIn, entriesIn};
 ghost use Rattle.gpt_places.specs.Sides.{sideOf, behind};
-use gpt_table::Block;
+use gpt_model::Block;
 
 // Q1: A disk has 512-byte blocks.
 pub const BLOCK: usize = 512;

@@ -5,10 +5,9 @@ use denote.Ref.{now}
 use borrow.Author.Needs.{needs}
 use Rattle.octets.specs.Bytes.{field}
 use Rattle.gpt_model.specs.Table.{slots, vacant}
-use Rattle.gpt_table.proofs.Reorders.{free-but}
-use Rattle.gpt_table.proofs.Walks.{room-same}
-use Rattle.gpt_table.proofs.room.fits_at.Statement.{statement}
-use Rattle.gpt_table.proofs.room.fits_at.Tie as tie
+use Rattle.gpt_room.proofs.Walks.{free-but, room-same}
+use Rattle.gpt_room.proofs.fits_at.Statement.{statement}
+use Rattle.gpt_room.proofs.fits_at.Tie as tie
 
 sub-i : tie.Need-sub-i
 sub-i c = search needs

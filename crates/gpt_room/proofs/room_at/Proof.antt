@@ -1,12 +1,12 @@
 use native.Mathlib.Omega.{arith}
 use borrow.Author.Needs.{needs}
-use Rattle.gpt_table.proofs.Ahead.{taken-of, gap-of, passed-none, room-past, room-full, room-gap}
-use Rattle.gpt_table.proofs.room.look.Reads as look-reads
-use Rattle.gpt_table.proofs.room.next.Reads as next-reads
-use Rattle.gpt_table.proofs.room.room_at.Lts as lts
-use Rattle.gpt_table.proofs.room.room_at.Reads as reads
-use Rattle.gpt_table.proofs.room.room_at.Statement.{statement}
-use Rattle.gpt_table.proofs.room.room_at.Tie as tie
+use Rattle.gpt_room.proofs.Looks.{taken-of, gap-of, passed-none, room-past, room-full, room-gap}
+use Rattle.gpt_room.proofs.look.Reads as look-reads
+use Rattle.gpt_room.proofs.next.Reads as next-reads
+use Rattle.gpt_room.proofs.room_at.Lts as lts
+use Rattle.gpt_room.proofs.room_at.Reads as reads
+use Rattle.gpt_room.proofs.room_at.Statement.{statement}
+use Rattle.gpt_room.proofs.room_at.Tie as tie
 
 -- src/room.rt:183:9
 returns : tie.Need-returns

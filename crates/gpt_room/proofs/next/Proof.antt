@@ -3,14 +3,14 @@ use Prim.Native.Nat.{_-_, _≤_}
 use native.Mathlib.Omega.{arith}
 use denote.Ref.{now}
 use borrow.Author.Needs.{needs}
 use Rattle.gpt_table.specs.Decoded.{ranges}
-use Rattle.gpt_table.specs.Gaps.{Passed}
-use Rattle.gpt_table.proofs.Ahead.{next-over, next-found, next-none}
-use Rattle.gpt_table.proofs.room.next.Lts as lts
-use Rattle.gpt_table.proofs.room.next.Reads as reads
-use Rattle.gpt_table.proofs.room.reaches.Reads as reaches-reads
-use Rattle.gpt_table.proofs.room.next.Statement.{statement}
-use Rattle.gpt_table.proofs.room.next.Tie as tie
+use Rattle.gpt_room.specs.Gaps.{Passed}
+use Rattle.gpt_room.proofs.Looks.{next-over, next-found, next-none}
+use Rattle.gpt_room.proofs.next.Lts as lts
+use Rattle.gpt_room.proofs.next.Reads as reads
+use Rattle.gpt_room.proofs.reaches.Reads as reaches-reads
+use Rattle.gpt_room.proofs.next.Statement.{statement}
+use Rattle.gpt_room.proofs.next.Tie as tie
 
 abbrev Inv-loop : tie.InvT-loop
 Inv-loop f l n i a j₀ j = (j ≤ n) × Passed (ranges f l n) a j

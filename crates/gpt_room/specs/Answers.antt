@@ -4,9 +4,9 @@ use mathlib.Core.Option.{Option, none, some}
 use Prim.Native.Nat.{ℕ}
 use Rattle.gpt_model.specs.Ranges.{freeCount, longestFree}
 use Rattle.gpt_model.specs.Table.{Slot}
-use Rattle.gpt_table.specs.declared.room.Free.{Free}
-use Rattle.gpt_table.specs.declared.room.Place.{Place}
-use Rattle.gpt_table.specs.declared.room.Place.the-variants.{At, None}
+use Rattle.gpt_room.specs.declared.Free.{Free}
+use Rattle.gpt_room.specs.declared.Place.{Place}
+use Rattle.gpt_room.specs.declared.Place.the-variants.{At, None}
 
 -- D15: the lowest start with enough free blocks; none where there is no room
 abbrev pub placed : Place → Option ℕ

@@ -1,20 +1,40 @@
 -- Laws of the walk from gap to gap, and that its outcome hangs on the free blocks alone.
-use mathlib.Core.Path.{_≡_, sym, ap, ap₂, subst}
-use mathlib.Core.Bool.{Bool}
-use mathlib.Core.List.{List}
+use mathlib.Core.Path.{_≡_, sym, ap, ap₂, subst, fun-ext, _∙_}
+use mathlib.Core.Bool.{Bool, not}
+use mathlib.Core.List.{List, [], map}
 use mathlib.Core.Option.{none, some}
 use Prim.Native.Nat.{ℕ, suc, _+_, _-_, _≤_, _<_, max}
 use native.Mathlib.Nat.{le-refl}
 use native.Mathlib.Omega.{arith}
 use lib.Dec.{leb}
+use lib.ListN.{set}
+use lib.Seq.{set-out}
 use Rattle.octets.specs.Tests.{_and_}
-use Rattle.gpt_model.specs.Ranges.{inNone, allFrom, firstFrom, roomAt, place, countFrom, freeCount, longest as longestOf, longestFree}
-use Rattle.gpt_model.specs.Table.{Slot}
+use Rattle.gpt_model.specs.Ranges.{inside, inNone, allFrom, firstFrom, roomAt, place, countFrom, freeCount, longest as longestOf, longestFree}
+use Rattle.gpt_model.specs.Table.{Slot, vacant, slotOf, entries, slots}
+use Rattle.gpt_model.proofs.Entries.{map-set, length-slots}
 use Rattle.gpt_model.proofs.Walk.{Low, low-start, low-over, low-gap, low-found, low-none, Counted, Longest, counted-start, longest-start, counted-over, longest-over, counted-gap, longest-step, counted-end, longest-end}
-use Rattle.gpt_table.specs.Answers.{freeOf}
-use Rattle.gpt_table.specs.Gaps.{Full, Clear}
+use Rattle.gpt_table.specs.Decoded.{ranges}
+use Rattle.gpt_table.specs.Sorted.{InOrder}
+use Rattle.gpt_table.proofs.Used.{lies-used, slot-nil}
+use Rattle.gpt_table.proofs.Reorders.{reordered-any}
+use Rattle.gpt_room.specs.Answers.{freeOf}
+use Rattle.gpt_room.specs.Gaps.{Full, Clear}
 
 -- ---- the same blocks are free
+
+-- the ranges of used entries in order leave the same blocks free as the entries
+free-ranges : (es : List (List ℕ)) {f l : List ℕ} {n : ℕ} → InOrder es f l n → inNone (ranges f l n) ≡ inNone (map slotOf es)
+free-ranges es w = fun-ext (λ b. ap not (reordered-any (inside b) (w .same) ∙ lies-used b es))
+
+-- and as the table's slots, but slot `but`
+pub free-but : (t : List ℕ) (but : ℕ) {f l : List ℕ} {n : ℕ} → InOrder (set (entries t) but []) f l n
+    → inNone (ranges f l n) ≡ inNone (set (slots t) but vacant)
+free-but t but w =
+    free-ranges (set (entries t) but []) w ∙ ap inNone (map-set slotOf (entries t) but [] ∙ ap (set (slots t) but) slot-nil)
+
+pub free-all : (t : List ℕ) {f l : List ℕ} {n : ℕ} → InOrder (set (entries t) 128 []) f l n → inNone (ranges f l n) ≡ inNone (slots t)
+free-all t w = free-but t 128 w ∙ ap inNone (set-out (slots t) 128 vacant (omega (arith, length-slots t)))
 
 module _ (s u : List Slot) (e : inNone s ≡ inNone u) (last : ℕ) where
   pub room-same : (size : ℕ) {a b : ℕ} → a ≡ b → roomAt s last size a ≡ roomAt u last size b

@@ -3,8 +3,8 @@ use mathlib.Core.Path.{_≡_, refl, sym, ap, subst, _∙_}
 use mathlib.Core.Logic.{⊎-elim}
 use mathlib.Core.Bool.{true, false}
 use mathlib.Core.List.{List}
-use Prim.Native.Nat.{ℕ, zero, suc, _+_, _-_, _≤_, _<_}
-use native.Mathlib.Nat.{le-refl, add-zero}
+use Prim.Native.Nat.{ℕ, _+_, _-_, _≤_, _<_}
+use native.Mathlib.Nat.{le-refl}
 use native.Mathlib.Decide.{decLe, decLt}
 use native.Mathlib.Omega.{arith}
 use lib.Dec.{leb}
@@ -17,12 +17,13 @@ use Rattle.octets.proofs.Tests.{any-make, any-false}
 use Rattle.gpt_model.specs.Ranges.{inside, lies, inNone, roomAt}
 use Rattle.gpt_model.specs.Table.{Slot, vacant, spans}
 use Rattle.gpt_model.proofs.Room.{Room, inside-make, inside-get, room-get, room-make}
-use Rattle.gpt_table.specs.Gaps.{Passed, Next, Full, Clear, Stands, taken, gap}
+use Rattle.gpt_room.specs.Gaps.{Passed, Next, Full, Clear, Stands, taken, gap}
 use Rattle.gpt_table.specs.Decoded.{ranges}
 use Rattle.gpt_table.specs.Sorted.{Ascending}
 use Rattle.gpt_table.proofs.Used.{length-ranges, getD-ranges}
-use Rattle.gpt_table.specs.declared.room.Ahead.{Ahead}
-use Rattle.gpt_table.specs.declared.room.Ahead.the-variants.{Taken, Gap}
+use Rattle.gpt_table.proofs.Exchanges.{ascends}
+use Rattle.gpt_room.specs.declared.Ahead.{Ahead}
+use Rattle.gpt_room.specs.declared.Ahead.the-variants.{Taken, Gap}
 
 -- ---- one range
 
@@ -68,14 +69,6 @@ module _ (f l : List ℕ) (n a : ℕ) where
   next-none i g h p = record { most = g; passed = p; reaches = λ u. absurd (omega arith) }
 
 -- ---- what begins at a, where range i is the next
-
-pub ascends : (n : ℕ) (f : List ℕ) → Ascending 1 n f → (i d : ℕ) → i + d < n → getD f i 0 ≤ getD f (i + d) 0
-ascends n f w i zero h = rw (add-zero i) (le-refl (getD f i 0))
-ascends n f w i (suc d) h =
-    let u = ascends n f w i d (omega arith) in
-    let v = w (i + d) (omega arith) in
-    let e : i + suc d ≡ i + d + 1 = omega arith in
-    rw e (omega arith)
 
 module _ (f l : List ℕ) (n i a last : ℕ) (asc : Ascending 1 n f) (next : Next f l n a i) where
   abbrev s : List Slot

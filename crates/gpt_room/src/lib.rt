@@ -1,8 +1,8 @@
 // Room for partitions: one walk from gap to gap over the ranges in order. No sum of a block and a size is formed, so no size is too large.
-use crate::Block;
-use crate::FIRST_AT;
-use crate::SLOTS;
-use crate::order;
+// An inner crate: no user calls it, so its functions may have a `requires`, which each caller meets.
+use gpt_model::Block;
+use gpt_table::FIRST_AT;
+use gpt_table::SLOTS;
 ghost use mathlib.Core.Path.{_≡_};
 ghost use Prim.Native.Nat.{ℕ, _≤_, _<_, max};
 ghost use lib.Dec.{leb};
@@ -11,10 +11,10 @@ ghost use Rattle.octets.specs.Tests.{_and_};
 ghost use Rattle.gpt_model.specs.Ranges.{roomAt, place};
 ghost use Rattle.gpt_model.specs.Table.{slotCount, tableBytes, slots};
 ghost use Rattle.gpt_model.specs.Calls.{fitsAt};
 ghost use Rattle.gpt_table.specs.Decoded.{ranges};
-ghost use Rattle.gpt_table.specs.Answers.{placed, freeOf};
-ghost use Rattle.gpt_table.specs.Gaps.{Passed, Next, Stands};
+ghost use Rattle.gpt_room.specs.Answers.{placed, freeOf};
+ghost use Rattle.gpt_room.specs.Gaps.{Passed, Next, Stands};
 ghost use Rattle.gpt_table.specs.Sorted.{Ascending};
 
 // Where a partition can start.
 pub enum Place {
@@ -125,7 +125,7 @@ pub fn lowest(t: &[u8], first: Block, last: Block, size: u64) -> Place
 {
     let mut firsts = [0u64; SLOTS];
     let mut lasts = [0u64; SLOTS];
-    let count = order::ranges(t, SLOTS, &mut firsts, &mut lasts);
+    let count = gpt_table::order::ranges(t, SLOTS, &mut firsts, &mut lasts);
     search(&firsts, &lasts, count, first.0, last.0, size)
 }
 
@@ -172,7 +172,7 @@ pub fn free_counts(t: &[u8], first: Block, last: Block) -> Free
 {
     let mut firsts = [0u64; SLOTS];
     let mut lasts = [0u64; SLOTS];
-    let count = order::ranges(t, SLOTS, &mut firsts, &mut lasts);
+    let count = gpt_table::order::ranges(t, SLOTS, &mut firsts, &mut lasts);
     tally(&firsts, &lasts, count, first.0, last.0)
 }
 
@@ -203,9 +203,9 @@ pub fn fits_at(t: &[u8], k: usize, last: Block, size: u64) -> bool
     ensures { λ r. ⌜ ((first : ℕ) → r ≡ fitsAt first (last .0) (now (t .entry)) k size) ⌝ }
 {
     let i = k - 1;
-    let a = octets::load64(crate::entry(t, i), FIRST_AT);
+    let a = octets::load64(gpt_table::entry(t, i), FIRST_AT);
     let mut firsts = [0u64; SLOTS];
     let mut lasts = [0u64; SLOTS];
-    let count = order::ranges(t, i, &mut firsts, &mut lasts);
+    let count = gpt_table::order::ranges(t, i, &mut firsts, &mut lasts);
     room_at(&firsts, &lasts, count, a, last.0, size)
 }

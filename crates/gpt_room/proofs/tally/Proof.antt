@@ -1,17 +1,17 @@
 use Prim.Native.Nat.{_+_, _-_, _≤_}
 use native.Mathlib.Omega.{arith}
 use borrow.Author.Needs.{needs}
 use Rattle.gpt_table.specs.Decoded.{ranges}
-use Rattle.gpt_table.specs.Gaps.{Passed}
-use Rattle.gpt_table.proofs.Ahead.{taken-of, gap-of, passed-more, passed-none}
-use Rattle.gpt_table.proofs.Walks.{Tallied, tallied-start, tallied-over, tallied-gap, tallied-end, tallied-full}
-use Rattle.gpt_table.proofs.room.larger.Reads as larger-reads
-use Rattle.gpt_table.proofs.room.look.Reads as look-reads
-use Rattle.gpt_table.proofs.room.next.Reads as next-reads
-use Rattle.gpt_table.proofs.room.tally.Lts as lts
-use Rattle.gpt_table.proofs.room.tally.Reads as reads
-use Rattle.gpt_table.proofs.room.tally.Statement.{statement}
-use Rattle.gpt_table.proofs.room.tally.Tie as tie
+use Rattle.gpt_room.specs.Gaps.{Passed}
+use Rattle.gpt_room.proofs.Looks.{taken-of, gap-of, passed-more, passed-none}
+use Rattle.gpt_room.proofs.Walks.{Tallied, tallied-start, tallied-over, tallied-gap, tallied-end, tallied-full}
+use Rattle.gpt_room.proofs.larger.Reads as larger-reads
+use Rattle.gpt_room.proofs.look.Reads as look-reads
+use Rattle.gpt_room.proofs.next.Reads as next-reads
+use Rattle.gpt_room.proofs.tally.Lts as lts
+use Rattle.gpt_room.proofs.tally.Reads as reads
+use Rattle.gpt_room.proofs.tally.Statement.{statement}
+use Rattle.gpt_room.proofs.tally.Tie as tie
 
 abbrev Inv-loop : tie.InvT-loop
 Inv-loop f l n first last a₀ i₀ blocks₀ longest₀ a i blocks longest = Tallied (ranges f l n) first last blocks longest a × (i ≤ n) × Passed (ranges f l n) a i

@@ -1,16 +1,16 @@
 use Prim.Native.Nat.{_+_, _-_, _≤_}
 use native.Mathlib.Omega.{arith}
 use borrow.Author.Needs.{needs}
 use Rattle.gpt_table.specs.Decoded.{ranges}
-use Rattle.gpt_table.specs.Gaps.{Passed}
-use Rattle.gpt_table.proofs.Ahead.{taken-of, gap-of, passed-more, passed-none}
-use Rattle.gpt_table.proofs.Walks.{Looked, looked-start, looked-over, looked-on, looked-none, looked-found}
-use Rattle.gpt_table.proofs.room.look.Reads as look-reads
-use Rattle.gpt_table.proofs.room.next.Reads as next-reads
-use Rattle.gpt_table.proofs.room.search.Lts as lts
-use Rattle.gpt_table.proofs.room.search.Reads as reads
-use Rattle.gpt_table.proofs.room.search.Statement.{statement}
-use Rattle.gpt_table.proofs.room.search.Tie as tie
+use Rattle.gpt_room.specs.Gaps.{Passed}
+use Rattle.gpt_room.proofs.Looks.{taken-of, gap-of, passed-more, passed-none}
+use Rattle.gpt_room.proofs.Walks.{Looked, looked-start, looked-over, looked-on, looked-none, looked-found}
+use Rattle.gpt_room.proofs.look.Reads as look-reads
+use Rattle.gpt_room.proofs.next.Reads as next-reads
+use Rattle.gpt_room.proofs.search.Lts as lts
+use Rattle.gpt_room.proofs.search.Reads as reads
+use Rattle.gpt_room.proofs.search.Statement.{statement}
+use Rattle.gpt_room.proofs.search.Tie as tie
 
 abbrev Inv-loop : tie.InvT-loop
 Inv-loop f l n first last size a₀ i₀ a i = Looked (ranges f l n) first last size a × (i ≤ n) × Passed (ranges f l n) a i

@@ -6,9 +6,9 @@ use Prim.Native.Nat.{ℕ, _+_, _≤_, _<_}
 use lib.ListN.{getD}
 use Rattle.gpt_model.specs.Ranges.{inside, lies}
 use Rattle.gpt_model.specs.Table.{Slot, vacant}
 use Rattle.gpt_table.specs.Decoded.{ranges}
-use Rattle.gpt_table.specs.declared.room.Ahead.{Ahead}
-use Rattle.gpt_table.specs.declared.room.Ahead.the-variants.{Taken, Gap}
+use Rattle.gpt_room.specs.declared.Ahead.{Ahead}
+use Rattle.gpt_room.specs.declared.Ahead.the-variants.{Taken, Gap}
 
 -- no range before range i has a block at a or behind it
 pub record Passed (s : List Slot) (a i : ℕ) : Type 0 where

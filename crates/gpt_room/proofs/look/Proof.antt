@@ -1,12 +1,12 @@
 use native.Mathlib.Omega.{arith}
 use denote.Ref.{now}
 use borrow.Author.Needs.{needs}
-use Rattle.gpt_table.specs.Gaps.{taken, gap}
-use Rattle.gpt_table.proofs.Ahead.{clear-none, clear-far, full, clear-gap}
-use Rattle.gpt_table.proofs.room.look.Lts as lts
-use Rattle.gpt_table.proofs.room.look.Reads as reads
-use Rattle.gpt_table.proofs.room.look.Statement.{statement}
-use Rattle.gpt_table.proofs.room.look.Tie as tie
+use Rattle.gpt_room.specs.Gaps.{taken, gap}
+use Rattle.gpt_room.proofs.Looks.{clear-none, clear-far, full, clear-gap}
+use Rattle.gpt_room.proofs.look.Lts as lts
+use Rattle.gpt_room.proofs.look.Reads as reads
+use Rattle.gpt_room.proofs.look.Statement.{statement}
+use Rattle.gpt_room.proofs.look.Tie as tie
 
 -- src/room.rt:68:27
 add-t8 : tie.Need-add-t8
