@@ -2,10 +2,11 @@
 use mathlib.Core.Path.{_≡_}
 use mathlib.Core.Logic.{_⊎_}
 use mathlib.Core.Bool.{true}
-use mathlib.Core.List.{List, [], _∷_}
+use mathlib.Core.List.{List, _++_}
 use mathlib.Core.Option.{none, some}
 use Prim.Native.Nat.{ℕ, _+_, _*_, _/_, _%_, _≤_, _<_}
 use lib.ListN.{length, getD}
+use Rattle.octets.specs.Ascii.{ascii}
 use Rattle.octets.specs.Bytes.{part, field, zeros}
 use Rattle.fmap_rules.specs.declared.ImagePosition.{ImagePosition}
 use Rattle.fmap_rules.specs.Map.{goodMap}
@@ -50,7 +51,7 @@ Apart image r s =
 
 -- (M3), (M4), (M5), (M6), (M7), (M8) of the map at a position
 pub record MapAt (image : List ℕ) (at : ℕ) : Type 0 where
-  pub signature : part at 8 image ≡ 95 ∷ 95 ∷ 70 ∷ 77 ∷ 65 ∷ 80 ∷ 95 ∷ 95 ∷ []
+  pub signature : part at 8 image ≡ ascii "__FMAP__"
   pub major : getD image (at + 8) 0 ≡ 1
   pub minor : getD image (at + 9) 0 ≤ 1
   pub size : field (at + 18) 4 image ≡ length image
@@ -65,7 +66,7 @@ pub record MapAt (image : List ℕ) (at : ℕ) : Type 0 where
   pub apart : (i j : ℕ) → i < j → j < countIn image at → Apart image (recordOf at i) (recordOf at j)
   pub own-area : ℕ
   pub own-there : own-area < countIn image at
-  pub own-name : nameIn image (recordOf at own-area) ≡ 70 ∷ 77 ∷ 65 ∷ 80 ∷ zeros 28
+  pub own-name : nameIn image (recordOf at own-area) ≡ ascii "FMAP" ++ zeros 28
   pub own-start : startIn image (recordOf at own-area) ≡ at
   pub own-size : 56 + 42 * countIn image at ≤ sizeIn image (recordOf at own-area)
 
