@@ -1,4 +1,4 @@
--- What holds of every resolution: the statement of a theorem (proofs/Fitted: resolve-facts).
+-- What holds of every resolution: the statements of theorems (proofs/Fitted: resolve-facts, proofs/FittedOnce: fitted-once).
 use mathlib.Core.List.{List}
 use mathlib.Core.Path.{_≡_}
 use mathlib.Core.Bool.{true, false}
@@ -44,7 +44,7 @@ pub record Lies (z : ℕ) (ps : List Placed) (k : ℕ) (p : Placed) : Type 0 whe
   pub within : endOf p ≤ roomOf z (p .parent) (take k ps)
   pub after : (j : ℕ) → j < k → getD ps j blank .parent ≡ p .parent → endOf (getD ps j blank) ≤ p .offset .0
 
--- the sections of the list l, in its order, in an image of z bytes; z and l decide each place by those before it
+-- the sections of the list l, in its order, in an image of z bytes
 pub record Fitted (z : ℕ) (l : List Section) (ps : List Placed) : Type 0 where
   pub count : length ps ≡ length l
   pub begins : (k : ℕ) → k < length ps → BeginsAt l ps k (getD l k blankSection .offset) (getD ps k blank .offset .0)
@@ -52,6 +52,10 @@ pub record Fitted (z : ℕ) (l : List Section) (ps : List Placed) : Type 0 where
   pub each : (k : ℕ) → k < length ps → Lies z ps k (getD ps k blank)
   pub parent : (k : ℕ) → k < length ps → getD ps k blank .parent ≡ getD l k blankSection .parent
   pub level : (k : ℕ) → k < length ps → getD ps k blank .level ≡ getD l k blankSection .level
+
+-- nothing else is open: the image's size and the sections decide the places
+abbrev pub FittedOnce : Type 0
+FittedOnce = (z : ℕ) (l : List Section) (ps qs : List Placed) → Fitted z l ps → Fitted z l qs → ps ≡ qs
 
 -- (L13) below k every size is decided
 abbrev pub Sized : List Section → ℕ → Type 0
