@@ -8,7 +8,7 @@ use native.Mathlib.Nat.{sub-zero}
 use native.Mathlib.Omega.{arith}
 use lib.ListN.{length, getD, take, drop, length-take, length-drop}
 use lib.Dec.{eqb, leb}
-use borrow.Author.Tests.{lt-ltb, le-ltb, ltb-true, leb-true, leb-false, eqb-true, eqb-false}
+use borrow.Author.Tests.{lt-ltb, le-ltb, ltb-true, ltb-false, leb-true, leb-false, eqb-true, eqb-false}
 use Rattle.octets.specs.Tests.{any}
 use Rattle.octets.specs.Rows.{refusal}
 use Rattle.octets.specs.Bytes.{part, same}
@@ -16,7 +16,7 @@ use Rattle.octets.proofs.Tests.{any-none}
 use Rattle.octets.proofs.Parts.{getD-part, rest-slice}
 use Rattle.octets.proofs.Equal.{same-true, same-length}
 use Rattle.octets.proofs.Rows.{pick-true, pick-false, passes}
-use Rattle.octets.proofs.Bools.{or-il, or-ir, or-false-i, not-f}
+use Rattle.octets.proofs.Bools.{or-il, or-ir, or-false-l, or-false-r, or-false-i, not-f}
 use Rattle.fmap_rules.specs.declared.ImagePosition.{ImagePosition}
 use Rattle.fmap_rules.specs.Map.{position, signature, signed, goodMap}
 use Rattle.fmap_rules.proofs.Good.{unsigned-bad}
@@ -213,6 +213,10 @@ pub finds : (image : List ℕ) (at : ℕ) → 98 ≤ length image → length ima
 finds image at a b s h e =
     ap (λ (k : ℕ). accepted (position k)) (sym e) ∙ find-at image (in-range (length image) a b) s (lt-ltb (lowest (length image) (goodMap image)) (length image) (omega (arith, e)))
 
+pub within : (len : ℕ) → outOfRange len ≡ false → (98 ≤ len) × (len ≤ 16777216)
+unfolding outOfRange
+within len w = (ltb-false len 98 (or-false-l _ _ w), ltb-false 16777216 len (or-false-r _ _ w))
+
 -- ---- what is found is a good map, and none below it is
 
 pub reply-accepted : {A : Type 0} (o : Option ℕ) (a b : A) → reply o a ≡ accepted b → (o ≡ none) × (a ≡ b)
@@ -229,6 +233,9 @@ module _ (image : List ℕ) (p : ImagePosition) (e : findMap image ≡ accepted 
 
   below : lowest (length image) (goodMap image) < length image
   below = ltb-true _ _ (not-f _ (passes 42 (findRows image) (opened .0)))
+
+  pub found-length : (98 ≤ length image) × (length image ≤ 16777216)
+  found-length = within (length image) (passes 40 (findRows image) (opened .0))
 
   pub found-good : goodMap image (p .0) ≡ true
   unfolding lowest

@@ -46,10 +46,10 @@ module _ (image : List ℕ) (at : ℕ) (g : goodMap image at ≡ true) where
   pub back : (k : ℕ) → k < length areas → k < countIn image at
   back k h = omega (arith, areas-count image at g)
 
-  start-is : (k : ℕ) → k < countIn image at → getD areas k blank .place .start .0 ≡ startIn image (recordOf at k)
+  pub start-is : (k : ℕ) → k < countIn image at → getD areas k blank .place .start .0 ≡ startIn image (recordOf at k)
   start-is k h = ap (λ (a : Area). a .place .start .0) (record-at image at g k h) ∙ start-at image (recordOf at k)
 
-  size-is : (k : ℕ) → k < countIn image at → getD areas k blank .place .size ≡ sizeIn image (recordOf at k)
+  pub size-is : (k : ℕ) → k < countIn image at → getD areas k blank .place .size ≡ sizeIn image (recordOf at k)
   size-is k h = ap (λ (a : Area). a .place .size) (record-at image at g k h) ∙ size-at image (recordOf at k)
 
   pub name-is : (k : ℕ) → k < countIn image at → getD areas k blank .name ≡ nameIn image (recordOf at k)
@@ -96,7 +96,7 @@ module _ (image : List ℕ) (at : ℕ) (g : goodMap image at ≡ true) where
   area-named : (k : ℕ) → k < countIn image at → NameAt image (recordOf at k + 8)
   area-named k h = name-by-bytes image (recordOf at k + 8) (area-room k h) (area-legal k h)
 
-  differ : (i j : ℕ) → i < j → j < countIn image at → nameIn image (recordOf at i) ≡ nameIn image (recordOf at j) → ⊥
+  pub differ : (i j : ℕ) → i < j → j < countIn image at → nameIn image (recordOf at i) ≡ nameIn image (recordOf at j) → ⊥
   unfolding named
   differ i j h k e =
       let n = names-differ (length image) at areas (good-areas image at g) i j h (there j k) in
@@ -188,11 +188,11 @@ module _ (old : List ℕ) (at : ℕ) (new : List ℕ) (bt : ℕ) (g : goodMap ol
   abbrev news : List Area
   news = areasOf (rest bt new)
 
-  marked : (i : ℕ) → i < countIn old at → field (recordOf at i + 40) 2 old / 8 % 2 ≡ 1 → preserved (getD olds i blank) ≡ true
+  pub marked : (i : ℕ) → i < countIn old at → field (recordOf at i + 40) 2 old / 8 % 2 ≡ 1 → preserved (getD olds i blank) ≡ true
   unfolding preserved
   marked i l e = eq-eqb _ 1 (ap (λ (f : ℕ). f / 8 % 2) (flags-is old at g i l) ∙ e)
 
-  unmarked : (i : ℕ) → i < countIn old at → preserved (getD olds i blank) ≡ true → field (recordOf at i + 40) 2 old / 8 % 2 ≡ 1
+  pub unmarked : (i : ℕ) → i < countIn old at → preserved (getD olds i blank) ≡ true → field (recordOf at i + 40) 2 old / 8 % 2 ≡ 1
   unfolding preserved
   unmarked i l e = sym (ap (λ (f : ℕ). f / 8 % 2) (flags-is old at g i l)) ∙ eqb-true _ 1 e
 
@@ -226,7 +226,7 @@ module _ (old : List ℕ) (at : ℕ) (new : List ℕ) (bt : ℕ) (g : goodMap ol
               absurd (clash (ap (same (getD news j blank .name)) name-f ∙ same-refl (getD news j blank .name))
               (names-differ (length new) bt news (good-areas new bt h) j f (omega (arith, ne)) (hit .0)))
 
-  goes-to : (i j : ℕ) → Goes old at new bt i j → target news (getD olds i blank) ≡ getD news j blank .place
+  pub goes-to : (i j : ℕ) → Goes old at new bt i j → target news (getD olds i blank) ≡ getD news j blank .place
   unfolding withName
   goes-to i j w =
       ap (λ (k : ℕ). getD news k blank .place)

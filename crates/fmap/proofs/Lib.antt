@@ -11,4 +11,5 @@ pub mod NameBytes
 pub mod InBytes
 pub mod FromBytes
 pub mod Called
+pub mod Accepted
 pub mod Kept

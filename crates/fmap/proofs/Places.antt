@@ -128,7 +128,7 @@ module _ (old : List ℕ) (at : ℕ) (new : List ℕ) (bt : ℕ) (image : List �
   unfolding carryAt
   none-refused = was-free (refusal (carryAtRows old at new bt)) (carried old (areasOf (rest bt new)) (areasOf (rest at old)) new) new image e
 
-  old-stands : refusal (placeRows old at) ≡ none
+  pub old-stands : refusal (placeRows old at) ≡ none
   old-stands = refusal-before (placeRows old at) (placeRows new bt ++ carryRows (areasOf (rest at old)) (areasOf (rest bt new))) none-refused .0
 
   others-stand : (refusal (placeRows new bt) ≡ none) × (refusal (carryRows (areasOf (rest at old)) (areasOf (rest bt new))) ≡ none)

@@ -27,11 +27,8 @@ use Rattle.fmap.specs.Find.{Reply, accepted, refused, signedAt, findMap}
 use Rattle.fmap.specs.Carry.{carryAtRows, carryAt, carryTo, carryFrom, carryImages}
 use Rattle.fmap.specs.Promises.{FindsLowest, CarriedOver, CarryArrives, WrittenIsFound, RefusedCarryStays, RefusedImagesStay}
 use Rattle.fmap.proofs.Lowest.{first-skip, first-stop, first-before}
-use Rattle.fmap.proofs.Finding.{found-good, found-lowest, finds}
+use Rattle.fmap.proofs.Finding.{found-length, found-good, found-lowest, finds}
 use Rattle.fmap.proofs.Places.{old-good, new-good, by-the-areas}
-
-pub finds-lowest : FindsLowest
-finds-lowest image p e = record { good = found-good image p e; none-lower = found-lowest image p e }
 
 -- ---- carrying
 
@@ -88,7 +85,7 @@ module _ (image : List ℕ) (at : ℕ) (g : goodMap image at ≡ true) where
   below : at < length image
   below = omega (arith, good-within image at g)
 
-  is-signed : signedAt image at ≡ true
+  pub is-signed : signedAt image at ≡ true
   unfolding signedAt
   is-signed = header-signed _ _ (good-header image at g)
 
@@ -114,6 +111,12 @@ module _ (image : List ℕ) (at : ℕ) (g : goodMap image at ≡ true) where
 
   pub found-there : 98 ≤ length image → length image ≤ 16777216 → ((j : ℕ) → j < at → goodMap image j ≡ false) → findMap image ≡ accepted (position at)
   found-there lo hi none-lower = sym (finds image at lo hi some-signed below (lowest-is none-lower))
+
+pub finds-lowest : FindsLowest
+finds-lowest image p = (
+  λ e. let l = found-length image p e in record { low = l .0; high = l .1; good = found-good image p e; none-lower = found-lowest image p e },
+  λ w. found-there image (p .0) (w .good) (w .low) (w .high) (w .none-lower),
+)
 
 pub written-is-found : WrittenIsFound
 written-is-found image at name base minor areas w lo hi none-lower =

@@ -1,17 +1,18 @@
 -- What a good map and a carry are by the image's bytes alone, record by record: no word of the code. Statements only.
 use mathlib.Core.Path.{_≡_}
-use mathlib.Core.Logic.{_⊎_}
+use mathlib.Core.Logic.{_↔_, _⊎_}
 use mathlib.Core.Bool.{true}
-use mathlib.Core.List.{List, [], _∷_}
+use mathlib.Core.List.{List, _++_}
 use mathlib.Core.Option.{none, some}
 use Prim.Native.Nat.{ℕ, _+_, _*_, _/_, _%_, _≤_, _<_}
 use lib.ListN.{length, getD}
+use Rattle.octets.specs.Ascii.{ascii}
 use Rattle.octets.specs.Bytes.{part, field, zeros}
 use Rattle.fmap_rules.specs.declared.ImagePosition.{ImagePosition}
 use Rattle.fmap_rules.specs.Map.{goodMap}
 use Rattle.fmap.specs.Find.{accepted, findMap}
 use Rattle.fmap.specs.Areas.{indexNamed}
-use Rattle.fmap.specs.Carry.{carryAt}
+use Rattle.fmap.specs.Carry.{carryAt, carryImages}
 
 -- (M1), (M2) where record k of a map begins, 56 bytes behind the map's position and 42 a record
 abbrev pub recordOf : ℕ → ℕ → ℕ
@@ -50,7 +51,7 @@ Apart image r s =
 
 -- (M3), (M4), (M5), (M6), (M7), (M8) of the map at a position
 pub record MapAt (image : List ℕ) (at : ℕ) : Type 0 where
-  pub signature : part at 8 image ≡ 95 ∷ 95 ∷ 70 ∷ 77 ∷ 65 ∷ 80 ∷ 95 ∷ 95 ∷ []
+  pub signature : part at 8 image ≡ ascii "__FMAP__"
   pub major : getD image (at + 8) 0 ≡ 1
   pub minor : getD image (at + 9) 0 ≤ 1
   pub size : field (at + 18) 4 image ≡ length image
@@ -65,7 +66,7 @@ pub record MapAt (image : List ℕ) (at : ℕ) : Type 0 where
   pub apart : (i j : ℕ) → i < j → j < countIn image at → Apart image (recordOf at i) (recordOf at j)
   pub own-area : ℕ
   pub own-there : own-area < countIn image at
-  pub own-name : nameIn image (recordOf at own-area) ≡ 70 ∷ 77 ∷ 65 ∷ 80 ∷ zeros 28
+  pub own-name : nameIn image (recordOf at own-area) ≡ ascii "FMAP" ++ zeros 28
   pub own-start : startIn image (recordOf at own-area) ≡ at
   pub own-size : 56 + 42 * countIn image at ≤ sizeIn image (recordOf at own-area)
 
@@ -76,16 +77,17 @@ GoodIsMap = (image : List ℕ) (at : ℕ) → goodMap image at ≡ true → MapA
 abbrev pub MapIsGood : Type 0
 MapIsGood = (image : List ℕ) (at : ℕ) → MapAt image at → goodMap image at ≡ true
 
--- the record that begins at r has this name: its bytes, then a zero
+-- the record that begins at r has this name: its bytes, none of them zero, then a zero
 pub record CalledAt (image : List ℕ) (r : ℕ) (name : List ℕ) : Type 0 where
   pub letters : part (r + 8) (length name) image ≡ name
+  pub no-zero : (i : ℕ) → i < length name → getD name i 0 ≡ 0 → ⊥
   pub then-zero : getD image (r + 8 + length name) 0 ≡ 0
 
--- the number that is found by a name is that of a record that has it, in the map that is found
+-- in the map that is found, k is the number of a name exactly when record k has it
 abbrev pub NamedByBytes : Type 0
 NamedByBytes =
-    (image name : List ℕ) (p : ImagePosition) (k : ℕ) → findMap image ≡ accepted p → indexNamed image name ≡ accepted (some k)
-    → (k < countIn image (p .0)) × CalledAt image (recordOf (p .0) k) name
+    (image name : List ℕ) (p : ImagePosition) (k : ℕ) → findMap image ≡ accepted p
+    → (indexNamed image name ≡ accepted (some k)) ↔ ((k < countIn image (p .0)) × CalledAt image (recordOf (p .0) k) name)
 
 -- (M11) record i of the old map is marked PRESERVE, and record j of the new map has its name
 pub record Goes (old : List ℕ) (at : ℕ) (new : List ℕ) (bt i j : ℕ) : Type 0 where
@@ -93,6 +95,38 @@ pub record Goes (old : List ℕ) (at : ℕ) (new : List ℕ) (bt i j : ℕ) : Ty
   pub new-record : j < countIn new bt
   pub preserve : field (recordOf at i + 40) 2 old / 8 % 2 ≡ 1
   pub same-name : nameIn old (recordOf at i) ≡ nameIn new (recordOf bt j)
+
+-- no byte lies in the areas of both records
+abbrev pub ShareNone : List ℕ → ℕ → ℕ → Type 0
+ShareNone image r s =
+    (x : ℕ) → (startIn image r ≤ x) × (x < endIn image r) → (startIn image s ≤ x) × (x < endIn image s) → ⊥
+
+-- (Q4), (R15), (R16), R23, R24 what a carry by two positions asks of the images
+pub record MayCarry (old : List ℕ) (at : ℕ) (new : List ℕ) (bt : ℕ) : Type 0 where
+  pub old-length : (98 ≤ length old) × (length old ≤ 16777216)
+  pub old-map : MapAt old at
+  pub new-length : (98 ≤ length new) × (length new ≤ 16777216)
+  pub new-map : MapAt new bt
+  -- each preserved area is in the new map (else 60), with its size (else 61)
+  pub none-missing : (i : ℕ) → i < countIn old at → field (recordOf at i + 40) 2 old / 8 % 2 ≡ 1 → (j : ℕ) × Goes old at new bt i j
+  pub same-size : (i j : ℕ) → Goes old at new bt i j → sizeIn old (recordOf at i) ≡ sizeIn new (recordOf bt j)
+  -- no two share a byte in either map (else 62)
+  pub old-apart : (i j k l : ℕ) → i < k → Goes old at new bt i j → Goes old at new bt k l → ShareNone old (recordOf at i) (recordOf at k)
+  pub new-apart : (i j k l : ℕ) → i < k → Goes old at new bt i j → Goes old at new bt k l → ShareNone new (recordOf bt j) (recordOf bt l)
+  -- in the new map none shares a byte with area FMAP (else 63)
+  pub off-map : (i j f : ℕ) → Goes old at new bt i j → f < countIn new bt → nameIn new (recordOf bt f) ≡ ascii "FMAP" ++ zeros 28
+      → ShareNone new (recordOf bt j) (recordOf bt f)
+
+-- it is accepted exactly then
+abbrev pub AcceptedByBytes : Type 0
+AcceptedByBytes = (old : List ℕ) (at : ℕ) (new : List ℕ) (bt : ℕ) → (carryAt old at new bt .answer ≡ none) ↔ MayCarry old at new bt
+
+-- (M13) and a carry with the search exactly when it is by the maps that are found
+abbrev pub ImagesAcceptedByBytes : Type 0
+ImagesAcceptedByBytes =
+    (old new : List ℕ)
+    → (carryImages old new .answer ≡ none)
+    ↔ ((p : ImagePosition) × (q : ImagePosition) × (findMap old ≡ accepted p) × (findMap new ≡ accepted q) × MayCarry old (p .0) new (q .0))
 
 -- (M11), (M12) the bytes that record i says go where record j says, and every other byte stays
 pub record CarriedBytes (old : List ℕ) (at : ℕ) (new : List ℕ) (bt : ℕ) (image : List ℕ) : Type 0 where

@@ -1,5 +1,6 @@
 -- What users rely on besides the equations of the calls. Statements only.
 use mathlib.Core.Path.{_≡_}
+use mathlib.Core.Logic.{_↔_}
 use mathlib.Core.Bool.{true, false}
 use mathlib.Core.List.{List}
 use mathlib.Core.Option.{none, some}
@@ -15,13 +16,15 @@ use Rattle.fmap.specs.Find.{accepted, findMap}
 use Rattle.fmap.specs.Areas.{areaNumbered, areaNamed, indexNamed}
 use Rattle.fmap.specs.Carry.{carryAt, carryImages}
 
--- (M10) what is found is a good map, and no lower position has one
+-- (Q4), (M10) a position is found exactly when the image's length is in range, a good map stands there, and no lower position has one
 pub record Lowest (image : List ℕ) (p : ImagePosition) : Type 0 where
+  pub low : 98 ≤ length image
+  pub high : length image ≤ 16777216
   pub good : goodMap image (p .0) ≡ true
   pub none-lower : (j : ℕ) → j < p .0 → goodMap image j ≡ false
 
 abbrev pub FindsLowest : Type 0
-FindsLowest = (image : List ℕ) (p : ImagePosition) → findMap image ≡ accepted p → Lowest image p
+FindsLowest = (image : List ℕ) (p : ImagePosition) → (findMap image ≡ accepted p) ↔ Lowest image p
 
 -- M11, M12, (M13) by the maps found, each preserved area arrives byte for byte, and every other byte stays
 pub record CarriedOver (old new image : List ℕ) : Type 0 where

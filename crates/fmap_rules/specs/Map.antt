@@ -5,6 +5,7 @@ use mathlib.Core.Option.{Option, none, some}
 use Prim.Native.Nat.{ℕ, _+_, _*_, _/_}
 use lib.ListN.{length}
 use lib.Dec.{eqb, leb, ltb}
+use Rattle.octets.specs.Ascii.{ascii}
 use Rattle.octets.specs.Tests.{_and_, _or_, any, pairs, findIx}
 use Rattle.octets.specs.Rows.{Row, row, refusal}
 use Rattle.octets.specs.Bytes.{part, rest, field, zeros, isZero, same, chunks}
@@ -20,7 +21,7 @@ position n = record { 0 = n }
 -- m is the image's bytes from the map's position on
 
 abbrev pub signature : List ℕ
-signature = 95 ∷ 95 ∷ 70 ∷ 77 ∷ 65 ∷ 80 ∷ 95 ∷ 95 ∷ []
+signature = ascii "__FMAP__"
 
 unfoldable pub signed : List ℕ → Bool
 signed m = same (part 0 8 m) signature
@@ -80,7 +81,7 @@ legalName n = leb 1 (nameLength n) and (leb (nameLength n) 31 and isZero (rest (
 
 -- "FMAP" as a map holds it
 abbrev pub fmapName : List ℕ
-fmapName = 70 ∷ 77 ∷ 65 ∷ 80 ∷ zeros 28
+fmapName = ascii "FMAP" ++ zeros 28
 
 -- ---- M7: Any two areas are disjoint, equal or one in the other.
 

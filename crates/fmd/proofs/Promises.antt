@@ -24,7 +24,7 @@ use Rattle.fmd_areas.specs.Areas.{areaFrom, areaAt}
 use Rattle.fmd_areas.proofs.Nested.{areas-nested}
 use Rattle.fmd_areas.proofs.Stands.{areas-stand}
 use Rattle.fmd.specs.Calls.{Said, baseOf, imageOf, saidBy, layoutIn, Written, withMap, writeBy, writeText}
-use Rattle.fmd.specs.Promises.{SectionsNested, SectionsInOrder, SaidIsWritable, WrittenHolds, WrittenAtFmap, RefusedStays}
+use Rattle.fmd.specs.Promises.{SectionsFitted, SectionsNested, SectionsInOrder, SaidIsWritable, WrittenHolds, WrittenAtFmap, RefusedStays}
 use Rattle.fmd.proofs.Writable.{writable}
 
 -- ---- what an accepted text says
@@ -55,6 +55,10 @@ module _ (x : Said) (image : List ℕ) (f : Sayable x) (e : length image ≡ x .
   holds = map-holds image (x .at .0) (x .image .name) (x .image .address) 1 (x .areas) (rw e (f .writes)) (f .base) (rw e (f .low)) (rw e (f .high))
 
 -- ---- the calls
+
+pub sections-fitted : SectionsFitted
+unfolding layoutIn imageOf
+sections-fitted s i l ps m e = let f = subst (CheckedFacts s) e (check-facts s) in rw e (f .fitted)
 
 pub sections-nested : SectionsNested
 unfolding layoutIn imageOf

@@ -12,6 +12,7 @@ use Rattle.fmap.specs.Written.{Holds}
 use Rattle.fmd_table.specs.declared.Section.{Section}
 use Rattle.fmd_table.specs.declared.Placed.{Placed}
 use Rattle.fmd_head.specs.declared.Image.{Image as TextImage}
+use Rattle.fmd_plan.specs.Fitted.{Fitted}
 use Rattle.fmd_check.specs.Check.{good, checkText}
 use Rattle.fmd_areas.specs.Nested.{startAt, Nested, Stands}
 use Rattle.fmd.specs.Calls.{numberOf, layoutIn, listText, recordText, writeText}
@@ -27,6 +28,11 @@ abbrev pub SectionsNested : Type 0
 SectionsNested =
     (s : List ℕ) (i : TextImage) (l : List Section) (ps : List Placed) (m : ℕ) → checkText s ≡ good i l ps m
     → Nested (layoutIn s .image .size) l (layoutIn s .areas)
+
+-- (L12), (L13), (L14) each section's offset and size: as given, or by its siblings and its parent
+abbrev pub SectionsFitted : Type 0
+SectionsFitted =
+    (s : List ℕ) (i : TextImage) (l : List Section) (ps : List Placed) (m : ℕ) → checkText s ≡ good i l ps m → Fitted (layoutIn s .image .size) l ps
 
 -- (L15), (L17), (M4) what is listed, and written, of section k of the text: position, size, flags and name; Nested has the count
 abbrev pub SectionsInOrder : Type 0

@@ -12,7 +12,7 @@ use Rattle.fmd_lex.specs.Numbers.{numberOf}
 use Rattle.fmd_lex.specs.Names.{goodName}
 use Rattle.fmd_lex.specs.declared.Number.the-variants.{Wrong}
 use Rattle.fmd_grammar.specs.Grammar.{Lexeme, word, sign}
-use Rattle.fmd_grammar.specs.Claims.{Fault, unfitSign, wordBeforeBraces, wordAfterBraces, badNumber, badLength, badName, tooMany, badFlag, placeOf}
+use Rattle.fmd_grammar.specs.Claims.{Fault, unfitSign, wordBeforeBraces, wordAfterBraces, badNumber, badImageSize, badLength, badSize, badName, tooMany, badFlag, placeOf}
 use Rattle.fmd_grammar.proofs.Parsers.{Got, no, ok, Parser, Act, stop, eat, leave, acted, item, ret, after, bind, isIt}
 
 -- ---- equal answers
@@ -50,7 +50,9 @@ fault-map g unfitSign = unfitSign
 fault-map g (wordBeforeBraces m) = wordBeforeBraces (g _ m)
 fault-map g (wordAfterBraces m) = wordAfterBraces (g _ m)
 fault-map g (badNumber e m) = badNumber e (g _ m)
+fault-map g (badImageSize e m) = badImageSize e (g _ m)
 fault-map g (badLength e i m) = badLength e i (g _ m)
+fault-map g (badSize d e m) = badSize d e (g _ m)
 fault-map g (badName e m) = badName e (λ v h. g _ (m v h))
 fault-map g (tooMany e m) = tooMany e (λ v h. g _ (m v h))
 fault-map g (badFlag (inl m)) = badFlag (inl (g _ m))

@@ -31,7 +31,7 @@ use Rattle.fmd_table.specs.declared.Section.{Section}
 use Rattle.fmd_head.specs.Heads.{judged, setCbfs, setPreserve, setOffset, setSize}
 use Rattle.fmd_grammar.specs.Grammar.{Lexeme, word, sign, OptionalFlags, noFlags, onlyCbfs, onlyPreserve, cbfsPreserve, preserveCbfs, OptionalOffset}
 use Rattle.fmd_grammar.specs.Grammar.{noOffset, offset, OptionalSize, noSize, size}
-use Rattle.fmd_grammar.specs.Claims.{unfitSign, badNumber, badName, tooMany, badFlag}
+use Rattle.fmd_grammar.specs.Claims.{unfitSign, badNumber, badSize, badName, tooMany, badFlag}
 use Rattle.fmd_grammar.proofs.Built.{built, Flagged, Placed, Sized, Head}
 use Rattle.fmd_grammar.proofs.Parsers.{Parser, Act, stop, eat, leave, item, ret, bind, valued, numberAct, nameAct, flagAct, markAct, sizeAct, lastP}
 use Rattle.fmd_grammar.proofs.Parsers.{otherP, flagsP, offsetP, headP}
@@ -46,7 +46,8 @@ ninety-eight = refl
 abbrev pub Numbered : List Lexeme → ℕ → Type 0
 Numbered own n = (b : ℕ) × (w : List ℕ) × (own ≡ word b w ∷ []) × (numberOf w ≡ Value n)
 
-pub number-fine : (W : List Lexeme → Type 0) → W [] → ((p : ℕ) → W (word p (ascii "98") ∷ [])) → (x : Lexeme) → Fine Numbered W x (numberAct x)
+-- a number after @: a size may come after it
+pub number-fine : (W : List Lexeme → Type 0) → W [] → ((p : ℕ) → W (word p (ascii "98") ∷ word 0 (ascii "98") ∷ [])) → (x : Lexeme) → Fine Numbered W x (numberAct x)
 number-fine W g i (sign p k) = (unfitSign, g)
 number-fine W g i (word p w) = go (numberOf w) refl
   where
@@ -183,8 +184,10 @@ module _ (p n lv par : ℕ) where
 
 -- ---- offset and size
 
+-- an offset begins so, and a size after it
 abbrev pub OffsetsOn : List Lexeme → Type 0
-OffsetsOn own = (us : List Lexeme) × (o : Offset) × OptionalOffset (own ++ us) o
+OffsetsOn own =
+    (us : List Lexeme) × (o : Offset) × (z : Size) × (os : List Lexeme) × (zs : List Lexeme) × OptionalOffset os o × OptionalSize zs z × (own ++ us ≡ os ++ zs)
 
 abbrev pub SizesOn : List Lexeme → Type 0
 SizesOn own = (us : List Lexeme) × (z : Size) × OptionalSize (own ++ us) z
@@ -208,7 +211,17 @@ module _ (p n lv par : ℕ) (c v : Bool) where
       sign-good 64 q (λ e. q) (ret h) (λ e. ret h)
       (λ a. bind-good {F = Numbered} (item numberAct) (λ e. item numberAct) (λ m. ret (setOffset m h)) (λ e. λ m. ret (setOffset m h))
       (item-good numberAct number-steady (number-fine (λ (us : List Lexeme). OffsetsOn (sign a 64 ∷ us))
-      (word 0 (ascii "98") ∷ [], GivenOffset (record { 0 = 98 }), offset ninety-eight) (λ q. ([], GivenOffset (record { 0 = 98 }), offset ninety-eight))))
+      (word 0 (ascii "98") ∷ [], GivenOffset (record { 0 = 98 }), OmittedSize, sign a 64 ∷ word 0 (ascii "98") ∷ [], [], offset ninety-eight, noSize, refl)
+      (λ q. (
+        [],
+        GivenOffset (record { 0 = 98 }),
+        GivenSize 98,
+        sign a 64 ∷ word q (ascii "98") ∷ [],
+        word 0 (ascii "98") ∷ [],
+        offset ninety-eight,
+        size ninety-eight,
+        refl,
+      ))))
       (λ own m f. rw (f .2) (ret-good (setOffset m h) (GivenOffset (record { 0 = m }), offset (f .3), refl))))
       (ret-good h (OmittedOffset, noOffset, refl))
 
@@ -219,16 +232,16 @@ module _ (p n lv par : ℕ) (c v : Bool) where
       h : Section
       h = built p n lv par c v o OmittedSize
 
-      by-number : (q : ℕ) (w : List ℕ) (b : Bool) (m : Number) → numberOf w ≡ m
+      by-number : (q : ℕ) (w : List ℕ) (b : Bool) → isDigit (getD w 0 0) ≡ b → (m : Number) → numberOf w ≡ m
           → Fine (Sized p n lv par c v o) SizesOn (word q w) (cond b (valued m (λ k. eat (setSize k (built p n lv par c v o OmittedSize))))
           (leave (built p n lv par c v o OmittedSize)))
-      by-number q w false m e = (OmittedSize, noSize, refl)
-      by-number q w true (Value m) e = (GivenSize m, size e, refl)
-      by-number q w true Wrong e = (badNumber e ([], GivenSize 98, size ninety-eight), ([], OmittedSize, noSize))
+      by-number q w false d m e = (OmittedSize, noSize, refl)
+      by-number q w true d (Value m) e = (GivenSize m, size e, refl)
+      by-number q w true d Wrong e = (badSize d e ([], GivenSize 98, size ninety-eight), ([], OmittedSize, noSize))
 
       fine : (x : Lexeme) → Fine (Sized p n lv par c v o) SizesOn x (sizeAct (built p n lv par c v o OmittedSize) x)
       fine (sign q k) = (OmittedSize, noSize, refl)
-      fine (word q w) = by-number q w (isDigit (getD w 0 0)) (numberOf w) refl
+      fine (word q w) = by-number q w (isDigit (getD w 0 0)) refl (numberOf w) refl
 
 -- ---- the whole head
 
@@ -348,8 +361,8 @@ module _ (lv par k : ℕ) where
               (λ ts f. (
                 f .0,
                 _,
-                moved (ap (λ (q : List Lexeme). fs ++ q) (append-nil (ts ++ f .0)) ∙ sym (append-assoc fs ts (f .0)))
-                    (headed g r d x (f .2) noSize),
+                moved (ap (λ (q : List Lexeme). fs ++ q) (sym (f .7)) ∙ sym (append-assoc fs ts (f .0)))
+                    (headed g r d x (f .5) (f .6)),
               ))
               (offset-good p n lv par c v))
               (λ os i f.

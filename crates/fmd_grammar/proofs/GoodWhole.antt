@@ -24,7 +24,7 @@ use Rattle.fmd_head.specs.declared.Address.the-variants.{Given, Omitted}
 use Rattle.fmd_head.specs.declared.Image.{Image}
 use Rattle.fmd_grammar.specs.Grammar.{Lexeme, word, sign, noFlags, noOffset, noSize, section, noBraces, SectionList, one, OptionalAddress, noAddress}
 use Rattle.fmd_grammar.specs.Grammar.{address, LayoutText, image}
-use Rattle.fmd_grammar.specs.Claims.{Viable, Fault, unfitSign, wordBeforeBraces, wordAfterBraces, badNumber, badLength, badName}
+use Rattle.fmd_grammar.specs.Claims.{Viable, Fault, unfitSign, wordBeforeBraces, wordAfterBraces, badImageSize, badLength, badName}
 use Rattle.fmd_table.specs.declared.Offset.the-variants.{Omitted as OmittedOffset}
 use Rattle.fmd_table.specs.declared.Size.the-variants.{Omitted as OmittedSize}
 use Rattle.fmd_grammar.proofs.Built.{built}
@@ -151,7 +151,7 @@ module _ (p : ℕ) (w : List ℕ) (g : goodName w ≡ true) where
       (item-good numberAct number-steady
       (number-fine (λ (us : List Lexeme). Viable (word p w ∷ (sign a 64 ∷ us)))
       (address-on g (address {a = a} {b = 0} ninety-eight) (sign a 64 ∷ []) (word 0 (ascii "98") ∷ []) refl)
-      (λ q. address-on g (address {a = a} {b = q} ninety-eight) (sign a 64 ∷ word q (ascii "98") ∷ []) [] refl)))
+      (λ q. open-on g 0 98 (ascii "98") (address {a = a} {b = q} ninety-eight) ninety-eight (omega arith) (omega arith))))
       (λ own m f. rw (f .2) (ret-good (setAddress m i) (Given m, address (f .3), refl))))
       (ret-good i (Omitted, noAddress, refl))
 
@@ -163,8 +163,8 @@ module _ (p : ℕ) (w : List ℕ) (g : goodName w ≡ true) where
         P : Act Image → Type 0
         P = Fine (Long p (length w) d) (λ (us : List Lexeme). Viable (word p w ∷ (os ++ us))) (word q v)
 
-        may : Viable (word p w ∷ (os ++ (word q (ascii "98") ∷ [])))
-        may = open-on g q 98 (ascii "98") o ninety-eight (omega arith) (omega arith)
+        may : Viable (word p w ∷ (os ++ (word q (ascii "98") ∷ sign 0 123 ∷ tail)))
+        may = braces-on g q 98 (ascii "98") o ninety-eight (omega arith) (omega arith) 0
 
         in-range : (n : ℕ) → numberOf v ≡ Value n → (b : Bool) → (leb 98 n and leb n 16777216) ≡ b → P (cond b (eat (pictured p (length w) d n)) (stop 52))
         in-range n e true f = (q, v, n, refl, e, leb-true 98 n (and-l _ _ f), leb-true n 16777216 (and-r _ _ f), refl)
@@ -172,7 +172,7 @@ module _ (p : ℕ) (w : List ℕ) (g : goodName w ≡ true) where
 
         go : (n : Number) → numberOf v ≡ n → P (valued n (λ m. cond (leb 98 m and leb m 16777216) (eat (pictured p (length w) d m)) (stop 52)))
         go (Value n) e = in-range n e (leb 98 n and leb n 16777216) refl
-        go Wrong e = (badNumber e may, length-on g o)
+        go Wrong e = (badImageSize e may, length-on g o)
 
 must-fine : {A : Type 0} (F : List Lexeme → A → Type 0) (W : List Lexeme → Type 0) (k : ℕ) (a : A)
     → ((p : ℕ) → F (sign p k ∷ []) a) → ((p : ℕ) (w : List ℕ) → Fault W 51 (word p w)) → W [] → (x : Lexeme) → Fine F W x (mustBe k a x)

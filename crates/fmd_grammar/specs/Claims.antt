@@ -37,6 +37,10 @@ Viable ts = (us : List Lexeme) × (i : Image) × (l : List Section) × LayoutTex
 abbrev pub NoText : List Lexeme → Type 0
 NoText ts = (us : List Lexeme) (i : Image) (l : List Section) → LayoutText 128 8 (ts ++ us) i l → ⊥
 
+-- a number that stands at p may be the image's size: { A } and the text's end may come after it
+abbrev pub MayBeImageSize : (List Lexeme → Type 0) → ℕ → Type 0
+MayBeImageSize May p = May (word p (ascii "98") ∷ sign 0 (code "{") ∷ word 0 (ascii "A") ∷ sign 0 (code "}") ∷ sign 0 endKind ∷ [])
+
 -- why a token has a fault of this number; `May us`: the tokens us may stand in its place
 pub data Fault (May : List Lexeme → Type 0) : ℕ → Lexeme → Type 0 where
   -- text out of grammar (R18): a sign or another byte, or the text's end
@@ -48,10 +52,14 @@ pub data Fault (May : List Lexeme → Type 0) : ℕ → Lexeme → Type 0 where
   -- So a word there is 51; the text's end may stand.
   wordAfterBraces : {p : ℕ} {w : List ℕ} → May (sign p endKind ∷ []) → Fault May 51 (word p w)
   -- L9: Where a number must stand (after @, the image's size), any other word is 52.
-  -- So is a section's size that is no number (L7).
-  badNumber : {p : ℕ} {w : List ℕ} → numberOf w ≡ Wrong → May (word p (ascii "98") ∷ []) → Fault May 52 (word p w)
+  -- After @ two numbers may stand, the second of them a size; as the image's size one, and behind it { A } and the text's end.
+  badNumber : {p : ℕ} {w : List ℕ} → numberOf w ≡ Wrong → May (word p (ascii "98") ∷ word 0 (ascii "98") ∷ []) → Fault May 52 (word p w)
+  badImageSize : {p : ℕ} {w : List ℕ} → numberOf w ≡ Wrong → MayBeImageSize May p → Fault May 52 (word p w)
   -- L1: size (an image length in range, else 52)
-  badLength : {p n : ℕ} {w : List ℕ} → numberOf w ≡ Value n → (98 ≤ n → n ≤ 16777216 → ⊥) → May (word p (ascii "98") ∷ []) → Fault May 52 (word p w)
+  badLength : {p n : ℕ} {w : List ℕ} → numberOf w ≡ Value n → (98 ≤ n → n ≤ 16777216 → ⊥) → MayBeImageSize May p → Fault May 52 (word p w)
+  -- L7: After a section's name, flags or offset, a word beginning with a digit is its size.
+  -- So it is 52 where it is no number.
+  badSize : {p : ℕ} {w : List ℕ} → isDigit (getD w 0 0) ≡ true → numberOf w ≡ Wrong → May (word p (ascii "98") ∷ []) → Fault May 52 (word p w)
   -- L6: .. (else 53).
   -- Every name may stand there.
   badName : {p : ℕ} {w : List ℕ} → goodName w ≡ false → ((v : List ℕ) → goodName v ≡ true → May (word p v ∷ [])) → Fault May 53 (word p w)

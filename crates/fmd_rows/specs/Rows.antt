@@ -4,6 +4,7 @@ use mathlib.Core.List.{List, [], _∷_}
 use Prim.Native.Nat.{ℕ, zero, suc, _+_}
 use lib.Dec.{eqb}
 use lib.ListN.{length, getD, take, drop}
+use Rattle.octets.specs.Ascii.{ascii}
 use Rattle.octets.specs.Tests.{_and_, any}
 use Rattle.octets.specs.Bytes.{part, same}
 use Rattle.fmd_parse.specs.Trees.{blank}
@@ -39,9 +40,8 @@ repeats s l k = any (λ e. same (nameOf s e) (nameOf s (getD l k blank))) (take 
 unfoldable pub firstRepeat : List ℕ → List Section → Found
 firstRepeat s l = foundFrom (repeats s l) (length l) 0
 
--- "FMAP"
 abbrev pub fmap : List ℕ
-fmap = 70 ∷ 77 ∷ 65 ∷ 80 ∷ []
+fmap = ascii "FMAP"
 
 unfoldable pub isFmap : List ℕ → List Section → ℕ → Bool
 isFmap s l k = same (nameOf s (getD l k blank)) fmap
