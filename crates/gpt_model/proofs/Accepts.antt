@@ -22,7 +22,7 @@ use Rattle.octets.proofs.Chunks.{length-chunks}
 use Rattle.gpt_model.specs.Table.{uniqueOf, firstOf, unused, Slot, vacant, entries, slots}
 use Rattle.gpt_model.specs.Disk.{Shape, lastUsable, tableOf}
 use Rattle.gpt_model.specs.Ranges.{inside}
-use Rattle.gpt_model.specs.Calls.{Edit, resize, rename, edit, accepted, Out, badName, entryOf, carries, slotRows, addRows, fitsAt, tableRows, change, openRows, rowsOf, step}
+use Rattle.gpt_model.specs.Calls.{NewPartition, Edit, resize, rename, edit, accepted, Out, badName, entryOf, carries, slotRows, addRows, fitsAt, tableRows, change, openRows, rowsOf, step}
 use Rattle.gpt_model.specs.Claims.{UsedSlot, NameOk, FitsAlone, NewOk}
 use Rattle.gpt_model.proofs.Room.{not-in-vacant, room-get, room-make}
 use Rattle.gpt_model.proofs.Entries.{length-slots}
@@ -72,27 +72,27 @@ name-make (u ∷ us) f = go (bool-cases (eqb u 0)) (name-make us)
 
 -- ---- the rows
 
-module _ (first last : ℕ) (es : List ℕ) (k : ℕ) where
-  pub slot-rows : (refusal (slotRows first last es k) ≡ none) ↔ UsedSlot es k
+module _ (es : List ℕ) (k : ℕ) where
+  pub slot-rows : (refusal (slotRows es k) ≡ none) ↔ UsedSlot es k
   slot-rows = (to, λ w. pick-false _ 12 _ (ap not (and-i _ _ (le-leb _ _ (w .0)) (le-leb _ _ (w .1)))) ∙ pick-false _ 13 _ (w .2))
     where
-      to : refusal (slotRows first last es k) ≡ none → UsedSlot es k
+      to : refusal (slotRows es k) ≡ none → UsedSlot es k
       to e =
-          let c = not-f _ (passes 12 (slotRows first last es k) e) in
-          (leb-true _ _ (and-l _ _ c), leb-true _ _ (and-r _ _ c), passes 13 (slotRows first last es k) e)
+          let c = not-f _ (passes 12 (slotRows es k) e) in
+          (leb-true _ _ (and-l _ _ c), leb-true _ _ (and-r _ _ c), passes 13 (slotRows es k) e)
 
   -- slot rows, then others
-  then-rows : (qs : List Row) {P : Type 0} → (refusal qs ≡ none) ↔ P → (refusal (slotRows first last es k ++ qs) ≡ none) ↔ (UsedSlot es k × P)
+  then-rows : (qs : List Row) {P : Type 0} → (refusal qs ≡ none) ↔ P → (refusal (slotRows es k ++ qs) ≡ none) ↔ (UsedSlot es k × P)
   then-rows qs w = (
-    λ e. let v = refusal-before (slotRows first last es k) qs e in (slot-rows .0 (v .0), w .0 (v .1)),
-    λ v. refusal-append (slotRows first last es k) qs (slot-rows .1 (v .0)) ∙ w .1 (v .1),
+    λ e. let v = refusal-before (slotRows es k) qs e in (slot-rows .0 (v .0), w .0 (v .1)),
+    λ v. refusal-append (slotRows es k) qs (slot-rows .1 (v .0)) ∙ w .1 (v .1),
   )
 
-  pub rename-rows : (name : List ℕ) → (refusal (tableRows first last es (rename k name)) ≡ none) ↔ (UsedSlot es k × NameOk name)
-  rename-rows name = then-rows (row (badName name) 23 ∷ []) (λ e. name-get name (passes 23 (row (badName name) 23 ∷ []) e), λ f. pick-false _ 23 _ (name-make name f))
+  pub rename-rows : (first last : ℕ) (name : List ℕ) → (refusal (tableRows first last es (rename k name)) ≡ none) ↔ (UsedSlot es k × NameOk name)
+  rename-rows first last name = then-rows (row (badName name) 23 ∷ []) (λ e. name-get name (passes 23 (row (badName name) 23 ∷ []) e), λ f. pick-false _ 23 _ (name-make name f))
 
-  fits-alone : (size : ℕ) → (fitsAt first last es k size ≡ true) ↔ FitsAlone last es k size
-  fits-alone size = (
+  fits-alone : (last size : ℕ) → (fitsAt last es k size ≡ true) ↔ FitsAlone last es k size
+  fits-alone last size = (
     λ e. let r = room-get _ _ _ _ e in (r .0, λ b i p q h ne. ap (inside b) (sym (other i ne)) ∙ any-none (inside b) rest vacant (r .1 b p q) i (omega (arith, long))),
     λ w. room-make _ _ _ _ (w .0, λ b p q. any-false (inside b) rest vacant (λ i h. each b i (omega (arith, long)) p q (w .1 b i p q) (ℕ-discrete i (k - 1)))),
   )
@@ -113,45 +113,45 @@ module _ (first last : ℕ) (es : List ℕ) (k : ℕ) where
           ∙ not-in-vacant b
       each b i h p q f (no z) = ap (inside b) (other i z) ∙ f h z
 
-  pub resize-rows : (size : ℕ) → (refusal (tableRows first last es (resize k size)) ≡ none) ↔ (UsedSlot es k × ((0 < size) × FitsAlone last es k size))
-  resize-rows size =
-      let rows : List Row = row (eqb size 0) 20 ∷ row (not (fitsAt first last es k size)) 25 ∷ [] in
+  pub resize-rows : (first last size : ℕ) → (refusal (tableRows first last es (resize k size)) ≡ none) ↔ (UsedSlot es k × ((0 < size) × FitsAlone last es k size))
+  resize-rows first last size =
+      let rows : List Row = row (eqb size 0) 20 ∷ row (not (fitsAt last es k size)) 25 ∷ [] in
       then-rows rows (
-        λ e. (let w : size ≢ 0 = eqb-false size 0 (passes 20 rows e) in omega arith, fits-alone size .0 (not-f _ (passes 25 rows e))),
-        λ w. pick-false _ 20 _ (let p = w .0 in ne-eqb size 0 (λ z. omega arith)) ∙ pick-false _ 25 _ (ap not (fits-alone size .1 (w .1))),
+        λ e. (let w : size ≢ 0 = eqb-false size 0 (passes 20 rows e) in omega arith, fits-alone last size .0 (not-f _ (passes 25 rows e))),
+        λ w. pick-false _ 20 _ (let p = w .0 in ne-eqb size 0 (λ z. omega arith)) ∙ pick-false _ 25 _ (ap not (fits-alone last size .1 (w .1))),
       )
 
 -- ---- an add's rows before the one for room
 
-module _ (first last : ℕ) (es type unique : List ℕ) (size : ℕ) (name : List ℕ) where
+module _ (es : List ℕ) (p : NewPartition) where
   abbrev rows : List Row
-  rows = addRows first last es type unique size name
+  rows = addRows es p
 
   -- the test of row 22, and what it says of each slot
-  new-unique : any (carries unique) (entries es) ≡ false → (k : ℕ) → UsedSlot es k → uniqueOf (entryOf es k) ≢ unique
+  new-unique : any (carries (p .unique)) (entries es) ≡ false → (k : ℕ) → UsedSlot es k → uniqueOf (entryOf es k) ≢ p .unique
   new-unique e k u q =
       let lo = u .0 in
       let hi = u .1 in
       clash (subst (λ (x : List ℕ). same (uniqueOf (entryOf es k)) x ≡ true) q (same-refl _))
-      (and-skip _ _ (ap not (u .2)) (any-none (carries unique) (entries es) [] e (k - 1) (omega (arith, length-chunks 128 128 es))))
+      (and-skip _ _ (ap not (u .2)) (any-none (carries (p .unique)) (entries es) [] e (k - 1) (omega (arith, length-chunks 128 128 es))))
 
-  unique-new : ((k : ℕ) → UsedSlot es k → uniqueOf (entryOf es k) ≢ unique) → any (carries unique) (entries es) ≡ false
-  unique-new f = any-false (carries unique) (entries es) [] (λ i h. one i (omega (arith, length-chunks 128 128 es)) (bool-cases (unused (getD (entries es) i []))))
+  unique-new : ((k : ℕ) → UsedSlot es k → uniqueOf (entryOf es k) ≢ p .unique) → any (carries (p .unique)) (entries es) ≡ false
+  unique-new f = any-false (carries (p .unique)) (entries es) [] (λ i h. one i (omega (arith, length-chunks 128 128 es)) (bool-cases (unused (getD (entries es) i []))))
     where
       at : (i : ℕ) → entryOf es (suc i) ≡ getD (entries es) i []
       at i = ap (λ (x : ℕ). getD (entries es) x []) (omega arith)
 
-      one : (i : ℕ) → i < 128 → (unused (getD (entries es) i []) ≡ true) ⊎ (unused (getD (entries es) i []) ≡ false) → carries unique (getD (entries es) i []) ≡ false
+      one : (i : ℕ) → i < 128 → (unused (getD (entries es) i []) ≡ true) ⊎ (unused (getD (entries es) i []) ≡ false) → carries (p .unique) (getD (entries es) i []) ≡ false
       one i h (inl u) = and-false-l _ _ (ap not u)
       one i h (inr u) = sym (and-t (ap not u) (sym (same-false _ _ (λ e. f (suc i) (omega arith, omega arith, ap unused (at i) ∙ u) (ap uniqueOf (at i) ∙ e)))))
 
-  pub new-get : (length type ≡ 16) × (length unique ≡ 16) × (length name ≡ 36) → refusal (addRows first last es type unique size name) ≡ none → NewOk es type unique size name
+  pub new-get : (length (p .type) ≡ 16) × (length (p .unique) ≡ 16) × (length (p .name) ≡ 36) → refusal (addRows es p) ≡ none → NewOk es p
   new-get l e = record {
     lengths = l;
     blocks = eqb-false _ _ (passes 20 rows e);
     typed = passes 21 rows e;
     own = (or-false-l _ _ (passes 22 rows e), new-unique (or-false-r _ _ (passes 22 rows e)));
-    named = name-get name (passes 23 rows e);
+    named = name-get (p .name) (passes 23 rows e);
     slot =
         let f = findIx-get unused (entries es) [] (not-f _ (passes 24 rows e)) in
         let h = f .0 in
@@ -159,11 +159,11 @@ module _ (first last : ℕ) (es type unique : List ℕ) (size : ℕ) (name : Lis
         (suc (findIx unused (entries es)), omega arith, omega (arith, length-chunks 128 128 es), ap (λ (x : ℕ). unused (getD (entries es) x [])) at ∙ f .1);
   }
 
-  pub new-make : NewOk es type unique size name → refusal (addRows first last es type unique size name) ≡ none
+  pub new-make : NewOk es p → refusal (addRows es p) ≡ none
   new-make w =
       pick-false _ 20 _ (ne-eqb _ _ (w .blocks))
       ∙ pick-false _ 21 _ (w .typed)
       ∙ pick-false _ 22 _ (or-false-i _ _ (w .own .0) (unique-new (w .own .1)))
-      ∙ pick-false _ 23 _ (name-make name (w .named))
+      ∙ pick-false _ 23 _ (name-make (p .name) (w .named))
       ∙ pick-false _ 24 _ (ap not (let s = w .slot in let lo = s .1 in let hi = s .2 in
       any-make unused (entries es) [] (s .0 - 1) (omega (arith, length-chunks 128 128 es)) (s .3)))

@@ -17,8 +17,8 @@ use Rattle.octets.proofs.Parts.{length-zeros}
 use Rattle.octets.proofs.Rows.{pick-false, passes, refusal-append, refusal-before}
 use Rattle.gpt_model.specs.Table.{vacant, apart, slots, goodTable}
 use Rattle.gpt_model.specs.Disk.{Shape, disk512, lastUsable, inRange, state, tableOf, freshHead, freshTail}
-use Rattle.gpt_model.specs.Ranges.{inside, place, freeCount, longestFree}
-use Rattle.gpt_model.specs.Calls.{Edit, add, delete, resize, rename, Call, read, freeCounts, repair, edit, refused, accepted, Out, out, decided, isNone, addRows, tableRows, change, edited, lengthsOf, readRows, openRows, rowsOf, repaired, step, formatRows, format}
+use Rattle.gpt_model.specs.Ranges.{inside, freeCount, longestFree}
+use Rattle.gpt_model.specs.Calls.{NewPartition, Edit, add, delete, resize, rename, Call, read, freeCounts, repair, edit, refused, accepted, Out, out, decided, isNone, addRows, startFor, tableRows, change, edited, lengthsOf, readRows, openRows, rowsOf, repaired, step, formatRows, format}
 use Rattle.gpt_model.specs.Lists.{Run, run, answers, applied, begun, total, StartsAfresh}
 use Rattle.gpt_model.specs.Claims.{FreeFrom, Passes, Sound, Formats, Demand3From, Demand3, Demand3At512, RefusedStays, BooksDifference, Numbers512, UsedSlot, NameOk, NewOk, Serves, NotEmpty, EditReadsBack, RepairReadsBack}
 use Rattle.gpt_model.proofs.Room.{place-none, place-some, place-is-none}
@@ -92,18 +92,18 @@ module _ (g : Shape) (n : ℕ) (r : Run) (v : Kept g n r) where
       apart-get _ _ (pairs-get apart (slots tab) vacant (good-apart (g .first) (lastUsable g n) tab good-tab) i j l (omega (arith, length-slots tab))) b p q
 
   -- an add whose checks before 25 pass: 25 where place finds nothing, else accepted
-  module _ (type unique : List ℕ) (size attributes : ℕ) (name : List ℕ) (e : Passes g n r type unique size attributes name) where
+  module _ (p : NewPartition) (e : Passes g n r p) where
     abbrev c : Call
-    c = edit (add type unique size attributes name)
+    c = edit (add p)
 
     abbrev before : List Row
-    before = openRows g n (r .head) (r .tail) (add type unique size attributes name) ++ addRows (g .first) (lastUsable g n) tab type unique size name
+    before = openRows g n (r .head) (r .tail) (add p) ++ addRows tab p
 
     abbrev start : Option ℕ
-    start = place (slots tab) (g .first) (lastUsable g n) size
+    start = startFor (g .first) (lastUsable g n) tab p
 
-    add-size : 0 < size
-    add-size = let w : size ≢ 0 = eqb-false size 0 (passes 20 before e) in omega arith
+    add-size : 0 < p .size
+    add-size = let w : p .size ≢ 0 = eqb-false (p .size) 0 (passes 20 before e) in omega arith
 
     -- only the row for room is left
     add-row : (b : Bool) → isNone start ≡ b → refusal (rowsOf g n (r .head) (r .tail) c) ≡ pickRow b 25 none
@@ -114,34 +114,34 @@ module _ (g : Shape) (n : ℕ) (r : Run) (v : Kept g n r) where
     add-no q = ap (λ (o : Out). o .answer) (step-refused g n (r .head) (r .tail) c 25 (add-row true (ap isNone q)))
 
     add-yes : (s : ℕ) → start ≡ some s
-        → step g n (r .head) (r .tail) c .answer ≡ accepted (change (g .first) (lastUsable g n) tab (add type unique size attributes name) .values)
+        → step g n (r .head) (r .tail) c .answer ≡ accepted (change (g .first) (lastUsable g n) tab (add p) .values)
     unfolding pickRow
     add-yes s q = ap (λ (o : Out). o .answer) (step-made g n (r .head) (r .tail) c (add-row false (ap isNone q)))
 
     abbrev NoRun : Type 0
-    NoRun = (s : ℕ) → ¬ FreeFrom g n (slots tab) size s
+    NoRun = (s : ℕ) → ¬ FreeFrom g n (slots tab) (p .size) s
 
     room-iff : (step g n (r .head) (r .tail) c .answer ≡ refused 25) ↔ NoRun
     room-iff = (to (option-cases start), λ f. add-no (place-is-none _ _ _ _ (λ s h w. f s (h, w .0, w .1))))
       where
         to : (start ≡ none) ⊎ ((s : ℕ) × (start ≡ some s)) → step g n (r .head) (r .tail) c .answer ≡ refused 25 → NoRun
-        to (inl q) a = λ s w. place-none (slots tab) (g .first) (lastUsable g n) size add-size q s (w .0) (w .1, w .2)
+        to (inl q) a = λ s w. place-none (slots tab) (g .first) (lastUsable g n) (p .size) add-size q s (w .0) (w .1, w .2)
         to (inr w) a = let b = add-yes (w .0) (w .1) in let z : _≡_ {A = ℕ} 0 1 = cc in absurd (omega arith)
 
-    fits-iff : (step g n (r .head) (r .tail) c .answer ≡ accepted (change (g .first) (lastUsable g n) tab (add type unique size attributes name) .values))
-        ↔ ((s : ℕ) × FreeFrom g n (slots tab) size s)
+    fits-iff : (step g n (r .head) (r .tail) c .answer ≡ accepted (change (g .first) (lastUsable g n) tab (add p) .values))
+        ↔ ((s : ℕ) × FreeFrom g n (slots tab) (p .size) s)
     fits-iff = (to (option-cases start), from (option-cases start))
       where
         to : (start ≡ none) ⊎ ((s : ℕ) × (start ≡ some s))
-            → step g n (r .head) (r .tail) c .answer ≡ accepted (change (g .first) (lastUsable g n) tab (add type unique size attributes name) .values)
-            → (s : ℕ) × FreeFrom g n (slots tab) size s
+            → step g n (r .head) (r .tail) c .answer ≡ accepted (change (g .first) (lastUsable g n) tab (add p) .values)
+            → (s : ℕ) × FreeFrom g n (slots tab) (p .size) s
         to (inl q) a = let b = add-no q in let z : _≡_ {A = ℕ} 0 1 = cc in absurd (omega arith)
-        to (inr w) a = let p = place-some (slots tab) (g .first) (lastUsable g n) size (w .0) (w .1) in (w .0, (p .0, p .1 .0, p .1 .1))
+        to (inr w) a = let k = place-some (slots tab) (g .first) (lastUsable g n) (p .size) (w .0) (w .1) in (w .0, (k .0, k .1 .0, k .1 .1))
 
-        from : (start ≡ none) ⊎ ((s : ℕ) × (start ≡ some s)) → ((s : ℕ) × FreeFrom g n (slots tab) size s)
-            → step g n (r .head) (r .tail) c .answer ≡ accepted (change (g .first) (lastUsable g n) tab (add type unique size attributes name) .values)
+        from : (start ≡ none) ⊎ ((s : ℕ) × (start ≡ some s)) → ((s : ℕ) × FreeFrom g n (slots tab) (p .size) s)
+            → step g n (r .head) (r .tail) c .answer ≡ accepted (change (g .first) (lastUsable g n) tab (add p) .values)
         from (inr w) a = add-yes (w .0) (w .1)
-        from (inl q) a = let f = a .1 in absurd (place-none (slots tab) (g .first) (lastUsable g n) size add-size q (a .0) (f .0) (f .1, f .2))
+        from (inl q) a = let f = a .1 in absurd (place-none (slots tab) (g .first) (lastUsable g n) (p .size) add-size q (a .0) (f .0) (f .1, f .2))
 
   pub sound : Sound g n r
   sound = record {
@@ -176,11 +176,11 @@ module _ (g : Shape) (n : ℕ) (r : Run) (v : Kept g n r) where
           (p .0, (p .1, p .2 .0, p .2 .1)),
           λ size s w. room-fits (slots tab) (g .first) (lastUsable g n) size s (w .0) (w .1, w .2),
         );
-    passes = λ type unique size attributes name. (new-passes type unique size attributes name, passes-new type unique size attributes name);
+    passes = λ p. (new-passes p, passes-new p);
     fits = fits-iff;
-    deletes = λ k. accepts (delete k) refl (slot-rows (g .first) (lastUsable g n) tab k);
-    renames = λ k name. (named k name, λ w. accepts (rename k name) (eq-eqb _ _ (w .0)) (rename-rows (g .first) (lastUsable g n) tab k name) .1 (w .1, w .2));
-    resizes = λ k size. accepts (resize k size) refl (resize-rows (g .first) (lastUsable g n) tab k size);
+    deletes = λ k. accepts (delete k) refl (slot-rows tab k);
+    renames = λ k name. (named k name, λ w. accepts (rename k name) (eq-eqb _ _ (w .0)) (rename-rows tab k (g .first) (lastUsable g n) name) .1 (w .1, w .2));
+    resizes = λ k size. accepts (resize k size) refl (resize-rows tab k (g .first) (lastUsable g n) size);
   }
     where
       usable-run : g .first ≤ suc (lastUsable g n)
@@ -201,24 +201,24 @@ module _ (g : Shape) (n : ℕ) (r : Run) (v : Kept g n r) where
       named k name a =
           let e = accepted-none g n (r .head) (r .tail) (edit (rename k name)) [] a in
           let l = row1 g n (r .head) (r .tail) (lengthsOf (rename k name)) (open-read g n (r .head) (r .tail) (rename k name) (edit-open g n (r .head) (r .tail) (rename k name) e)) .2 in
-          let w = accepts (rename k name) l (rename-rows (g .first) (lastUsable g n) tab k name) .0 a in
+          let w = accepts (rename k name) l (rename-rows tab k (g .first) (lastUsable g n) name) .0 a in
           (eqb-true _ _ l, w .0, w .1)
 
-      new-passes : (type unique : List ℕ) (size attributes : ℕ) (name : List ℕ) → Passes g n r type unique size attributes name → NewOk tab type unique size name
-      new-passes type unique size attributes name e =
-          let d = add type unique size attributes name in
-          let w = refusal-before (openRows g n (r .head) (r .tail) d) (addRows (g .first) (lastUsable g n) tab type unique size name) e in
+      new-passes : (p : NewPartition) → Passes g n r p → NewOk tab p
+      new-passes p e =
+          let d = add p in
+          let w = refusal-before (openRows g n (r .head) (r .tail) d) (addRows tab p) e in
           let l = row1 g n (r .head) (r .tail) (lengthsOf d) (open-read g n (r .head) (r .tail) d (w .0)) .2 in
-          new-get (g .first) (lastUsable g n) tab type unique size name
+          new-get tab p
           (eqb-true _ _ (and-l _ _ (and-l _ _ l)), eqb-true _ _ (and-r _ _ (and-l _ _ l)), eqb-true _ _ (and-r _ _ l)) (w .1)
 
-      passes-new : (type unique : List ℕ) (size attributes : ℕ) (name : List ℕ) → NewOk tab type unique size name → Passes g n r type unique size attributes name
-      passes-new type unique size attributes name w =
-          let d = add type unique size attributes name in
+      passes-new : (p : NewPartition) → NewOk tab p → Passes g n r p
+      passes-new p w =
+          let d = add p in
           let l = w .lengths in
-          refusal-append (openRows g n (r .head) (r .tail) d) (addRows (g .first) (lastUsable g n) tab type unique size name)
+          refusal-append (openRows g n (r .head) (r .tail) d) (addRows tab p)
           (opens d (and-i _ _ (and-i _ _ (eq-eqb _ _ (l .0)) (eq-eqb _ _ (l .1))) (eq-eqb _ _ (l .2))))
-          ∙ new-make (g .first) (lastUsable g n) tab type unique size name w
+          ∙ new-make tab p w
 
 -- ---- the theorems
 

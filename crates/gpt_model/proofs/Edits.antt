@@ -18,8 +18,8 @@ use Rattle.octets.proofs.Tests.{findIx-get, any-none}
 use Rattle.octets.proofs.Parts.{length-zeros}
 use Rattle.octets.proofs.Rows.{passes}
 use Rattle.octets.proofs.Chunks.{length-chunks, length-chunk}
-use Rattle.gpt_model.specs.Table.{Slot, vacant, spans, sizeOf, bounded, apart, uniqueOf, firstOf, unused, slotOf, entryOk, entries, slots, goodTable, entryWith}
-use Rattle.gpt_model.specs.Calls.{Edit, add, delete, resize, rename, carries, isNone, valueOf, tableRows, lowestUnused, startOf, change, lengthsOf}
+use Rattle.gpt_model.specs.Table.{Slot, vacant, spans, sizeOf, bounded, apart, uniqueOf, firstOf, unused, slotOf, entryOk, entries, slots, goodTable}
+use Rattle.gpt_model.specs.Calls.{NewPartition, Edit, add, delete, resize, rename, carries, isNone, valueOf, lowestUnused, newEntry, startFor, tableRows, change, lengthsOf}
 use Rattle.gpt_model.specs.Lists.{Ledger, bookEdit}
 use Rattle.gpt_model.proofs.Room.{Room, room-get, place-some}
 use Rattle.gpt_model.proofs.Fields.{length-new, new-type, new-unique, new-first, new-last, length-sized, sized-type, sized-unique, sized-first, sized-last, length-named, named-type, named-unique, named-first, named-last}
@@ -200,13 +200,13 @@ module _ (first last : ℕ) (small : last < 256 ^ 8) (es : List ℕ) (len : leng
           (subst (λ (s : Slot). bounded first last s ≡ true) (sym (other j ne)) (bounded-at j hj))))
 
   -- a new entry in an unused slot i, at a start s with room: for add, and for a start that is given
-  pub places : (i s : ℕ) (type unique : List ℕ) (size attributes : ℕ) (name : List ℕ)
-      → i < 128 → unused (entryAt es i) ≡ true → 0 < size → first ≤ s → Room (slots es) last size s
-      → length type ≡ 16 → length unique ≡ 16 → length name ≡ 36 → isZero type ≡ false → isZero unique ≡ false → any (carries unique) (entries es) ≡ false
-      → Fits first last es (add type unique size attributes name) (suc i) i (entryWith type unique s (s + size - 1) attributes name)
-  places i s type unique size attributes name hi u pos low room lt lu ln zt zu fresh = record {
+  pub places : (i s : ℕ) (p : NewPartition)
+      → i < 128 → unused (entryAt es i) ≡ true → 0 < p .size → first ≤ s → Room (slots es) last (p .size) s
+      → length (p .type) ≡ 16 → length (p .unique) ≡ 16 → isZero (p .type) ≡ false → isZero (p .unique) ≡ false → any (carries (p .unique)) (entries es) ≡ false
+      → Fits first last es (add p) (suc i) i (newEntry p s)
+  places i s p hi u pos low room lt lu zt zu fresh = record {
     index = hi;
-    len = length-new type unique s l attributes name;
+    len = length-new (p .type) (p .unique) s l (p .attributes) (p .name);
     ok = used-ok first last e′ used′;
     beside = far;
     sizes = λ b q. ap₂ (set (b .sizes)) same-i (sym size-now);
@@ -217,55 +217,53 @@ module _ (first last : ℕ) (small : last < 256 ^ 8) (es : List ℕ) (len : leng
       same-i = omega arith
 
       l : ℕ
-      l = s + size - 1
+      l = s + p .size - 1
 
       e′ : List ℕ
-      e′ = entryWith type unique s (s + size - 1) attributes name
+      e′ = newEntry p s
 
       fs : s < 256 ^ 8
       fs = let a = room .0 in omega arith
 
-      fl : s + size - 1 < 256 ^ 8
+      fl : s + p .size - 1 < 256 ^ 8
       fl = let a = room .0 in omega arith
 
       used′ : Used first last e′
       used′ = record {
-        type = ap isZero (new-type type unique s l attributes name lt) ∙ zt;
-        unique = ap isZero (new-unique type unique s l attributes name lu) ∙ zu;
-        low = rw (new-first type unique s l attributes name fs) low;
-        mid = rw (new-first type unique s l attributes name fs, new-last type unique s l attributes name fl) (omega arith);
-        high = rw (new-last type unique s l attributes name fl) (let a = room .0 in omega arith);
+        type = ap isZero (new-type (p .type) (p .unique) s l (p .attributes) (p .name) lt) ∙ zt;
+        unique = ap isZero (new-unique (p .type) (p .unique) s l (p .attributes) (p .name) lu) ∙ zu;
+        low = rw (new-first (p .type) (p .unique) s l (p .attributes) (p .name) fs) low;
+        mid = rw (new-first (p .type) (p .unique) s l (p .attributes) (p .name) fs, new-last (p .type) (p .unique) s l (p .attributes) (p .name) fl) (omega arith);
+        high = rw (new-last (p .type) (p .unique) s l (p .attributes) (p .name) fl) (let a = room .0 in omega arith);
       }
 
       slot-now : slotOf e′ ≡ spans s l
-      slot-now = slot-used e′ (used-type e′ (used′ .type)) ∙ ap₂ spans (new-first type unique s l attributes name fs) (new-last type unique s l attributes name fl)
+      slot-now = slot-used e′ (used-type e′ (used′ .type)) ∙ ap₂ spans (new-first (p .type) (p .unique) s l (p .attributes) (p .name) fs) (new-last (p .type) (p .unique) s l (p .attributes) (p .name) fl)
 
-      size-now : sizeOf (slotOf e′) ≡ size
+      size-now : sizeOf (slotOf e′) ≡ p .size
       size-now = ap sizeOf slot-now ∙ omega arith
 
       far : (j : ℕ) → j < 128 → j ≢ i → Beside e′ (entryAt es j)
       far j hj ne a b = (
-        subst (λ (x : List ℕ). same x (uniqueOf (entryAt es j)) ≡ false) (sym (new-unique type unique s l attributes name lu))
-            (same-sym _ _ (and-skip _ _ (ap not b) (any-none (carries unique) (entries es) [] fresh j (omega (arith, length-chunks 128 128 es))))),
+        subst (λ (x : List ℕ). same x (uniqueOf (entryAt es j)) ≡ false) (sym (new-unique (p .type) (p .unique) s l (p .attributes) (p .name) lu))
+            (same-sym _ _ (and-skip _ _ (ap not b) (any-none (carries (p .unique)) (entries es) [] fresh j (omega (arith, length-chunks 128 128 es))))),
         rw slot-now
             (subst (λ (x : Slot). apart (spans s l) x ≡ true) (getD-slot es j)
-            (room-apart first last (slots es) size s j pos room (omega (arith, length-slots es))
+            (room-apart first last (slots es) (p .size) s j pos room (omega (arith, length-slots es))
             (subst (λ (x : Slot). bounded first last x ≡ true) (sym (getD-slot es j)) (bounded-at j hj)))),
       )
 
-  adds : (type unique : List ℕ) (size attributes : ℕ) (name : List ℕ) → lengthsOf (add type unique size attributes name) ≡ true → refusal (tableRows first last es (add type unique size attributes name)) ≡ none
-      → FitsEdit first last es (add type unique size attributes name)
-  adds type unique size attributes name lens e =
-      let rows = tableRows first last es (add type unique size attributes name) in
-      let p = place-some (slots es) first last size (startOf first last es size) (place-value _ (passes 25 rows e)) in
+  adds : (p : NewPartition) → lengthsOf (add p) ≡ true → refusal (tableRows first last es (add p)) ≡ none → FitsEdit first last es (add p)
+  adds p lens e =
+      let rows = tableRows first last es (add p) in
+      let w = place-some (slots es) first last (p .size) (valueOf (startFor first last es p)) (place-value _ (passes 25 rows e)) in
       let f = findIx-get unused (entries es) [] (not-f _ (passes 24 rows e)) in
-      places (lowestUnused first last es) (startOf first last es size) type unique size attributes name (omega (arith, f .0, length-chunks 128 128 es)) (f .1)
-      (nonzero size (passes 20 rows e)) (p .0) (p .1)
-      (eqb-true _ _ (and-l _ _ (and-l _ _ lens))) (eqb-true _ _ (and-r _ _ (and-l _ _ lens))) (eqb-true _ _ (and-r _ _ lens))
+      places (lowestUnused es) (valueOf (startFor first last es p)) p (omega (arith, f .0, length-chunks 128 128 es)) (f .1)
+      (nonzero (p .size) (passes 20 rows e)) (w .0) (w .1) (eqb-true _ _ (and-l _ _ (and-l _ _ lens))) (eqb-true _ _ (and-r _ _ (and-l _ _ lens)))
       (passes 21 rows e) (or-false-l _ _ (passes 22 rows e)) (or-false-r _ _ (passes 22 rows e))
 
   pub fits : (d : Edit) → lengthsOf d ≡ true → refusal (tableRows first last es d) ≡ none → FitsEdit first last es d
-  fits (add type unique size attributes name) lens e = adds type unique size attributes name lens e
+  fits (add p) lens e = adds p lens e
   fits (delete k) lens e = deletes k e
   fits (resize k size) lens e = resizes k size e
   fits (rename k name) lens e = renames k name (eqb-true _ _ lens) e

@@ -83,7 +83,7 @@ module _ (first last : ℕ) (es : List ℕ) (good : goodTable first last es ≡ 
       ∙ not-in-vacant b
   slot-free b j h p q (no z) = ap (inside b) (getD-set-other (slots es) (k - 1) j vacant vacant z ∙ getD-slot es j) ∙ other-slot b j h z p q
 
-  pub own-room : fitsAt first last es k (suc (lastOf e) - firstOf e) ≡ true
+  pub own-room : fitsAt last es k (suc (lastOf e) - firstOf e) ≡ true
   own-room =
       let u = own in
       let m = u .mid in
@@ -144,7 +144,7 @@ resizeToSame g n h t k wide bytes e =
     let m = u .mid in
     let positive : size ≢ 0 = λ z. omega arith in
     let rows : refusal (rowsOf g n h t (edit (resize k size))) ≡ none =
-    refusal-append (rowsOf g n h t (edit (delete k))) (row (eqb size 0) 20 ∷ row (not (fitsAt first last es k size)) 25 ∷ []) e
+    refusal-append (rowsOf g n h t (edit (delete k))) (row (eqb size 0) 20 ∷ row (not (fitsAt last es k size)) 25 ∷ []) e
     ∙ pick-false _ 20 _ (ne-eqb _ _ positive) ∙ pick-false _ 25 _ (ap not (own-room first last es good k lo hi used)) in
     let same : edited first last es (resize k size) ≡ es =
     written-same first last es good k lo hi used long

@@ -19,9 +19,9 @@ use Rattle.octets.proofs.Parts.{part-here, part-skip, part-part, length-zeros}
 use Rattle.octets.proofs.Puts.{put-inside, getD-put-out}
 use Rattle.octets.proofs.Tests.{findIx-get}
 use Rattle.octets.proofs.Chunks.{length-chunks, putChunk-put}
-use Rattle.gpt_model.specs.Table.{firstOf, nameBytes, entryWith, unused, entries, slots}
+use Rattle.gpt_model.specs.Table.{firstOf, nameBytes, unused, entries, slots}
 use Rattle.gpt_model.specs.Disk.{Shape, lastUsable, tableOf}
-use Rattle.gpt_model.specs.Calls.{Edit, add, delete, resize, rename, edit, accepted, Out, tableRows, startOf, change, edited, lengthsOf}
+use Rattle.gpt_model.specs.Calls.{NewPartition, Edit, add, delete, resize, rename, edit, accepted, Out, valueOf, newEntry, startFor, tableRows, change, edited, lengthsOf}
 use Rattle.gpt_model.specs.Claims.{Outside}
 use Rattle.gpt_model.specs.Stored.{firstAt, NameAt, StaysBut, Added, EditSays, EditWrites}
 use Rattle.gpt_model.proofs.Room.{place-some}
@@ -109,38 +109,38 @@ module _ (g : Shape) (n : ℕ) (es : List ℕ) (long : length es ≡ 16384) wher
       subst (λ (x : List ℕ). (accepted [] ≡ accepted []) × NameAt x (k - 1) name × StaysBut at 72 es x) (sym q)
       (refl, named es long (k - 1) h name _ ln (part-put-at v es at 72 lv (omega arith)), stays es v at 72 lv)
 
-  add-says : (type unique : List ℕ) (size attributes : ℕ) (name : List ℕ) → length type ≡ 16 → length unique ≡ 16 → length name ≡ 36
-      → refusal (tableRows (g .first) (lastUsable g n) es (add type unique size attributes name)) ≡ none → Says (add type unique size attributes name)
-  add-says type unique size attributes name lt lu ln e =
-      let rows = tableRows (g .first) (lastUsable g n) es (add type unique size attributes name) in
+  add-says : (p : NewPartition) → length (p .type) ≡ 16 → length (p .unique) ≡ 16 → length (p .name) ≡ 36
+      → refusal (tableRows (g .first) (lastUsable g n) es (add p)) ≡ none → Says (add p)
+  add-says p lt lu ln e =
+      let rows = tableRows (g .first) (lastUsable g n) es (add p) in
       let i = findIx unused (entries es) in
-      let s = startOf (g .first) (lastUsable g n) es size in
-      let p = place-some (slots es) (g .first) (lastUsable g n) size s (place-value _ (passes 25 rows e)) in
+      let s = valueOf (startFor (g .first) (lastUsable g n) es p) in
+      let r = place-some (slots es) (g .first) (lastUsable g n) (p .size) s (place-value _ (passes 25 rows e)) in
       let f = findIx-get unused (entries es) [] (not-f _ (passes 24 rows e)) in
       let h : i < 128 = omega (arith, f .0, length-chunks 128 128 es) in
-      let new = entryWith type unique s (s + size - 1) attributes name in
-      let ln′ = length-new type unique s (s + size - 1) attributes name in
+      let new = newEntry p s in
+      let ln′ = length-new (p .type) (p .unique) s (s + p .size - 1) (p .attributes) (p .name) in
       let q = replaced es long i h new ln′ in
       let at : (k w : ℕ) → k + w ≤ 128 → part (i * 128 + k) w (put (i * 128) new es) ≡ part k w new = λ k w l. inner es new (i * 128) 128 ln′ k w l (omega arith) in (
         i,
         s,
         refl,
-        subst (λ (x : List ℕ). Added g n type unique size attributes name es x i s) (sym q) (record {
+        subst (λ (x : List ℕ). Added g n p es x i s) (sym q) (record {
           slot = (h, λ u. clash (f .1) (used-is es i h ∙ u), λ j l. sym (used-is es j (omega arith)) ∙ findIx-before unused (entries es) [] j l);
-          start = ((p .0, p .1 .0, p .1 .1), λ b l w. p .2 b (w .0) l (w .1, w .2));
-          typeGuid = ap (λ (x : ℕ). part x 16 (put (i * 128) new es)) (omega arith) ∙ at 0 16 (omega arith) ∙ new-type type unique s (s + size - 1) attributes name lt;
-          uniqueGuid = at 16 16 (omega arith) ∙ new-unique type unique s (s + size - 1) attributes name lu;
-          first = at 32 8 (omega arith) ∙ new-first-bytes type unique s (s + size - 1) attributes name;
-          last = at 40 8 (omega arith) ∙ new-last-bytes type unique s (s + size - 1) attributes name;
-          bits = at 48 8 (omega arith) ∙ new-attributes type unique s (s + size - 1) attributes name;
-          units = named es long i h name _ ln (at 56 72 (omega arith) ∙ new-name type unique s (s + size - 1) attributes name ln);
+          start = ((r .0, r .1 .0, r .1 .1), λ b l w. r .2 b (w .0) l (w .1, w .2));
+          typeGuid = ap (λ (x : ℕ). part x 16 (put (i * 128) new es)) (omega arith) ∙ at 0 16 (omega arith) ∙ new-type (p .type) (p .unique) s (s + p .size - 1) (p .attributes) (p .name) lt;
+          uniqueGuid = at 16 16 (omega arith) ∙ new-unique (p .type) (p .unique) s (s + p .size - 1) (p .attributes) (p .name) lu;
+          first = at 32 8 (omega arith) ∙ new-first-bytes (p .type) (p .unique) s (s + p .size - 1) (p .attributes) (p .name);
+          last = at 40 8 (omega arith) ∙ new-last-bytes (p .type) (p .unique) s (s + p .size - 1) (p .attributes) (p .name);
+          bits = at 48 8 (omega arith) ∙ new-attributes (p .type) (p .unique) s (s + p .size - 1) (p .attributes) (p .name);
+          units = named es long i h (p .name) _ ln (at 56 72 (omega arith) ∙ new-name (p .type) (p .unique) s (s + p .size - 1) (p .attributes) (p .name) ln);
           others = stays es new (i * 128) 128 ln′;
         }),
       )
 
   says : (d : Edit) → lengthsOf d ≡ true → refusal (tableRows (g .first) (lastUsable g n) es d) ≡ none → FitsEdit (g .first) (lastUsable g n) es d → Says d
-  says (add type unique size attributes name) l e f =
-      add-says type unique size attributes name (eqb-true _ _ (and-l _ _ (and-l _ _ l))) (eqb-true _ _ (and-r _ _ (and-l _ _ l))) (eqb-true _ _ (and-r _ _ l)) e
+  says (add p) l e f =
+      add-says p (eqb-true _ _ (and-l _ _ (and-l _ _ l))) (eqb-true _ _ (and-r _ _ (and-l _ _ l))) (eqb-true _ _ (and-r _ _ l)) e
   says (delete k) l e f = delete-says k (f .index)
   says (resize k size) l e f = resize-says k size (f .index) (f .len)
   says (rename k name) l e f = rename-says k name (eqb-true _ _ l) (f .index) (f .len)

@@ -82,7 +82,7 @@ module _ (g : Shape) (n : ℕ) (h t : List ℕ) (one : state g n h t ≡ 1) wher
   none10 read = rw one
   none10 freeCounts = rw one
   none10 repair = rw one
-  none10 (edit (add type unique size attributes name)) = rw one
+  none10 (edit (add p)) = rw one
   none10 (edit (delete k)) = rw one
   none10 (edit (resize k size)) = rw one
   none10 (edit (rename k name)) = rw one
@@ -92,7 +92,7 @@ module _ (g : Shape) (n : ℕ) (h t : List ℕ) (one : state g n h t ≡ 1) wher
   none11 read = refl
   none11 freeCounts = refl
   none11 repair = refl
-  none11 (edit (add type unique size attributes name)) = rw one
+  none11 (edit (add p)) = rw one
   none11 (edit (delete k)) = rw one
   none11 (edit (resize k size)) = rw one
   none11 (edit (rename k name)) = rw one

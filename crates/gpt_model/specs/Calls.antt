@@ -13,9 +13,17 @@ use Rattle.gpt_model.specs.Disk.{Shape, lastUsable, inRange, primary, ba
 use Rattle.gpt_model.specs.Disk.{withTable, withCopy, freshHead, freshTail}
 use Rattle.gpt_model.specs.Ranges.{roomAt, place, freeCount, longestFree}
 
--- D15: Add is given type, unique GUID (16 stored bytes each), size in blocks, attributes and name (36 units). A slot is named by its number, from 1 on.
+-- D15: Add is given type, unique GUID (16 stored bytes each), size in blocks, attributes and name (36 units)
+pub record NewPartition : Type 0 where
+  pub type : List ℕ
+  pub unique : List ℕ
+  pub size : ℕ
+  pub attributes : ℕ
+  pub name : List ℕ
+
+-- a slot is named by its number, from 1 on
 pub data Edit : Type 0 where
-  add : List ℕ → List ℕ → ℕ → ℕ → List ℕ → Edit
+  add : NewPartition → Edit
   delete : ℕ → Edit
   resize : ℕ → ℕ → Edit
   rename : ℕ → List ℕ → Edit
@@ -70,48 +78,52 @@ pub record Change : Type 0 where
   pub index : ℕ
   pub entry : List ℕ
 
+-- R9: 12 / 13: partition number not 1 to 128 / slot unused
+abbrev pub slotRows : List ℕ → ℕ → List Row
+slotRows es k = row (not (leb 1 k and leb k slotCount)) 12 ∷ row (unused (entryOf es k)) 13 ∷ []
+
+-- R10: 20: size zero. R11: 21 / 22: type GUID zero / unique GUID zero or already in a used slot. R13: 24 / 25: no unused slot / no room
+abbrev pub addRows : List ℕ → NewPartition → List Row
+addRows es p =
+    row (eqb (p .size) 0) 20
+    ∷ row (isZero (p .type)) 21
+    ∷ row (isZero (p .unique) or any (carries (p .unique)) (entries es)) 22
+    ∷ row (badName (p .name)) 23
+    ∷ row (not (any unused (entries es))) 24
+    ∷ []
+
+-- D18: it gets 25 exactly when a block of the new range lies past N−34 or in another partition
+abbrev pub fitsAt : ℕ → List ℕ → ℕ → ℕ → Bool
+fitsAt last es k size = roomAt (set (slots es) (k - 1) vacant) last size (firstOf (entryOf es k))
+
+-- D15: takes the lowest unused slot, here counted from 0
+abbrev pub lowestUnused : List ℕ → ℕ
+lowestUnused es = findIx unused (entries es)
+
+-- the entry of a new partition that starts at block s
+abbrev pub newEntry : NewPartition → ℕ → List ℕ
+newEntry p s = entryWith (p .type) (p .unique) s (s + p .size - 1) (p .attributes) (p .name)
+
 module _ (first last : ℕ) (es : List ℕ) where
-  -- R9: 12 / 13: partition number not 1 to 128 / slot unused
-  abbrev pub slotRows : ℕ → List Row
-  slotRows k = row (not (leb 1 k and leb k slotCount)) 12 ∷ row (unused (entryOf es k)) 13 ∷ []
-
-  -- R10: 20: size zero. R11: 21 / 22: type GUID zero / unique GUID zero or already in a used slot. R13: 24 / 25: no unused slot / no room
-  abbrev pub addRows : List ℕ → List ℕ → ℕ → List ℕ → List Row
-  addRows type unique size name =
-      row (eqb size 0) 20
-      ∷ row (isZero type) 21
-      ∷ row (isZero unique or any (carries unique) (entries es)) 22
-      ∷ row (badName name) 23
-      ∷ row (not (any unused (entries es))) 24
-      ∷ []
-
-  -- D18: it gets 25 exactly when a block of the new range lies past N−34 or in another partition
-  abbrev pub fitsAt : ℕ → ℕ → Bool
-  fitsAt k size = roomAt (set (slots es) (k - 1) vacant) last size (firstOf (entryOf es k))
+  -- D15: and the lowest start with enough free blocks
+  abbrev pub startFor : NewPartition → Option ℕ
+  startFor p = place (slots es) first last (p .size)
 
   -- R27: Add: 1, 2, 10, 11, 20, 21, 22, 23, 24, 25. R28: Delete: 1, 2, 10, 11, 12, 13. R29: Rename the same, then 23. R30: Resize as delete, then 20, 25.
   abbrev pub tableRows : Edit → List Row
-  tableRows (add type unique size attributes name) = addRows type unique size name ++ (row (isNone (place (slots es) first last size)) 25 ∷ [])
-  tableRows (delete k) = slotRows k
-  tableRows (resize k size) = slotRows k ++ (row (eqb size 0) 20 ∷ row (not (fitsAt k size)) 25 ∷ [])
-  tableRows (rename k name) = slotRows k ++ (row (badName name) 23 ∷ [])
-
-  -- D15: takes the lowest unused slot and the lowest start with enough free blocks
-  abbrev pub lowestUnused : ℕ
-  lowestUnused = findIx unused (entries es)
-
-  abbrev pub startOf : ℕ → ℕ
-  startOf size = valueOf (place (slots es) first last size)
+  tableRows (add p) = addRows es p ++ (row (isNone (startFor p)) 25 ∷ [])
+  tableRows (delete k) = slotRows es k
+  tableRows (resize k size) = slotRows es k ++ (row (eqb size 0) 20 ∷ row (not (fitsAt last es k size)) 25 ∷ [])
+  tableRows (rename k name) = slotRows es k ++ (row (badName name) 23 ∷ [])
 
   -- what an edit answers, and the one entry that it writes, counted from 0
   -- D16: Delete zeroes the slot. D18: Resize sets the last block alone, to the size asked.
   -- D17: Rename sets the entry's 72 name bytes alone, to 36 given units.
   abbrev pub change : Edit → Change
-  change (add type unique size attributes name) = record {
-    values = suc lowestUnused ∷ startOf size ∷ [];
-    index = lowestUnused;
-    entry = entryWith type unique (startOf size) (startOf size + size - 1) attributes name;
-  }
+  change (add p) =
+      let slot = lowestUnused es in
+      let start = valueOf (startFor p) in
+      record { values = suc slot ∷ start ∷ []; index = slot; entry = newEntry p start }
   change (delete k) = record { values = []; index = k - 1; entry = zeros entryBytes }
   change (resize k size) = record { values = []; index = k - 1; entry = put 40 (le 8 (firstOf (entryOf es k) + size - 1)) (entryOf es k) }
   change (rename k name) = record { values = []; index = k - 1; entry = put 56 (nameBytes name) (entryOf es k) }
@@ -124,7 +136,7 @@ module _ (first last : ℕ) (es : List ℕ) where
 
 -- R4: a lent buffer has a wrong length. Right ones: of what an edit is lent besides head and tail; of head and tail.
 abbrev pub lengthsOf : Edit → Bool
-lengthsOf (add type unique size attributes name) = eqb (length type) 16 and eqb (length unique) 16 and eqb (length name) 36
+lengthsOf (add p) = eqb (length (p .type)) 16 and eqb (length (p .unique)) 16 and eqb (length (p .name)) 36
 lengthsOf (delete k) = true
 lengthsOf (resize k size) = true
 lengthsOf (rename k name) = eqb (length name) 36

@@ -12,7 +12,7 @@ use Rattle.gpt_model.specs.Table.{entryBytes, uniqueOf, firstOf, lastOf,
 use Rattle.gpt_model.specs.Disk.{Shape, disk512, lastUsable, usable, inRange, Side, primary, backup, entriesBlock, lentBytes, headerAt, entriesAt}
 use Rattle.gpt_model.specs.Disk.{headerBytes, state, lent, tableOf}
 use Rattle.gpt_model.specs.Ranges.{inside, lies, taken}
-use Rattle.gpt_model.specs.Calls.{Edit, add, delete, resize, rename, Call, read, freeCounts, repair, edit, refused, accepted, out}
+use Rattle.gpt_model.specs.Calls.{NewPartition, Edit, add, delete, resize, rename, Call, read, freeCounts, repair, edit, refused, accepted, out}
 use Rattle.gpt_model.specs.Calls.{entryOf, addRows, change, edited, openRows, rowsOf, step, format}
 use Rattle.gpt_model.specs.Lists.{Ledger, sizeWas, bookEdit, Run, run, answers, applied, begun, slotsOf, StartsAfresh}
 
@@ -23,10 +23,8 @@ abbrev pub FreeFrom : Shape → ℕ → List Slot → ℕ → ℕ → Type 0
 FreeFrom g n t size s = (g .first ≤ s) × (s + size ≤ suc (lastUsable g n)) × ((b : ℕ) → s ≤ b → b < s + size → lies t b ≡ false)
 
 -- an add that comes next passes its checks before the one for room
-abbrev pub Passes : Shape → ℕ → Run → List ℕ → List ℕ → ℕ → ℕ → List ℕ → Type 0
-Passes g n r type unique size attributes name =
-    refusal (openRows g n (r .head) (r .tail) (add type unique size attributes name)
-    ++ addRows (g .first) (lastUsable g n) (tableOf g n (r .head) (r .tail)) type unique size name) ≡ none
+abbrev pub Passes : Shape → ℕ → Run → NewPartition → Type 0
+Passes g n r p = refusal (openRows g n (r .head) (r .tail) (add p) ++ addRows (tableOf g n (r .head) (r .tail)) p) ≡ none
 
 pub record Sound (g : Shape) (n : ℕ) (r : Run) : Type 0 where
   -- No usable block lies in two partitions.
@@ -36,9 +34,8 @@ pub record Sound (g : Shape) (n : ℕ) (r : Run) : Type 0 where
   pub counted : taken (slotsOf g n r) (g .first) (lastUsable g n) + r .ledger .back ≡ r .ledger .granted
   -- An add that comes next, once its earlier checks pass, is refused for room exactly when no run of as many free blocks as it asks exists, freed ones
   -- included.
-  pub room : (type unique : List ℕ) (size attributes : ℕ) (name : List ℕ) → Passes g n r type unique size attributes name
-      → (step g n (r .head) (r .tail) (edit (add type unique size attributes name)) .answer ≡ refused 25)
-      ↔ ((s : ℕ) → ¬ FreeFrom g n (slotsOf g n r) size s)
+  pub room : (p : NewPartition) → Passes g n r p
+      → (step g n (r .head) (r .tail) (edit (add p)) .answer ≡ refused 25) ↔ ((s : ℕ) → ¬ FreeFrom g n (slotsOf g n r) (p .size) s)
 
 -- a formatting with any N in its range and any nonzero disk GUID, whatever head and tail held, on any shape whose blocks have room for a header
 pub record Formats (g : Shape) (n : ℕ) (guid h t : List ℕ) : Type 0 where
@@ -101,12 +98,12 @@ FitsAlone last es k size =
     (f + size ≤ suc last) × ((b i : ℕ) → f ≤ b → b < f + size → i < slotCount → i ≢ k - 1 → inside b (getD (slots es) i vacant) ≡ false)
 
 -- what an add is given is right, and the table has a slot for it: each line denies one row
-pub record NewOk (es type unique : List ℕ) (size : ℕ) (name : List ℕ) : Type 0 where
-  pub lengths : (length type ≡ 16) × (length unique ≡ 16) × (length name ≡ 36)
-  pub blocks : size ≢ 0
-  pub typed : isZero type ≡ false
-  pub own : (isZero unique ≡ false) × ((k : ℕ) → UsedSlot es k → uniqueOf (entryOf es k) ≢ unique)
-  pub named : NameOk name
+pub record NewOk (es : List ℕ) (p : NewPartition) : Type 0 where
+  pub lengths : (length (p .type) ≡ 16) × (length (p .unique) ≡ 16) × (length (p .name) ≡ 36)
+  pub blocks : p .size ≢ 0
+  pub typed : isZero (p .type) ≡ false
+  pub own : (isZero (p .unique) ≡ false) × ((k : ℕ) → UsedSlot es k → uniqueOf (entryOf es k) ≢ p .unique)
+  pub named : NameOk (p .name)
   pub slot : (k : ℕ) × (1 ≤ k) × (k ≤ slotCount) × (unused (entryOf es k) ≡ true)
 
 -- an edit that answers nothing else is accepted when it comes next
@@ -128,12 +125,11 @@ pub record Serves (g : Shape) (n : ℕ) (es : List ℕ) (r : Run) : Type 0 where
       × ((s : ℕ) × FreeFrom g n (slotsOf g n r) longest s)
       × ((size s : ℕ) → FreeFrom g n (slotsOf g n r) size s → size ≤ longest)
   -- an add's checks before the one for room pass exactly when what it is given is right and a slot is unused
-  pub passes : (type unique : List ℕ) (size attributes : ℕ) (name : List ℕ) → Passes g n r type unique size attributes name ↔ NewOk es type unique size name
+  pub passes : (p : NewPartition) → Passes g n r p ↔ NewOk es p
   -- and then it is accepted exactly when a run of as many free blocks as it asks exists
-  pub fits : (type unique : List ℕ) (size attributes : ℕ) (name : List ℕ) → Passes g n r type unique size attributes name
-      → (step g n (r .head) (r .tail) (edit (add type unique size attributes name)) .answer
-      ≡ accepted (change (g .first) (lastUsable g n) es (add type unique size attributes name) .values))
-      ↔ ((s : ℕ) × FreeFrom g n (slotsOf g n r) size s)
+  pub fits : (p : NewPartition) → Passes g n r p
+      → (step g n (r .head) (r .tail) (edit (add p)) .answer ≡ accepted (change (g .first) (lastUsable g n) es (add p) .values))
+      ↔ ((s : ℕ) × FreeFrom g n (slotsOf g n r) (p .size) s)
   -- a delete is accepted exactly when its slot is used
   pub deletes : (k : ℕ) → Accepts g n r (delete k) ↔ UsedSlot es k
   -- a rename, exactly when it has 36 units, its slot is used and no nonzero unit comes after a zero one

@@ -21,7 +21,7 @@ sizeWas l k = getD (l .sizes) (k - 1) 0
 -- D22: an accepted add grants the size asked, a delete gives back the size last accepted for that slot, a resize grants or gives back the difference
 -- from it (of two truncated differences one is 0); rename [does] neither. k is the first value of the reply: an add's slot.
 abbrev pub bookEdit : Ledger → Edit → ℕ → Ledger
-bookEdit l (add type unique size attributes name) k = record { granted = l .granted + size; back = l .back; sizes = set (l .sizes) (k - 1) size }
+bookEdit l (add p) k = record { granted = l .granted + p .size; back = l .back; sizes = set (l .sizes) (k - 1) (p .size) }
 bookEdit l (delete k) _ = record { granted = l .granted; back = l .back + sizeWas l k; sizes = set (l .sizes) (k - 1) 0 }
 bookEdit l (resize k size) _ =
     record { granted = l .granted + (size - sizeWas l k); back = l .back + (sizeWas l k - size); sizes = set (l .sizes) (k - 1) size }

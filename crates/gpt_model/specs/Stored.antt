@@ -14,7 +14,7 @@ use Rattle.crc_lanes.specs.Crc.{crc32}
 use Rattle.gpt_model.specs.Table.{slots}
 use Rattle.gpt_model.specs.Disk.{Shape, primary, backup, goodCopy, tableOf}
 use Rattle.gpt_model.specs.Ranges.{lies}
-use Rattle.gpt_model.specs.Calls.{Edit, add, delete, resize, rename, read, repair, edit, Answer, refused, accepted, Out, rowsOf, step, format}
+use Rattle.gpt_model.specs.Calls.{NewPartition, Edit, add, delete, resize, rename, read, repair, edit, Answer, refused, accepted, Out, rowsOf, step, format}
 use Rattle.gpt_model.specs.Claims.{FreeFrom, Outside}
 
 -- ---- a table: 128 entries of 128 bytes, counted from 0
@@ -159,26 +159,25 @@ NameAt es i name = (u : ℕ) → u < 36 → part (i * 128 + 56 + 2 * u) 2 es ≡
 abbrev pub StaysBut : ℕ → ℕ → List ℕ → List ℕ → Type 0
 StaysBut at w es es′ = (k : ℕ) → Outside at w k → getD es′ k 0 ≡ getD es k 0
 
--- what an add writes into entry i, at start s
-pub record Added (g : Shape) (n : ℕ) (type unique : List ℕ) (size attributes : ℕ) (name es es′ : List ℕ) (i s : ℕ) : Type 0 where
+-- what an add of p writes into entry i, at start s
+pub record Added (g : Shape) (n : ℕ) (p : NewPartition) (es es′ : List ℕ) (i s : ℕ) : Type 0 where
   -- D15: and takes the lowest unused slot
   pub slot : (i < 128) × (¬ UsedAt es i) × ((j : ℕ) → j < i → UsedAt es j)
   -- and the lowest start with enough free blocks
-  pub start : FreeFrom g n (slots es) size s × ((b : ℕ) → b < s → ¬ FreeFrom g n (slots es) size b)
+  pub start : FreeFrom g n (slots es) (p .size) s × ((b : ℕ) → b < s → ¬ FreeFrom g n (slots es) (p .size) b)
   -- D15: Add is given type, unique GUID (16 stored bytes each), size in blocks, attributes and name (36 units)
-  pub typeGuid : typeAt es′ i ≡ type
-  pub uniqueGuid : uniqueAt es′ i ≡ unique
+  pub typeGuid : typeAt es′ i ≡ p .type
+  pub uniqueGuid : uniqueAt es′ i ≡ p .unique
   pub first : part (i * 128 + 32) 8 es′ ≡ le 8 s
-  pub last : part (i * 128 + 40) 8 es′ ≡ le 8 (s + size - 1)
-  pub bits : part (i * 128 + 48) 8 es′ ≡ le 8 attributes
-  pub units : NameAt es′ i name
+  pub last : part (i * 128 + 40) 8 es′ ≡ le 8 (s + p .size - 1)
+  pub bits : part (i * 128 + 48) 8 es′ ≡ le 8 (p .attributes)
+  pub units : NameAt es′ i (p .name)
   pub others : StaysBut (i * 128) 128 es es′
 
 -- the answer a of an edit, the table es before it and es′ after it
 abbrev pub EditSays : Shape → ℕ → Edit → Answer → List ℕ → List ℕ → Type 0
 -- R3: Accepted, add answers slot and first block
-EditSays g n (add type unique size attributes name) a es es′ =
-    (i : ℕ) × (s : ℕ) × (a ≡ accepted (suc i ∷ s ∷ [])) × Added g n type unique size attributes name es es′ i s
+EditSays g n (add p) a es es′ = (i : ℕ) × (s : ℕ) × (a ≡ accepted (suc i ∷ s ∷ [])) × Added g n p es es′ i s
 -- D16: Delete zeroes the slot.
 EditSays g n (delete k) a es es′ = (a ≡ accepted []) × (part ((k - 1) * 128) 128 es′ ≡ zeros 128) × StaysBut ((k - 1) * 128) 128 es es′
 -- D18: Resize sets the last block alone, to the size asked
