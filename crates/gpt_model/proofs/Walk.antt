@@ -1,96 +1,24 @@
--- A walk over the blocks from partition to gap to partition, over slots decoded once into two lists of numbers: what a loop that places or counts cites.
+-- A walk over the blocks from partition to gap to partition: what a loop that places or counts cites.
 use mathlib.Core.Path.{_≡_, refl, sym, ap, _∙_}
-use mathlib.Core.Logic.{_⊎_, inl, inr}
 use mathlib.Core.Bool.{true, false, not}
 use mathlib.Core.List.{List, [], _∷_, map}
 use mathlib.Core.Option.{none, some}
 use Prim.Native.Nat.{ℕ, zero, suc, _+_, _-_, _≤_, _<_, max}
 use native.Mathlib.Nat.{not-suc-le-zero, le-of-suc-le-suc, le-refl}
-use native.Mathlib.Decide.{decLe, decLt}
+use native.Mathlib.Decide.{decLt}
 use native.Mathlib.Omega.{arith}
 use lib.ListN.{length, getD}
-use Rattle.octets.proofs.Bools.{bool-cases, clash}
-use Rattle.octets.proofs.Tests.{any-get, any-make}
-use Rattle.gpt_model.specs.Table.{Slot, vacant, spans}
-use Rattle.gpt_model.specs.Ranges.{inside, lies, inNone, place, countFrom, freeCount, longest, longestFree}
-use Rattle.gpt_model.proofs.Room.{Room, place-is, place-is-none, inside-make, inside-get, inside-vacant}
+use Rattle.octets.proofs.Bools.{clash}
+use Rattle.gpt_model.specs.Table.{Slot}
+use Rattle.gpt_model.specs.Ranges.{lies, inNone, place, countFrom, freeCount, longest, longestFree}
+use Rattle.gpt_model.proofs.Room.{Room, place-is, place-is-none}
 use Rattle.gpt_model.proofs.Counts.{count-false, count-true, count-add}
 use Rattle.gpt_model.proofs.Longest.{longest-skip, longest-gap}
-
--- a slot as two numbers: vacant is the empty range 1 to 0
-abbrev pub low : Slot → ℕ
-low vacant = 1
-low (spans f l) = f
-
-abbrev pub high : Slot → ℕ
-high vacant = 0
-high (spans f l) = l
-
-pub inside-both : (b : ℕ) (s : Slot) → low s ≤ b → b ≤ high s → inside b s ≡ true
-inside-both b vacant p q = absurd (omega arith)
-inside-both b (spans f l) p q = inside-make b f l p q
-
-pub inside-ends : (b : ℕ) (s : Slot) → inside b s ≡ true → (low s ≤ b) × (b ≤ high s)
-inside-ends b vacant e = absurd (inside-vacant b e)
-inside-ends b (spans f l) e = inside-get b f l e
 
 pub getD-map : {A : Type 0} (f : A → ℕ) (xs : List A) (i y : ℕ) (d : A) → i < length xs → getD (map f xs) i y ≡ f (getD xs i d)
 getD-map f [] i y d h = absurd (not-suc-le-zero h)
 getD-map f (x ∷ xs) zero y d h = refl
 getD-map f (x ∷ xs) (suc i) y d h = getD-map f xs i y d (le-of-suc-le-suc h)
-
--- what the two lists say: the i-th range holds a
-abbrev pub Holds : List ℕ → List ℕ → ℕ → ℕ → Type 0
-Holds fs ls a i = (i < 128) × (getD fs i 0 ≤ a) × (a ≤ getD ls i 0)
-
-module _ (s : List Slot) (len : length s ≡ 128) where
-  abbrev fs : List ℕ
-  fs = map low s
-
-  abbrev ls : List ℕ
-  ls = map high s
-
-  low-at : (i : ℕ) → i < 128 → getD fs i 0 ≡ low (getD s i vacant)
-  low-at i h = getD-map low s i 0 vacant (omega arith)
-
-  high-at : (i : ℕ) → i < 128 → getD ls i 0 ≡ high (getD s i vacant)
-  high-at i h = getD-map high s i 0 vacant (omega arith)
-
-  pub held : (a i : ℕ) → Holds fs ls a i → lies s a ≡ true
-  held a i h =
-      let p = low-at i (h .0) in
-      let q = high-at i (h .0) in
-      let u = h .1 in
-      let v = h .2 in
-      any-make (inside a) s vacant i (let w = h .0 in omega arith) (inside-both a (getD s i vacant) (omega arith) (omega arith))
-
-  pub holder : (a : ℕ) → lies s a ≡ true → (i : ℕ) × Holds fs ls a i
-  holder a e =
-      let r = any-get (inside a) s vacant e in
-      let i : ℕ = r .0 in
-      let h : r .0 < 128 = let w = r .1 in omega arith in
-      let p = low-at (r .0) h in
-      let q = high-at (r .0) h in
-      let w = inside-ends a (getD s (r .0) vacant) (r .2) in
-      let w0 = w .0 in
-      let w1 = w .1 in
-      (r .0, (h, omega arith, omega arith))
-
-  pub uncovered : (a : ℕ) → ((i : ℕ) → Holds fs ls a i → ⊥) → lies s a ≡ false
-  uncovered a f = go (bool-cases (lies s a))
-    where
-      go : (lies s a ≡ true) ⊎ (lies s a ≡ false) → lies s a ≡ false
-      go (inl e) = let r = holder a e in absurd (f (r .0) (r .1))
-      go (inr e) = e
-
-  -- from a block that no range holds up to the lowest start behind it
-  pub gap : (a g : ℕ) → ((i : ℕ) → Holds fs ls a i → ⊥) → ((i : ℕ) → i < 128 → a < getD fs i 0 → getD fs i 0 ≤ getD ls i 0 → g ≤ getD fs i 0)
-      → (c : ℕ) → a ≤ c → c < g → lies s c ≡ false
-  gap a g f m c p q = uncovered c (λ i h. go i h (decLe (getD fs i 0) a))
-    where
-      go : (i : ℕ) → Holds fs ls c i → Dec (getD fs i 0 ≤ a) → ⊥
-      go i h (yes x) = let v = h .2 in f i (h .0, x, omega arith)
-      go i h (no x) = let u = h .1 in let v = h .2 in let w : g ≤ getD fs i 0 = m i (h .0) (omega arith) (omega arith) in omega arith
 
 -- ---- placing
 module _ (s : List Slot) (first last size : ℕ) (pos : 0 < size) where
