@@ -19,26 +19,26 @@ use Rattle.octets.proofs.Tests.{all-make, any-none, any-false, any-make, findIx
 use Rattle.octets.proofs.Equal.{same-refl, same-false}
 use Rattle.octets.proofs.Rows.{pick-false, passes, refusal-append, refusal-before}
 use Rattle.octets.proofs.Chunks.{length-chunks}
-use Rattle.gpt_model.specs.Table.{uniqueOf, firstOf, unused, Slot, vacant, entries, slots}
+use Rattle.gpt_model.specs.Table.{uniqueOf, firstOf, unused, BlockRange, noBlocks, entries, rangesOf}
 use Rattle.gpt_model.specs.Disk.{Shape, lastUsable, tableOf}
-use Rattle.gpt_model.specs.Ranges.{inside}
-use Rattle.gpt_model.specs.Calls.{NewPartition, Edit, resize, rename, edit, accepted, Out, badName, entryOf, carries, slotRows, addRows, fitsAt, tableRows, change, openRows, rowsOf, step}
+use Rattle.gpt_model.specs.Ranges.{blockIn}
+use Rattle.gpt_model.specs.Calls.{NewPartition, Edit, resize, rename, edit, accepted, Outcome, badName, entryOf, carries, slotRows, addRows, fitsAt, tableRows, change, openRows, rowsOf, step}
 use Rattle.gpt_model.specs.Claims.{UsedSlot, NameOk, FitsAlone, NewOk}
-use Rattle.gpt_model.proofs.Room.{not-in-vacant, room-get, room-make}
-use Rattle.gpt_model.proofs.Entries.{length-slots}
-use Rattle.gpt_model.proofs.Ways.{step-refused, step-made, edit-decides}
+use Rattle.gpt_model.proofs.Room.{not-in-none, room-get, room-make}
+use Rattle.gpt_model.proofs.Entries.{length-rangesOf}
+use Rattle.gpt_model.proofs.Outcomes.{step-refused, step-accepted, edit-decides}
 
 -- where the rows before an edit's own do not hold, its own decide
 pub edit-accepted : (g : Shape) (n : ℕ) (h t : List ℕ) (d : Edit) → refusal (openRows g n h t d) ≡ none
     → {P : Type 0} → (refusal (tableRows (g .first) (lastUsable g n) (tableOf g n h t) d) ≡ none) ↔ P
     → (step g n h t (edit d) .answer ≡ accepted (change (g .first) (lastUsable g n) (tableOf g n h t) d .values)) ↔ P
-edit-accepted g n h t d e {P} w = (to (option-cases (refusal (rowsOf g n h t (edit d)))), λ p. ap (λ (o : Out). o .answer) (step-made g n h t (edit d) (edit-decides g n h t d e ∙ w .1 p)))
+edit-accepted g n h t d e {P} w = (to (option-cases (refusal (rowsOf g n h t (edit d)))), λ p. ap (λ (o : Outcome). o .answer) (step-accepted g n h t (edit d) (edit-decides g n h t d e ∙ w .1 p)))
   where
     to : (refusal (rowsOf g n h t (edit d)) ≡ none) ⊎ ((k : ℕ) × (refusal (rowsOf g n h t (edit d)) ≡ some k))
         → step g n h t (edit d) .answer ≡ accepted (change (g .first) (lastUsable g n) (tableOf g n h t) d .values) → P
     to (inl q) a = w .0 (sym (edit-decides g n h t d e) ∙ q)
     to (inr q) a =
-        let b = ap (λ (o : Out). o .answer) (step-refused g n h t (edit d) (q .0) (q .1)) in
+        let b = ap (λ (o : Outcome). o .answer) (step-refused g n h t (edit d) (q .0) (q .1)) in
         let z : _≡_ {A = ℕ} 0 1 = cc in
         absurd (omega arith)
 
@@ -89,31 +89,35 @@ module _ (es : List ℕ) (k : ℕ) where
   )
 
   pub rename-rows : (first last : ℕ) (name : List ℕ) → (refusal (tableRows first last es (rename k name)) ≡ none) ↔ (UsedSlot es k × NameOk name)
-  rename-rows first last name = then-rows (row (badName name) 23 ∷ []) (λ e. name-get name (passes 23 (row (badName name) 23 ∷ []) e), λ f. pick-false _ 23 _ (name-make name f))
+  rename-rows first last name =
+      let rows : List Row = row (badName name) 23 ∷ [] in
+      then-rows rows (λ e. name-get name (passes 23 rows e), λ f. pick-false _ 23 _ (name-make name f))
 
   fits-alone : (last size : ℕ) → (fitsAt last es k size ≡ true) ↔ FitsAlone last es k size
   fits-alone last size = (
-    λ e. let r = room-get _ _ _ _ e in (r .0, λ b i p q h ne. ap (inside b) (sym (other i ne)) ∙ any-none (inside b) rest vacant (r .1 b p q) i (omega (arith, long))),
-    λ w. room-make _ _ _ _ (w .0, λ b p q. any-false (inside b) rest vacant (λ i h. each b i (omega (arith, long)) p q (w .1 b i p q) (ℕ-discrete i (k - 1)))),
+    λ e. let r = room-get _ _ _ _ e in (r .0, λ b i p q h ne. ap (blockIn b) (sym (other i ne)) ∙ any-none (blockIn b) rest noBlocks (r .1 b p q) i (omega (arith, long))),
+    λ w. room-make _ _ _ _
+        (w .0, λ b p q. any-false (blockIn b) rest noBlocks (λ i h. each b i (omega (arith, long)) p q (w .1 b i p q) (ℕ-discrete i (k - 1)))),
   )
     where
-      rest : List Slot
-      rest = set (slots es) (k - 1) vacant
+      rest : List BlockRange
+      rest = set (rangesOf es) (k - 1) noBlocks
 
-      long : length (set (slots es) (k - 1) vacant) ≡ 128
-      long = length-set (slots es) (k - 1) vacant ∙ length-slots es
+      long : length (set (rangesOf es) (k - 1) noBlocks) ≡ 128
+      long = length-set (rangesOf es) (k - 1) noBlocks ∙ length-rangesOf es
 
-      other : (i : ℕ) → i ≢ k - 1 → getD (set (slots es) (k - 1) vacant) i vacant ≡ getD (slots es) i vacant
-      other i ne = getD-set-other (slots es) (k - 1) i vacant vacant ne
+      other : (i : ℕ) → i ≢ k - 1 → getD (set (rangesOf es) (k - 1) noBlocks) i noBlocks ≡ getD (rangesOf es) i noBlocks
+      other i ne = getD-set-other (rangesOf es) (k - 1) i noBlocks noBlocks ne
 
       each : (b i : ℕ) → i < 128 → firstOf (entryOf es k) ≤ b → b < firstOf (entryOf es k) + size
-          → (i < 128 → i ≢ k - 1 → inside b (getD (slots es) i vacant) ≡ false) → Dec (i ≡ k - 1) → inside b (getD (set (slots es) (k - 1) vacant) i vacant) ≡ false
+          → (i < 128 → i ≢ k - 1 → blockIn b (getD (rangesOf es) i noBlocks) ≡ false) → Dec (i ≡ k - 1) → blockIn b (getD (set (rangesOf es) (k - 1) noBlocks) i noBlocks) ≡ false
       each b i h p q f (yes z) =
-          ap (inside b) (ap (λ (x : ℕ). getD (set (slots es) (k - 1) vacant) x vacant) z ∙ getD-set-same (slots es) (k - 1) vacant vacant (omega (arith, length-slots es)))
-          ∙ not-in-vacant b
-      each b i h p q f (no z) = ap (inside b) (other i z) ∙ f h z
+          ap (blockIn b) (ap (λ (x : ℕ). getD (set (rangesOf es) (k - 1) noBlocks) x noBlocks) z ∙ getD-set-same (rangesOf es) (k - 1) noBlocks noBlocks (omega (arith, length-rangesOf es)))
+          ∙ not-in-none b
+      each b i h p q f (no z) = ap (blockIn b) (other i z) ∙ f h z
 
-  pub resize-rows : (first last size : ℕ) → (refusal (tableRows first last es (resize k size)) ≡ none) ↔ (UsedSlot es k × ((0 < size) × FitsAlone last es k size))
+  pub resize-rows : (first last size : ℕ)
+      → (refusal (tableRows first last es (resize k size)) ≡ none) ↔ (UsedSlot es k × ((0 < size) × FitsAlone last es k size))
   resize-rows first last size =
       let rows : List Row = row (eqb size 0) 20 ∷ row (not (fitsAt last es k size)) 25 ∷ [] in
       then-rows rows (

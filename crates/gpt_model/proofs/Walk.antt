@@ -9,9 +9,9 @@ use native.Mathlib.Decide.{decLt}
 use native.Mathlib.Omega.{arith}
 use lib.ListN.{length, getD}
 use Rattle.octets.proofs.Bools.{clash}
-use Rattle.gpt_model.specs.Table.{Slot}
-use Rattle.gpt_model.specs.Ranges.{lies, inNone, place, countFrom, freeCount, longest, longestFree}
-use Rattle.gpt_model.proofs.Room.{Room, place-is, place-is-none}
+use Rattle.gpt_model.specs.Table.{BlockRange}
+use Rattle.gpt_model.specs.Ranges.{inSome, inNone, lowestStart, countFrom, freeCount, longest, longestFree}
+use Rattle.gpt_model.proofs.Room.{Room, start-is, start-is-none}
 use Rattle.gpt_model.proofs.Counts.{count-false, count-true, count-add}
 use Rattle.gpt_model.proofs.Longest.{longest-skip, longest-gap}
 
@@ -21,7 +21,7 @@ getD-map f (x ∷ xs) zero y d h = refl
 getD-map f (x ∷ xs) (suc i) y d h = getD-map f xs i y d (le-of-suc-le-suc h)
 
 -- ---- placing
-module _ (s : List Slot) (first last size : ℕ) (pos : 0 < size) where
+module _ (s : List BlockRange) (first last size : ℕ) (pos : 0 < size) where
   -- no start below a has room
   abbrev pub Low : ℕ → Type 0
   Low a = (c : ℕ) → first ≤ c → c < a → Room s last size c → ⊥
@@ -29,14 +29,14 @@ module _ (s : List Slot) (first last size : ℕ) (pos : 0 < size) where
   pub low-start : Low first
   low-start c p q r = omega arith
 
-  pub low-over : (a x : ℕ) → Low a → ((c : ℕ) → a ≤ c → c ≤ x → lies s c ≡ true) → Low (x + 1)
+  pub low-over : (a x : ℕ) → Low a → ((c : ℕ) → a ≤ c → c ≤ x → inSome s c ≡ true) → Low (x + 1)
   low-over a x low f c p q r = go (decLt c a)
     where
       go : Dec (c < a) → ⊥
       go (yes w) = low c p w r
       go (no w) = clash (f c (omega arith) (omega arith)) (r .1 c (le-refl c) (omega arith))
 
-  pub low-gap : (a g : ℕ) → Low a → a ≤ g → g - a < size → (g ≤ last → lies s g ≡ true) → Low g
+  pub low-gap : (a g : ℕ) → Low a → a ≤ g → g - a < size → (g ≤ last → inSome s g ≡ true) → Low g
   low-gap a g low ag short stop c p q r = go (decLt c a)
     where
       go : Dec (c < a) → ⊥
@@ -44,11 +44,11 @@ module _ (s : List Slot) (first last size : ℕ) (pos : 0 < size) where
       go (no w) = let k = r .0 in clash (stop (omega arith)) (r .1 g (omega arith) (omega arith))
 
   pub low-found : (a g : ℕ) → Low a → first ≤ a → a ≤ g → size ≤ g - a → g ≤ last + 1
-      → ((c : ℕ) → a ≤ c → c < g → lies s c ≡ false) → place s first last size ≡ some a
-  low-found a g low fa ag fits end clear = place-is s first last size a pos fa (omega arith, λ b p q. clear b p (omega arith)) low
+      → ((c : ℕ) → a ≤ c → c < g → inSome s c ≡ false) → lowestStart s first last size ≡ some a
+  low-found a g low fa ag fits end clear = start-is s first last size a pos fa (omega arith, λ b p q. clear b p (omega arith)) low
 
-  pub low-none : (a : ℕ) → Low a → last < a → place s first last size ≡ none
-  low-none a low out = place-is-none s first last size (λ c h r. go c h r (decLt c a))
+  pub low-none : (a : ℕ) → Low a → last < a → lowestStart s first last size ≡ none
+  low-none a low out = start-is-none s first last size (λ c h r. go c h r (decLt c a))
     where
       go : (c : ℕ) → first ≤ c → Room s last size c → Dec (c < a) → ⊥
       go c h r (yes x) = low c h x r
@@ -58,7 +58,7 @@ max-assoc : (x y z : ℕ) → max (max x y) z ≡ max x (max y z)
 max-assoc x y z = omega arith
 
 -- ---- counting: from a on, k blocks are left
-module _ (s : List Slot) (first last : ℕ) where
+module _ (s : List BlockRange) (first last : ℕ) where
   abbrev pub Counted : ℕ → ℕ → Type 0
   Counted n a = n + countFrom (inNone s) a (suc last - a) ≡ freeCount s first last
 
@@ -73,7 +73,7 @@ module _ (s : List Slot) (first last : ℕ) where
   unfolding longestFree
   longest-start = omega arith
 
-  pub counted-over : (n a x : ℕ) → x ≤ last → a ≤ x → Counted n a → ((c : ℕ) → a ≤ c → c ≤ x → lies s c ≡ true) → Counted n (x + 1)
+  pub counted-over : (n a x : ℕ) → x ≤ last → a ≤ x → Counted n a → ((c : ℕ) → a ≤ c → c ≤ x → inSome s c ≡ true) → Counted n (x + 1)
   counted-over n a x xl ax h f =
       let k : suc last - a ≡ (x + 1 - a) + (suc last - (x + 1)) = omega arith in
       let e : a + (x + 1 - a) ≡ x + 1 = omega arith in
@@ -83,7 +83,7 @@ module _ (s : List Slot) (first last : ℕ) where
       let w = ap (λ (y : ℕ). countFrom (inNone s) y (suc last - (x + 1))) e in
       omega arith
 
-  pub counted-gap : (n a g : ℕ) → a ≤ g → g ≤ last + 1 → Counted n a → ((c : ℕ) → a ≤ c → c < g → lies s c ≡ false) → Counted (n + (g - a)) g
+  pub counted-gap : (n a g : ℕ) → a ≤ g → g ≤ last + 1 → Counted n a → ((c : ℕ) → a ≤ c → c < g → inSome s c ≡ false) → Counted (n + (g - a)) g
   counted-gap n a g ag gl h f =
       let k : suc last - a ≡ (g - a) + (suc last - g) = omega arith in
       let e : a + (g - a) ≡ g = omega arith in
@@ -93,7 +93,7 @@ module _ (s : List Slot) (first last : ℕ) where
       let w = ap (λ (y : ℕ). countFrom (inNone s) y (suc last - g)) e in
       omega arith
 
-  pub longest-over : (m a x : ℕ) → x ≤ last → a ≤ x → Longest m a → ((c : ℕ) → a ≤ c → c ≤ x → lies s c ≡ true) → Longest m (x + 1)
+  pub longest-over : (m a x : ℕ) → x ≤ last → a ≤ x → Longest m a → ((c : ℕ) → a ≤ c → c ≤ x → inSome s c ≡ true) → Longest m (x + 1)
   longest-over m a x xl ax h f =
       let k : suc last - a ≡ (x + 1 - a) + (suc last - (x + 1)) = omega arith in
       let e : a + (x + 1 - a) ≡ x + 1 = omega arith in
@@ -102,8 +102,8 @@ module _ (s : List Slot) (first last : ℕ) where
       let w = ap (λ (y : ℕ). longest (inNone s) y (suc last - (x + 1))) e in
       ap (max m) (sym (p ∙ q ∙ w)) ∙ h
 
-  pub longest-step : (m a g : ℕ) → a ≤ g → g ≤ last + 1 → Longest m a → ((c : ℕ) → a ≤ c → c < g → lies s c ≡ false)
-      → (g ≤ last → lies s g ≡ true) → Longest (max m (g - a)) g
+  pub longest-step : (m a g : ℕ) → a ≤ g → g ≤ last + 1 → Longest m a → ((c : ℕ) → a ≤ c → c < g → inSome s c ≡ false)
+      → (g ≤ last → inSome s g ≡ true) → Longest (max m (g - a)) g
   longest-step m a g ag gl h f stop =
       let k : suc last - a ≡ (g - a) + (suc last - g) = omega arith in
       let e : a + (g - a) ≡ g = omega arith in
