@@ -21,6 +21,10 @@ pub record NewPartition : Type 0 where
   pub attributes : ℕ
   pub name : List ℕ
 
+-- the same from a function's parameters
+abbrev pub newPartition : List ℕ → List ℕ → ℕ → ℕ → List ℕ → NewPartition
+newPartition type unique size attributes name = record { type = type; unique = unique; size = size; attributes = attributes; name = name }
+
 -- a slot is named by its number, from 1 on
 pub data Edit : Type 0 where
   add : NewPartition → Edit
