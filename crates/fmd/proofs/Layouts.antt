@@ -33,7 +33,7 @@ use Rattle.fmd.specs.declared.Reading.{Reading}
 -- ---- the tables of a text that is accepted
 
 -- what a check of the text answers, with the tables afterwards
-pub held : (s : List ℕ) (i : Image) (rows spots : List ℕ) (n m : ℕ) → HasRows 128 rows → HasSpots 128 spots
+pub held : (s : List ℕ) (i : Image) (rows spots : List ℕ) (n m : ℕ) → HasRows 129 rows → HasSpots 128 spots
     → good i (sectionsIn n rows) (placedIn n spots) m ≡ checkText s → Held s i rows spots n m
 held s i rows spots n m p q e = record { rows-room = p; spots-room = q; accepted = rw (sym e) at (check-facts s) }
 

@@ -12,7 +12,7 @@ use Rattle.fmd.specs.declared.Counted.{Counted}
 
 -- a text that is accepted, with the tables of its n sections; section m is FMAP
 pub record Held (s : List ℕ) (i : TextImage) (rows spots : List ℕ) (n m : ℕ) : Type 0 where
-  pub rows-room : HasRows 128 rows
+  pub rows-room : HasRows 129 rows
   pub spots-room : HasSpots 128 spots
   pub accepted : Accepted s i (sectionsIn n rows) (placedIn n spots) m
 

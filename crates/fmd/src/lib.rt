@@ -170,7 +170,7 @@ pub fn read(text: &[u8]) -> Reading
 
 // Reads a layout text into the tables, for a list of so many places.
 fn read_for(text: &[u8], places: usize, rows: &mut [u32], spots: &mut [u32]) -> Counted
-    requires { ⌜ HasRows 128 (now rows) × HasSpots 128 (now spots) ⌝ }
+    requires { ⌜ HasRows 129 (now rows) × HasSpots 128 (now spots) ⌝ }
     ensures { λ r. ⌜ ReadFor (now (text .entry)) places (now (rows .exit)) (now (spots .exit)) r ⌝ }
 {
     if places != 128 {

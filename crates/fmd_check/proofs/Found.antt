@@ -48,7 +48,7 @@ module _ (n : ℕ) (rows : List ℕ) where
       all-sized (sectionsIn n rows) n (length-sections n rows) (rw (length-sections n rows) at (w .1))
 
 -- what is read of a text stands in it, in at most 128 rows
-pub ready : (s : List ℕ) (i : Image) (n : ℕ) (rows : List ℕ) → layout i (sectionsIn n rows) ≡ layoutOf s → (n ≤ 128) × Inside s (sectionsIn n rows)
+pub ready : (s : List ℕ) (i : Image) (n : ℕ) (rows : List ℕ) → layout i (sectionsIn n rows) ≡ layoutOf s → Inside s (sectionsIn n rows)
 ready s i n rows e =
     let w : LayoutFacts s (layout i (sectionsIn n rows)) = rw (sym e) at (layout-facts s) in
-    (omega (arith, w .1 .room, length-sections n rows), inside (w .1))
+    inside (w .1)

@@ -3,9 +3,10 @@
 // An inner crate: no user calls it, so its functions may have a `requires`, which each caller meets.
 ghost use mathlib.Core.List.{List, []};
 ghost use mathlib.Core.Path.{_≡_};
-ghost use Prim.Native.Nat.{ℕ, _+_, _≤_, _<_};
+ghost use Prim.Native.Nat.{ℕ, _+_, _<_};
 ghost use lib.ListN.{getD};
 ghost use Rattle.fmd_table.specs.Table.{sectionsIn, placedIn, HasRows, HasSpots};
+ghost use Rattle.fmd_table.specs.Invariants.{Linked};
 ghost use Rattle.fmd_parse.specs.Trees.{blank};
 ghost use Rattle.fmd_rows.specs.Invariants.{Inside};
 ghost use Rattle.fmd_plan.specs.Plans.{unfit, plan, resolveFrom};
@@ -41,7 +42,7 @@ fn fault_at(number: u16, rows: &[u32], n: usize, k: usize) -> Verdict
 
 // Section k has children, or is too small for a map.
 fn no_map(rows: &[u32], spots: &[u32], n: usize, k: usize) -> bool
-    requires { ⌜ HasRows n (now rows) × HasSpots n (now spots) × (n ≤ 128) × (k < n) ⌝ }
+    requires { ⌜ HasRows n (now rows) × HasSpots n (now spots) × Linked n (now rows) × (k < n) ⌝ }
     ensures { λ r. ⌜ r ≡ noMap (sectionsIn n (now (rows .entry))) (placedIn n (now (spots .entry))) (Found.At k) ⌝ }
 {
     if fmd_rows::has_child(rows, n, k) {
@@ -53,7 +54,7 @@ fn no_map(rows: &[u32], spots: &[u32], n: usize, k: usize) -> bool
 
 // Row 59.
 fn check_map(text: &[u8], i: Image, rows: &[u32], spots: &[u32], n: usize) -> Verdict
-    requires { ⌜ HasRows n (now rows) × HasSpots n (now spots) × (n ≤ 128) × Inside (now text) (sectionsIn n (now rows)) ⌝ }
+    requires { ⌜ HasRows n (now rows) × HasSpots n (now spots) × Linked n (now rows) × Inside (now text) (sectionsIn n (now rows)) ⌝ }
     ensures { λ r. ⌜ verdictOf r (now (rows .entry)) (now (spots .entry))
         ≡ listFrom 4 (now (text .entry)) i (sectionsIn n (now (rows .entry))) (plan (placedIn n (now (spots .entry)))) ⌝ }
 {
@@ -70,7 +71,7 @@ fn check_map(text: &[u8], i: Image, rows: &[u32], spots: &[u32], n: usize) -> Ve
 
 // Rows 57 and 58, where section k is the first that does not fit.
 fn unfit_at(rows: &[u32], n: usize, k: usize) -> Verdict
-    requires { ⌜ HasRows n (now rows) × (k < n) × Sized (sectionsIn n (now rows)) (k + 1) ⌝ }
+    requires { ⌜ HasRows n (now rows) × (k < n) × Sized (sectionsIn n (now rows)) (k + 1) × Linked n (now rows) ⌝ }
     ensures { λ r. ⌜ ((s : List ℕ) (i : Image) (spots : List ℕ) → verdictOf r (now (rows .entry)) spots
         ≡ listFrom 2 s i (sectionsIn n (now (rows .entry))) (unfit k)) ⌝ }
 {
@@ -82,7 +83,7 @@ fn unfit_at(rows: &[u32], n: usize, k: usize) -> Verdict
 
 // Rows 57 to 59.
 fn check_places(text: &[u8], i: Image, rows: &[u32], spots: &mut [u32], n: usize) -> Verdict
-    requires { ⌜ HasRows n (now rows) × HasSpots n (now spots) × (n ≤ 128) × Inside (now text) (sectionsIn n (now rows)) ⌝ }
+    requires { ⌜ HasRows n (now rows) × HasSpots n (now spots) × Linked n (now rows) × Inside (now text) (sectionsIn n (now rows)) ⌝ }
     ensures { λ r. ⌜ verdictOf r (now (rows .entry)) (now (spots .exit))
         ≡ listFrom 2 (now (text .entry)) i (sectionsIn n (now (rows .entry))) (resolveFrom (i .size) [] (sectionsIn n (now (rows .entry)))) ⌝ }
 {
@@ -95,7 +96,7 @@ fn check_places(text: &[u8], i: Image, rows: &[u32], spots: &mut [u32], n: usize
 
 // Rows 56 to 59.
 fn check_marks(text: &[u8], i: Image, rows: &[u32], spots: &mut [u32], n: usize) -> Verdict
-    requires { ⌜ HasRows n (now rows) × HasSpots n (now spots) × (n ≤ 128) × Inside (now text) (sectionsIn n (now rows)) ⌝ }
+    requires { ⌜ HasRows n (now rows) × HasSpots n (now spots) × Linked n (now rows) × Inside (now text) (sectionsIn n (now rows)) ⌝ }
     ensures { λ r. ⌜ verdictOf r (now (rows .entry)) (now (spots .exit))
         ≡ listFrom 1 (now (text .entry)) i (sectionsIn n (now (rows .entry))) (resolveFrom (i .size) [] (sectionsIn n (now (rows .entry)))) ⌝ }
 {
@@ -107,7 +108,7 @@ fn check_marks(text: &[u8], i: Image, rows: &[u32], spots: &mut [u32], n: usize)
 
 // Rows 54 to 59.
 fn check_list(text: &[u8], i: Image, rows: &[u32], spots: &mut [u32], n: usize) -> Verdict
-    requires { ⌜ HasRows n (now rows) × HasSpots n (now spots) × (n ≤ 128) × Inside (now text) (sectionsIn n (now rows)) ⌝ }
+    requires { ⌜ HasRows n (now rows) × HasSpots n (now spots) × Linked n (now rows) × Inside (now text) (sectionsIn n (now rows)) ⌝ }
     ensures { λ r. ⌜ verdictOf r (now (rows .entry)) (now (spots .exit))
         ≡ listFrom 0 (now (text .entry)) i (sectionsIn n (now (rows .entry))) (resolveFrom (i .size) [] (sectionsIn n (now (rows .entry)))) ⌝ }
 {
@@ -119,7 +120,7 @@ fn check_list(text: &[u8], i: Image, rows: &[u32], spots: &mut [u32], n: usize) 
 
 // Image, sections and their places of a layout text, or its first fault.
 pub fn check(text: &[u8], rows: &mut [u32], spots: &mut [u32]) -> Verdict
-    requires { ⌜ HasRows 128 (now rows) × HasSpots 128 (now spots) ⌝ }
+    requires { ⌜ HasRows 129 (now rows) × HasSpots 128 (now spots) ⌝ }
     ensures { λ r. ⌜ verdictOf r (now (rows .exit)) (now (spots .exit)) ≡ checkText (now (text .entry)) ⌝ }
 {
     if 32768 < text.len() {

@@ -6,10 +6,13 @@ use lib.ListN.{length}
 use Rattle.fmd_lex.specs.Invariants.{Within}
 use Rattle.fmd_lex.specs.declared.Token.{Token}
 use Rattle.fmd_table.specs.Table.{sectionsIn}
+use Rattle.fmd_table.specs.Invariants.{IsParent, Linked}
 use Rattle.fmd_table.specs.declared.Section.{Section}
 use Rattle.fmd_parse.specs.Layouts.{Parsed, fault, parsed, sectionFrom, listFrom}
 use Rattle.fmd_parse.specs.declared.Step.{Step}
 use Rattle.fmd_parse.specs.declared.Step.the-variants.{Onward, Stopped}
+use Rattle.fmd_parse.specs.declared.Answer.{Answer}
+use Rattle.fmd_parse.specs.declared.Answer.the-variants.{Accepted, Refused}
 
 -- ---- the two readers that call each other: the sections l before, the table rows after
 
@@ -18,14 +21,22 @@ abbrev pub stepOf : Step → List ℕ → Parsed
 stepOf (Onward u n) rows = parsed (sectionsIn n rows) u
 stepOf (Stopped n p) rows = fault n p
 
-abbrev pub StepIn : ℕ → ℕ → Step → Type 0
-StepIn n at (Onward u k) = Within n at u × (k ≤ 128)
-StepIn n at (Stopped k p) = Unit {0}
+-- and the sections are linked; par is still a parent that a further one may have
+abbrev pub StepIn : ℕ → ℕ → ℕ → List ℕ → Step → Type 0
+StepIn n at par rows (Onward u k) = Within n at u × IsParent k par × Linked k rows
+StepIn n at par rows (Stopped k p) = Unit {0}
 
 pub record SectionRead (s : List ℕ) (t : Token) (lv par : ℕ) (l : List Section) (rows : List ℕ) (r : Step) : Type 0 where
-  pub within : StepIn (length s) (t .start + 1) r
+  pub within : StepIn (length s) (t .start + 1) par rows r
   pub same : (f : ℕ) → 2 * (length s - t .start) < f → stepOf r rows ≡ sectionFrom f s t lv par l
 
 pub record ListRead (s : List ℕ) (t : Token) (lv par : ℕ) (l : List Section) (rows : List ℕ) (r : Step) : Type 0 where
-  pub within : StepIn (length s) (t .start + 1) r
+  pub within : StepIn (length s) (t .start + 1) par rows r
   pub same : (f : ℕ) → 2 * (length s - t .start) + 1 < f → stepOf r rows ≡ listFrom f s t lv par l
+
+-- ---- the whole text
+
+-- the sections are linked
+abbrev pub AnswerIn : List ℕ → Answer → Type 0
+AnswerIn rows (Accepted i n) = Linked n rows
+AnswerIn rows (Refused n p) = Unit {0}

@@ -4,6 +4,7 @@ ghost use Prim.Native.Nat.{_≤_};
 ghost use lib.ListN.{length};
 ghost use Rattle.fmd_lex.specs.Invariants.{Within};
 ghost use Rattle.fmd_table.specs.Table.{sectionsIn, HasRows};
+ghost use Rattle.fmd_table.specs.Invariants.{IsParent, Linked};
 ghost use Rattle.fmd_parse.specs.Invariants.{SectionRead, ListRead};
 use super::Step;
 use fmd_head::Part;
@@ -15,12 +16,13 @@ use fmd_lex::next_token;
 
 // A section, put into row n, with the sections in its braces.
 fn read_section(text: &[u8], t: Token, level: u32, parent: u32, rows: &mut [u32], n: usize) -> Step
-    requires { ⌜ (length (now text) ≤ 32768) × Within (length (now text)) 0 t × HasRows 128 (now rows) × (n ≤ 128) ⌝ }
+    requires { ⌜ (length (now text) ≤ 32768) × Within (length (now text)) 0 t × HasRows 129 (now rows)
+        × IsParent n parent × Linked n (now rows) ⌝ }
     ensures { λ r. ⌜ SectionRead (now (text .entry)) t level parent (sectionsIn n (now (rows .entry))) (now (rows .exit)) r ⌝ }
 {
     match head_at(text, t, level, parent, n) {
         Part::Read(h, u) => {
-            fmd_table::put_row(rows, n, h);
+            fmd_table::push(rows, n, h);
             let more = n + 1;
             if u.kind != OPEN {
                 return Step::Onward(u, more);
@@ -35,7 +37,8 @@ fn read_section(text: &[u8], t: Token, level: u32, parent: u32, rows: &mut [u32]
 
 // The sections up to the closing brace, from row n on.
 pub fn read_list(text: &[u8], t: Token, level: u32, parent: u32, rows: &mut [u32], n: usize) -> Step
-    requires { ⌜ (length (now text) ≤ 32768) × Within (length (now text)) 0 t × HasRows 128 (now rows) × (n ≤ 128) ⌝ }
+    requires { ⌜ (length (now text) ≤ 32768) × Within (length (now text)) 0 t × HasRows 129 (now rows)
+        × IsParent n parent × Linked n (now rows) ⌝ }
     ensures { λ r. ⌜ ListRead (now (text .entry)) t level parent (sectionsIn n (now (rows .entry))) (now (rows .exit)) r ⌝ }
 {
     let mut now = t;

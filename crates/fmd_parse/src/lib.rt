@@ -6,7 +6,7 @@ ghost use Prim.Native.Nat.{ℕ, _≤_};
 ghost use lib.ListN.{length};
 ghost use Rattle.fmd_table.specs.Table.{HasRows};
 ghost use Rattle.fmd_parse.specs.Layouts.{answerOf, afterList, endedBy, layoutOf};
-ghost use Rattle.fmd_parse.specs.Invariants.{stepOf};
+ghost use Rattle.fmd_parse.specs.Invariants.{stepOf, StepIn, AnswerIn};
 use fmd_head::Heading;
 use fmd_head::Image;
 use fmd_lex::Token;
@@ -29,6 +29,7 @@ pub enum Answer {
 // After the last brace.
 fn ended(i: Image, o: Step) -> Answer
     ensures { λ r. ⌜ ((rows : List ℕ) → answerOf r rows ≡ afterList (stepOf o rows) (endedBy i)) ⌝ }
+    ensures linked { λ r. ⌜ ((rows : List ℕ) (n at par : ℕ) → StepIn n at par rows o → AnswerIn rows r) ⌝ }
 {
     match o {
         Step::Onward(u, n) => {
@@ -43,12 +44,14 @@ fn ended(i: Image, o: Step) -> Answer
 
 // Image and sections of a layout text, or its first fault.
 pub fn read_layout(text: &[u8], rows: &mut [u32]) -> Answer
-    requires { ⌜ (length (now text) ≤ 32768) × HasRows 128 (now rows) ⌝ }
+    requires { ⌜ (length (now text) ≤ 32768) × HasRows 129 (now rows) ⌝ }
     ensures { λ r. ⌜ answerOf r (now (rows .exit)) ≡ layoutOf (now (text .entry)) ⌝ }
+    ensures linked { λ r. ⌜ AnswerIn (now (rows .exit)) r ⌝ }
 {
     let t = next_token(text, 0);
     match fmd_head::front::image_at(text, t) {
         Heading::Read(i, u) => {
+            fmd_table::clear(rows);
             let o = braces::read_list(text, u, 1, 128, rows, 0);
             ended(i, o)
         }

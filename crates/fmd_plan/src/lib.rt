@@ -5,6 +5,7 @@ ghost use mathlib.Core.Path.{_≡_};
 ghost use Prim.Native.Nat.{_+_, _-_, _≤_, _<_};
 ghost use lib.ListN.{drop, getD};
 ghost use Rattle.fmd_table.specs.Table.{sectionsIn, placedIn, HasRows, HasSpots};
+ghost use Rattle.fmd_table.specs.Invariants.{Linked};
 ghost use Rattle.fmd_parse.specs.Trees.{blank as blankSection};
 ghost use Rattle.fmd_plan.specs.Plans.{endIn, roomOf, startOf, spotOf, spotIn, placeOf, resolveFrom, resolvedBy};
 use fmd_rows::Reach;
@@ -116,20 +117,20 @@ fn spot_in(h: Section, e: u64, room: u32, reach: Reach) -> Spot
 
 // Section k.
 fn place_at(rows: &[u32], n: usize, k: usize, spots: &[u32], size: u32) -> Spot
-    requires { ⌜ HasRows n (now rows) × HasSpots n (now spots) × (k < n) ⌝ }
+    requires { ⌜ HasRows n (now rows) × HasSpots n (now spots) × (k < n) × Linked n (now rows) ⌝ }
     ensures { λ r. ⌜ r ≡ placeOf size (placedIn k (now (spots .entry))) (getD (sectionsIn n (now (rows .entry))) k blankSection)
         (drop (k + 1) (sectionsIn n (now (rows .entry)))) ⌝ }
 {
     let h = row_at(rows, k);
     let e = end_in(spots, k, h.parent);
     let room = room_of(spots, k, h.parent, size);
-    let reach = fmd_rows::reach_of(rows, n, k + 1, h);
+    let reach = fmd_rows::reach_of(rows, n, k, h);
     spot_in(h, e, room, reach)
 }
 
 // Offsets and sizes of the sections of an image of size bytes.
 pub fn resolve(rows: &[u32], n: usize, size: u32, spots: &mut [u32]) -> Resolution
-    requires { ⌜ HasRows n (now rows) × HasSpots n (now spots) ⌝ }
+    requires { ⌜ HasRows n (now rows) × HasSpots n (now spots) × Linked n (now rows) ⌝ }
     ensures { λ r. ⌜ resolvedBy r (placedIn n (now (spots .exit))) ≡ resolveFrom size [] (sectionsIn n (now (rows .entry))) ⌝ }
 {
     let mut k: usize = 0;

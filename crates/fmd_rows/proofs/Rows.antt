@@ -1,25 +1,26 @@
 -- Laws of the rows' loops over the places of a section list.
-use mathlib.Core.Path.{_≡_, refl, sym, _∙_}
+use mathlib.Core.Path.{_≡_, refl, sym, ap, _∙_}
 use mathlib.Core.Bool.{Bool, true, false}
 use mathlib.Core.Logic.{_⊎_, inl, inr}
 use mathlib.Core.List.{List, _∷_}
 use Prim.Native.Nat.{ℕ, zero, suc, _+_, _-_, _≤_, _<_}
-use native.Mathlib.Nat.{sub-zero}
+use native.Mathlib.Nat.{add-zero, sub-zero}
 use native.Mathlib.Numerals.{add-one}
 use native.Mathlib.Omega.{arith}
-use lib.Dec.{eqb}
+use lib.Dec.{eqb, ltb}
 use lib.ListN.{length, getD, take, drop, drop-of-length-le}
 use lib.Seq.{drop-cons, getD-take, length-take-le}
-use borrow.Author.Tests.{eq-eqb, ne-eqb, eqb-true, eqb-false}
+use borrow.Author.Tests.{eq-eqb, ne-eqb, eqb-true, eqb-false, ltb-true, ltb-false}
 use Rattle.octets.specs.Tests.{any}
 use Rattle.octets.specs.Bytes.{part, same}
 use Rattle.octets.proofs.Bools.{choice, bool-cases}
-use Rattle.octets.proofs.Tests.{any-on, any-stop, any-done}
+use Rattle.octets.proofs.Tests.{any-make, any-false, any-on, any-stop, any-done}
 use Rattle.fmd_parse.specs.Trees.{blank, Tree}
 use Rattle.fmd_table.specs.declared.Section.{Section}
-use Rattle.fmd_table.specs.Table.{sectionAt, sectionsIn}
+use Rattle.fmd_table.specs.Table.{image, sectionAt, sectionsIn}
+use Rattle.fmd_table.specs.Invariants.{nextAt, lastAt, parentAt, Linked}
 use Rattle.fmd_table.proofs.Table.{length-sections, section-in}
-use Rattle.fmd_rows.specs.Rows.{foundFrom, nameOf, repeats, siblingIn}
+use Rattle.fmd_rows.specs.Rows.{foundFrom, nameOf, repeats, hasChild, siblingIn}
 use Rattle.fmd_rows.specs.Invariants.{Inside}
 use Rattle.fmd_rows.specs.declared.Found.{Found}
 use Rattle.fmd_rows.specs.declared.Found.the-variants.{At, Nowhere}
@@ -83,33 +84,68 @@ module _ (n : ℕ) (rows : List ℕ) where
     here h =
         rw (add-one, drop-cons (sectionsIn n rows) j blank (omega (arith, length-sections n rows)), item j h, sym q)
 
-    -- ---- children
-
-    pub child-on : (k : ℕ) → j < n → (e .parent ≡ k → ⊥)
-        → any (λ x. eqb (x .parent) k) (drop (j + 1) (sectionsIn n rows)) ≡ any (λ x. eqb (x .parent) k) (drop j (sectionsIn n rows))
-    child-on k h d =
-        sym (any-on (λ x. eqb (x .parent) k) (sectionsIn n rows) blank j (omega (arith, length-sections n rows)) (rw (item j h, sym q) (ne-eqb (e .parent) k d)))
-
-    pub child-stop : (k : ℕ) → j < n → e .parent ≡ k → true ≡ any (λ x. eqb (x .parent) k) (drop j (sectionsIn n rows))
-    child-stop k h d =
-        sym (any-stop (λ x. eqb (x .parent) k) (sectionsIn n rows) blank j (omega (arith, length-sections n rows)) (rw (item j h, sym q) (eq-eqb (e .parent) k d)))
-
     -- ---- the next sibling with the parent k
 
-    pub sibling-stop : (k : ℕ) → j < n → e .parent ≡ k → Next (e .offset) ≡ siblingIn k (drop j (sectionsIn n rows))
+    sibling-stop : (k : ℕ) → j < n → e .parent ≡ k → Next (e .offset) ≡ siblingIn k (drop j (sectionsIn n rows))
     unfolding siblingIn
     sibling-stop k h d = rw (here h, eq-eqb (e .parent) k d)
 
-    pub sibling-on : (k : ℕ) → j < n → (e .parent ≡ k → ⊥) → siblingIn k (drop (j + 1) (sectionsIn n rows)) ≡ siblingIn k (drop j (sectionsIn n rows))
+    sibling-on : (k : ℕ) → j < n → (e .parent ≡ k → ⊥) → siblingIn k (drop (j + 1) (sectionsIn n rows)) ≡ siblingIn k (drop j (sectionsIn n rows))
     unfolding siblingIn
     sibling-on k h d = rw (here h, ne-eqb (e .parent) k d)
 
-  pub child-done : (k j : ℕ) → n ≤ j → false ≡ any (λ x. eqb (x .parent) k) (drop j (sectionsIn n rows))
-  child-done k j h = sym (any-done (λ x. eqb (x .parent) k) (sectionsIn n rows) j (omega (arith, length-sections n rows)))
-
-  pub sibling-done : (k j : ℕ) → n ≤ j → Last ≡ siblingIn k (drop j (sectionsIn n rows))
+  sibling-done : (k j : ℕ) → n ≤ j → Last ≡ siblingIn k (drop j (sectionsIn n rows))
   unfolding siblingIn
   sibling-done k j h = rw (drop-of-length-le (sectionsIn n rows) {i = j} (omega (arith, length-sections n rows)))
+
+  -- d sections from the index j on have another parent
+  siblings-on : (k d j : ℕ) → j + d ≤ n → ((i : ℕ) → j ≤ i → i < j + d → parentAt rows i ≡ k → ⊥)
+      → siblingIn k (drop (j + d) (sectionsIn n rows)) ≡ siblingIn k (drop j (sectionsIn n rows))
+  siblings-on k zero j h f = rw (add-zero j)
+  siblings-on k (suc d) j h f =
+      let e : j + suc d ≡ j + 1 + d = omega arith in
+      rw e (siblings-on k d (j + 1) (omega arith) (λ i a b. f i (omega arith) (omega arith)))
+      ∙ sibling-on j refl k (omega arith) (f j (omega arith) (omega arith))
+
+  -- ---- the links tell the next sibling of section k, and whether it has a child
+
+  module _ (w : Linked n rows) (k : ℕ) (b : k < n) where
+    pub next-is : {j : ℕ} {e : Section} → j ≡ nextAt rows k → j < n → e ≡ sectionAt rows j
+        → Next (e .offset) ≡ siblingIn (parentAt rows k) (drop (k + 1) (sectionsIn n rows))
+    next-is {j} {e} q h p = cases (w .after k b)
+      where
+        cases : (nextAt rows k ≡ image) ⊎ ((k < nextAt rows k) × (nextAt rows k < n) × (parentAt rows (nextAt rows k) ≡ parentAt rows k))
+            → Next (e .offset) ≡ siblingIn (parentAt rows k) (drop (k + 1) (sectionsIn n rows))
+        cases (inl x) = absurd (omega (arith, w .room))
+        cases (inr x) =
+            let d : k + 1 + (j - (k + 1)) ≡ j = omega (arith, x .0) in
+            sibling-stop j p (parentAt rows k) h (ap (λ (f : Section). f .parent) p ∙ rw q (x .2))
+            ∙ rw d at (siblings-on (parentAt rows k) (j - (k + 1)) (k + 1) (omega arith)
+            (λ i y z f. let m = w .between k i (omega arith) (omega arith) f in omega arith))
+
+    pub next-none : {j : ℕ} → j ≡ nextAt rows k → n ≤ j → Last ≡ siblingIn (parentAt rows k) (drop (k + 1) (sectionsIn n rows))
+    next-none {j} q h =
+        let d : k + 1 + (n - (k + 1)) ≡ n = omega arith in
+        sibling-done (parentAt rows k) n (omega arith)
+        ∙ rw d at (siblings-on (parentAt rows k) (n - (k + 1)) (k + 1) (omega arith)
+        (λ i y z f. let m = w .between k i (omega arith) (omega arith) f in omega arith))
+
+    pub child-is : {j : ℕ} → j ≡ lastAt rows k → ltb j n ≡ hasChild (sectionsIn n rows) k
+    unfolding hasChild
+    child-is {j} q = cases (bool-cases (ltb j n)) (w .last k (inr b))
+      where
+        cases : (ltb j n ≡ true) ⊎ (ltb j n ≡ false) → (lastAt rows k ≡ image) ⊎ ((lastAt rows k < n) × (parentAt rows (lastAt rows k) ≡ k))
+            → ltb j n ≡ any (λ x. eqb (x .parent) k) (sectionsIn n rows)
+        cases (inl x) (inl y) = absurd (omega (arith, ltb-true j n x, w .room))
+        cases (inl x) (inr y) =
+            x ∙ sym (any-make (λ x. eqb (x .parent) k) (sectionsIn n rows) blank (lastAt rows k) (omega (arith, y .0, length-sections n rows))
+            (rw (item (lastAt rows k) (y .0)) (eq-eqb (parentAt rows (lastAt rows k)) k (y .1))))
+        cases (inr x) y =
+            x ∙ sym (any-false (λ x. eqb (x .parent) k) (sectionsIn n rows) blank
+            (λ i h.
+            let a : i < n = omega (arith, h, length-sections n rows) in
+            rw (item i a) (ne-eqb (parentAt rows i) k
+            (λ e. let m = rw e at (w .greatest i a) in absurd (omega (arith, m .1, ltb-false j n x))))))
 
   -- ---- names of the sections before the section h of row k
 

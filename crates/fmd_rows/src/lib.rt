@@ -5,7 +5,8 @@ ghost use mathlib.Core.Path.{_≡_};
 ghost use Prim.Native.Nat.{_+_, _-_, _≤_, _<_};
 ghost use lib.ListN.{length, drop};
 ghost use Rattle.octets.specs.Bytes.{same as sameBytes};
-ghost use Rattle.fmd_table.specs.Table.{sectionsIn, HasRows};
+ghost use Rattle.fmd_table.specs.Table.{sectionAt, sectionsIn, HasRows};
+ghost use Rattle.fmd_table.specs.Invariants.{parentAt, Linked};
 ghost use Rattle.fmd_rows.specs.Rows.{nameOf, repeats, firstRepeat, isFmap, fmapIn, hasChild, holdsCbfs, firstCbfs, foundFrom, siblingIn};
 ghost use Rattle.fmd_rows.specs.Rows.{reachOf, isUndecided, undecided};
 ghost use Rattle.fmd_rows.specs.Invariants.{Inside, keyFrom, keyAt, Seen};
@@ -13,6 +14,8 @@ use fmd_table::Offset;
 use fmd_table::ParentOffset;
 use fmd_table::Section;
 use fmd_table::Size;
+use fmd_table::last_at;
+use fmd_table::next_at;
 use fmd_table::row_at;
 
 // The index of a section, or that there is none.
@@ -143,24 +146,17 @@ pub fn find_fmap(text: &[u8], rows: &[u32], n: usize) -> Found
     Found::Nowhere
 }
 
+// Section k has children.
 pub fn has_child(rows: &[u32], n: usize, k: usize) -> bool
-    requires { ⌜ HasRows n (now rows) ⌝ }
+    requires { ⌜ HasRows n (now rows) × (k < n) × Linked n (now rows) ⌝ }
     ensures { λ r. ⌜ r ≡ hasChild (sectionsIn n (now (rows .entry))) k ⌝ }
 {
-    let mut j: usize = 0;
-    while j < n {
-        let e = row_at(rows, j);
-        if e.parent as usize == k {
-            return true;
-        }
-        j += 1;
-    }
-    false
+    (last_at(rows, k) as usize) < n
 }
 
 // Section k is marked CBFS and has children.
 fn holds_cbfs(rows: &[u32], n: usize, k: usize) -> bool
-    requires { ⌜ HasRows n (now rows) × (k < n) ⌝ }
+    requires { ⌜ HasRows n (now rows) × (k < n) × Linked n (now rows) ⌝ }
     ensures { λ r. ⌜ r ≡ holdsCbfs (sectionsIn n (now (rows .entry))) k ⌝ }
 {
     let h = row_at(rows, k);
@@ -172,7 +168,7 @@ fn holds_cbfs(rows: &[u32], n: usize, k: usize) -> bool
 
 // Row 56 of the whole list.
 pub fn first_cbfs(rows: &[u32], n: usize) -> Found
-    requires { ⌜ HasRows n (now rows) ⌝ }
+    requires { ⌜ HasRows n (now rows) × Linked n (now rows) ⌝ }
     ensures { λ r. ⌜ r ≡ firstCbfs (sectionsIn n (now (rows .entry))) ⌝ }
 {
     let mut k: usize = 0;
@@ -185,19 +181,16 @@ pub fn first_cbfs(rows: &[u32], n: usize) -> Found
     Found::Nowhere
 }
 
-// The next section with the parent, from the index at on.
-fn next_sibling(rows: &[u32], n: usize, at: usize, parent: u32) -> Sibling
-    requires { ⌜ HasRows n (now rows) × (at ≤ n) ⌝ }
-    ensures { λ r. ⌜ r ≡ siblingIn parent (drop at (sectionsIn n (now (rows .entry)))) ⌝ }
+// The next section with section k's parent.
+fn next_sibling(rows: &[u32], n: usize, k: usize) -> Sibling
+    requires { ⌜ HasRows n (now rows) × (k < n) × Linked n (now rows) ⌝ }
+    ensures { λ r. ⌜ r ≡ siblingIn (parentAt (now (rows .entry)) k) (drop (k + 1) (sectionsIn n (now (rows .entry)))) ⌝ }
 {
-    let mut j = at;
-    while j < n {
+    let j = next_at(rows, k) as usize;
+    if j < n {
         let e = row_at(rows, j);
-        if e.parent == parent {
-            let o = e.offset;
-            return Sibling::Next(o);
-        }
-        j += 1;
+        let o = e.offset;
+        return Sibling::Next(o);
     }
     Sibling::Last
 }
@@ -215,15 +208,15 @@ fn reach_to(next: Sibling) -> Reach
     }
 }
 
-// Section h; its next sibling is sought from the index at on.
-pub fn reach_of(rows: &[u32], n: usize, at: usize, h: Section) -> Reach
-    requires { ⌜ HasRows n (now rows) × (at ≤ n) ⌝ }
-    ensures { λ r. ⌜ r ≡ reachOf (h .size) (siblingIn (h .parent) (drop at (sectionsIn n (now (rows .entry))))) ⌝ }
+// Section k, which is h.
+pub fn reach_of(rows: &[u32], n: usize, k: usize, h: Section) -> Reach
+    requires { ⌜ HasRows n (now rows) × (k < n) × (h ≡ sectionAt (now rows) k) × Linked n (now rows) ⌝ }
+    ensures { λ r. ⌜ r ≡ reachOf (h .size) (siblingIn (h .parent) (drop (k + 1) (sectionsIn n (now (rows .entry))))) ⌝ }
 {
     let size = h.size;
     match size {
         Size::Given(z) => Reach::OfSize(z),
-        Size::Omitted => reach_to(next_sibling(rows, n, at, h.parent)),
+        Size::Omitted => reach_to(next_sibling(rows, n, k)),
     }
 }
 
@@ -240,17 +233,17 @@ fn is_undecided(reach: Reach) -> bool
 
 // Section k has no size, and a next sibling without an offset.
 fn undecided_at(rows: &[u32], n: usize, k: usize) -> bool
-    requires { ⌜ HasRows n (now rows) × (k < n) ⌝ }
+    requires { ⌜ HasRows n (now rows) × (k < n) × Linked n (now rows) ⌝ }
     ensures { λ r. ⌜ r ≡ undecided (sectionsIn n (now (rows .entry))) k ⌝ }
 {
     let h = row_at(rows, k);
-    let reach = reach_of(rows, n, k + 1, h);
+    let reach = reach_of(rows, n, k, h);
     is_undecided(reach)
 }
 
 // Row 57, from the index at on.
 pub fn first_undecided(rows: &[u32], n: usize, at: usize) -> Found
-    requires { ⌜ HasRows n (now rows) × (at ≤ n) ⌝ }
+    requires { ⌜ HasRows n (now rows) × (at ≤ n) × Linked n (now rows) ⌝ }
     ensures { λ r. ⌜ r ≡ foundFrom (undecided (sectionsIn n (now (rows .entry)))) (n - at) at ⌝ }
 {
     let mut k = at;

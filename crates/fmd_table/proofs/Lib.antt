@@ -1,3 +1,4 @@
 pub mod Listed
 pub mod Table
 pub mod Spots
+pub mod Links

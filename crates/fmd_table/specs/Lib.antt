@@ -1,2 +1,3 @@
 -- Sections in a table of words.
 pub mod Table
+pub mod Invariants

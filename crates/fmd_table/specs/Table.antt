@@ -14,10 +14,14 @@ use Rattle.fmd_table.specs.declared.Placed.{Placed}
 
 -- the words of a section, and of a section with its offset and size
 abbrev pub rowWords : ℕ
-rowWords = 10
+rowWords = 12
 
 abbrev pub spotWords : ℕ
 spotWords = 4
+
+-- the row of the image, the parent of the outermost sections; as a link to a row: none
+abbrev pub image : ℕ
+image = 128
 
 -- a table has n rows
 abbrev pub HasRows : ℕ → List ℕ → Type 0
@@ -52,12 +56,13 @@ sizeWord OmittedSize = 0
 abbrev pub markWord : Bool → ℕ
 markWord b = cond b 1 0
 
+-- without a next sibling or a child
 abbrev pub wordsOf : Section → List ℕ
 wordsOf h =
     offsetTag (h .offset) ∷ offsetWord (h .offset) ∷ sizeTag (h .size) ∷ sizeWord (h .size) ∷ h .place ∷ h .length
-    ∷ markWord (h .cbfs) ∷ markWord (h .preserve) ∷ h .parent ∷ h .level ∷ []
+    ∷ markWord (h .cbfs) ∷ markWord (h .preserve) ∷ h .parent ∷ h .level ∷ image ∷ image ∷ []
 
--- ---- the section of ten words
+-- ---- the section of a row's words; the last two are links (Invariants)
 
 abbrev pub offsetFrom : ℕ → ℕ → Offset
 offsetFrom tag n = cond (eqb tag 1) (GivenOffset (record { 0 = n })) OmittedOffset

@@ -1,19 +1,24 @@
 // Sections in two tables of words that are lent: as they stand in the text, and with their offsets and sizes.
-// Only the four functions that write or read a row know what the words mean.
+// Only the functions of this crate know what the words mean.
 // An inner crate: no user calls it, so its functions may have a `requires`, which each caller meets.
 ghost use mathlib.Core.List.{_++_, _∷_, []};
 ghost use mathlib.Core.Path.{_≡_};
-ghost use Prim.Native.Nat.{_+_};
+ghost use Prim.Native.Nat.{_+_, _*_, _≤_, _<_};
+ghost use Rattle.octets.specs.Bytes.{put};
 ghost use Rattle.fmd_table.specs.Table.{offsetTag, offsetWord, sizeTag, sizeWord, markWord, offsetFrom, sizeFrom, sectionAt, sectionsIn};
-ghost use Rattle.fmd_table.specs.Table.{placedAt, placedIn, HasRows, HasSpots};
+ghost use Rattle.fmd_table.specs.Table.{rowWords, wordsOf, placedAt, placedIn, HasRows, HasSpots};
+ghost use Rattle.fmd_table.specs.Invariants.{nextAt, lastAt, IsParent, Linked, linkedTo};
 
 // The words of a section, and of a section with its offset and size.
-const ROW: usize = 10;
+const ROW: usize = 12;
 
 const SPOT: usize = 4;
 
-// The words of 128 of them, the most that a layout text has.
-pub const ROWS: usize = 128 * ROW;
+// The image's row, of which only the last child is used; as a link to a row: none.
+const IMAGE: u32 = 128;
+
+// The words of 128 of them, the most that a layout text has, and of the image.
+pub const ROWS: usize = 129 * ROW;
 
 pub const SPOTS: usize = 128 * SPOT;
 
@@ -110,10 +115,10 @@ fn size_from(tag: u32, n: u32) -> Size
     Size::Omitted
 }
 
-// Writes row k, after those below it.
-pub fn put_row(rows: &mut [u32], k: usize, h: Section)
+// Writes row k: a section without a next sibling or a child.
+fn put_row(rows: &mut [u32], k: usize, h: Section)
     requires { ⌜ HasRows (k + 1) (now rows) ⌝ }
-    ensures { λ _. ⌜ sectionsIn (k + 1) (now (rows .exit)) ≡ sectionsIn k (now (rows .entry)) ++ (h ∷ []) ⌝ }
+    ensures { λ _. ⌜ now (rows .exit) ≡ put (rowWords * k) (wordsOf h) (now (rows .entry)) ⌝ }
 {
     let at = ROW * k;
     let offset = h.offset;
@@ -128,6 +133,51 @@ pub fn put_row(rows: &mut [u32], k: usize, h: Section)
     rows[at + 7] = mark_word(h.preserve);
     rows[at + 8] = h.parent;
     rows[at + 9] = h.level;
+    rows[at + 10] = IMAGE;
+    rows[at + 11] = IMAGE;
+}
+
+// Links row k, behind the parent's last child.
+fn link(rows: &mut [u32], k: usize, parent: usize)
+    requires { ⌜ HasRows 129 (now rows) × (k < 128) × (parent ≤ 128) × (lastAt (now rows) parent ≤ 128) ⌝ }
+    ensures { λ _. ⌜ now (rows .exit) ≡ linkedTo k parent (now (rows .entry)) ⌝ }
+{
+    let last = last_at(rows, parent) as usize;
+    rows[ROW * last + 10] = k as u32;
+    rows[ROW * parent + 11] = k as u32;
+}
+
+// The table without a section.
+pub fn clear(rows: &mut [u32])
+    requires { ⌜ HasRows 129 (now rows) ⌝ }
+    ensures { λ _. ⌜ Linked 0 (now (rows .exit)) ⌝ }
+{
+    rows[ROWS - 1] = IMAGE;
+}
+
+// The section h in row n, after those below it.
+pub fn push(rows: &mut [u32], n: usize, h: Section)
+    requires { ⌜ HasRows 129 (now rows) × (n < 128) × IsParent n (h .parent) × Linked n (now rows) ⌝ }
+    ensures { λ _. ⌜ (sectionsIn (n + 1) (now (rows .exit)) ≡ sectionsIn n (now (rows .entry)) ++ (h ∷ [])) × Linked (n + 1) (now (rows .exit)) ⌝ }
+{
+    link(rows, n, h.parent as usize);
+    put_row(rows, n, h);
+}
+
+// The row of the next section with section k's parent.
+pub fn next_at(rows: &[u32], k: usize) -> u32
+    requires { ⌜ HasRows (k + 1) (now rows) ⌝ }
+    ensures { λ r. ⌜ r ≡ nextAt (now (rows .entry)) k ⌝ }
+{
+    rows[ROW * k + 10]
+}
+
+// The row of the last section with the parent k.
+pub fn last_at(rows: &[u32], k: usize) -> u32
+    requires { ⌜ HasRows (k + 1) (now rows) ⌝ }
+    ensures { λ r. ⌜ r ≡ lastAt (now (rows .entry)) k ⌝ }
+{
+    rows[ROW * k + 11]
 }
 
 pub fn row_at(rows: &[u32], k: usize) -> Section

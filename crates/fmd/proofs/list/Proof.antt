@@ -92,9 +92,9 @@ plainly = record {
   lifetimes = 2;
   outlives = [];
   params = 2;
-  locals = local N′.mir valueLocal ∷ local (bytesBy 0) valueLocal ∷ local slice valueLocal ∷ local (arr 1280) memorySlot ∷ local (arr 512) memorySlot ∷
-      local O′.mir valueLocal ∷ local word valueLocal ∷ local (mutArr 1280) valueLocal ∷ local mutWords valueLocal ∷ local (mutArr 512) valueLocal ∷
-      local mutWords valueLocal ∷ local tyUnit valueLocal ∷ local ref valueLocal ∷ local (sliceTy ref) valueLocal ∷ local (shrArr 1280) valueLocal ∷
+  locals = local N′.mir valueLocal ∷ local (bytesBy 0) valueLocal ∷ local slice valueLocal ∷ local (arr 1548) memorySlot ∷ local (arr 512) memorySlot ∷
+      local O′.mir valueLocal ∷ local word valueLocal ∷ local (mutArr 1548) valueLocal ∷ local mutWords valueLocal ∷ local (mutArr 512) valueLocal ∷
+      local mutWords valueLocal ∷ local tyUnit valueLocal ∷ local ref valueLocal ∷ local (sliceTy ref) valueLocal ∷ local (shrArr 1548) valueLocal ∷
       local shrWords valueLocal ∷ local (shrArr 512) valueLocal ∷ local shrWords valueLocal ∷ [];
   body = body.t-1;
 }
@@ -167,7 +167,7 @@ module _ {M : Type 1} (𝓤 : URA M) (H : Heap 𝓤) (A : Atoms 𝓤) (W : Given
         (length r) ∷ []))
         (fsep (MutSlice (named 1) (β ∷ []) u32 .own (at k γ₂ p) (sliceVal (k, 0) (length p) ∷ [])) ftrue)))
 
-    goes-read : HasRows 128 r × HasSpots 128 p → ent 𝓤 (⋆ 𝓤 H A (ReadToks ∷ ‵ ReadPasses ∷ [])) (ReadForCall 𝓤 H A mem run .pre to-read)
+    goes-read : HasRows 129 r × HasSpots 128 p → ent 𝓤 (⋆ 𝓤 H A (ReadToks ∷ ‵ ReadPasses ∷ [])) (ReadForCall 𝓤 H A mem run .pre to-read)
     goes-read full = qed W (ReadToks ∷ ‵ ReadPasses ∷ []) ∵ says ! full $ frame ! $ done !
 
     module _ (n : ℕ) where
@@ -211,29 +211,29 @@ module _ {M : Type 1} (𝓤 : URA M) (H : Heap 𝓤) (A : Atoms 𝓤) (W : Given
       (known-fill : Triple 𝓤 (C #fmd·fill) (Fill 𝓤 H A mem run)) (gn : Room T.the-row (length ys)) where
     module _ (l₀ l₁ l₂ l₃ l₄ l₅ l₆ l₇ l₈ l₉ l₁₀ l₁₁ l₁₂ l₁₃ l₁₄ l₁₅ l₁₆ l₁₇ : ℕ) where
       abbrev En : Env 𝓤 H
-      En = (N′.mir, l₀) ∷ ((bytesBy 0), l₁) ∷ (slice, l₂) ∷ ((arr 1280), l₃) ∷ ((arr 512), l₄) ∷ (O′.mir, l₅) ∷ (word, l₆) ∷ ((mutArr 1280), l₇) ∷
-          (mutWords, l₈) ∷ ((mutArr 512), l₉) ∷ (mutWords, l₁₀) ∷ (tyUnit, l₁₁) ∷ (ref, l₁₂) ∷ ((sliceTy ref), l₁₃) ∷ ((shrArr 1280), l₁₄) ∷
+      En = (N′.mir, l₀) ∷ ((bytesBy 0), l₁) ∷ (slice, l₂) ∷ ((arr 1548), l₃) ∷ ((arr 512), l₄) ∷ (O′.mir, l₅) ∷ (word, l₆) ∷ ((mutArr 1548), l₇) ∷
+          (mutWords, l₈) ∷ ((mutArr 512), l₉) ∷ (mutWords, l₁₀) ∷ (tyUnit, l₁₁) ∷ (ref, l₁₂) ∷ ((sliceTy ref), l₁₃) ∷ ((shrArr 1548), l₁₄) ∷
           (shrWords, l₁₅) ∷ ((shrArr 512), l₁₆) ∷ (shrWords, l₁₇) ∷ []
 
       -- what is had, with the two tables' locals
       abbrev Having : Item 𝓤 → Item 𝓤 → List (Item 𝓤)
       Having i j = ‵ (froom shrWords l₁₇ 0) ∷ ‵ (fdies shrWords l₁₇) ∷ ‵ (froom (shrArr 512) l₁₆ 0) ∷ ‵ (fdies (shrArr 512) l₁₆) ∷ ‵ (froom shrWords l₁₅ 0) ∷
-          ‵ (fdies shrWords l₁₅) ∷ ‵ (froom (shrArr 1280) l₁₄ 0) ∷ ‵ (fdies (shrArr 1280) l₁₄) ∷ ‵ (froom (sliceTy ref) l₁₃ 0) ∷
+          ‵ (fdies shrWords l₁₅) ∷ ‵ (froom (shrArr 1548) l₁₄ 0) ∷ ‵ (fdies (shrArr 1548) l₁₄) ∷ ‵ (froom (sliceTy ref) l₁₃ 0) ∷
           ‵ (fdies (sliceTy ref) l₁₃) ∷ ‵ (froom ref l₁₂ 0) ∷ ‵ (fdies ref l₁₂) ∷ ‵ (froom tyUnit l₁₁ 0) ∷ ‵ (fdies tyUnit l₁₁) ∷
           ‵ (froom mutWords l₁₀ 0) ∷ ‵ (fdies mutWords l₁₀) ∷ ‵ (froom (mutArr 512) l₉ 0) ∷ ‵ (fdies (mutArr 512) l₉) ∷ ‵ (froom mutWords l₈ 0) ∷
-          ‵ (fdies mutWords l₈) ∷ ‵ (froom (mutArr 1280) l₇ 0) ∷ ‵ (fdies (mutArr 1280) l₇) ∷ ‵ (froom word l₆ 0) ∷ ‵ (fdies word l₆) ∷
+          ‵ (fdies mutWords l₈) ∷ ‵ (froom (mutArr 1548) l₇ 0) ∷ ‵ (fdies (mutArr 1548) l₇) ∷ ‵ (froom word l₆ 0) ∷ ‵ (fdies word l₆) ∷
           ‵ (froom O′.mir l₅ 0) ∷ ‵ (fdies O′.mir l₅) ∷ j ∷ ‵ (fdies (arr 512) l₄) ∷ i ∷
-          ‵ (fdies (arr 1280) l₃) ∷ ‵ (fat fullShare slice l₂ 0 xv) ∷ ‵ (fdies slice l₂) ∷ ‵ (fat fullShare (bytesBy 0) l₁ 0 (val s)) ∷ ‵ (fdies (bytesBy 0) l₁) ∷
+          ‵ (fdies (arr 1548) l₃) ∷ ‵ (fat fullShare slice l₂ 0 xv) ∷ ‵ (fdies slice l₂) ∷ ‵ (fat fullShare (bytesBy 0) l₁ 0 (val s)) ∷ ‵ (fdies (bytesBy 0) l₁) ∷
           ‵ (froom N′.mir l₀ 0) ∷ ‵ (fdies N′.mir l₀) ∷ (‵ (flft κ₁ q₁) ⊛ (‵ (flft κ₂ q₂) ⊛ ‵ ftrue)) ∷
           ‵ (owns (ShrSlice (named 0) κ₁ u8 ∷ MutSlice (named 1) κ₂ T.the-row ∷ []) (s, (x, tt)) (val s ∷ [], (xv ∷ [], tt))) ∷ []
 
       abbrev Passed : List (Item 𝓤)
-      Passed = Having (‵ (froom (arr 1280) l₃ 0)) (‵ (froom (arr 512) l₄ 0))
+      Passed = Having (‵ (froom (arr 1548) l₃ 0)) (‵ (froom (arr 512) l₄ 0))
 
       -- the tables are made: r₀ and p₀
-      module _ (r₀ p₀ : List ℕ) (v₁ v₂ : Val) (is₁ : Is (Array u32 1280) r₀ (v₁ ∷ [])) (is₂ : Is (Array u32 512) p₀ (v₂ ∷ [])) where
+      module _ (r₀ p₀ : List ℕ) (v₁ v₂ : Val) (is₁ : Is (Array u32 1548) r₀ (v₁ ∷ [])) (is₂ : Is (Array u32 512) p₀ (v₂ ∷ [])) where
         abbrev Made : List (Item 𝓤)
-        Made = Having (‵ (fat fullShare (arr 1280) l₃ 0 v₁)) (‵ (fat fullShare (arr 512) l₄ 0 v₂))
+        Made = Having (‵ (fat fullShare (arr 1548) l₃ 0 v₁)) (‵ (fat fullShare (arr 512) l₄ 0 v₂))
 
         runs : ent 𝓤 (⋆ 𝓤 H A Made) (Wp 𝓤 H C Λ En body.t-3 (atReturn 𝓤 H En Post))
         runs =
@@ -247,11 +247,11 @@ module _ {M : Type 1} (𝓤 : URA M) (H : Heap 𝓤) (A : Atoms 𝓤) (W : Given
             (init ! 14 refl (tt, (tt, (record { fits = lit< tt }, tt)))) $ move ! (37 ∷ []) $ fsplit ! $ move ! (1 ∷ []) $ fsplit ! $ move ! (1 ∷ []) $
             drop ! $ move ! (1 ∷ []) $ use1 W (‵ Own ⊛ ‵ Own) (shr-slice-copy 𝓤 H A W (named 0) κ₁ u8 .twice s (val s ∷ [])) $ split ! $
             use1 W (‵ Own ⊛ ‵ Own) (shr-slice-copy 𝓤 H A W (named 0) κ₁ u8 .twice s (val s ∷ [])) $ split ! $ move ! (40 ∷ []) $ split ! $ move ! (1 ∷ []) $
-            split ! $ move ! (1 ∷ []) $ drop ! $ move ! (34 ∷ []) $ use1 W (‵ (cells (memOf u32) r₀ l₃ 0)) (side-by-side 𝓤 H A W 1280 r₀ v₁ l₃ is₁) $
+            split ! $ move ! (1 ∷ []) $ drop ! $ move ! (34 ∷ []) $ use1 W (‵ (cells (memOf u32) r₀ l₃ 0)) (side-by-side 𝓤 H A W 1548 r₀ v₁ l₃ is₁) $
             lft-new ! tt (λ α. move ! (1 ∷ []) $ use1 W
             (later (some (λ (γ′ : GName). ‵ (MutSlice (named 1) (α ∷ []) u32 .own (at l₃ γ′ r₀) (sliceVal (l₃, 0) (length r₀) ∷ [])) ⊛ ‵
             (flent (α ∷ []) (Held u32 (length r₀) l₃ 0 γ′)))))
-            (lends-slice 𝓤 H A W u32 (named 1) (α ∷ []) r₀ l₃ 0 (table-room 1280 r₀ (lit< tt) (lit< tt) (is₁ .1 .0 .1))) $ await ! tt $
+            (lends-slice 𝓤 H A W u32 (named 1) (α ∷ []) r₀ l₃ 0 (table-room 1548 r₀ (lit< tt) (lit< tt) (is₁ .1 .0 .1))) $ await ! tt $
             pick ! (λ γ₁. split ! $ rewrite ! 27 (λ (m : ℕ). ‵ (fat fullShare mutWords l₈ 0 (sliceVal (l₃, 0) m))) (sym (is₁ .1 .0 .1)) refl $
             move ! (35 ∷ []) $ use1 W (‵ (cells (memOf u32) p₀ l₄ 0)) (side-by-side 𝓤 H A W 512 p₀ v₂ l₄ is₂) $ lft-new ! tt (λ β. move ! (1 ∷ []) $
             use1 W (later (some (λ (γ′ : GName). ‵ (MutSlice (named 1) (β ∷ []) u32 .own (at l₄ γ′ p₀) (sliceVal (l₄, 0) (length p₀) ∷ [])) ⊛ ‵
@@ -283,7 +283,7 @@ module _ {M : Type 1} (𝓤 : URA M) (H : Heap 𝓤) (A : Atoms 𝓤) (W : Given
             lft-new ! tt (λ α′. move ! (1 ∷ []) $ use1 W
             (later (some (λ (γ′ : GName). ‵ (ShrSlice (named 2) (α′ ∷ []) u32 .own (at l₃ γ′ r₁) (sliceVal (l₃, 0) (length r₁) ∷ [])) ⊛ ‵
             (flent (α′ ∷ []) (arr-parts (shares u32) (length r₁) .part fullShare r₁ l₃ 0)))))
-            (lends-shr-slice 𝓤 H A W u32 (named 2) (α′ ∷ []) fullShare r₁ l₃ 0 (table-room 1280 r₁ (lit< tt) (lit< tt) (len₁ ∙ is₁ .1 .0 .1))) $
+            (lends-shr-slice 𝓤 H A W u32 (named 2) (α′ ∷ []) fullShare r₁ l₃ 0 (table-room 1548 r₁ (lit< tt) (lit< tt) (len₁ ∙ is₁ .1 .0 .1))) $
             await ! tt $ pick ! (λ γ₃. split ! $ move ! (3 ∷ []) $ lft-end ! tt $ move ! (0 ∷ 7 ∷ 6 ∷ []) $
             use3 W (later (‵ (Arr (memOf u32) (length p₀) .lies p₁ l₄ 0))) (slice-back 𝓤 H A W u32 (β ∷ []) γ₂ p₁ (length p₀) l₄ 0) $ await ! tt $
             rewrite ! 0 (λ (m : ℕ). ‵ (Arr (memOf u32) m .lies p₁ l₄ 0)) (sym len₂) refl $
@@ -330,7 +330,7 @@ module _ {M : Type 1} (𝓤 : URA M) (H : Heap 𝓤) (A : Atoms 𝓤) (W : Given
             move ! (1 ∷ []) $ feqL ! (λ len₃. move ! (1 ∷ []) $ drop ! $ move ! (1 ∷ []) $ split ! $ split ! $ move ! (1 ∷ []) $ split ! $ move ! (1 ∷ []) $
             split ! $ move ! (1 ∷ []) $ split ! $ move ! (1 ∷ []) $ drop ! $ move ! (1 ∷ []) $ lft-end ! tt $ move ! (0 ∷ 7 ∷ []) $ lent-back ! tt $
             rewrite ! 0 (λ (m : ℕ). ‵ (arr-parts (shares u32) m .part fullShare r₁ l₃ 0)) (len₁ ∙ is₁ .1 .0 .1) refl $
-            use1 W (‵ (froom (arr 1280) l₃ 0)) (emptied 𝓤 H A W 1280 r₁ l₃) $ move ! (1 ∷ []) $ lft-end ! tt $ move ! (0 ∷ 6 ∷ []) $ lent-back ! tt $
+            use1 W (‵ (froom (arr 1548) l₃ 0)) (emptied 𝓤 H A W 1548 r₁ l₃) $ move ! (1 ∷ []) $ lft-end ! tt $ move ! (0 ∷ 6 ∷ []) $ lent-back ! tt $
             rewrite ! 0 (λ (m : ℕ). ‵ (arr-parts (shares u32) m .part fullShare p₁ l₄ 0)) (len₂ ∙ is₂ .1 .0 .1) refl $
             use1 W (‵ (froom (arr 512) l₄ 0)) (emptied 𝓤 H A W 512 p₁ l₄) $ move ! (4 ∷ []) $
             peeks ! unit (Is unit) (shows 𝓤 H A unit) r′ (w′ ∷ [])
@@ -349,9 +349,9 @@ module _ {M : Type 1} (𝓤 : URA M) (H : Heap 𝓤) (A : Atoms 𝓤) (W : Given
       starts : ent 𝓤 (⋆ 𝓤 H A Passed) (Wp 𝓤 H C Λ En body.t-1 (atReturn 𝓤 H En Post))
       starts =
           qed W Passed ∵ exec ! C Λ En body.t-1 (atRet En Post) $
-          assigns ! (rep ! 1280 (lit ! tt)) (from ! (stop !)) (init ! 28 refl (zeros-typed 𝓤 H A W 1280)) $
+          assigns ! (rep ! 1548 (lit ! tt)) (from ! (stop !)) (init ! 28 refl (zeros-typed 𝓤 H A W 1548)) $
           assigns ! (rep ! 512 (lit ! tt)) (from ! (stop !)) (init ! 26 refl (zeros-typed 𝓤 H A W 512)) $
-          by ! (runs (replicate 1280 0) (replicate 512 0) _ _ (zeros-are 1280) (zeros-are 512))
+          by ! (runs (replicate 1548 0) (replicate 512 0) _ _ (zeros-are 1548) (zeros-are 512))
 
     walk : Is (ShrSlice (named 0) κ₁ u8) s (val s ∷ [])
         → ent 𝓤 (onEntry 𝓤 H A list.signature (κ₁, (κ₂, tt)) (q₁, (q₂, tt)) (s, (x, tt)) (val s ∷ [], (xv ∷ [], tt)))

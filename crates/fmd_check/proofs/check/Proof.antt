@@ -19,8 +19,10 @@ enum-known-i : tie.Need-enum-known-i
 enum-known-i c = search needs
 
 check-list-requires : tie.Need-check-list-requires
-check-list-requires c κs = let w = ready _ _ _ _ (rw (c .before .before .before .i .given .1) at (c .before .before .before .before .before .before .before .read-layout .ensures)) in
-    (omega arith, omega arith, w .0, w .1)
+check-list-requires c κs =
+    let w = ready _ _ _ _ (rw (c .before .before .before .i .given .1) at (c .before .before .before .before .before .before .before .read-layout .ensures .0)) in
+    let l = rw (c .before .before .before .i .given .1) at (c .before .before .before .before .before .before .before .read-layout .ensures .1) in
+    (omega arith, omega arith, l, w)
 
 enum-known-n : tie.Need-enum-known-n
 enum-known-n c = search needs
@@ -33,14 +35,14 @@ same-length-2 c = search needs
 
 returns-2 : tie.Need-returns-2
 unfolding checkText
-returns-2 c = rw (le-ltb _ _ (c .before .before .before .before .before .before .before .before .before .before .before .before .if1 .left), sym (rw (c .before .before .before .before .before .before .i .given .1) at (c .before .before .before .before .before .before .before .before .before .before .read-layout .ensures))) (c .before .before .check-list .ensures ∙ whole _ _ _)
+returns-2 c = rw (le-ltb _ _ (c .before .before .before .before .before .before .before .before .before .before .before .before .if1 .left), sym (rw (c .before .before .before .before .before .before .i .given .1) at (c .before .before .before .before .before .before .before .before .before .before .read-layout .ensures .0))) (c .before .before .check-list .ensures ∙ whole _ _ _)
 
 same-length-3 : tie.Need-same-length-3
 same-length-3 c = search needs
 
 returns-3 : tie.Need-returns-3
 unfolding checkText
-returns-3 c = rw (le-ltb _ _ (c .before .before .before .before .before .before .before .if1 .left), sym (rw (c .before .n .given .1) at (c .before .before .before .before .before .read-layout .ensures)))
+returns-3 c = rw (le-ltb _ _ (c .before .before .before .before .before .before .before .if1 .left), sym (rw (c .before .n .given .1) at (c .before .before .before .before .before .read-layout .ensures .0)))
 
 pub check-spec : {M : Type 1} → statement M
 check-spec =

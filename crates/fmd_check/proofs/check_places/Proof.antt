@@ -13,7 +13,7 @@ enum-known-k c = search needs
 
 unfit-at-requires : tie.Need-unfit-at-requires
 unfit-at-requires c κs = let w = unfit-facts _ _ _ _ (rw (c .before .k .given .1) at (c .before .before .before .before .before .resolve .ensures)) in
-    (c .before .before .before .before .before .before .before .before .before .before .pre .0, w .0, w .1)
+    let p = c .before .before .before .before .before .before .before .before .before .before .pre in (p .0, w .0, w .1, p .2)
 
 enum-known-k-2 : tie.Need-enum-known-k-2
 enum-known-k-2 c = search needs

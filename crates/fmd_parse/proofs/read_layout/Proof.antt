@@ -1,9 +1,10 @@
 use Rattle.fmd_parse.specs.Layouts.{layoutOf}
-use Rattle.fmd_table.proofs.Table.{no-sections}
+use Rattle.fmd_parse.proofs.Layouts.{from-none}
 use lib.ListN.{length}
 use native.Mathlib.Omega.{arith}
 use Prim.Native.Nat.{_+_, _*_}
-use mathlib.Core.Path.{sym, _∙_}
+use mathlib.Core.Logic.{inl}
+use mathlib.Core.Path.{refl, sym, _∙_}
 use borrow.Author.Needs.{needs}
 use Rattle.fmd_parse.proofs.read_layout.Statement.{statement}
 use Rattle.fmd_parse.proofs.read_layout.Tie as tie
@@ -17,13 +18,16 @@ image-at-requires c κs = search needs
 enum-known-i : tie.Need-enum-known-i
 enum-known-i c = search needs
 
+clear-requires : tie.Need-clear-requires
+clear-requires c κs = search needs
+
 read-list-requires : tie.Need-read-list-requires
 read-list-requires c κs = (
-  c .before .before .before .before .before .before .before .before .pre .0,
-  rw (c .before .before .i .given .1) at
-      (c .before .before .before .before .image-at .ensures .1),
-  c .before .before .before .before .before .before .before .before .pre .1,
-  omega arith,
+  c .before .before .before .before .before .before .before .before .before .before .before .before .pre .0,
+  rw (c .before .before .before .before .before .before .i .given .1) at (c .before .before .before .before .before .before .before .before .image-at .ensures .1),
+  omega (arith, c .before .before .before .before .before .before .before .before .before .before .before .before .pre .1),
+  inl refl,
+  c .before .before .before .clear .ensures,
 )
 
 ended-requires : tie.Need-ended-requires
@@ -38,22 +42,20 @@ same-length c = search needs
 returns : tie.Need-returns
 unfolding layoutOf
 returns c =
-    let s = c .before .before .before .before .before .before .before .before .before .before .before .before .args .text .now in
-    rw (
-      sym (c .before .before .before .before .before .before .before .before .before .next-token .ensures .0),
-      sym
-          (c .before .before .before .before .before .before .before .before .image-at .ensures .0) ∙ c .before .before .before .before .before .before .i
-          .given .1,
-      sym (no-sections (c .before .before .before .before .before .before .before .before .before .before .before .before .args .rows .now)),
-      sym (c .before .before .before .read-list .ensures .same (2 * length s + 2) (omega arith)),
-    ) (c .ended .ensures _)
+    let s = c .before .before .before .before .before .before .before .before .before .before .before .before .before .before .before .before .args .text .now in (
+      rw (
+        sym (c .before .before .before .before .before .before .before .before .before .before .before .before .before .next-token .ensures .0),
+        sym (c .before .before .before .before .before .before .before .before .before .before .before .before .image-at .ensures .0) ∙ c .before .before .before .before .before .before .before .before .before .before .i .given .1,
+        sym (from-none _ _ _ _ _ _ (c .before .before .before .read-list .ensures .same (2 * length s + 2) (omega arith))),
+      ) (c .ended .ensures .0 _),
+      c .ended .ensures .1 _ _ _ _ (c .before .before .before .read-list .ensures .within),
+    )
 
 returns-2 : tie.Need-returns-2
 unfolding layoutOf
-returns-2 c = rw (
-  sym (c .before .before .before .before .next-token .ensures .0),
-  sym (c .before .before .before .image-at .ensures .0) ∙ c .before .k
-      .given .1,
+returns-2 c = (
+  rw (sym (c .before .before .before .before .next-token .ensures .0), sym (c .before .before .before .image-at .ensures .0) ∙ c .before .k .given .1),
+  tt,
 )
 
 pub read-layout-spec : {M : Type 1} → statement M
@@ -63,6 +65,7 @@ read-layout-spec =
     next-token-requires
     image-at-requires
     enum-known-i
+    clear-requires
     read-list-requires
     ended-requires
     enum-known-k

@@ -14,9 +14,6 @@ end-in-requires c κs = search needs
 room-of-requires : tie.Need-room-of-requires
 room-of-requires c κs = search needs
 
-add-reach-of : tie.Need-add-reach-of
-add-reach-of c = search needs
-
 reach-of-requires : tie.Need-reach-of-requires
 reach-of-requires c κs = search needs
 
@@ -35,7 +32,6 @@ place-at-spec =
     row-at-requires
     end-in-requires
     room-of-requires
-    add-reach-of
     reach-of-requires
     spot-in-requires
     returns)

@@ -19,7 +19,7 @@ unfolding firstCbfs
 loop-holds c = (search needs, first-start _ _ _)
 
 holds-cbfs-requires : tie.Need-holds-cbfs-requires Inv-loop μ-loop
-holds-cbfs-requires c κs = (c .before .before .before .pre, c .loop-test .taken)
+holds-cbfs-requires c κs = (c .before .before .before .pre .0, c .loop-test .taken, c .before .before .before .pre .1)
 
 returns : tie.Need-returns Inv-loop μ-loop
 returns c = first-stop _ _ _ (c .before .before .loop-test .taken) (sym (c .before .holds-cbfs .ensures) ∙ c .if1 .taken) ∙ c .before .before .before .loop .inv .1

@@ -18,7 +18,7 @@ loop-holds : tie.Need-loop-holds Inv-loop μ-loop
 loop-holds c = search needs
 
 undecided-at-requires : tie.Need-undecided-at-requires Inv-loop μ-loop
-undecided-at-requires c κs = (c .before .before .before .pre .0, c .loop-test .taken)
+undecided-at-requires c κs = (c .before .before .before .pre .0, c .loop-test .taken, c .before .before .before .pre .2)
 
 returns : tie.Need-returns Inv-loop μ-loop
 returns c = first-stop _ _ _ (c .before .before .loop-test .taken) (sym (c .before .undecided-at .ensures) ∙ c .if1 .taken) ∙ c .before .before .before .loop .inv .1

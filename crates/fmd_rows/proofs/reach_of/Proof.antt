@@ -1,4 +1,5 @@
-use mathlib.Core.Path.{sym}
+use Rattle.fmd_table.specs.declared.Section.{Section}
+use mathlib.Core.Path.{sym, ap}
 use borrow.Author.Needs.{needs}
 use Rattle.fmd_rows.proofs.reach_of.Statement.{statement}
 use Rattle.fmd_rows.proofs.reach_of.Tie as tie
@@ -19,7 +20,7 @@ returns : tie.Need-returns
 returns c = rw (c .before .size .given .1)
 
 returns-2 : tie.Need-returns-2
-returns-2 c = rw (c .before .before .enum-told .given .1, sym (c .before .next-sibling .ensures)) (c .reach-to .ensures)
+returns-2 c = rw (c .before .before .enum-told .given .1, ap (λ (e : Section). e .parent) (c .before .before .before .before .before .pre .2), sym (c .before .next-sibling .ensures)) (c .reach-to .ensures)
 
 pub reach-of-spec : {M : Type 1} → statement M
 reach-of-spec =

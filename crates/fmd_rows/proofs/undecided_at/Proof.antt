@@ -8,9 +8,6 @@ use Rattle.fmd_rows.proofs.undecided_at.Tie as tie
 row-at-requires : tie.Need-row-at-requires
 row-at-requires c κs = search needs
 
-add-reach-of : tie.Need-add-reach-of
-add-reach-of c = search needs
-
 reach-of-requires : tie.Need-reach-of-requires
 reach-of-requires c κs = search needs
 
@@ -25,4 +22,4 @@ returns c = let a = c .before .before .before .before in
 pub undecided-at-spec : {M : Type 1} → statement M
 undecided-at-spec =
     tie.close
-    (tie.spec row-at-requires add-reach-of reach-of-requires is-undecided-requires returns)
+    (tie.spec row-at-requires reach-of-requires is-undecided-requires returns)

@@ -113,11 +113,29 @@ mul-rows-10 c = search needs
 slice-write-rows-10 : tie.Need-slice-write-rows-10
 slice-write-rows-10 c = simp length-set (omega arith)
 
+add-rows-10 : tie.Need-add-rows-10
+add-rows-10 c = search needs
+
+mul-rows-11 : tie.Need-mul-rows-11
+mul-rows-11 c = search needs
+
+slice-write-rows-11 : tie.Need-slice-write-rows-11
+slice-write-rows-11 c = simp length-set (omega arith)
+
+add-rows-11 : tie.Need-add-rows-11
+add-rows-11 c = search needs
+
+mul-rows-12 : tie.Need-mul-rows-12
+mul-rows-12 c = search needs
+
+slice-write-rows-12 : tie.Need-slice-write-rows-12
+slice-write-rows-12 c = simp length-set (omega arith)
+
 same-length : tie.Need-same-length
 same-length c = simp length-set
 
 returns : tie.Need-returns
-returns c = row-stored _ _ _ (c .before .before .before .before .before .before .before .pre) _ _ _ _ _ _ (c .before .before .before .before .before .offset-tag .ensures) (c .before .before .before .before .offset-word .ensures) (c .before .before .before .size-tag .ensures) (c .before .before .size-word .ensures) (c .before .mark-word .ensures) (c .mark-word2 .ensures)
+returns c = let a = c .before .before .before .before .before .before .before .args in row-stored (a .rows .now) (a .k) (a .h) _ _ _ _ _ _ (c .before .before .before .before .before .offset-tag .ensures) (c .before .before .before .before .offset-word .ensures) (c .before .before .before .size-tag .ensures) (c .before .before .size-word .ensures) (c .before .mark-word .ensures) (c .mark-word2 .ensures)
 
 pub put-row-spec : {M : Type 1} → statement M
 put-row-spec =
@@ -159,5 +177,11 @@ put-row-spec =
     add-rows-9
     mul-rows-10
     slice-write-rows-10
+    add-rows-10
+    mul-rows-11
+    slice-write-rows-11
+    add-rows-11
+    mul-rows-12
+    slice-write-rows-12
     same-length
     returns)

@@ -1,0 +1,34 @@
+-- Invariants of the code, for its proofs: no part of what is to be believed.
+use mathlib.Core.Path.{_≡_}
+use mathlib.Core.Logic.{_⊎_}
+use mathlib.Core.List.{List}
+use Prim.Native.Nat.{ℕ, _+_, _*_, _≤_, _<_}
+use lib.ListN.{getD, set}
+use Rattle.fmd_table.specs.Table.{rowWords, image, sectionAt}
+
+-- the row of the next section with the same parent, and of the last child
+unfoldable pub nextAt : List ℕ → ℕ → ℕ
+nextAt rows k = getD rows (rowWords * k + 10) 0
+
+unfoldable pub lastAt : List ℕ → ℕ → ℕ
+lastAt rows k = getD rows (rowWords * k + 11) 0
+
+abbrev pub parentAt : List ℕ → ℕ → ℕ
+parentAt rows k = sectionAt rows k .parent
+
+-- the image, or one of the first n sections
+abbrev pub IsParent : ℕ → ℕ → Type 0
+IsParent n p = (p ≡ image) ⊎ (p < n)
+
+-- the links among the first n sections
+pub record Linked (n : ℕ) (rows : List ℕ) : Type 0 where
+  pub room : n ≤ image
+  pub under : (j : ℕ) → j < n → IsParent j (parentAt rows j)
+  pub after : (j : ℕ) → j < n → (nextAt rows j ≡ image) ⊎ ((j < nextAt rows j) × (nextAt rows j < n) × (parentAt rows (nextAt rows j) ≡ parentAt rows j))
+  pub between : (j i : ℕ) → j < i → i < n → parentAt rows i ≡ parentAt rows j → nextAt rows j ≤ i
+  pub last : (p : ℕ) → IsParent n p → (lastAt rows p ≡ image) ⊎ ((lastAt rows p < n) × (parentAt rows (lastAt rows p) ≡ p))
+  pub greatest : (j : ℕ) → j < n → (j ≤ lastAt rows (parentAt rows j)) × (lastAt rows (parentAt rows j) < n)
+
+-- row k as the next sibling of the parent's last child, and as the last child
+unfoldable pub linkedTo : ℕ → ℕ → List ℕ → List ℕ
+linkedTo k p rows = set (set rows (rowWords * lastAt rows p + 10) k) (rowWords * p + 11) k
