@@ -3,7 +3,7 @@ use mathlib.Core.Path.{_≡_, refl, sym, ap, ap₂, _∙_}
 use mathlib.Core.List.{List, []}
 use Prim.Native.Nat.{ℕ}
 use native.Mathlib.Omega.{arith}
-use Rattle.gpt_model.specs.Calls.{Answer, refused, accepted, Out, out}
+use Rattle.gpt_model.specs.Calls.{Answer, refused, accepted, Outcome, outcome}
 use Rattle.gpt.specs.Answers.{doneOf, readingOf}
 use Rattle.gpt.specs.declared.Done.{Done}
 use Rattle.gpt.specs.declared.Done.the-variants as done
@@ -12,12 +12,12 @@ use Rattle.gpt.specs.declared.Refusal.the-variants.{WrongLength, BlockCount, No
 use Rattle.c_disk.specs.Told.{GptTold, resultOf, valuesOf, gptTold, placeOf, NoRefusalIsZero}
 
 -- an answer a told by its number and values, with the buffers that the call left
-pub gpt-tells : (a : Answer) (r : ℕ) (old new h t : List ℕ) (o : Out) → out a h t ≡ o → r ≡ resultOf a → new ≡ valuesOf old a
+pub gpt-tells : (a : Answer) (r : ℕ) (old new h t : List ℕ) (o : Outcome) → outcome a h t ≡ o → r ≡ resultOf a → new ≡ valuesOf old a
     → _≡_ {A = GptTold} (record { result = r; head = h; tail = t; values = new }) (gptTold old o)
 gpt-tells a r old new h t o e p q = ap₂ (λ (k : ℕ) (vs : List ℕ). record { result = k; head = h; tail = t; values = vs }) p q ∙ ap (gptTold old) e
 
 -- the same for an answer without values
-pub gpt-tells-done : (d : Done) (r : ℕ) (h t : List ℕ) (o : Out) → out (doneOf d) h t ≡ o → r ≡ resultOf (doneOf d)
+pub gpt-tells-done : (d : Done) (r : ℕ) (h t : List ℕ) (o : Outcome) → outcome (doneOf d) h t ≡ o → r ≡ resultOf (doneOf d)
     → _≡_ {A = GptTold} (record { result = r; head = h; tail = t; values = [] }) (gptTold [] o)
 gpt-tells-done d r h t o e q = gpt-tells (doneOf d) r [] [] h t o e q (none-told d)
   where

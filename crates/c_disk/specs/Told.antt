@@ -5,7 +5,7 @@ use mathlib.Core.List.{List, [], _∷_}
 use Prim.Native.Nat.{ℕ}
 use lib.ListN.{getD}
 use Rattle.gpt_model.specs.Disk.{disk512, Side, primary, backup, usedSide, entriesAt}
-use Rattle.gpt_model.specs.Calls.{Answer, refused, accepted, Out, out}
+use Rattle.gpt_model.specs.Calls.{Answer, refused, accepted, Outcome, outcome}
 use Rattle.gpt.specs.Answers.{numberOf}
 use Rattle.gpt.specs.declared.Refusal.{Refusal}
 
@@ -25,7 +25,7 @@ pub record GptTold : Type 0 where
   pub tail : List ℕ
   pub values : List ℕ
 
-abbrev pub gptTold : List ℕ → Out → GptTold
+abbrev pub gptTold : List ℕ → Outcome → GptTold
 gptTold old o = record { result = resultOf (o .answer); head = o .head; tail = o .tail; values = valuesOf old (o .answer) }
 
 -- D11: inside whichever of the two lent buffers was used. 0 the head, 1 the tail
@@ -38,8 +38,8 @@ abbrev pub placeOf : Answer → Answer
 placeOf (refused k) = refused k
 placeOf (accepted vs) = accepted (sideNumber (usedSide (getD vs 0 0)) ∷ entriesAt disk512 (usedSide (getD vs 0 0)) ∷ [])
 
-abbrev pub placed : Out → Out
-placed o = out (placeOf (o .answer)) (o .head) (o .tail)
+abbrev pub placed : Outcome → Outcome
+placed o = outcome (placeOf (o .answer)) (o .head) (o .tail)
 
 -- no refusal's number is 0
 abbrev pub NoRefusalIsZero : Type 0

@@ -8,7 +8,7 @@ ghost use mathlib.Core.List.{[], _∷_};
 ghost use lib.ListN.{length};
 ghost use Rattle.gpt_model.specs.Disk.{disk512};
 ghost use Rattle.gpt_model.specs.Calls.{step, format as formatOn, read as readCall, freeCounts, repair as repairCall, edit, delete as deleteCall};
-ghost use Rattle.gpt_model.specs.Calls.{resize as resizeCall, rename as renameCall, add as addCall};
+ghost use Rattle.gpt_model.specs.Calls.{resize as resizeCall, rename as renameCall, add as addCall, newPartition};
 ghost use Rattle.gpt.specs.Answers.{doneOf, readingOf, countedOf, addedOf};
 ghost use Rattle.c_disk.specs.Told.{resultOf, valuesOf, gptTold, placeOf, placed};
 
@@ -229,7 +229,7 @@ pub extern "C" fn usi_gpt_add(
     ensures { λ r. ⌜ record { result = r; head = now (head .exit); tail = now (tail .exit); values = now (slot .exit) ∷ now (first .exit) ∷ [] }
         ≡ gptTold (now (slot .entry) ∷ now (first .entry) ∷ [])
         (step disk512 n (now (head .entry)) (now (tail .entry))
-        (edit (addCall (now (kind .entry)) (now (unique .entry)) size attributes (now (name .entry))))) ⌝ }
+        (edit (addCall (newPartition (now (kind .entry)) (now (unique .entry)) size attributes (now (name .entry)))))) ⌝ }
 {
     if kind.len() != 16 {
         return 1;

@@ -12,8 +12,8 @@ use Rattle.octets.specs.Rows.{Row, refusal}
 use Rattle.octets.proofs.Bools.{and-l, and-r, or-cases, or-skip, some-none, bool-cases}
 use Rattle.octets.proofs.Rows.{pick-true, pick-false}
 use Rattle.gpt_model.specs.Disk.{disk512}
-use Rattle.gpt_model.specs.Calls.{add, delete, resize, rename, Call, read, freeCounts, repair, edit, refused, out, rowsOf, step, formatRows, format}
-use Rattle.gpt_model.proofs.Ways.{step-refused}
+use Rattle.gpt_model.specs.Calls.{add, delete, resize, rename, Call, read, freeCounts, repair, edit, refused, outcome, rowsOf, step, formatRows, format}
+use Rattle.gpt_model.proofs.Outcomes.{step-refused}
 use Rattle.gpt_model.proofs.Demand3.{format-refused}
 use Rattle.gpt.specs.Answers.{numbers, Numbered}
 
@@ -48,7 +48,7 @@ module _ (n : ℕ) (h t : List ℕ) where
   calls-known read = refl
   calls-known freeCounts = refl
   calls-known repair = refl
-  calls-known (edit (add type unique size attributes name)) = refl
+  calls-known (edit (add p)) = refl
   calls-known (edit (delete k)) = refl
   calls-known (edit (resize k size)) = refl
   calls-known (edit (rename k name)) = refl
@@ -61,12 +61,12 @@ module _ (n : ℕ) (h t : List ℕ) where
     pub stop-numbered : Numbered k
     stop-numbered = numbered k (rowsOf disk512 n h t c) (calls-known c) e
 
-    pub stop-step : (j : ℕ) → j ≡ k → out (refused j) h t ≡ step disk512 n h t c
-    stop-step j q = ap (λ (i : ℕ). out (refused i) h t) q ∙ sym (step-refused disk512 n h t c k e)
+    pub stop-step : (j : ℕ) → j ≡ k → outcome (refused j) h t ≡ step disk512 n h t c
+    stop-step j q = ap (λ (i : ℕ). outcome (refused i) h t) q ∙ sym (step-refused disk512 n h t c k e)
 
   module _ (guid : List ℕ) (k : ℕ) (e : refusal (formatRows disk512 n guid h t) ≡ some k) where
     pub format-numbered : Numbered k
     format-numbered = numbered k (formatRows disk512 n guid h t) (format-known guid) e
 
-    pub format-stop : (j : ℕ) → j ≡ k → out (refused j) h t ≡ format disk512 n guid h t
-    format-stop j q = ap (λ (i : ℕ). out (refused i) h t) q ∙ sym (format-refused disk512 n guid h t k e)
+    pub format-stop : (j : ℕ) → j ≡ k → outcome (refused j) h t ≡ format disk512 n guid h t
+    format-stop j q = ap (λ (i : ℕ). outcome (refused i) h t) q ∙ sym (format-refused disk512 n guid h t k e)

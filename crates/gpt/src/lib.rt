@@ -11,10 +11,10 @@ ghost use mathlib.Core.List.{[], _∷_};
 ghost use Prim.Native.Nat.{_*_, _≤_};
 ghost use lib.ListN.{length};
 ghost use Rattle.gpt_model.specs.Ranges.{freeCount, longestFree};
-ghost use Rattle.gpt_model.specs.Table.{tableBytes, slots};
+ghost use Rattle.gpt_model.specs.Table.{tableBytes, rangesOf};
 ghost use Rattle.gpt_model.specs.Disk.{disk512, lastUsable};
-ghost use Rattle.gpt_model.specs.Calls.{accepted, out, step, format as formatOn, read as readCall, freeCounts, repair as repairCall, edit};
-ghost use Rattle.gpt_model.specs.Calls.{add as addCall, delete as deleteCall, resize as resizeCall, rename as renameCall};
+ghost use Rattle.gpt_model.specs.Calls.{accepted, outcome, step, format as formatOn, read as readCall, freeCounts, repair as repairCall, edit};
+ghost use Rattle.gpt_model.specs.Calls.{add as addCall, newPartition, delete as deleteCall, resize as resizeCall, rename as renameCall};
 ghost use Rattle.gpt.specs.Answers.{numberOf, Numbered, doneOf, readingOf, addedOf, countedOf, part, handedPart};
 
 // Why a call is refused; specs/Answers gives each its number.
@@ -103,7 +103,7 @@ fn refusal_of(k: u64) -> Refusal
 
 // Writes both copies with no entries, and block 0.
 pub fn format(head: &mut [u8], tail: &mut [u8], n: u64, guid: [u8; 16]) -> Done
-    ensures { λ r. ⌜ out (doneOf r) (now (head .exit)) (now (tail .exit)) ≡ formatOn disk512 n guid (now (head .entry)) (now (tail .entry)) ⌝ }
+    ensures { λ r. ⌜ outcome (doneOf r) (now (head .exit)) (now (tail .exit)) ≡ formatOn disk512 n guid (now (head .entry)) (now (tail .entry)) ⌝ }
 {
     match gpt_checks::format(&head[..], &tail[..], n, &guid) {
         Check::Stop(k) => Done::Refused(refusal_of(k)),
@@ -117,7 +117,7 @@ pub fn format(head: &mut [u8], tail: &mut [u8], n: u64, guid: [u8; 16]) -> Done
 
 // The state of the two copies.
 pub fn read(head: &[u8], tail: &[u8], n: u64) -> Reading
-    ensures { λ r. ⌜ out (readingOf r) (now (head .entry)) (now (tail .entry)) ≡ step disk512 n (now (head .entry)) (now (tail .entry)) readCall ⌝ }
+    ensures { λ r. ⌜ outcome (readingOf r) (now (head .entry)) (now (tail .entry)) ≡ step disk512 n (now (head .entry)) (now (tail .entry)) readCall ⌝ }
 {
     match gpt_checks::lent(head, tail, n) {
         Check::Stop(k) => Reading::Refused(refusal_of(k)),
@@ -133,7 +133,7 @@ pub fn read(head: &[u8], tail: &[u8], n: u64) -> Reading
 
 // Gives a partition's slot back.
 pub fn delete(head: &mut [u8], tail: &mut [u8], n: u64, slot: u64) -> Done
-    ensures { λ r. ⌜ out (doneOf r) (now (head .exit)) (now (tail .exit))
+    ensures { λ r. ⌜ outcome (doneOf r) (now (head .exit)) (now (tail .exit))
         ≡ step disk512 n (now (head .entry)) (now (tail .entry)) (edit (deleteCall slot)) ⌝ }
 {
     match gpt_checks::delete(&head[..], &tail[..], n, slot) {
@@ -156,8 +156,8 @@ pub fn add(
     attributes: u64,
     name: [u16; 36],
 ) -> Added
-    ensures { λ r. ⌜ out (addedOf r) (now (head .exit)) (now (tail .exit))
-        ≡ step disk512 n (now (head .entry)) (now (tail .entry)) (edit (addCall kind unique size attributes name)) ⌝ }
+    ensures { λ r. ⌜ outcome (addedOf r) (now (head .exit)) (now (tail .exit))
+        ≡ step disk512 n (now (head .entry)) (now (tail .entry)) (edit (addCall (newPartition kind unique size attributes name))) ⌝ }
 {
     match gpt_checks::add(&head[..], &tail[..], n, &kind, &unique, size, &name) {
         Start::Stop(k) => Added::Refused(refusal_of(k)),
@@ -180,7 +180,7 @@ pub fn add(
 
 // Sets a partition's last block, for the size asked.
 pub fn resize(head: &mut [u8], tail: &mut [u8], n: u64, slot: u64, size: u64) -> Done
-    ensures { λ r. ⌜ out (doneOf r) (now (head .exit)) (now (tail .exit))
+    ensures { λ r. ⌜ outcome (doneOf r) (now (head .exit)) (now (tail .exit))
         ≡ step disk512 n (now (head .entry)) (now (tail .entry)) (edit (resizeCall slot size)) ⌝ }
 {
     match gpt_checks::resize(&head[..], &tail[..], n, slot, size) {
@@ -194,7 +194,7 @@ pub fn resize(head: &mut [u8], tail: &mut [u8], n: u64, slot: u64, size: u64) ->
 
 // Sets a partition's name.
 pub fn rename(head: &mut [u8], tail: &mut [u8], n: u64, slot: u64, name: [u16; 36]) -> Done
-    ensures { λ r. ⌜ out (doneOf r) (now (head .exit)) (now (tail .exit))
+    ensures { λ r. ⌜ outcome (doneOf r) (now (head .exit)) (now (tail .exit))
         ≡ step disk512 n (now (head .entry)) (now (tail .entry)) (edit (renameCall slot name)) ⌝ }
 {
     match gpt_checks::rename(&head[..], &tail[..], n, slot, &name) {
@@ -208,7 +208,7 @@ pub fn rename(head: &mut [u8], tail: &mut [u8], n: u64, slot: u64, name: [u16; 3
 
 // Writes the other copy from the good one, and answers the state found.
 pub fn repair(head: &mut [u8], tail: &mut [u8], n: u64) -> Reading
-    ensures { λ r. ⌜ out (readingOf r) (now (head .exit)) (now (tail .exit)) ≡ step disk512 n (now (head .entry)) (now (tail .entry)) repairCall ⌝ }
+    ensures { λ r. ⌜ outcome (readingOf r) (now (head .exit)) (now (tail .exit)) ≡ step disk512 n (now (head .entry)) (now (tail .entry)) repairCall ⌝ }
 {
     match read(&head[..], &tail[..], n) {
         Reading::Same => Reading::Same,
@@ -243,8 +243,8 @@ pub fn table<'a>(head: &'a [u8], tail: &'a [u8], n: u64) -> &'a [u8]
 
 fn count_in(table: &[u8], n: u64) -> Counted
     requires { ⌜ (length (now table) ≡ tableBytes) × (2 * disk512 .first ≤ n) × (n ≤ 4294967296) ⌝ }
-    ensures { λ r. ⌜ countedOf r ≡ accepted (freeCount (slots (now (table .entry))) (disk512 .first) (lastUsable disk512 n)
-        ∷ longestFree (slots (now (table .entry))) (disk512 .first) (lastUsable disk512 n) ∷ []) ⌝ }
+    ensures { λ r. ⌜ countedOf r ≡ accepted (freeCount (rangesOf (now (table .entry))) (disk512 .first) (lastUsable disk512 n)
+        ∷ longestFree (rangesOf (now (table .entry))) (disk512 .first) (lastUsable disk512 n) ∷ []) ⌝ }
 {
     let free = gpt_room::free_counts(
         table,
@@ -259,7 +259,7 @@ fn count_in(table: &[u8], n: u64) -> Counted
 
 // Usable blocks in no partition, and the longest run of such.
 pub fn free_counts(head: &[u8], tail: &[u8], n: u64) -> Counted
-    ensures { λ r. ⌜ out (countedOf r) (now (head .entry)) (now (tail .entry)) ≡ step disk512 n (now (head .entry)) (now (tail .entry)) freeCounts ⌝ }
+    ensures { λ r. ⌜ outcome (countedOf r) (now (head .entry)) (now (tail .entry)) ≡ step disk512 n (now (head .entry)) (now (tail .entry)) freeCounts ⌝ }
 {
     match read(head, tail, n) {
         Reading::Same => count_in(gpt_places::entries_in(head, Side::Primary), n),

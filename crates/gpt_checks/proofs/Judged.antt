@@ -13,11 +13,11 @@ use Rattle.octets.specs.Tests.{_and_}
 use Rattle.octets.specs.Rows.{Row, row, pickRow, refusal}
 use Rattle.octets.proofs.Bools.{and-l, and-r, and-i, not-f, some-none}
 use Rattle.octets.proofs.Rows.{passes, pick-true, pick-false, refusal-append, refusal-first, refusal-before}
-use Rattle.gpt_model.specs.Ranges.{place}
-use Rattle.gpt_model.specs.Table.{slots}
+use Rattle.gpt_model.specs.Ranges.{lowestStart}
+use Rattle.gpt_model.specs.Table.{rangesOf}
 use Rattle.gpt_model.specs.Disk.{disk512, lastUsable, inRange, primary, entriesIn, state, tableOf}
-use Rattle.gpt_model.specs.Calls.{Edit, add, delete, resize, rename, edit, badName, slotRows, addRows, fitsAt, tableRows, isNone, lengthsOf, lengthsOk, readRows, openRows, rowsOf, formatRows}
-use Rattle.gpt_model.proofs.Ways.{edit-decides, edit-stops}
+use Rattle.gpt_model.specs.Calls.{Edit, add, newPartition, delete, resize, rename, edit, badName, slotRows, addRows, fitsAt, tableRows, isNone, lengthsOf, lengthsOk, commonRows, openRows, rowsOf, formatRows}
+use Rattle.gpt_model.proofs.Outcomes.{edit-decides, edit-stops}
 use Rattle.gpt_model.proofs.States.{one-primary}
 use Rattle.gpt_room.specs.Answers.{placed}
 use Rattle.gpt_model.specs.declared.Block.{Block}
@@ -76,7 +76,7 @@ module _ (n : ℕ) (h t : List ℕ) where
 
   -- the rows before an edit's own, where GUIDs and name have the lengths of their types
   open-is : (d : Edit) → lengthsOf d ≡ true → refusal (openRows disk512 n h t d) ≡ refusal (openFor n h t)
-  open-is d l = ap (λ (b : Bool). refusal (readRows disk512 n h t b ++ (row (not (eqb (state disk512 n h t) 1)) 11 ∷ []))) l
+  open-is d l = ap (λ (b : Bool). refusal (commonRows disk512 n h t b ++ (row (not (eqb (state disk512 n h t) 1)) 11 ∷ []))) l
 
   module _ (e : refusal (openFor n h t) ≡ none) where
     pub open-facts : Lent
@@ -92,9 +92,9 @@ module _ (n : ℕ) (h t : List ℕ) where
     own-rows d l tb is =
         ap (λ (es : List ℕ). refusal (tableRows 34 (lastUsable disk512 n) es d)) (is ∙ table-is) ∙ sym (edit-decides disk512 n h t d (open-is d l ∙ e))
 
-    pub placed-in : (tb : List ℕ) → tb ≡ entriesIn disk512 primary h → (size s : ℕ) → place (slots tb) 34 (lastUsable disk512 n) size ≡ some s
-        → place (slots (tableOf disk512 n h t)) 34 (lastUsable disk512 n) size ≡ some s
-    placed-in tb is size s p = sym (ap (λ (es : List ℕ). place (slots es) 34 (lastUsable disk512 n) size) (is ∙ table-is)) ∙ p
+    pub placed-in : (tb : List ℕ) → tb ≡ entriesIn disk512 primary h → (size s : ℕ) → lowestStart (rangesOf tb) 34 (lastUsable disk512 n) size ≡ some s
+        → lowestStart (rangesOf (tableOf disk512 n h t)) 34 (lastUsable disk512 n) size ≡ some s
+    placed-in tb is size s p = sym (ap (λ (es : List ℕ). lowestStart (rangesOf es) 34 (lastUsable disk512 n) size) (is ∙ table-is)) ∙ p
 
   pub open-stops : (d : Edit) → lengthsOf d ≡ true → (k : ℕ) → refusal (openFor n h t) ≡ some k → some k ≡ refusal (rowsOf disk512 n h t (edit d))
   open-stops d l k e = sym (edit-stops disk512 n h t d k (open-is d l ∙ e))
@@ -106,7 +106,7 @@ module _ (n : ℕ) (h t : List ℕ) where
     slotted = rowsOf disk512 n h t (edit (delete k))
 
     pub delete-open : refusal slotted ≡ none → refusal (openFor n h t) ≡ none
-    delete-open e = refusal-before (openFor n h t) (slotRows 0 0 (tableOf disk512 n h t) k) e .0
+    delete-open e = refusal-before (openFor n h t) (slotRows (tableOf disk512 n h t) k) e .0
 
     pub delete-slot : refusal slotted ≡ none → (1 ≤ k) × (k ≤ 128)
     delete-slot e = slot-number k (passes 12 slotted e)
@@ -114,7 +114,7 @@ module _ (n : ℕ) (h t : List ℕ) where
     module _ (name : List ℕ) (l : length name ≡ 36) where
       rename-is : refusal (rowsOf disk512 n h t (edit (rename k name))) ≡ refusal (slotted ++ (row (badName name) 23 ∷ []))
       rename-is =
-          ap (λ (b : Bool). refusal (readRows disk512 n h t b ++ (row (not (eqb (state disk512 n h t) 1)) 11 ∷ slotRows 0 0 (tableOf disk512 n h t) k ++ (row (badName name) 23 ∷ []))))
+          ap (λ (b : Bool). refusal (commonRows disk512 n h t b ++ (row (not (eqb (state disk512 n h t) 1)) 11 ∷ slotRows (tableOf disk512 n h t) k ++ (row (badName name) 23 ∷ []))))
           (eq-eqb (length name) 36 l)
 
       pub rename-stops : (j : ℕ) → refusal slotted ≡ some j → some j ≡ refusal (rowsOf disk512 n h t (edit (rename k name)))
@@ -128,7 +128,7 @@ module _ (n : ℕ) (h t : List ℕ) where
 
     module _ (size : ℕ) where
       abbrev own : List Row
-      own = row (eqb size 0) 20 ∷ row (not (fitsAt 34 (lastUsable disk512 n) (tableOf disk512 n h t) k size)) 25 ∷ []
+      own = row (eqb size 0) 20 ∷ row (not (fitsAt (lastUsable disk512 n) (tableOf disk512 n h t) k size)) 25 ∷ []
 
       pub resize-stops : (j : ℕ) → refusal slotted ≡ some j → some j ≡ refusal (rowsOf disk512 n h t (edit (resize k size)))
       resize-stops j e = sym (refusal-first slotted own j e)
@@ -139,8 +139,8 @@ module _ (n : ℕ) (h t : List ℕ) where
 
         -- the room is asked of a part tb of the head that holds the table, up to block last
         module _ (a : size ≢ 0) (tb : List ℕ) (last : ℕ) (is : tb ≡ entriesIn disk512 primary h) (l : last ≡ lastUsable disk512 n) (b : Bool)
-            (f : b ≡ fitsAt 34 last tb k size) where
-          fits-is : fitsAt 34 (lastUsable disk512 n) (tableOf disk512 n h t) k size ≡ b
+            (f : b ≡ fitsAt last tb k size) where
+          fits-is : fitsAt (lastUsable disk512 n) (tableOf disk512 n h t) k size ≡ b
           fits-is = sym (f ∙ rw (l, is ∙ table-is (delete-open e)))
 
           pub resize-full : b ≡ false → some 25 ≡ refusal (rowsOf disk512 n h t (edit (resize k size)))
@@ -152,7 +152,7 @@ module _ (n : ℕ) (h t : List ℕ) where
 -- ---- adding, from row 20 on, over the table es
 
 pub add-lengths : (type unique : List ℕ) (size attributes : ℕ) (name : List ℕ) → length type ≡ 16 → length unique ≡ 16 → length name ≡ 36
-    → lengthsOf (add type unique size attributes name) ≡ true
+    → lengthsOf (add (newPartition type unique size attributes name)) ≡ true
 add-lengths type unique size attributes name a b c = and-i _ _ (and-i _ _ (eq-eqb _ _ a) (eq-eqb _ _ b)) (eq-eqb _ _ c)
 
 module _ (n : ℕ) (es type unique : List ℕ) (size : ℕ) (name : List ℕ) where
@@ -160,10 +160,10 @@ module _ (n : ℕ) (es type unique : List ℕ) (size : ℕ) (name : List ℕ) wh
   before25 = addRows 0 0 es type unique size name
 
   abbrev start : Option ℕ
-  start = place (slots es) 34 (lastUsable disk512 n) size
+  start = lowestStart (rangesOf es) 34 (lastUsable disk512 n) size
 
   abbrev rows : ℕ → Option ℕ
-  rows attributes = refusal (tableRows 34 (lastUsable disk512 n) es (add type unique size attributes name))
+  rows attributes = refusal (tableRows 34 (lastUsable disk512 n) es (add (newPartition type unique size attributes name)))
 
   pub add-size : refusal before25 ≡ none → 0 < size
   add-size e = let w : size ≢ 0 = eqb-false size 0 (passes 20 before25 e) in omega arith
@@ -172,7 +172,7 @@ module _ (n : ℕ) (es type unique : List ℕ) (size : ℕ) (name : List ℕ) wh
   start-stops k e = (λ attributes. sym (refusal-first before25 (row (isNone start) 25 ∷ []) k e), λ b q. absurd (some-none (sym q)))
 
   -- what the search for a start answers, between the usable blocks f and l
-  module _ (e : refusal before25 ≡ none) (p : Place) (f l : ℕ) (ef : f ≡ 34) (el : l ≡ lastUsable disk512 n) (r : placed p ≡ place (slots es) f l size) where
+  module _ (e : refusal before25 ≡ none) (p : Place) (f l : ℕ) (ef : f ≡ 34) (el : l ≡ lastUsable disk512 n) (r : placed p ≡ lowestStart (rangesOf es) f l size) where
     placed-is : placed p ≡ start
     placed-is = r ∙ rw (ef, el)
 

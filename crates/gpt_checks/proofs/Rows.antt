@@ -69,11 +69,11 @@ pub slot-number : (k : ℕ) → not (leb 1 k and leb k 128) ≡ false → (1 ≤
 slot-number k e = let w = not-f _ e in (leb-true _ _ (and-l _ _ w), leb-true _ _ (and-r _ _ w))
 
 module _ (first last : ℕ) (es : List ℕ) (k : ℕ) where
-  pub slot-low : k < 1 → some 12 ≡ refusal (slotRows first last es k)
+  pub slot-low : k < 1 → some 12 ≡ refusal (slotRows es k)
   unfolding _and_
   slot-low h = sym (pick-true _ 12 _ (rw (lt-leb 1 k h)))
 
-  pub slot-high : 1 ≤ k → 128 < k → some 12 ≡ refusal (slotRows first last es k)
+  pub slot-high : 1 ≤ k → 128 < k → some 12 ≡ refusal (slotRows es k)
   unfolding _and_
   slot-high l h = sym (pick-true _ 12 _ (rw (le-leb 1 k l, lt-leb k 128 h)))
 
@@ -81,10 +81,10 @@ module _ (first last : ℕ) (es : List ℕ) (k : ℕ) where
     numbered : not (leb 1 k and leb k 128) ≡ false
     numbered = ap not (and-i _ _ (le-leb 1 k l) (le-leb k 128 h))
 
-    pub slot-unused : unused (entryOf es k) ≡ true → some 13 ≡ refusal (slotRows first last es k)
+    pub slot-unused : unused (entryOf es k) ≡ true → some 13 ≡ refusal (slotRows es k)
     slot-unused e = sym (pick-false _ 12 _ numbered ∙ pick-true _ 13 _ e)
 
-    pub slot-used : unused (entryOf es k) ≡ false → none ≡ refusal (slotRows first last es k)
+    pub slot-used : unused (entryOf es k) ≡ false → none ≡ refusal (slotRows es k)
     slot-used e = sym (pick-false _ 12 _ numbered ∙ pick-false _ 13 _ e)
 
 -- ---- rows 20 to 24 of adding

@@ -7,7 +7,7 @@ use lib.Dec.{eqb}
 use Rattle.octets.specs.Tests.{_and_}
 use Rattle.octets.specs.Rows.{Row, row}
 use Rattle.gpt_model.specs.Disk.{disk512, inRange, state}
-use Rattle.gpt_model.specs.Calls.{lengthsOk, readRows}
+use Rattle.gpt_model.specs.Calls.{lengthsOk, commonRows}
 use Rattle.gpt_checks.specs.declared.Check.{Check}
 use Rattle.gpt_checks.specs.declared.Check.the-variants.{Pass, Stop}
 use Rattle.gpt_checks.specs.declared.Start.{Start}
@@ -33,4 +33,4 @@ lentRows n h t = row (not (lengthsOk disk512 h t and true)) 1 ∷ row (not (inRa
 
 -- 1, 2, 10, 11
 abbrev pub openFor : ℕ → List ℕ → List ℕ → List Row
-openFor n h t = readRows disk512 n h t true ++ (row (not (eqb (state disk512 n h t) 1)) 11 ∷ [])
+openFor n h t = commonRows disk512 n h t true ++ (row (not (eqb (state disk512 n h t) 1)) 11 ∷ [])

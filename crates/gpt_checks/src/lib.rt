@@ -12,10 +12,10 @@ ghost use mathlib.Core.Option.{some};
 ghost use Prim.Native.Nat.{ℕ, _*_, _≤_};
 ghost use lib.ListN.{length};
 ghost use Rattle.octets.specs.Rows.{refusal};
-ghost use Rattle.gpt_model.specs.Ranges.{place};
-ghost use Rattle.gpt_model.specs.Table.{tableBytes, slots};
+ghost use Rattle.gpt_model.specs.Ranges.{lowestStart};
+ghost use Rattle.gpt_model.specs.Table.{tableBytes, rangesOf};
 ghost use Rattle.gpt_model.specs.Disk.{disk512, lastUsable, tableOf};
-ghost use Rattle.gpt_model.specs.Calls.{formatRows, slotRows, addRows, tableRows, rowsOf, edit, add as addCall, delete as deleteCall};
+ghost use Rattle.gpt_model.specs.Calls.{formatRows, slotRows, addRows, tableRows, rowsOf, edit, add as addCall, newPartition, delete as deleteCall};
 ghost use Rattle.gpt_model.specs.Calls.{resize as resizeCall, rename as renameCall};
 ghost use Rattle.gpt_checks.specs.Checks.{stopOf, stopBy, startBy, lentRows, openFor};
 
@@ -95,7 +95,7 @@ fn opened(head: &[u8], tail: &[u8], n: u64) -> Check
 // 12, 13: the slot's number is one of 1 to 128, and the slot is used.
 fn slot(table: &[u8], slot: u64) -> Check
     requires { ⌜ length (now table) ≡ tableBytes ⌝ }
-    ensures { λ r. ⌜ stopOf r ≡ refusal (slotRows 0 0 (now (table .entry)) slot) ⌝ }
+    ensures { λ r. ⌜ stopOf r ≡ refusal (slotRows (now (table .entry)) slot) ⌝ }
 {
     if slot < 1 {
         return Check::Stop(12);
@@ -188,8 +188,8 @@ fn new(table: &[u8], kind: &[u8], unique: &[u8], size: u64, name: &[u16]) -> Che
 fn place(table: &[u8], n: u64, kind: &[u8], unique: &[u8], size: u64, name: &[u16]) -> Start
     requires { ⌜ (length (now table) ≡ tableBytes) × (2 * disk512 .first ≤ n) × (n ≤ 4294967296) ⌝ }
     ensures { λ r. ⌜ ((attributes : ℕ) → stopBy r ≡ refusal (tableRows (disk512 .first) (lastUsable disk512 n) (now (table .entry))
-        (addCall (now (kind .entry)) (now (unique .entry)) size attributes (now (name .entry)))))
-        × ((b : ℕ) → startBy r ≡ some b → place (slots (now (table .entry))) (disk512 .first) (lastUsable disk512 n) size ≡ some b) ⌝ }
+        (addCall (newPartition (now (kind .entry)) (now (unique .entry)) size attributes (now (name .entry))))))
+        × ((b : ℕ) → startBy r ≡ some b → lowestStart (rangesOf (now (table .entry))) (disk512 .first) (lastUsable disk512 n) size ≡ some b) ⌝ }
 {
     match new(table, kind, unique, size, name) {
         Check::Stop(k) => Start::Stop(k),
@@ -217,8 +217,8 @@ pub fn add(
 ) -> Start
     requires { ⌜ (length (now kind) ≡ 16) × (length (now unique) ≡ 16) × (length (now name) ≡ 36) ⌝ }
     ensures { λ r. ⌜ ((attributes : ℕ) → stopBy r ≡ refusal (rowsOf disk512 n (now (head .entry)) (now (tail .entry)) (edit
-        (addCall (now (kind .entry)) (now (unique .entry)) size attributes (now (name .entry))))))
-        × ((b : ℕ) → startBy r ≡ some b → place (slots (tableOf disk512 n (now (head .entry)) (now (tail .entry))))
+        (addCall (newPartition (now (kind .entry)) (now (unique .entry)) size attributes (now (name .entry)))))))
+        × ((b : ℕ) → startBy r ≡ some b → lowestStart (rangesOf (tableOf disk512 n (now (head .entry)) (now (tail .entry))))
         (disk512 .first) (lastUsable disk512 n) size ≡ some b) ⌝ }
 {
     match opened(head, tail, n) {

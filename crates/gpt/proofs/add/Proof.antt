@@ -2,7 +2,7 @@ use mathlib.Core.Path.{sym, ap, _∙_}
 use denote.Ref.{now}
 use Rattle.gpt.proofs.Refusals.{stop-numbered, stop-step}
 use Rattle.gpt_checks.specs.Checks.{stopBy, startBy}
-use Rattle.gpt_model.specs.Calls.{edit, add}
+use Rattle.gpt_model.specs.Calls.{edit, add, newPartition}
 use borrow.Author.Needs.{needs}
 use Rattle.gpt.proofs.add.Statement.{statement}
 use Rattle.gpt.proofs.add.Tie as tie
@@ -27,7 +27,7 @@ refusal-of-requires c κs =
     let c4 = c .before .before .before .before in
     let c8 = c4 .before .before .before .before in
     let a = c8 .before .before .before .args in
-    stop-numbered (a .n) (now (a .head)) (now (a .tail)) (edit (add (a .t4) (a .t5) (a .size) (a .attributes) (a .t8))) _ (sym (c .before .before .before .add .ensures .0 (a .attributes)) ∙ ap stopBy (c .before .k .given .1))
+    stop-numbered (a .n) (now (a .head)) (now (a .tail)) (edit (add (newPartition (a .t4) (a .t5) (a .size) (a .attributes) (a .t8)))) _ (sym (c .before .before .before .add .ensures .0 (a .attributes)) ∙ ap stopBy (c .before .k .given .1))
 
 enum-known-first : tie.Need-enum-known-first
 enum-known-first c = search needs
@@ -63,7 +63,7 @@ returns c =
     let c8 = c4 .before .before .before .before in
     let c12 = c8 .before .before .before .before in
     let a = c12 .args in
-    stop-step (a .n) (now (a .head)) (now (a .tail)) (edit (add (a .t4) (a .t5) (a .size) (a .attributes) (a .t8))) _ (sym (c4 .add .ensures .0 (a .attributes)) ∙ ap stopBy (c .before .before .k .given .1)) _ (c .refusal-of .ensures)
+    stop-step (a .n) (now (a .head)) (now (a .tail)) (edit (add (newPartition (a .t4) (a .t5) (a .size) (a .attributes) (a .t8)))) _ (sym (c4 .add .ensures .0 (a .attributes)) ∙ ap stopBy (c .before .before .k .given .1)) _ (c .refusal-of .ensures)
 
 same-length-3 : tie.Need-same-length-3
 same-length-3 c = search needs

@@ -2,7 +2,7 @@ use mathlib.Core.Path.{sym, _∙_}
 use denote.Ref.{now}
 use Rattle.gpt_checks.proofs.Judged.{passed, stopped, open-facts, open-stops, own-rows, placed-in, add-lengths}
 use Rattle.octets.proofs.Bools.{some-none}
-use Rattle.gpt_model.specs.Calls.{add}
+use Rattle.gpt_model.specs.Calls.{add, newPartition}
 use borrow.Author.Needs.{needs}
 use Rattle.gpt_checks.proofs.add.Statement.{statement}
 use Rattle.gpt_checks.proofs.add.Tie as tie
@@ -33,7 +33,7 @@ returns c =
     let c8 = c4 .before .before .before .before in
     let a = c8 .before .args in
     let p = c8 .before .pre in
-    (λ x. open-stops (a .n) (now (a .head)) (now (a .tail)) (add (now (a .kind)) (now (a .unique)) (a .size) x (now (a .name))) (add-lengths (now (a .kind)) (now (a .unique)) (a .size) x (now (a .name)) (p .0) (p .1) (p .2)) _ (stopped _ _ (c .before .k .given .1) (c .before .before .before .opened .ensures)), λ b q. absurd (some-none (sym q)))
+    (λ x. open-stops (a .n) (now (a .head)) (now (a .tail)) (add (newPartition (now (a .kind)) (now (a .unique)) (a .size) x (now (a .name)))) (add-lengths (now (a .kind)) (now (a .unique)) (a .size) x (now (a .name)) (p .0) (p .1) (p .2)) _ (stopped _ _ (c .before .k .given .1) (c .before .before .before .opened .ensures)), λ b q. absurd (some-none (sym q)))
 
 returns-2 : tie.Need-returns-2
 returns-2 c =
@@ -43,7 +43,7 @@ returns-2 c =
     let p = c8 .before .before .pre in
     let o = passed _ (c .before .before .enum-told .given .1) (c4 .opened .ensures) in
     let is = c .before .entries-in .ensures .0 in
-    (λ x. c .place .ensures .0 x ∙ own-rows (a .n) (now (a .head)) (now (a .tail)) o (add (now (a .kind)) (now (a .unique)) (a .size) x (now (a .name))) (add-lengths (now (a .kind)) (now (a .unique)) (a .size) x (now (a .name)) (p .0) (p .1) (p .2)) _ is, λ b q. placed-in (a .n) (now (a .head)) (now (a .tail)) o _ is (a .size) b (c .place .ensures .1 b q))
+    (λ x. c .place .ensures .0 x ∙ own-rows (a .n) (now (a .head)) (now (a .tail)) o (add (newPartition (now (a .kind)) (now (a .unique)) (a .size) x (now (a .name)))) (add-lengths (now (a .kind)) (now (a .unique)) (a .size) x (now (a .name)) (p .0) (p .1) (p .2)) _ is, λ b q. placed-in (a .n) (now (a .head)) (now (a .tail)) o _ is (a .size) b (c .place .ensures .1 b q))
 
 pub add-spec : {M : Type 1} → statement M
 add-spec =
