@@ -1,3 +1,5 @@
+pub mod Plans
+pub mod Fitted
 pub mod Stages
 pub mod Found
 pub mod Facts

@@ -8,7 +8,7 @@ use Rattle.fmd_parse.specs.Trees.{blank as blankSection}
 use Rattle.fmd_table.specs.Table.{blank}
 use Rattle.fmd_table.specs.declared.Section.{Section}
 use Rattle.fmd_table.specs.declared.Placed.{Placed}
-use Rattle.fmd_plan.specs.Plans.{endOf, roomOf, Resolved, unfit, unsized, plan}
+use Rattle.fmd_check.specs.Plans.{endOf, roomOf, Resolved, unfit, unsized, plan}
 use Rattle.fmd_rows.specs.Rows.{undecided}
 
 -- L14: Sizes are at least 1, siblings ascend without overlap and end within the parent. The section p at the index k.

@@ -17,13 +17,13 @@ use Rattle.fmd_parse.specs.Trees.{blank as blankSection}
 use Rattle.fmd_table.specs.Table.{blank}
 use Rattle.fmd_table.specs.declared.Section.{Section}
 use Rattle.fmd_table.specs.declared.Placed.{Placed}
-use Rattle.fmd_plan.specs.Plans.{endOf, endWith, endIn, roomOf, fits, spotOf, spotBy, spotIn, placeOf, Resolved, afterSpot, resolveFrom}
-use Rattle.fmd_plan.specs.Fitted.{Lies, Sized, ResolvedFacts}
+use Rattle.fmd_check.specs.Plans.{endOf, endWith, endIn, roomOf, fits, spotOf, spotBy, spotIn, placeOf, Resolved, afterSpot, resolveFrom}
+use Rattle.fmd_check.specs.Fitted.{Lies, Sized, ResolvedFacts}
 use Rattle.fmd_rows.specs.Rows.{siblingIn, reachOf, isUndecided, undecided}
 use Rattle.fmd_rows.specs.declared.Reach.{Reach}
 use Rattle.fmd_rows.specs.declared.Reach.the-variants.{OfSize, UpTo, ToParentEnd, Undecided}
-use Rattle.fmd_plan.specs.declared.Spot.{Spot}
-use Rattle.fmd_plan.specs.declared.Spot.the-variants.{Fits, Unfit, NoSize}
+use Rattle.fmd_check.specs.declared.plan.Spot.{Spot}
+use Rattle.fmd_check.specs.declared.plan.Spot.the-variants.{Fits, Unfit, NoSize}
 
 -- ---- one section
 
