@@ -13,7 +13,7 @@ use Rattle.fmap_rules.specs.declared.Area.{Area}
 use Rattle.fmap_write.proofs.Fields.{map-written}
 use Rattle.fmd_table.specs.Table.{sectionsIn, placedIn, HasRows, HasSpots}
 use Rattle.fmd_table.proofs.Table.{length-sections}
-use Rattle.fmd_parse.specs.declared.Image.{Image}
+use Rattle.fmd_head.specs.declared.Image.{Image}
 use Rattle.fmd_table.proofs.Spots.{length-placed, none-placed}
 use Rattle.fmd_check.specs.Check.{fault, good, checkText}
 use Rattle.fmd_check.specs.declared.Place.{Place}

@@ -14,8 +14,8 @@ use Rattle.fmap_rules.specs.declared.ImagePosition.{ImagePosition}
 use Rattle.fmap.specs.Written.{Holds}
 use Rattle.fmap.proofs.Written.{map-holds}
 use Rattle.fmd_parse.specs.Trees.{AddressFits}
-use Rattle.fmd_parse.specs.declared.Address.{Address}
-use Rattle.fmd_parse.specs.declared.Address.the-variants.{Given, Omitted}
+use Rattle.fmd_head.specs.declared.Address.{Address}
+use Rattle.fmd_head.specs.declared.Address.the-variants.{Given, Omitted}
 use Rattle.fmd_check.specs.Check.{Judged, fault, good, checkText}
 use Rattle.fmd_check.specs.Facts.{CheckedFacts}
 use Rattle.fmd_check.proofs.Facts.{check-facts}

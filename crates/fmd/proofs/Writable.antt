@@ -17,7 +17,7 @@ use Rattle.fmap_rules.specs.declared.Area.{Area}
 use Rattle.fmap_rules.proofs.Good.{areas-good}
 use Rattle.fmd_parse.specs.Trees.{blank as blankSection}
 use Rattle.fmd_table.specs.declared.Section.{Section}
-use Rattle.fmd_parse.specs.declared.Image.{Image}
+use Rattle.fmd_head.specs.declared.Image.{Image}
 use Rattle.fmd_table.specs.declared.Placed.{Placed}
 use Rattle.fmd_check.specs.Facts.{Accepted}
 use Rattle.fmd_areas.specs.Areas.{storedName, flagsOf, areaFrom, areaAt, areasOf}

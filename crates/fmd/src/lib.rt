@@ -17,8 +17,8 @@ ghost use Rattle.fmd.specs.Invariants.{Held, ReadFor};
 use fmap_rules::ImagePosition;
 use fmd_areas::area_at;
 use fmd_check::Verdict;
-use fmd_parse::Address;
-use fmd_parse::Image as TextImage;
+use fmd_head::Address;
+use fmd_head::Image as TextImage;
 use fmd_table::ROWS;
 use fmd_table::SPOTS;
 

@@ -15,7 +15,7 @@ use Rattle.fmd_parse.specs.Trees.{blank as blankSection, Tree, Imaged, LayoutFa
 use Rattle.fmd_parse.specs.Layouts.{Layout, layout, refused, layoutOf}
 use Rattle.fmd_table.specs.Table.{blank}
 use Rattle.fmd_table.specs.declared.Section.{Section}
-use Rattle.fmd_parse.specs.declared.Image.{Image}
+use Rattle.fmd_head.specs.declared.Image.{Image}
 use Rattle.fmd_parse.proofs.Trees.{layout-facts}
 use Rattle.fmd_rows.specs.Rows.{foundFrom, repeats, firstRepeat, holdsCbfs, firstCbfs, undecided, firstUndecided, isFmap, fmapIn, hasChild}
 use Rattle.fmd_rows.specs.declared.Found.{Found}

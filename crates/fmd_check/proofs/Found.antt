@@ -9,7 +9,7 @@ use Rattle.fmd_table.specs.Table.{sectionsIn}
 use Rattle.fmd_table.proofs.Table.{length-sections}
 use Rattle.fmd_parse.specs.Layouts.{layout, layoutOf}
 use Rattle.fmd_parse.specs.Trees.{LayoutFacts}
-use Rattle.fmd_parse.specs.declared.Image.{Image}
+use Rattle.fmd_head.specs.declared.Image.{Image}
 use Rattle.fmd_parse.proofs.Trees.{layout-facts}
 use Rattle.fmd_rows.specs.Rows.{foundFrom, firstUndecided}
 use Rattle.fmd_rows.specs.Invariants.{Inside}

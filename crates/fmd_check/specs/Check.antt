@@ -14,7 +14,7 @@ use Rattle.fmd_table.specs.declared.Section.{Section}
 use Rattle.fmd_table.specs.declared.Placed.{Placed}
 use Rattle.fmd_parse.specs.Trees.{blank as blankSection}
 use Rattle.fmd_parse.specs.Layouts.{Layout, layout, refused, layoutOf}
-use Rattle.fmd_parse.specs.declared.Image.{Image}
+use Rattle.fmd_head.specs.declared.Image.{Image}
 use Rattle.fmd_rows.specs.Rows.{isFound, firstRepeat, firstCbfs, firstUndecided, fmapIn, hasChild}
 use Rattle.fmd_rows.specs.declared.Found.{Found}
 use Rattle.fmd_rows.specs.declared.Found.the-variants.{At, Nowhere}

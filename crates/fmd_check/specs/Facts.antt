@@ -7,7 +7,7 @@ use lib.ListN.{length, getD}
 use Rattle.fmap_rules.specs.Map.{mapSize}
 use Rattle.fmd_parse.specs.Trees.{Tree, Imaged}
 use Rattle.fmd_table.specs.declared.Section.{Section}
-use Rattle.fmd_parse.specs.declared.Image.{Image}
+use Rattle.fmd_head.specs.declared.Image.{Image}
 use Rattle.fmd_rows.specs.Rows.{isFmap, hasChild, repeats}
 use Rattle.fmd_table.specs.Table.{blank}
 use Rattle.fmd_check.specs.Fitted.{Fitted}

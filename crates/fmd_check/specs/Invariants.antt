@@ -4,7 +4,7 @@ use Prim.Native.Nat.{ℕ}
 use lib.ListN.{drop}
 use Rattle.octets.specs.Rows.{refusal}
 use Rattle.fmd_table.specs.declared.Section.{Section}
-use Rattle.fmd_parse.specs.declared.Image.{Image}
+use Rattle.fmd_head.specs.declared.Image.{Image}
 use Rattle.fmd_check.specs.Plans.{Resolved}
 use Rattle.fmd_check.specs.Check.{Judged, listRows, judged}
 

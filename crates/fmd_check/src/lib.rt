@@ -14,8 +14,8 @@ ghost use Rattle.fmd_check.specs.Fitted.{Sized};
 ghost use Rattle.fmd_check.specs.Check.{verdictOf, noMap, checkText};
 ghost use Rattle.fmd_check.specs.Invariants.{listFrom};
 use crate::plan::Resolution;
+use fmd_head::Image;
 use fmd_parse::Answer;
-use fmd_parse::Image;
 use fmd_rows::Found;
 use fmd_table::row_at;
 

@@ -10,8 +10,8 @@ use Rattle.fmd_table.specs.declared.Offset.the-variants.{Omitted as OmittedOffs
 use Rattle.fmd_table.specs.declared.Size.{Size}
 use Rattle.fmd_table.specs.declared.Size.the-variants.{Omitted as OmittedSize}
 use Rattle.fmd_table.specs.declared.Section.{Section}
-use Rattle.fmd_parse.specs.declared.Address.{Address}
-use Rattle.fmd_parse.specs.declared.Image.{Image}
+use Rattle.fmd_head.specs.declared.Address.{Address}
+use Rattle.fmd_head.specs.declared.Image.{Image}
 use Rattle.fmd_grammar.specs.Grammar.{Lexeme, word, OptionalFlags, OptionalOffset, OptionalSize, SectionTree, section, OptionalBraces, OptionalAddress}
 
 abbrev pub built : ℕ → ℕ → ℕ → ℕ → Bool → Bool → Offset → Size → Section

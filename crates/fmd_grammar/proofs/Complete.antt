@@ -25,9 +25,9 @@ use Rattle.fmd_table.specs.declared.Offset.the-variants.{Omitted as OmittedOffs
 use Rattle.fmd_table.specs.declared.Size.{Size}
 use Rattle.fmd_table.specs.declared.Size.the-variants.{Omitted as OmittedSize}
 use Rattle.fmd_table.specs.declared.Section.{Section}
-use Rattle.fmd_parse.specs.declared.Address.{Address}
-use Rattle.fmd_parse.specs.declared.Address.the-variants.{Omitted}
-use Rattle.fmd_parse.specs.declared.Image.{Image}
+use Rattle.fmd_head.specs.declared.Address.{Address}
+use Rattle.fmd_head.specs.declared.Address.the-variants.{Omitted}
+use Rattle.fmd_head.specs.declared.Image.{Image}
 use Rattle.fmd_grammar.specs.Grammar.{Lexeme, word, sign, OptionalFlags, noFlags, onlyCbfs, onlyPreserve, cbfsPreserve, preserveCbfs, OptionalOffset}
 use Rattle.fmd_grammar.specs.Grammar.{noOffset, offset, OptionalSize, noSize, size, SectionTree, section, noBraces, braces, SectionList, one, more}
 use Rattle.fmd_grammar.specs.Grammar.{OptionalAddress, noAddress, address, LayoutText, image}

@@ -28,7 +28,7 @@ use Rattle.fmd_table.specs.declared.Offset.the-variants.{Given as GivenOffset, 
 use Rattle.fmd_table.specs.declared.Size.{Size}
 use Rattle.fmd_table.specs.declared.Size.the-variants.{Given as GivenSize, Omitted as OmittedSize}
 use Rattle.fmd_table.specs.declared.Section.{Section}
-use Rattle.fmd_parse.specs.Heads.{judged, setCbfs, setPreserve, setOffset, setSize}
+use Rattle.fmd_head.specs.Heads.{judged, setCbfs, setPreserve, setOffset, setSize}
 use Rattle.fmd_grammar.specs.Grammar.{Lexeme, word, sign, OptionalFlags, noFlags, onlyCbfs, onlyPreserve, cbfsPreserve, preserveCbfs, OptionalOffset}
 use Rattle.fmd_grammar.specs.Grammar.{noOffset, offset, OptionalSize, noSize, size}
 use Rattle.fmd_grammar.specs.Claims.{unfitSign, badNumber, badName, tooMany, badFlag}

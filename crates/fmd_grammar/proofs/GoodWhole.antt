@@ -17,11 +17,11 @@ use Rattle.fmd_lex.specs.Names.{goodName}
 use Rattle.fmd_lex.specs.declared.Number.{Number}
 use Rattle.fmd_lex.specs.declared.Number.the-variants.{Value, Wrong}
 use Rattle.fmd_table.specs.declared.Section.{Section}
-use Rattle.fmd_parse.specs.Heads.{judged}
-use Rattle.fmd_parse.specs.Images.{setAddress, setLength}
-use Rattle.fmd_parse.specs.declared.Address.{Address}
-use Rattle.fmd_parse.specs.declared.Address.the-variants.{Given, Omitted}
-use Rattle.fmd_parse.specs.declared.Image.{Image}
+use Rattle.fmd_head.specs.Heads.{judged}
+use Rattle.fmd_head.specs.Images.{setAddress, setLength}
+use Rattle.fmd_head.specs.declared.Address.{Address}
+use Rattle.fmd_head.specs.declared.Address.the-variants.{Given, Omitted}
+use Rattle.fmd_head.specs.declared.Image.{Image}
 use Rattle.fmd_grammar.specs.Grammar.{Lexeme, word, sign, noFlags, noOffset, noSize, section, noBraces, SectionList, one, OptionalAddress, noAddress}
 use Rattle.fmd_grammar.specs.Grammar.{address, LayoutText, image}
 use Rattle.fmd_grammar.specs.Claims.{Viable, Fault, unfitSign, wordBeforeBraces, wordAfterBraces, badNumber, badLength, badName}

@@ -16,10 +16,10 @@ use Rattle.fmd_lex.specs.declared.Flag.the-variants.{Cbfs, Preserve, Unknown}
 use Rattle.fmd_table.specs.declared.Offset.the-variants.{Omitted as OmittedOffset}
 use Rattle.fmd_table.specs.declared.Size.the-variants.{Omitted as OmittedSize}
 use Rattle.fmd_table.specs.declared.Section.{Section}
-use Rattle.fmd_parse.specs.Heads.{judged, setCbfs, setPreserve, setOffset, setSize}
-use Rattle.fmd_parse.specs.Images.{setAddress, setLength}
-use Rattle.fmd_parse.specs.declared.Address.the-variants.{Omitted}
-use Rattle.fmd_parse.specs.declared.Image.{Image}
+use Rattle.fmd_head.specs.Heads.{judged, setCbfs, setPreserve, setOffset, setSize}
+use Rattle.fmd_head.specs.Images.{setAddress, setLength}
+use Rattle.fmd_head.specs.declared.Address.the-variants.{Omitted}
+use Rattle.fmd_head.specs.declared.Image.{Image}
 use Rattle.fmd_grammar.specs.Grammar.{Lexeme, word, sign}
 use Rattle.fmd_grammar.specs.Claims.{placeOf}
 

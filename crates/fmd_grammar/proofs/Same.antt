@@ -20,14 +20,14 @@ use Rattle.fmd_lex.specs.declared.Number.the-variants.{Value, Wrong}
 use Rattle.fmd_lex.specs.declared.Flag.{Flag}
 use Rattle.fmd_lex.specs.declared.Flag.the-variants.{Cbfs, Preserve, Unknown}
 use Rattle.fmd_table.specs.declared.Section.{Section}
-use Rattle.fmd_parse.specs.Heads.{next, isKind, counted, amountAt, onward, judged, bare, namedAt, setOffset, marked, markAt, lastAt, otherAt, flagsAt}
-use Rattle.fmd_parse.specs.Heads.{withOffset, offsetAt, withSize, sizeAt, headAt}
-use Rattle.fmd_parse.specs.declared.Amount.{Amount}
-use Rattle.fmd_parse.specs.declared.Amount.the-variants.{Counted, Uncounted}
-use Rattle.fmd_parse.specs.declared.Part.{Part}
-use Rattle.fmd_parse.specs.declared.Part.the-variants.{Read, Fault}
+use Rattle.fmd_head.specs.Heads.{next, isKind, counted, amountAt, onward, judged, bare, namedAt, setOffset, marked, markAt, lastAt, otherAt, flagsAt}
+use Rattle.fmd_head.specs.Heads.{withOffset, offsetAt, withSize, sizeAt, headAt}
+use Rattle.fmd_head.specs.declared.Amount.{Amount}
+use Rattle.fmd_head.specs.declared.Amount.the-variants.{Counted, Uncounted}
+use Rattle.fmd_head.specs.declared.Part.{Part}
+use Rattle.fmd_head.specs.declared.Part.the-variants.{Read, Fault}
 use mathlib.Core.Option.{none}
-use Rattle.fmd_parse.specs.Heads.{setCbfs, setPreserve, setSize}
+use Rattle.fmd_head.specs.Heads.{setCbfs, setPreserve, setSize}
 use Rattle.fmd_table.specs.declared.Offset.the-variants.{Omitted as OmittedOffset}
 use Rattle.fmd_table.specs.declared.Size.the-variants.{Omitted as OmittedSize}
 use Rattle.fmd_grammar.proofs.Built.{built}

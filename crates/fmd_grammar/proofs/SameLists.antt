@@ -17,18 +17,18 @@ use Rattle.fmd_lex.specs.declared.Token.{Token}
 use Rattle.fmd_lex.specs.declared.Number.{Number}
 use Rattle.fmd_lex.specs.declared.Number.the-variants.{Value, Wrong}
 use Rattle.fmd_table.specs.declared.Section.{Section}
-use Rattle.fmd_parse.specs.Heads.{next, isKind, counted, amountAt, judged, headAt}
-use Rattle.fmd_parse.specs.Images.{onward, titleAt, setAddress, withAddress, addressAt, setLength, withLength, lengthAt, openAt, imageAt}
+use Rattle.fmd_head.specs.Heads.{next, isKind, counted, amountAt, judged, headAt}
+use Rattle.fmd_head.specs.Images.{onward, titleAt, setAddress, withAddress, addressAt, setLength, withLength, lengthAt, openAt, imageAt}
 use Rattle.fmd_parse.specs.Layouts.{Parsed, fault, parsed, afterHead, afterSection, sectionFrom, listFrom, Layout, layout, refused, afterImage, afterList}
 use Rattle.fmd_parse.specs.Layouts.{endedBy, layoutOf}
-use Rattle.fmd_parse.specs.declared.Address.the-variants.{Omitted}
-use Rattle.fmd_parse.specs.declared.Amount.{Amount}
-use Rattle.fmd_parse.specs.declared.Amount.the-variants.{Counted, Uncounted}
-use Rattle.fmd_parse.specs.declared.Part.{Part}
-use Rattle.fmd_parse.specs.declared.Part.the-variants.{Read, Fault}
-use Rattle.fmd_parse.specs.declared.Image.{Image}
-use Rattle.fmd_parse.specs.declared.Heading.{Heading}
-use Rattle.fmd_parse.specs.declared.Heading.the-variants.{Read as ReadImage, Fault as FaultImage}
+use Rattle.fmd_head.specs.declared.Address.the-variants.{Omitted}
+use Rattle.fmd_head.specs.declared.Amount.{Amount}
+use Rattle.fmd_head.specs.declared.Amount.the-variants.{Counted, Uncounted}
+use Rattle.fmd_head.specs.declared.Part.{Part}
+use Rattle.fmd_head.specs.declared.Part.the-variants.{Read, Fault}
+use Rattle.fmd_head.specs.declared.Image.{Image}
+use Rattle.fmd_head.specs.declared.Heading.{Heading}
+use Rattle.fmd_head.specs.declared.Heading.the-variants.{Read as ReadImage, Fault as FaultImage}
 use Rattle.fmd_grammar.specs.Grammar.{Lexeme, word, sign, lexemesOf}
 use Rattle.fmd_grammar.proofs.Views.{View, view-of, Worded, as-word, as-sign, after-sign, after-end, name-length}
 use Rattle.fmd_grammar.proofs.Parsers.{Got, no, ok, Parser, stop, eat, acted, item, ret, after, bind, valued, numberAct, titleAct, lengthAct}

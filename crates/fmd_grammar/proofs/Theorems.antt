@@ -17,9 +17,9 @@ use Rattle.fmd_lex.specs.declared.Number.{Number}
 use Rattle.fmd_lex.specs.declared.Number.the-variants.{Value, Wrong}
 use Rattle.fmd_lex.specs.declared.Token.{Token}
 use Rattle.fmd_table.specs.declared.Section.{Section}
-use Rattle.fmd_parse.specs.Heads.{next, isKind}
+use Rattle.fmd_head.specs.Heads.{next, isKind}
 use Rattle.fmd_parse.specs.Layouts.{Layout, layout, refused, layoutOf}
-use Rattle.fmd_parse.specs.declared.Image.{Image}
+use Rattle.fmd_head.specs.declared.Image.{Image}
 use Rattle.fmd_grammar.specs.Grammar.{Lexeme, word, lexemeOf, lexemesFrom, lexemesOf, LayoutText, Derives}
 use Rattle.fmd_grammar.specs.Claims.{Exact, Viable, NoText, First}
 use Rattle.fmd_grammar.proofs.Parsers.{Got, no, ok, layoutP}

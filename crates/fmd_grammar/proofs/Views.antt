@@ -16,7 +16,7 @@ use Rattle.fmd_lex.specs.Chars.{isWord, isSign}
 use Rattle.fmd_lex.specs.declared.Token.{Token}
 use Rattle.fmd_lex.proofs.Tokens.{earlier}
 use Rattle.fmd_lex.proofs.Places.{word-bounds, token-within}
-use Rattle.fmd_parse.specs.Heads.{next, isKind}
+use Rattle.fmd_head.specs.Heads.{next, isKind}
 use Rattle.fmd_grammar.specs.Grammar.{Lexeme, word, sign, lexemeOf, lexemesFrom, lexemesOf}
 
 -- xs are the token t and those after it

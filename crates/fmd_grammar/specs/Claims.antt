@@ -14,7 +14,7 @@ use Rattle.fmd_lex.specs.Names.{goodName, cbfs}
 use Rattle.fmd_lex.specs.declared.Number.the-variants.{Value, Wrong}
 use Rattle.fmd_table.specs.declared.Section.{Section}
 use Rattle.fmd_parse.specs.Layouts.{layout, refused, layoutOf}
-use Rattle.fmd_parse.specs.declared.Image.{Image}
+use Rattle.fmd_head.specs.declared.Image.{Image}
 use Rattle.fmd_grammar.specs.Grammar.{Lexeme, word, sign, lexemesOf, LayoutText, Derives}
 
 -- The reader accepts exactly the texts that derive, with what they say. So no text says two things.

@@ -17,9 +17,9 @@ use Rattle.fmd_table.specs.declared.Offset.the-variants.{Given as GivenOffset, 
 use Rattle.fmd_table.specs.declared.Size.{Size}
 use Rattle.fmd_table.specs.declared.Size.the-variants.{Given as GivenSize, Omitted as OmittedSize}
 use Rattle.fmd_table.specs.declared.Section.{Section}
-use Rattle.fmd_parse.specs.declared.Address.{Address}
-use Rattle.fmd_parse.specs.declared.Address.the-variants.{Given, Omitted}
-use Rattle.fmd_parse.specs.declared.Image.{Image}
+use Rattle.fmd_head.specs.declared.Address.{Address}
+use Rattle.fmd_head.specs.declared.Address.the-variants.{Given, Omitted}
+use Rattle.fmd_head.specs.declared.Image.{Image}
 
 -- ---- tokens
 

@@ -25,14 +25,14 @@ use Rattle.fmd_lex.specs.declared.Flag.the-variants.{Cbfs, Preserve, Unknown}
 use Rattle.fmd_lex.proofs.Numbers.{NumberFits, number-fits}
 use Rattle.fmd_lex.proofs.Tokens.{earlier}
 use Rattle.fmd_lex.proofs.Places.{token-within, word-bytes}
-use Rattle.fmd_parse.specs.Heads.{next, isKind, counted, amountAt, onward, judged, namedAt, marked, markAt, lastAt, otherAt, flagsAt, withOffset}
-use Rattle.fmd_parse.specs.Heads.{offsetAt, withSize, sizeAt, headAt}
+use Rattle.fmd_head.specs.Heads.{next, isKind, counted, amountAt, onward, judged, namedAt, marked, markAt, lastAt, otherAt, flagsAt, withOffset}
+use Rattle.fmd_head.specs.Heads.{offsetAt, withSize, sizeAt, headAt}
 use Rattle.fmd_parse.specs.Trees.{Numbered, Named}
 use Rattle.fmd_table.specs.declared.Section.{Section}
-use Rattle.fmd_parse.specs.declared.Amount.{Amount}
-use Rattle.fmd_parse.specs.declared.Amount.the-variants.{Counted, Uncounted}
-use Rattle.fmd_parse.specs.declared.Part.{Part}
-use Rattle.fmd_parse.specs.declared.Part.the-variants.{Read, Fault}
+use Rattle.fmd_head.specs.declared.Amount.{Amount}
+use Rattle.fmd_head.specs.declared.Amount.the-variants.{Counted, Uncounted}
+use Rattle.fmd_head.specs.declared.Part.{Part}
+use Rattle.fmd_head.specs.declared.Part.the-variants.{Read, Fault}
 
 -- ---- tokens of the text
 

@@ -14,10 +14,10 @@ use Rattle.fmd_table.specs.Table.{sectionsIn}
 use Rattle.fmd_table.specs.Invariants.{IsParent, Linked}
 use Rattle.fmd_table.specs.declared.Section.{Section}
 use Rattle.fmd_table.proofs.Table.{length-sections, no-sections}
-use Rattle.fmd_parse.specs.Heads.{headAt}
+use Rattle.fmd_head.specs.Heads.{headAt}
 use Rattle.fmd_parse.specs.Layouts.{Parsed, sectionFrom, listFrom}
 use Rattle.fmd_parse.specs.Invariants.{stepOf, StepIn, SectionRead, ListRead}
-use Rattle.fmd_parse.specs.declared.Part.the-variants.{Read, Fault}
+use Rattle.fmd_head.specs.declared.Part.the-variants.{Read, Fault}
 use Rattle.fmd_parse.specs.declared.Step.{Step}
 use Rattle.fmd_parse.specs.declared.Step.the-variants.{Onward, Stopped}
 

@@ -12,12 +12,12 @@ use Rattle.fmd_lex.specs.Names.{goodName, flagOf}
 use Rattle.fmd_lex.specs.declared.Token.{Token}
 use Rattle.fmd_lex.specs.declared.Flag.{Flag}
 use Rattle.fmd_lex.specs.declared.Flag.the-variants.{Cbfs, Preserve, Unknown}
-use Rattle.fmd_parse.specs.Heads.{next, isKind, amountAt, onward, namedAt, marked, markAt, lastAt, otherAt, flagsAt, withOffset, offsetAt, withSize, sizeAt, headAt}
+use Rattle.fmd_head.specs.Heads.{next, isKind, amountAt, onward, namedAt, marked, markAt, lastAt, otherAt, flagsAt, withOffset, offsetAt, withSize, sizeAt, headAt}
 use Rattle.fmd_table.specs.declared.Section.{Section}
-use Rattle.fmd_parse.specs.declared.Amount.{Amount}
-use Rattle.fmd_parse.specs.declared.Amount.the-variants.{Counted, Uncounted}
-use Rattle.fmd_parse.specs.declared.Part.{Part}
-use Rattle.fmd_parse.specs.declared.Part.the-variants.{Read, Fault}
+use Rattle.fmd_head.specs.declared.Amount.{Amount}
+use Rattle.fmd_head.specs.declared.Amount.the-variants.{Counted, Uncounted}
+use Rattle.fmd_head.specs.declared.Part.{Part}
+use Rattle.fmd_head.specs.declared.Part.the-variants.{Read, Fault}
 use Rattle.fmd_parse.proofs.Kept.{row-choice}
 
 abbrev Of : ℕ → Part → Type 0

@@ -16,18 +16,18 @@ use Rattle.octets.proofs.Bools.{choice, not-f, and-l, and-r}
 use Rattle.fmd_lex.specs.Tokens.{endKind, wordKind, tokenAt, bytesOf}
 use Rattle.fmd_lex.specs.Names.{goodName}
 use Rattle.fmd_lex.specs.declared.Token.{Token}
-use Rattle.fmd_parse.specs.Heads.{next, isKind, amountAt, headAt}
-use Rattle.fmd_parse.specs.Images.{onward, titleAt, withAddress, addressAt, withLength, lengthAt, openAt, imageAt}
+use Rattle.fmd_head.specs.Heads.{next, isKind, amountAt, headAt}
+use Rattle.fmd_head.specs.Images.{onward, titleAt, withAddress, addressAt, withLength, lengthAt, openAt, imageAt}
 use Rattle.fmd_parse.specs.Layouts.{Parsed, fault, parsed, afterHead, afterSection, sectionFrom, listFrom, afterImage, afterList, endedBy, layoutOf}
 use Rattle.fmd_parse.specs.Trees.{Named, blank, Under, Standing, Tree, AddressFits, Imaged, LayoutFacts}
 use Rattle.fmd_table.specs.declared.Section.{Section}
-use Rattle.fmd_parse.specs.declared.Part.{Part}
-use Rattle.fmd_parse.specs.declared.Part.the-variants.{Read, Fault}
-use Rattle.fmd_parse.specs.declared.Amount.{Amount}
-use Rattle.fmd_parse.specs.declared.Amount.the-variants.{Counted, Uncounted}
-use Rattle.fmd_parse.specs.declared.Image.{Image}
-use Rattle.fmd_parse.specs.declared.Heading.{Heading}
-use Rattle.fmd_parse.specs.declared.Heading.the-variants.{Read as ReadImage, Fault as FaultImage}
+use Rattle.fmd_head.specs.declared.Part.{Part}
+use Rattle.fmd_head.specs.declared.Part.the-variants.{Read, Fault}
+use Rattle.fmd_head.specs.declared.Amount.{Amount}
+use Rattle.fmd_head.specs.declared.Amount.the-variants.{Counted, Uncounted}
+use Rattle.fmd_head.specs.declared.Image.{Image}
+use Rattle.fmd_head.specs.declared.Heading.{Heading}
+use Rattle.fmd_head.specs.declared.Heading.the-variants.{Read as ReadImage, Fault as FaultImage}
 use Rattle.fmd_parse.proofs.Kept.{From, token-from, from-earlier, own-from, Faulty, next-from, fault-here, name-here, AmountFrom, amount-from}
 use Rattle.fmd_parse.proofs.Kept.{Headed, Heads, row-choice, head-heads}
 

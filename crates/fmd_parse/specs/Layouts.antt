@@ -7,14 +7,14 @@ use lib.ListN.{length}
 use Rattle.fmd_lex.specs.Tokens.{endKind, tokenAt}
 use Rattle.fmd_lex.specs.declared.Token.{Token}
 use Rattle.fmd_table.specs.Table.{sectionsIn}
-use Rattle.fmd_parse.specs.Heads.{next, isKind, headAt}
-use Rattle.fmd_parse.specs.Images.{imageAt}
+use Rattle.fmd_head.specs.Heads.{next, isKind, headAt}
+use Rattle.fmd_head.specs.Images.{imageAt}
 use Rattle.fmd_table.specs.declared.Section.{Section}
-use Rattle.fmd_parse.specs.declared.Part.{Part}
-use Rattle.fmd_parse.specs.declared.Part.the-variants.{Read, Fault}
-use Rattle.fmd_parse.specs.declared.Image.{Image}
-use Rattle.fmd_parse.specs.declared.Heading.{Heading}
-use Rattle.fmd_parse.specs.declared.Heading.the-variants.{Read as ReadImage, Fault as FaultImage}
+use Rattle.fmd_head.specs.declared.Part.{Part}
+use Rattle.fmd_head.specs.declared.Part.the-variants.{Read, Fault}
+use Rattle.fmd_head.specs.declared.Image.{Image}
+use Rattle.fmd_head.specs.declared.Heading.{Heading}
+use Rattle.fmd_head.specs.declared.Heading.the-variants.{Read as ReadImage, Fault as FaultImage}
 use Rattle.fmd_parse.specs.declared.Answer.{Answer}
 use Rattle.fmd_parse.specs.declared.Answer.the-variants.{Accepted, Refused}
 

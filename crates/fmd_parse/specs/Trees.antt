@@ -13,10 +13,10 @@ use Rattle.fmd_lex.specs.Names.{goodName}
 use Rattle.fmd_parse.specs.Layouts.{Layout, layout, refused}
 use Rattle.fmd_table.specs.declared.Offset.the-variants.{Given as GivenOffset}
 use Rattle.fmd_table.specs.declared.Size.the-variants.{Given as GivenSize}
-use Rattle.fmd_parse.specs.declared.Address.{Address}
-use Rattle.fmd_parse.specs.declared.Address.the-variants.{Given, Omitted}
+use Rattle.fmd_head.specs.declared.Address.{Address}
+use Rattle.fmd_head.specs.declared.Address.the-variants.{Given, Omitted}
 use Rattle.fmd_table.specs.declared.Section.{Section}
-use Rattle.fmd_parse.specs.declared.Image.{Image}
+use Rattle.fmd_head.specs.declared.Image.{Image}
 
 -- R33: the first fault in the text (51, 52, 53, 55, unknown or repeated flag 56)
 abbrev pub Numbered : ℕ → Type 0

@@ -7,56 +7,18 @@ ghost use lib.ListN.{length};
 ghost use Rattle.fmd_table.specs.Table.{HasRows};
 ghost use Rattle.fmd_parse.specs.Layouts.{answerOf, afterList, endedBy, layoutOf};
 ghost use Rattle.fmd_parse.specs.Invariants.{stepOf, StepIn, AnswerIn};
+use fmd_head::Heading;
+use fmd_head::Image;
 use fmd_lex::Token;
 use fmd_lex::next_token;
-use fmd_table::Section;
 
-mod head; // head.rt: a section up to its braces
 mod braces; // braces.rt: a section, and the sections in braces
-mod front; // front.rt: the image up to its opening brace
-
-// A number and the token after it; or a fault's number and place.
-pub enum Amount {
-    Counted(u32, Token),
-    Uncounted(u16, usize),
-}
-
-// A section with what is read of it so far and the token after that; or a fault's number and place.
-pub enum Part {
-    Read(Section, Token),
-    Fault(u16, usize),
-}
-
-// ---- sections in braces
 
 // The token after what was read, and how many sections the table then has; or a fault's number and place.
 pub enum Step {
     Onward(Token, usize),
     Stopped(u16, usize),
 }
-
-// ---- the image
-
-pub enum Address {
-    Given(u32),
-    Omitted,
-}
-
-// The image as it stands in the text: its name by place and length.
-pub struct Image {
-    pub address: Address,
-    pub size: u32,
-    pub place: u16,
-    pub length: u8,
-}
-
-// The image with what is read of it so far and the token after that; or a fault's number and place.
-pub enum Heading {
-    Read(Image, Token),
-    Fault(u16, usize),
-}
-
-// ---- the whole text
 
 // The image, and how many sections the table has; or the first fault's number and place.
 pub enum Answer {
@@ -87,7 +49,7 @@ pub fn read_layout(text: &[u8], rows: &mut [u32]) -> Answer
     ensures linked { λ r. ⌜ AnswerIn (now (rows .exit)) r ⌝ }
 {
     let t = next_token(text, 0);
-    match front::image_at(text, t) {
+    match fmd_head::front::image_at(text, t) {
         Heading::Read(i, u) => {
             fmd_table::clear(rows);
             let o = braces::read_list(text, u, 1, 128, rows, 0);

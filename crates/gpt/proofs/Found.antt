@@ -18,7 +18,8 @@ use Rattle.gpt_model.specs.Calls.{Answer, refused, accepted, Out, out, read, fr
 use Rattle.gpt_model.proofs.Ways.{step-refused, step-made, refused-row}
 use Rattle.gpt_model.proofs.Demand3.{format-made}
 use Rattle.gpt_model.proofs.States.{table-four, table-primary}
-use Rattle.gpt_copies.specs.States.{stateNumber, behind, entriesPlace}
+use Rattle.gpt_places.specs.Sides.{behind, entriesPlace}
+use Rattle.gpt_copies.specs.States.{stateNumber}
 use Rattle.gpt_copies.specs.declared.State.{State}
 use Rattle.gpt_copies.specs.declared.State.the-variants.{Neither}
 use Rattle.gpt_checks.specs.Checks.{lentRows}

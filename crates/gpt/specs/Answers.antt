@@ -9,7 +9,7 @@ use Rattle.octets.specs.Tests.{any}
 use Rattle.octets.specs.Rows.{refusal}
 use Rattle.gpt_model.specs.Disk.{disk512, usedSide, state, tableOf}
 use Rattle.gpt_model.specs.Calls.{Answer, refused, accepted, read, rowsOf}
-use Rattle.gpt_copies.specs.States.{behind, entriesPlace}
+use Rattle.gpt_places.specs.Sides.{behind, entriesPlace}
 use Rattle.gpt.specs.declared.Refusal.{Refusal}
 use Rattle.gpt.specs.declared.Refusal.the-variants.{WrongLength, BlockCount, NoDiskGuid, NeitherGood, NotTheSame, NoSuchSlot, SlotUnused}
 use Rattle.gpt.specs.declared.Refusal.the-variants.{NoSize, NoType, NoUniqueGuid, BadName, NoUnusedSlot, NoRoom}

@@ -3,9 +3,9 @@
 // A call asks its judge of gpt_checks first, and writes after, by gpt_edits or gpt_copies.
 use gpt_checks::Check;
 use gpt_checks::Start;
-use gpt_copies::Side;
 use gpt_copies::State;
-use gpt_table::Block;
+use gpt_model::Block;
+use gpt_places::Side;
 ghost use mathlib.Core.Path.{_≡_};
 ghost use mathlib.Core.List.{[], _∷_};
 ghost use Prim.Native.Nat.{_*_, _≤_};
@@ -233,10 +233,10 @@ pub fn table<'a>(head: &'a [u8], tail: &'a [u8], n: u64) -> &'a [u8]
     ensures { λ r. ⌜ part (now r) (r .ptr) ≡ handedPart n (now (head .entry)) (now (tail .entry)) (head .entry .ptr) (tail .entry .ptr) ⌝ }
 {
     match read(head, tail, n) {
-        Reading::Same => gpt_copies::entries_in(head, Side::Primary),
-        Reading::Different => gpt_copies::entries_in(head, Side::Primary),
-        Reading::PrimaryOnly => gpt_copies::entries_in(head, Side::Primary),
-        Reading::BackupOnly => gpt_copies::entries_in(tail, Side::Backup),
+        Reading::Same => gpt_places::entries_in(head, Side::Primary),
+        Reading::Different => gpt_places::entries_in(head, Side::Primary),
+        Reading::PrimaryOnly => gpt_places::entries_in(head, Side::Primary),
+        Reading::BackupOnly => gpt_places::entries_in(tail, Side::Backup),
         Reading::Refused(_) => &head[0..0],
     }
 }
@@ -246,10 +246,10 @@ fn count_in(table: &[u8], n: u64) -> Counted
     ensures { λ r. ⌜ countedOf r ≡ accepted (freeCount (slots (now (table .entry))) (disk512 .first) (lastUsable disk512 n)
         ∷ longestFree (slots (now (table .entry))) (disk512 .first) (lastUsable disk512 n) ∷ []) ⌝ }
 {
-    let free = gpt_table::room::free_counts(
+    let free = gpt_room::free_counts(
         table,
-        gpt_copies::first_usable(),
-        gpt_copies::last_usable(n),
+        gpt_places::first_usable(),
+        gpt_places::last_usable(n),
     );
     Counted::Free {
         blocks: free.blocks,
@@ -262,10 +262,10 @@ pub fn free_counts(head: &[u8], tail: &[u8], n: u64) -> Counted
     ensures { λ r. ⌜ out (countedOf r) (now (head .entry)) (now (tail .entry)) ≡ step disk512 n (now (head .entry)) (now (tail .entry)) freeCounts ⌝ }
 {
     match read(head, tail, n) {
-        Reading::Same => count_in(gpt_copies::entries_in(head, Side::Primary), n),
-        Reading::Different => count_in(gpt_copies::entries_in(head, Side::Primary), n),
-        Reading::PrimaryOnly => count_in(gpt_copies::entries_in(head, Side::Primary), n),
-        Reading::BackupOnly => count_in(gpt_copies::entries_in(tail, Side::Backup), n),
+        Reading::Same => count_in(gpt_places::entries_in(head, Side::Primary), n),
+        Reading::Different => count_in(gpt_places::entries_in(head, Side::Primary), n),
+        Reading::PrimaryOnly => count_in(gpt_places::entries_in(head, Side::Primary), n),
+        Reading::BackupOnly => count_in(gpt_places::entries_in(tail, Side::Backup), n),
         Reading::Refused(r) => Counted::Refused(r),
     }
 }

@@ -19,10 +19,10 @@ use Rattle.gpt_model.specs.Disk.{disk512, lastUsable, inRange, primary, entries
 use Rattle.gpt_model.specs.Calls.{Edit, add, delete, resize, rename, edit, badName, slotRows, addRows, fitsAt, tableRows, isNone, lengthsOf, lengthsOk, readRows, openRows, rowsOf, formatRows}
 use Rattle.gpt_model.proofs.Ways.{edit-decides, edit-stops}
 use Rattle.gpt_model.proofs.States.{one-primary}
-use Rattle.gpt_table.specs.Answers.{placed}
-use Rattle.gpt_table.specs.declared.Block.{Block}
-use Rattle.gpt_table.specs.declared.room.Place.{Place}
-use Rattle.gpt_table.specs.declared.room.Place.the-variants as found
+use Rattle.gpt_room.specs.Answers.{placed}
+use Rattle.gpt_model.specs.declared.Block.{Block}
+use Rattle.gpt_room.specs.declared.Place.{Place}
+use Rattle.gpt_room.specs.declared.Place.the-variants as found
 use Rattle.gpt_copies.specs.States.{stateNumber}
 use Rattle.gpt_copies.specs.declared.State.{State}
 use Rattle.gpt_checks.proofs.Rows.{slot-number}

@@ -1,12 +1,12 @@
 // The judges of the disk calls: each goes through the call's rows of refusals in the rules' order, to the first that holds. They write nothing.
 // An inner crate: no user calls it, so its functions may have a `requires`, which each caller meets.
-use gpt_copies::BLOCK;
-use gpt_copies::SLOTS;
-use gpt_copies::Side;
 use gpt_copies::State;
-use gpt_copies::TABLE;
-use gpt_table::Block;
-use gpt_table::room::Place;
+use gpt_model::Block;
+use gpt_places::BLOCK;
+use gpt_places::SLOTS;
+use gpt_places::Side;
+use gpt_places::TABLE;
+use gpt_room::Place;
 ghost use mathlib.Core.Path.{_≡_};
 ghost use mathlib.Core.Option.{some};
 ghost use Prim.Native.Nat.{ℕ, _*_, _≤_};
@@ -115,7 +115,7 @@ pub fn delete(head: &[u8], tail: &[u8], n: u64, number: u64) -> Check
 {
     match opened(head, tail, n) {
         Check::Stop(k) => Check::Stop(k),
-        Check::Pass => slot(gpt_copies::entries_in(head, Side::Primary), number),
+        Check::Pass => slot(gpt_places::entries_in(head, Side::Primary), number),
     }
 }
 
@@ -145,10 +145,10 @@ pub fn resize(head: &[u8], tail: &[u8], n: u64, number: u64, size: u64) -> Check
             if size == 0 {
                 return Check::Stop(20);
             }
-            if gpt_table::room::fits_at(
-                gpt_copies::entries_in(head, Side::Primary),
+            if gpt_room::fits_at(
+                gpt_places::entries_in(head, Side::Primary),
                 number as usize,
-                gpt_copies::last_usable(n),
+                gpt_places::last_usable(n),
                 size,
             ) {
                 return Check::Pass;
@@ -193,10 +193,10 @@ fn place(table: &[u8], n: u64, kind: &[u8], unique: &[u8], size: u64, name: &[u1
 {
     match new(table, kind, unique, size, name) {
         Check::Stop(k) => Start::Stop(k),
-        Check::Pass => match gpt_table::room::lowest(
+        Check::Pass => match gpt_room::lowest(
             table,
-            gpt_copies::first_usable(),
-            gpt_copies::last_usable(n),
+            gpt_places::first_usable(),
+            gpt_places::last_usable(n),
             size,
         ) {
             Place::None => Start::Stop(25),
@@ -224,7 +224,7 @@ pub fn add(
     match opened(head, tail, n) {
         Check::Stop(k) => Start::Stop(k),
         Check::Pass => place(
-            gpt_copies::entries_in(head, Side::Primary),
+            gpt_places::entries_in(head, Side::Primary),
             n,
             kind,
             unique,

@@ -8,7 +8,7 @@ use Rattle.octets.specs.Bytes.{same}
 use Rattle.octets.proofs.Equal.{same-refl}
 use Rattle.gpt_model.specs.Table.{goodTable}
 use Rattle.gpt_model.specs.Disk.{disk512, lastUsable, Side, primary, backup, guidIn, entriesIn, goodCopy, stateOf, state}
-use Rattle.gpt_copies.specs.Sides.{goodHeader}
+use Rattle.gpt_places.specs.Sides.{goodHeader}
 
 and-true : (a : Bool) → (a and true) ≡ a
 unfolding _and_

@@ -1,4 +1,2 @@
-pub mod Places
-pub mod Headers
 pub mod Writes
 pub mod Judged

@@ -18,8 +18,12 @@ use Rattle.gpt_model.specs.Table.{writeAll}
 use Rattle.gpt_model.specs.Disk.{disk512, Side, primary, backup, lentBytes, headerAt, entriesAt, guidIn, entriesIn, header, withTable, withCopy, block0, freshHead, freshTail}
 use Rattle.gpt_model.proofs.Copies.{length-header, places-apart, length-guid, length-entries}
 use Rattle.gpt_model.proofs.Writes.{entry-written, fresh-head, fresh-tail}
-use Rattle.gpt_copies.proofs.Places.{header-end, block-end, length-cut}
-use Rattle.gpt_copies.proofs.Headers.{filled}
+use Rattle.gpt_places.proofs.Places.{header-end, block-end, length-cut}
+
+-- a list filled with zeros
+pub filled : (xs : List ℕ) (k : ℕ) → length xs ≡ k → replicate (length xs) 0 ≡ zeros k
+unfolding zeros
+filled xs k e = ap (λ (m : ℕ). replicate m 0) e
 
 -- what is written into a part that was cut out by a start and an end
 pub back : (xs ys : List ℕ) (at a k e : ℕ) → at ≡ a → e ≡ at + k → a + k ≤ length xs → length ys ≡ k

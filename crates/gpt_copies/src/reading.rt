@@ -5,10 +5,10 @@ ghost use Prim.Native.Nat.{_*_, _≤_};
 ghost use lib.ListN.{length};
 ghost use Rattle.octets.specs.Bytes.{same};
 ghost use Rattle.gpt_model.specs.Disk.{disk512, primary, backup, lentBytes, entriesIn, goodCopy, stateOf, state as stateOn};
-ghost use Rattle.gpt_copies.specs.Sides.{sideOf};
+ghost use Rattle.gpt_places.specs.Sides.{sideOf};
 ghost use Rattle.gpt_copies.specs.States.{stateNumber};
-use super::Side;
 use super::State;
+use gpt_places::Side;
 
 fn state_of(first: bool, second: bool, equal: bool) -> State
     ensures { λ r. ⌜ stateNumber r ≡ stateOf first second equal ⌝ }
@@ -32,11 +32,15 @@ fn good_copy(b: &[u8], side: Side, n: u64) -> bool
     requires { ⌜ (length (now b) ≡ lentBytes disk512 (sideOf side)) × (2 * disk512 .first ≤ n) ⌝ }
     ensures { λ r. ⌜ r ≡ goodCopy disk512 n (sideOf side) (now (b .entry)) ⌝ }
 {
-    let table = super::entries_in(b, side);
-    if !super::header::good(b, side, n, crc32::crc32(table)) {
+    let table = gpt_places::entries_in(b, side);
+    if !gpt_places::header::good(b, side, n, crc32::crc32(table)) {
         return false;
     }
-    gpt_table::rules::table_ok(table, super::first_usable(), super::last_usable(n))
+    gpt_table::rules::table_ok(
+        table,
+        gpt_places::first_usable(),
+        gpt_places::last_usable(n),
+    )
 }
 
 // Where the tables differ, each copy is judged by itself.
@@ -56,16 +60,20 @@ fn state_alike(head: &[u8], tail: &[u8], n: u64) -> State
         × (entriesIn disk512 primary (now head) ≡ entriesIn disk512 backup (now tail)) ⌝ }
     ensures { λ r. ⌜ stateNumber r ≡ stateOn disk512 n (now (head .entry)) (now (tail .entry)) ⌝ }
 {
-    let table = super::entries_in(head, Side::Primary);
-    if !gpt_table::rules::table_ok(table, super::first_usable(), super::last_usable(n)) {
+    let table = gpt_places::entries_in(head, Side::Primary);
+    if !gpt_table::rules::table_ok(
+        table,
+        gpt_places::first_usable(),
+        gpt_places::last_usable(n),
+    ) {
         return State::Neither;
     }
     let crc = crc32::crc32(table);
-    let first = super::header::good(head, Side::Primary, n, crc);
-    let second = super::header::good(tail, Side::Backup, n, crc);
+    let first = gpt_places::header::good(head, Side::Primary, n, crc);
+    let second = gpt_places::header::good(tail, Side::Backup, n, crc);
     let equal = octets::same(
-        super::guid_in(head, Side::Primary),
-        super::guid_in(tail, Side::Backup),
+        gpt_places::guid_in(head, Side::Primary),
+        gpt_places::guid_in(tail, Side::Backup),
     );
     state_of(first, second, equal)
 }
@@ -75,8 +83,8 @@ pub fn state(head: &[u8], tail: &[u8], n: u64) -> State
     ensures { λ r. ⌜ stateNumber r ≡ stateOn disk512 n (now (head .entry)) (now (tail .entry)) ⌝ }
 {
     if octets::same(
-        super::entries_in(head, Side::Primary),
-        super::entries_in(tail, Side::Backup),
+        gpt_places::entries_in(head, Side::Primary),
+        gpt_places::entries_in(tail, Side::Backup),
     ) {
         return state_alike(head, tail, n);
     }

@@ -8,11 +8,11 @@ ghost use Rattle.crc_lanes.specs.Crc.{crc32 as crcOf};
 ghost use Rattle.gpt_model.specs.Table.{writeAll, entryBytes, slotCount, tableBytes};
 ghost use Rattle.gpt_model.specs.Disk.{disk512, primary, backup, lentBytes, headerAt, entriesAt, guidIn, entriesIn, header, withTable, withCopy};
 ghost use Rattle.gpt_model.specs.Disk.{block0, freshHead, freshTail};
-ghost use Rattle.gpt_copies.specs.Sides.{sideOf};
-use super::BLOCK;
-use super::ENTRY;
-use super::HEADER;
-use super::Side;
+ghost use Rattle.gpt_places.specs.Sides.{sideOf};
+use gpt_places::BLOCK;
+use gpt_places::ENTRY;
+use gpt_places::HEADER;
+use gpt_places::Side;
 
 // The header of a copy whose table has that CRC, in its place.
 fn put_header(b: &mut [u8], side: Side, n: u64, guid: &[u8], crc: u32)
@@ -20,9 +20,9 @@ fn put_header(b: &mut [u8], side: Side, n: u64, guid: &[u8], crc: u32)
     ensures { λ _. ⌜ ((es : List ℕ) → crc ≡ crcOf es
         → now (b .exit) ≡ put (headerAt disk512 (sideOf side)) (header disk512 n (sideOf side) (now (guid .entry)) es) (now (b .entry))) ⌝ }
 {
-    let at = super::header_at(side);
+    let at = gpt_places::header_at(side);
     let end = at + HEADER;
-    super::header::write(&mut b[at..end], side, n, guid, crc);
+    gpt_places::header::write(&mut b[at..end], side, n, guid, crc);
 }
 
 // The header anew, with the disk GUID that it has.
@@ -33,7 +33,7 @@ fn renew_header(b: &mut [u8], side: Side, n: u64, crc: u32)
         (header disk512 n (sideOf side) (guidIn disk512 (sideOf side) (now (b .entry))) es) (now (b .entry))) ⌝ }
 {
     let mut guid = [0u8; 16];
-    octets::copy(&mut guid, 0, super::guid_in(&b[..], side));
+    octets::copy(&mut guid, 0, gpt_places::guid_in(&b[..], side));
     put_header(b, side, n, &guid, crc);
 }
 
@@ -43,7 +43,7 @@ fn set_entry(b: &mut [u8], side: Side, i: usize, e: &[u8])
         ≡ put (entriesAt disk512 (sideOf side))
         (putChunk entryBytes i (now (e .entry)) (entriesIn disk512 (sideOf side) (now (b .entry)))) (now (b .entry)) ⌝ }
 {
-    let at = super::entries_at(side) + i * ENTRY;
+    let at = gpt_places::entries_at(side) + i * ENTRY;
     octets::copy(b, at, e);
 }
 
@@ -80,7 +80,7 @@ pub fn put_both(head: &mut [u8], tail: &mut [u8], n: u64, i: usize, e: &[u8])
         × (now (tail .exit) ≡ withTable disk512 n backup (guidIn disk512 backup (now (tail .entry)))
         (putChunk entryBytes i (now (e .entry)) (entriesIn disk512 primary (now (head .entry)))) (now (tail .entry))) ⌝ }
 {
-    let crc = crc_with(super::entries_in(&head[..], Side::Primary), i, e);
+    let crc = crc_with(gpt_places::entries_in(&head[..], Side::Primary), i, e);
     put_entry(head, Side::Primary, n, i, e, crc);
     put_entry(tail, Side::Backup, n, i, e, crc);
 }
@@ -89,7 +89,7 @@ fn clear_header(b: &mut [u8], side: Side)
     requires { ⌜ length (now b) ≡ lentBytes disk512 (sideOf side) ⌝ }
     ensures { λ _. ⌜ now (b .exit) ≡ put (headerAt disk512 (sideOf side)) (zeros (disk512 .block)) (now (b .entry)) ⌝ }
 {
-    let at = super::header_at(side);
+    let at = gpt_places::header_at(side);
     let end = at + BLOCK;
     octets::fill(&mut b[at..end], 0);
 }
@@ -101,7 +101,7 @@ pub fn put_copy(b: &mut [u8], side: Side, n: u64, guid: &[u8], table: &[u8])
     ensures { λ _. ⌜ now (b .exit) ≡ withCopy disk512 n (sideOf side) (now (guid .entry)) (now (table .entry)) (now (b .entry)) ⌝ }
 {
     clear_header(b, side);
-    octets::copy(b, super::entries_at(side), table);
+    octets::copy(b, gpt_places::entries_at(side), table);
     put_header(b, side, n, guid, crc32::crc32(table));
 }
 
@@ -122,7 +122,7 @@ pub fn fresh_head(head: &mut [u8], n: u64, guid: &[u8])
     ensures { λ _. ⌜ now (head .exit) ≡ freshHead disk512 n (now (guid .entry)) (zeros tableBytes) ⌝ }
 {
     octets::fill(head, 0);
-    let crc = crc32::crc32(super::entries_in(&head[..], Side::Primary));
+    let crc = crc32::crc32(gpt_places::entries_in(&head[..], Side::Primary));
     put_block0(head, n);
     put_header(head, Side::Primary, n, guid, crc);
 }
@@ -132,6 +132,6 @@ pub fn fresh_tail(tail: &mut [u8], n: u64, guid: &[u8])
     ensures { λ _. ⌜ now (tail .exit) ≡ freshTail disk512 n (now (guid .entry)) (zeros tableBytes) ⌝ }
 {
     octets::fill(tail, 0);
-    let crc = crc32::crc32(super::entries_in(&tail[..], Side::Backup));
+    let crc = crc32::crc32(gpt_places::entries_in(&tail[..], Side::Backup));
     put_header(tail, Side::Backup, n, guid, crc);
 }

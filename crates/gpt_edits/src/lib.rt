@@ -1,8 +1,8 @@
 // The writers of the calls that change a disk, where none of the call's rows of refusals holds: one entry in both copies, or one copy from the other.
 // An inner crate: no user calls it, so its functions may have a `requires`, which each caller meets.
-use gpt_copies::ENTRY;
-use gpt_copies::Side;
-use gpt_table::Block;
+use gpt_model::Block;
+use gpt_places::ENTRY;
+use gpt_places::Side;
 ghost use mathlib.Core.Path.{_≡_};
 ghost use mathlib.Core.List.{[], _∷_};
 ghost use mathlib.Core.Option.{none, some};
@@ -30,7 +30,7 @@ pub fn rename(head: &mut [u8], tail: &mut [u8], n: u64, slot: u64, name: &[u16])
 {
     let i = (slot - 1) as usize;
     let new = gpt_entry::renamed(
-        gpt_table::entry(gpt_copies::entries_in(&head[..], Side::Primary), i),
+        gpt_table::entry(gpt_places::entries_in(&head[..], Side::Primary), i),
         name,
     );
     gpt_copies::writing::put_both(head, tail, n, i, &new);
@@ -43,7 +43,7 @@ pub fn resize(head: &mut [u8], tail: &mut [u8], n: u64, slot: u64, size: u64)
 {
     let i = (slot - 1) as usize;
     let new = gpt_entry::resized(
-        gpt_table::entry(gpt_copies::entries_in(&head[..], Side::Primary), i),
+        gpt_table::entry(gpt_places::entries_in(&head[..], Side::Primary), i),
         size,
     );
     gpt_copies::writing::put_both(head, tail, n, i, &new);
@@ -67,7 +67,7 @@ pub fn add(
         ≡ step disk512 n (now (head .entry)) (now (tail .entry))
         (edit (addCall (now (kind .entry)) (now (unique .entry)) size attributes (now (name .entry)))) ⌝ }
 {
-    let i = gpt_table::first_unused(gpt_copies::entries_in(&head[..], Side::Primary));
+    let i = gpt_table::first_unused(gpt_places::entries_in(&head[..], Side::Primary));
     let new = gpt_entry::added(kind, unique, first.0, size, attributes, name);
     gpt_copies::writing::put_both(head, tail, n, i, &new);
     i as u64 + 1
@@ -83,8 +83,8 @@ pub fn repair_tail(head: &[u8], tail: &mut [u8], n: u64)
         tail,
         Side::Backup,
         n,
-        gpt_copies::guid_in(head, Side::Primary),
-        gpt_copies::entries_in(head, Side::Primary),
+        gpt_places::guid_in(head, Side::Primary),
+        gpt_places::entries_in(head, Side::Primary),
     );
 }
 
@@ -97,7 +97,7 @@ pub fn repair_head(head: &mut [u8], tail: &[u8], n: u64)
         head,
         Side::Primary,
         n,
-        gpt_copies::guid_in(tail, Side::Backup),
-        gpt_copies::entries_in(tail, Side::Backup),
+        gpt_places::guid_in(tail, Side::Backup),
+        gpt_places::entries_in(tail, Side::Backup),
     );
 }

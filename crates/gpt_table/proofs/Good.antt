@@ -26,7 +26,7 @@ use Rattle.gpt_table.specs.Sorted.{Reordered, Ascending, InOrder}
 use Rattle.gpt_table.proofs.Entries.{unused-is, length-entries}
 use Rattle.gpt_table.proofs.Used.{used-yes, used-no, used-each, low-at, high-at, length-ranges, getD-ranges}
 use Rattle.gpt_table.proofs.Reorders.{eq-from, reordered-all, reordered-pairs}
-use Rattle.gpt_table.proofs.Ahead.{ascends}
+use Rattle.gpt_table.proofs.Exchanges.{ascends}
 
 -- ---- one entry
 

@@ -3,6 +3,4 @@ pub mod Names
 pub mod Used
 pub mod Exchanges
 pub mod Reorders
-pub mod Ahead
-pub mod Walks
 pub mod Good

@@ -1,4 +1,2 @@
 pub mod Decoded
-pub mod Answers
-pub mod Gaps
 pub mod Sorted

@@ -1,7 +1,6 @@
-// The judges over the 16,384 entry bytes of a GPT table: reading entries here, room for partitions in `room`, the table's rules in `rules`.
+// The judges over the 16,384 entry bytes of a GPT table: reading entries here, their ranges put in order in `order`, the table's rules in `rules`.
 // An inner crate: no user calls it, so its functions may have a `requires`, which each caller meets.
 pub mod order;
-pub mod room;
 pub mod rules;
 
 ghost use mathlib.Core.Path.{_≡_};
@@ -14,10 +13,7 @@ ghost use Rattle.gpt_model.specs.Table.{entryBytes, slotCount, tableBytes, unus
 ghost use Rattle.gpt_model.specs.Calls.{carries as carriesIn, badName};
 ghost use Rattle.gpt_table.specs.Decoded.{used, Decoded};
 
-// A block's number; never a byte position.
-pub struct Block(pub u64);
-
-const SLOTS: usize = 128;
+pub const SLOTS: usize = 128;
 
 const ENTRY_BYTES: usize = 128;
 

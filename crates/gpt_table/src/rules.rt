@@ -1,10 +1,10 @@
 // The rules of a table: of each entry by itself, then of each two used entries, on numbers decoded once and on ranges in order.
-use crate::Block;
 use crate::FIRST_AT;
 use crate::LAST_AT;
 use crate::SLOTS;
 use crate::UNIQUE_AT;
 use crate::order;
+use gpt_model::Block;
 ghost use mathlib.Core.Path.{_≡_};
 ghost use mathlib.Core.Bool.{not};
 ghost use mathlib.Core.List.{List, []};

@@ -1,10 +1,9 @@
-// The disk calls of the samples: each prints its line and books what it was granted and gave back.
-use crate::ledger;
-use crate::ledger::Sums;
+// The disk calls of the samples: each prints its line and tells what it changed.
+use crate::ledger::Change;
 use gpt::Added;
 use gpt::Done;
 
-pub fn format(head: &mut [u8], tail: &mut [u8], n: u64) -> Sums {
+pub fn format(head: &mut [u8], tail: &mut [u8], n: u64) -> Change {
     sample_lines::begin(n, b"format");
     sample_lines::done(gpt::format(
         head,
@@ -12,7 +11,7 @@ pub fn format(head: &mut [u8], tail: &mut [u8], n: u64) -> Sums {
         n,
         *b"\x00\x01\x02\x03\x04\x05\x06\x07\x08\x09\x0a\x0b\x0c\x0d\x0e\x0f",
     ));
-    ledger::empty()
+    Change::Nothing
 }
 
 // Type linux (G4), as stored.
@@ -28,7 +27,7 @@ fn name(letter: u16) -> [u16; 36] {
 }
 
 // The k-th add: each has another unique GUID and another name.
-pub fn add(head: &mut [u8], tail: &mut [u8], n: u64, before: Sums, k: u8, size: u64) -> Sums {
+pub fn add(head: &mut [u8], tail: &mut [u8], n: u64, k: u8, size: u64) -> Change {
     sample_lines::begin(n, b"add ");
     print_out::decimal(size);
     let answer = gpt::add(
@@ -43,38 +42,30 @@ pub fn add(head: &mut [u8], tail: &mut [u8], n: u64, before: Sums, k: u8, size: 
     );
     sample_lines::added(answer);
     match answer {
-        Added::At { slot, .. } => ledger::booked(before, slot, size),
-        Added::Refused(_) => before,
+        Added::At { slot, .. } => Change::Size { slot, size },
+        Added::Refused(_) => Change::Nothing,
     }
 }
 
-pub fn delete(head: &mut [u8], tail: &mut [u8], n: u64, before: Sums, slot: u64) -> Sums {
-    sample_lines::begin(n, b"delete ");
-    print_out::decimal(slot);
-    let answer = gpt::delete(head, tail, n, slot);
+// After an accepted call the slot has this size.
+fn done(answer: Done, slot: u64, size: u64) -> Change {
     sample_lines::done(answer);
     match answer {
-        Done::Accepted => ledger::booked(before, slot, 0),
-        Done::Refused(_) => before,
+        Done::Accepted => Change::Size { slot, size },
+        Done::Refused(_) => Change::Nothing,
     }
 }
 
-pub fn resize(
-    head: &mut [u8],
-    tail: &mut [u8],
-    n: u64,
-    before: Sums,
-    slot: u64,
-    size: u64,
-) -> Sums {
+pub fn delete(head: &mut [u8], tail: &mut [u8], n: u64, slot: u64) -> Change {
+    sample_lines::begin(n, b"delete ");
+    print_out::decimal(slot);
+    done(gpt::delete(head, tail, n, slot), slot, 0)
+}
+
+pub fn resize(head: &mut [u8], tail: &mut [u8], n: u64, slot: u64, size: u64) -> Change {
     sample_lines::begin(n, b"resize ");
     print_out::decimal(slot);
     print_out::bytes(b" ");
     print_out::decimal(size);
-    let answer = gpt::resize(head, tail, n, slot, size);
-    sample_lines::done(answer);
-    match answer {
-        Done::Accepted => ledger::booked(before, slot, size),
-        Done::Refused(_) => before,
-    }
+    done(gpt::resize(head, tail, n, slot, size), slot, size)
 }

@@ -7,6 +7,12 @@ pub struct Sums {
     pub sizes: [u64; 8],
 }
 
+// What a step changed: the slot has this size now, 0 where it was deleted.
+pub enum Change {
+    Size { slot: u64, size: u64 },
+    Nothing,
+}
+
 pub fn empty() -> Sums {
     Sums {
         granted: 0,
@@ -15,8 +21,7 @@ pub fn empty() -> Sums {
     }
 }
 
-// After an accepted call the slot has this size, 0 where it was deleted.
-pub fn booked(before: Sums, slot: u64, size: u64) -> Sums {
+fn set(before: Sums, slot: u64, size: u64) -> Sums {
     let at = (slot % 8) as usize;
     let sizes = before.sizes;
     let last = sizes[at];
@@ -28,4 +33,11 @@ pub fn booked(before: Sums, slot: u64, size: u64) -> Sums {
         after.back = std::num::wrapping_add_u64(before.back, last - size);
     }
     after
+}
+
+pub fn booked(before: Sums, change: Change) -> Sums {
+    match change {
+        Change::Size { slot, size } => set(before, slot, size),
+        Change::Nothing => before,
+    }
 }

@@ -12,6 +12,7 @@
 mod calls;
 mod ledger;
 
+use ledger::Change;
 use ledger::Sums;
 ghost use mathlib.Core.Path.{_≡_};
 ghost use lib.ListN.{length};
@@ -20,85 +21,91 @@ const HEAD: usize = 17408;
 
 const TAIL: usize = 16896;
 
-// S1.
-fn too_small(head: &mut [u8], tail: &mut [u8]) {
-    calls::format(head, tail, 67);
-}
-
-// S2.
-fn smallest(head: &mut [u8], tail: &mut [u8])
+// A step is a letter, a digit K and a size SS in two digits:
+//
+//     f000    format
+//     h000    the headers
+//     aKSS    the K-th add, of SS blocks
+//     mK00    the K-th add, of 2^64 − 1 blocks
+//     wK00    the K-th add, of all usable blocks
+//     dK00    delete slot K
+//     rKSS    resize slot K to SS blocks
+//     c000    state, free counts, sums and CRCs
+fn step(
+    head: &mut [u8],
+    tail: &mut [u8],
+    n: u64,
+    sums: Sums,
+    letter: u8,
+    k: u8,
+    size: u64,
+) -> Change
     requires { ⌜ (length (now head) ≡ 17408) × (length (now tail) ≡ 16896) ⌝ }
 {
-    let formatted = calls::format(head, tail, 68);
-    sample_lines::headers(&head[..], &tail[..], 68);
-    let filled = calls::add(head, tail, 68, formatted, 1, 1);
-    let sums = calls::add(head, tail, 68, filled, 2, 1);
-    sample_lines::close(&head[..], &tail[..], 68, sums.granted, sums.back);
+    match letter {
+        b'f' => calls::format(head, tail, n),
+        b'h' => {
+            sample_lines::headers(&head[..], &tail[..], n);
+            Change::Nothing
+        }
+        b'd' => calls::delete(head, tail, n, k as u64),
+        b'r' => calls::resize(head, tail, n, k as u64, size),
+        b'c' => {
+            sample_lines::close(&head[..], &tail[..], n, sums.granted, sums.back);
+            Change::Nothing
+        }
+        _ => calls::add(head, tail, n, k, asked(n, letter, size)),
+    }
 }
 
-// S3.
-fn hundred(head: &mut [u8], tail: &mut [u8]) -> Sums
-    requires { ⌜ (length (now head) ≡ 17408) × (length (now tail) ≡ 16896) ⌝ }
-{
-    let formatted = calls::format(head, tail, 100);
-    sample_lines::headers(&head[..], &tail[..], 100);
-    formatted
+// The blocks that an add asks for.
+fn asked(n: u64, letter: u8, size: u64) -> u64 {
+    match letter {
+        b'm' => 18446744073709551615,
+        b'w' => std::num::wrapping_sub_u64(n, 67),
+        _ => size,
+    }
 }
 
-// S4, to the deletion.
-fn adds_and_delete(head: &mut [u8], tail: &mut [u8], formatted: Sums) -> Sums {
-    let one = calls::add(head, tail, 100, formatted, 1, 10);
-    let two = calls::add(head, tail, 100, one, 2, 5);
-    calls::delete(head, tail, 100, two, 1)
+fn digit(letter: u8) -> u8 {
+    letter % 16
 }
 
-// S4, after it.
-fn adds_again(head: &mut [u8], tail: &mut [u8], deleted: Sums) -> Sums {
-    let three = calls::add(head, tail, 100, deleted, 3, 11);
-    calls::add(head, tail, 100, three, 4, 10)
+fn number(tens: u8, ones: u8) -> u64 {
+    10 * (digit(tens) as u64) + digit(ones) as u64
 }
 
-// S5.
-fn resizes(head: &mut [u8], tail: &mut [u8], sums: Sums) -> Sums {
-    let same = calls::resize(head, tail, 100, sums, 1, 19);
-    calls::resize(head, tail, 100, same, 1, 18)
-}
-
-// S9, and that the whole disk can be taken afterwards.
-fn largest_size(head: &mut [u8], tail: &mut [u8], n: u64, usable: u64) {
-    let formatted = calls::format(head, tail, n);
-    let same = calls::add(head, tail, n, formatted, 1, 18446744073709551615);
-    let sums = calls::add(head, tail, n, same, 2, usable);
-    sample_lines::close(&head[..], &tail[..], n, sums.granted, sums.back);
-}
-
-fn on_68_blocks() {
+// The steps, each with a blank behind it, on a disk of n blocks.
+fn steps(n: u64, script: &[u8]) {
     let mut head = [0u8; HEAD];
     let mut tail = [0u8; TAIL];
-    too_small(&mut head, &mut tail);
-    smallest(&mut head, &mut tail);
+    let mut sums = ledger::empty();
+    let count = script.len() / 5;
+    let mut i = 0;
+    while i < count {
+        let at = 5 * i;
+        let change = step(
+            &mut head,
+            &mut tail,
+            n,
+            sums,
+            script[at],
+            digit(script[at + 1]),
+            number(script[at + 2], script[at + 3]),
+        );
+        sums = ledger::booked(sums, change);
+        i += 1;
+    }
 }
 
-fn on_100_blocks() {
-    let mut head = [0u8; HEAD];
-    let mut tail = [0u8; TAIL];
-    let formatted = hundred(&mut head, &mut tail);
-    let deleted = adds_and_delete(&mut head, &mut tail, formatted);
-    let edited = adds_again(&mut head, &mut tail, deleted);
-    sample_lines::close(&head, &tail, 100, edited.granted, edited.back);
-    let resized = resizes(&mut head, &mut tail, edited);
-    sample_lines::close(&head, &tail, 100, resized.granted, resized.back);
-}
-
-fn with_largest_size(n: u64, usable: u64) {
-    let mut head = [0u8; HEAD];
-    let mut tail = [0u8; TAIL];
-    largest_size(&mut head, &mut tail, n, usable);
-}
-
+// S1; S2; S3 to S5; S9, and that the whole disk can be taken afterwards.
 fn main() {
-    on_68_blocks();
-    on_100_blocks();
-    with_largest_size(100, 33);
-    with_largest_size(4294967296, 4294967229);
+    steps(67, b"f000 ");
+    steps(68, b"f000 h000 a101 a201 c000 ");
+    steps(
+        100,
+        b"f000 h000 a110 a205 d100 a311 a410 c000 r119 r118 c000 ",
+    );
+    steps(100, b"f000 m100 w200 c000 ");
+    steps(4294967296, b"f000 m100 w200 c000 ");
 }

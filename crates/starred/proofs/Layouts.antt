@@ -9,8 +9,8 @@ use Rattle.fmd_lex.specs.Chars.{isSign, isWord}
 use Rattle.fmd_lex.specs.Tokens.{skipFrom, wordFrom, tokenHere, tokenAt}
 use Rattle.fmd_lex.specs.Numbers.{capped, scaled, numberOf}
 use Rattle.fmd_lex.specs.Names.{goodName}
-use Rattle.fmd_parse.specs.Heads.{amountAt, namedAt, flagsAt, offsetAt, sizeAt, headAt}
-use Rattle.fmd_parse.specs.Images.{titleAt, addressAt, lengthAt, openAt, imageAt}
+use Rattle.fmd_head.specs.Heads.{amountAt, namedAt, flagsAt, offsetAt, sizeAt, headAt}
+use Rattle.fmd_head.specs.Images.{titleAt, addressAt, lengthAt, openAt, imageAt}
 use Rattle.fmd_parse.specs.Layouts.{sectionFrom, listFrom, layoutOf}
 use Rattle.starred.specs.Starred.{Sample7, Sample8}
 

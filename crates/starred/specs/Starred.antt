@@ -16,8 +16,8 @@ use Rattle.gpt_model.specs.Lists.{Run, run, answers, begun, slotsOf}
 use Rattle.gpt_model.specs.Claims.{Formats}
 use Rattle.guid.specs.Calls.{readTypeOf}
 use Rattle.fmd_parse.specs.Layouts.{layout, refused as refusedText, layoutOf}
-use Rattle.fmd_parse.specs.declared.Address.the-variants.{Omitted}
-use Rattle.fmd_parse.specs.declared.Image.{Image}
+use Rattle.fmd_head.specs.declared.Address.the-variants.{Omitted}
+use Rattle.fmd_head.specs.declared.Image.{Image}
 use Rattle.fmd_table.specs.declared.Offset.the-variants.{Omitted as OmittedOffset}
 use Rattle.fmd_table.specs.declared.Size.{Size}
 use Rattle.fmd_table.specs.declared.Size.the-variants.{Given as GivenSize, Omitted as OmittedSize}

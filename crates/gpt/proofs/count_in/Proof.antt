@@ -6,7 +6,7 @@ use borrow.Author.Needs.{needs}
 use Rattle.gpt_model.specs.Calls.{accepted}
 use Rattle.gpt_model.specs.Ranges.{freeCount, longestFree}
 use Rattle.gpt_model.specs.Table.{slots}
-use Rattle.gpt_table.specs.declared.room.Free.{Free}
+use Rattle.gpt_room.specs.declared.Free.{Free}
 use Rattle.gpt.proofs.count_in.Statement.{statement}
 use Rattle.gpt.proofs.count_in.Tie as tie
 

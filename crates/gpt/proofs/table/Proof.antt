@@ -2,7 +2,7 @@ use mathlib.Core.Path.{refl, _∙_}
 use native.Mathlib.Omega.{arith}
 use denote.Ref.{now}
 use borrow.Author.Needs.{needs}
-use Rattle.gpt_copies.proofs.Places.{part-behind}
+use Rattle.gpt_places.proofs.Places.{part-behind}
 use Rattle.gpt.specs.declared.Reading.the-variants.{Same, Different, PrimaryOnly, BackupOnly}
 use Rattle.gpt.proofs.Found.{found-lent, table-in-head, table-in-tail, handed-is, handed-nothing, refused-rows}
 use Rattle.gpt.proofs.table.Statement.{statement}

@@ -22,7 +22,7 @@ use Rattle.fmd_parse.proofs.braces.read_section.Reads as read-section
 use Rattle.fmd_parse.proofs.braces.read_section.Kinds as read-section-kinds
 use Rattle.fmd_parse.proofs.braces.+read_list+read_section.Lts-read_section as read-section-lts
 use Rattle.fmd_lex.proofs.next_token.Reads as next-token-reads
-use Rattle.fmd_parse.proofs.head.head_at.Reads as head-at-reads
+use Rattle.fmd_head.proofs.section.head_at.Reads as head-at-reads
 use Rattle.fmd_table.proofs.push.Reads as push-reads
 use Rattle.fmd_parse.proofs.braces.+read_list+read_section.{statement}
 use Rattle.fmd_parse.proofs.braces.+read_list+read_section.Tie.{close}

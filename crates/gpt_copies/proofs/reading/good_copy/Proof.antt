@@ -5,7 +5,7 @@ use borrow.Author.Tests.{not-true, not-false}
 use borrow.Author.Needs.{needs}
 use Rattle.crc_lanes.specs.Crc.{crc32}
 use Rattle.gpt_model.specs.Table.{goodTable}
-use Rattle.gpt_copies.specs.Sides.{sideOf}
+use Rattle.gpt_places.specs.Sides.{sideOf}
 use Rattle.gpt_copies.proofs.Judged.{copy-table, bad-header}
 use Rattle.gpt_copies.proofs.reading.good_copy.Statement.{statement}
 use Rattle.gpt_copies.proofs.reading.good_copy.Tie as tie

@@ -1,9 +1,9 @@
 use native.Mathlib.Omega.{arith}
 use denote.Ref.{now}
 use borrow.Author.Needs.{needs}
-use Rattle.gpt_copies.specs.Sides.{sideOf}
+use Rattle.gpt_places.specs.Sides.{sideOf}
 use Rattle.gpt_copies.proofs.Writes.{block-cleared}
-use Rattle.gpt_copies.proofs.Places.{block-end, lent-fits}
+use Rattle.gpt_places.proofs.Places.{block-end, lent-fits}
 use Rattle.gpt_copies.proofs.writing.clear_header.Statement.{statement}
 use Rattle.gpt_copies.proofs.writing.clear_header.Tie as tie
 

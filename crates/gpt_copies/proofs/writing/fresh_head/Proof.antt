@@ -1,8 +1,7 @@
 use mathlib.Core.Path.{_∙_}
 use denote.Ref.{now}
 use borrow.Author.Needs.{needs}
-use Rattle.gpt_copies.proofs.Headers.{filled}
-use Rattle.gpt_copies.proofs.Writes.{head-fresh}
+use Rattle.gpt_copies.proofs.Writes.{filled, head-fresh}
 use Rattle.gpt_copies.proofs.writing.fresh_head.Statement.{statement}
 use Rattle.gpt_copies.proofs.writing.fresh_head.Tie as tie
 

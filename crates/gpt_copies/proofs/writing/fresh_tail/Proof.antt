@@ -1,8 +1,7 @@
 use mathlib.Core.Path.{_∙_}
 use denote.Ref.{now}
 use borrow.Author.Needs.{needs}
-use Rattle.gpt_copies.proofs.Headers.{filled}
-use Rattle.gpt_copies.proofs.Writes.{tail-fresh}
+use Rattle.gpt_copies.proofs.Writes.{filled, tail-fresh}
 use Rattle.gpt_copies.proofs.writing.fresh_tail.Statement.{statement}
 use Rattle.gpt_copies.proofs.writing.fresh_tail.Tie as tie
 

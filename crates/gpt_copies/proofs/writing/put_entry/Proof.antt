@@ -1,6 +1,6 @@
 use denote.Ref.{now}
 use borrow.Author.Needs.{needs}
-use Rattle.gpt_copies.specs.Sides.{sideOf}
+use Rattle.gpt_places.specs.Sides.{sideOf}
 use Rattle.gpt_copies.proofs.Writes.{table-put, length-changed}
 use Rattle.gpt_copies.proofs.writing.put_entry.Statement.{statement}
 use Rattle.gpt_copies.proofs.writing.put_entry.Tie as tie

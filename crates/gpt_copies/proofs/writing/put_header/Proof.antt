@@ -1,9 +1,9 @@
 use native.Mathlib.Omega.{arith}
 use denote.Ref.{now}
 use borrow.Author.Needs.{needs}
-use Rattle.gpt_copies.specs.Sides.{sideOf}
+use Rattle.gpt_places.specs.Sides.{sideOf}
 use Rattle.gpt_copies.proofs.Writes.{header-back}
-use Rattle.gpt_copies.proofs.Places.{header-end, lent-fits}
+use Rattle.gpt_places.proofs.Places.{header-end, lent-fits}
 use Rattle.gpt_copies.proofs.writing.put_header.Statement.{statement}
 use Rattle.gpt_copies.proofs.writing.put_header.Tie as tie
 

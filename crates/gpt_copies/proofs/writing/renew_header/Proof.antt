@@ -1,7 +1,7 @@
 use mathlib.Core.Path.{refl}
 use denote.Ref.{now}
 use borrow.Author.Needs.{needs}
-use Rattle.gpt_copies.specs.Sides.{sideOf}
+use Rattle.gpt_places.specs.Sides.{sideOf}
 use Rattle.gpt_copies.proofs.Writes.{header-renewed}
 use Rattle.gpt_copies.proofs.writing.renew_header.Statement.{statement}
 use Rattle.gpt_copies.proofs.writing.renew_header.Tie as tie

@@ -2,9 +2,9 @@ use mathlib.Core.Path.{_∙_}
 use native.Mathlib.Omega.{arith}
 use denote.Ref.{now}
 use borrow.Author.Needs.{needs}
-use Rattle.gpt_copies.specs.Sides.{sideOf}
+use Rattle.gpt_places.specs.Sides.{sideOf}
 use Rattle.gpt_copies.proofs.Writes.{entry-put}
-use Rattle.gpt_copies.proofs.Places.{entries-end, lent-fits}
+use Rattle.gpt_places.proofs.Places.{entries-end, lent-fits}
 use Rattle.gpt_copies.proofs.writing.set_entry.Statement.{statement}
 use Rattle.gpt_copies.proofs.writing.set_entry.Tie as tie
 

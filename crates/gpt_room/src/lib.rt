@@ -1,0 +1,211 @@
+// Room for partitions: one walk from gap to gap over the ranges in order. No sum of a block and a size is formed, so no size is too large.
+// An inner crate: no user calls it, so its functions may have a `requires`, which each caller meets.
+use gpt_model::Block;
+use gpt_table::FIRST_AT;
+use gpt_table::SLOTS;
+ghost use mathlib.Core.Path.{_≡_};
+ghost use Prim.Native.Nat.{ℕ, _≤_, _<_, max};
+ghost use lib.Dec.{leb};
+ghost use lib.ListN.{length};
+ghost use Rattle.octets.specs.Tests.{_and_};
+ghost use Rattle.gpt_model.specs.Ranges.{roomAt, place};
+ghost use Rattle.gpt_model.specs.Table.{slotCount, tableBytes, slots};
+ghost use Rattle.gpt_model.specs.Calls.{fitsAt};
+ghost use Rattle.gpt_table.specs.Decoded.{ranges};
+ghost use Rattle.gpt_room.specs.Answers.{placed, freeOf};
+ghost use Rattle.gpt_room.specs.Gaps.{Passed, Next, Stands};
+ghost use Rattle.gpt_table.specs.Sorted.{Ascending};
+
+// Where a partition can start.
+pub enum Place {
+    At(Block),
+    None,
+}
+
+// Usable blocks in no partition, and the longest run of such.
+pub struct Free {
+    pub blocks: u64,
+    pub longest: u64,
+}
+
+// What begins at a block: partitions up to and with block Taken, or a gap up to but without block Gap.
+enum Ahead {
+    Taken(u64),
+    Gap(u64),
+}
+
+// The range f to l has a block at a or behind it.
+fn reaches(f: u64, l: u64, a: u64) -> bool
+    ensures { λ r. ⌜ r ≡ (leb f l and leb a l) ⌝ }
+{
+    if l < f {
+        return false;
+    }
+    a <= l
+}
+
+// The first range, from range i on, that has a block at a or behind it.
+fn next(firsts: &[u64; SLOTS], lasts: &[u64; SLOTS], count: usize, i: usize, a: u64) -> usize
+    requires { ⌜ (i ≤ count) × (count ≤ slotCount) × Passed (ranges (now firsts) (now lasts) count) a i ⌝ }
+    ensures { λ r. ⌜ Next (now (firsts .entry)) (now (lasts .entry)) count a r ⌝ }
+{
+    let mut j = i;
+    while j < count {
+        if reaches(firsts[j], lasts[j], a) {
+            return j;
+        }
+        j += 1;
+    }
+    j
+}
+
+// What begins at block a, where range i is the next.
+fn look(
+    firsts: &[u64; SLOTS],
+    lasts: &[u64; SLOTS],
+    count: usize,
+    i: usize,
+    a: u64,
+    last: u64,
+) -> Ahead
+    requires { ⌜ (count ≤ slotCount) × Ascending 1 count (now firsts)
+        × Next (now firsts) (now lasts) count a i × (a ≤ last) × (last < 18446744073709551615) ⌝ }
+    ensures { λ r. ⌜ Stands (ranges (now (firsts .entry)) (now (lasts .entry)) count) a last r ⌝ }
+{
+    if i == count {
+        return Ahead::Gap(last + 1);
+    }
+    if firsts[i] <= a {
+        return Ahead::Taken(lasts[i]);
+    }
+    if last < firsts[i] {
+        return Ahead::Gap(last + 1);
+    }
+    Ahead::Gap(firsts[i])
+}
+
+// From gap to gap, up to one that is long enough.
+fn search(
+    firsts: &[u64; SLOTS],
+    lasts: &[u64; SLOTS],
+    count: usize,
+    first: u64,
+    last: u64,
+    size: u64,
+) -> Place
+    requires { ⌜ (count ≤ slotCount) × (0 < size) × (last < 18446744073709551615) × Ascending 1 count (now firsts) ⌝ }
+    ensures { λ r. ⌜ placed r ≡ place (ranges (now (firsts .entry)) (now (lasts .entry)) count) first last size ⌝ }
+{
+    let mut a = first;
+    let mut i = 0;
+    while a <= last {
+        i = next(firsts, lasts, count, i, a);
+        match look(firsts, lasts, count, i, a, last) {
+            Ahead::Taken(x) => {
+                if last <= x {
+                    return Place::None;
+                }
+                a = x + 1;
+            }
+            Ahead::Gap(g) => {
+                if size <= g - a {
+                    return Place::At(Block(a));
+                }
+                a = g;
+            }
+        }
+    }
+    Place::None
+}
+
+// The lowest start with enough free blocks.
+pub fn lowest(t: &[u8], first: Block, last: Block, size: u64) -> Place
+    requires { ⌜ (length (now t) ≡ tableBytes) × (0 < size) × (last .0 < 18446744073709551615) ⌝ }
+    ensures { λ r. ⌜ placed r ≡ place (slots (now (t .entry))) (first .0) (last .0) size ⌝ }
+{
+    let mut firsts = [0u64; SLOTS];
+    let mut lasts = [0u64; SLOTS];
+    let count = gpt_table::order::ranges(t, SLOTS, &mut firsts, &mut lasts);
+    search(&firsts, &lasts, count, first.0, last.0, size)
+}
+
+fn larger(x: u64, y: u64) -> u64
+    ensures { λ r. ⌜ r ≡ max x y ⌝ }
+{
+    if x < y {
+        return y;
+    }
+    x
+}
+
+// From gap to gap, each counted.
+fn tally(firsts: &[u64; SLOTS], lasts: &[u64; SLOTS], count: usize, first: u64, last: u64) -> Free
+    requires { ⌜ (count ≤ slotCount) × (last < 18446744073709551615) × Ascending 1 count (now firsts) ⌝ }
+    ensures { λ r. ⌜ r ≡ freeOf (ranges (now (firsts .entry)) (now (lasts .entry)) count) first last ⌝ }
+{
+    let mut a = first;
+    let mut i = 0;
+    let mut blocks: u64 = 0;
+    let mut longest: u64 = 0;
+    while a <= last {
+        i = next(firsts, lasts, count, i, a);
+        match look(firsts, lasts, count, i, a, last) {
+            Ahead::Taken(x) => {
+                if last <= x {
+                    return Free { blocks, longest };
+                }
+                a = x + 1;
+            }
+            Ahead::Gap(g) => {
+                blocks = blocks + (g - a);
+                longest = larger(longest, g - a);
+                a = g;
+            }
+        }
+    }
+    Free { blocks, longest }
+}
+
+pub fn free_counts(t: &[u8], first: Block, last: Block) -> Free
+    requires { ⌜ (length (now t) ≡ tableBytes) × (last .0 < 18446744073709551615) ⌝ }
+    ensures { λ r. ⌜ r ≡ freeOf (slots (now (t .entry))) (first .0) (last .0) ⌝ }
+{
+    let mut firsts = [0u64; SLOTS];
+    let mut lasts = [0u64; SLOTS];
+    let count = gpt_table::order::ranges(t, SLOTS, &mut firsts, &mut lasts);
+    tally(&firsts, &lasts, count, first.0, last.0)
+}
+
+fn room_at(
+    firsts: &[u64; SLOTS],
+    lasts: &[u64; SLOTS],
+    count: usize,
+    a: u64,
+    last: u64,
+    size: u64,
+) -> bool
+    requires { ⌜ (count ≤ slotCount) × (0 < size) × (last < 18446744073709551615) × Ascending 1 count (now firsts) ⌝ }
+    ensures { λ r. ⌜ r ≡ roomAt (ranges (now (firsts .entry)) (now (lasts .entry)) count) last size a ⌝ }
+{
+    if last < a {
+        return false;
+    }
+    let i = next(firsts, lasts, count, 0, a);
+    match look(firsts, lasts, count, i, a, last) {
+        Ahead::Taken(_) => false,
+        Ahead::Gap(g) => size <= g - a,
+    }
+}
+
+// From its first block on, the partition of slot k, counted from 1, has room for that size, its own range left out.
+pub fn fits_at(t: &[u8], k: usize, last: Block, size: u64) -> bool
+    requires { ⌜ (1 ≤ k) × (k ≤ slotCount) × (length (now t) ≡ tableBytes) × (0 < size) × (last .0 < 18446744073709551615) ⌝ }
+    ensures { λ r. ⌜ ((first : ℕ) → r ≡ fitsAt first (last .0) (now (t .entry)) k size) ⌝ }
+{
+    let i = k - 1;
+    let a = octets::load64(gpt_table::entry(t, i), FIRST_AT);
+    let mut firsts = [0u64; SLOTS];
+    let mut lasts = [0u64; SLOTS];
+    let count = gpt_table::order::ranges(t, i, &mut firsts, &mut lasts);
+    room_at(&firsts, &lasts, count, a, last.0, size)
+}
