@@ -10,8 +10,8 @@ use borrow.Author.Tests.{lt-ltb, le-ltb}
 use Rattle.fmd_parse.specs.Trees.{Tree, Under, blank as blankSection}
 use Rattle.fmd_table.specs.declared.Section.{Section}
 use Rattle.fmd_table.specs.Table.{blank}
-use Rattle.fmd_plan.specs.Plans.{endOf, roomOf}
-use Rattle.fmd_plan.specs.Fitted.{Fitted}
+use Rattle.fmd_check.specs.Plans.{endOf, roomOf}
+use Rattle.fmd_check.specs.Fitted.{Fitted}
 use Rattle.fmd_table.specs.declared.Placed.{Placed}
 use Rattle.fmd_areas.specs.Areas.{positionIn}
 use Rattle.fmd_areas.specs.Invariants.{Climbs}

@@ -3,7 +3,7 @@ use mathlib.Core.List.{List}
 use Prim.Native.Nat.{ℕ, zero, suc, _≤_, _<_}
 use lib.ListN.{length, getD}
 use Rattle.fmd_parse.specs.Trees.{Tree}
-use Rattle.fmd_plan.specs.Fitted.{Fitted}
+use Rattle.fmd_check.specs.Fitted.{Fitted}
 use Rattle.fmd_table.specs.Table.{blank, sectionsIn, placedIn, HasRows, HasSpots}
 use Rattle.fmd_table.specs.declared.Placed.{Placed}
 

@@ -21,10 +21,10 @@ use Rattle.fmd_rows.specs.Rows.{foundFrom, repeats, firstRepeat, holdsCbfs, fir
 use Rattle.fmd_rows.specs.declared.Found.{Found}
 use Rattle.fmd_rows.specs.declared.Found.the-variants.{At, Nowhere}
 use Rattle.fmd_rows.proofs.Rows.{FirstFacts, first-facts}
-use Rattle.fmd_plan.specs.Plans.{Resolved, unfit, unsized, plan, resolveFrom}
-use Rattle.fmd_plan.specs.Fitted.{Fitted, ResolvedFacts}
+use Rattle.fmd_check.specs.Plans.{Resolved, unfit, unsized, plan, resolveFrom}
+use Rattle.fmd_check.specs.Fitted.{Fitted, ResolvedFacts}
 use Rattle.fmd_table.specs.declared.Placed.{Placed}
-use Rattle.fmd_plan.proofs.Fitted.{resolve-facts}
+use Rattle.fmd_check.proofs.Fitted.{resolve-facts}
 use Rattle.fmd_check.specs.Check.{Judged, fault, noMap, checkLayout, checkText}
 use Rattle.fmd_check.specs.Invariants.{listFrom}
 use Rattle.fmd_check.proofs.Stages.{named, whole, at-54, on-54, at-56, on-56, at-57, at-58, on-58, no-map, bad-map, good-map}

@@ -15,9 +15,9 @@ use Rattle.fmd_rows.specs.Rows.{foundFrom, firstUndecided}
 use Rattle.fmd_rows.specs.Invariants.{Inside}
 use Rattle.fmd_rows.specs.declared.Found.the-variants.{At, Nowhere}
 use Rattle.fmd_rows.proofs.Rows.{FirstFacts, first-facts, inside}
-use Rattle.fmd_plan.specs.Plans.{unfit, unsized, plan, resolveFrom}
-use Rattle.fmd_plan.specs.Fitted.{Sized, ResolvedFacts}
-use Rattle.fmd_plan.proofs.Fitted.{resolve-facts}
+use Rattle.fmd_check.specs.Plans.{unfit, unsized, plan, resolveFrom}
+use Rattle.fmd_check.specs.Fitted.{Sized, ResolvedFacts}
+use Rattle.fmd_check.proofs.Fitted.{resolve-facts}
 use Rattle.fmd_table.specs.declared.Placed.{Placed}
 use Rattle.fmd_check.proofs.Stages.{unsized-here, all-sized}
 
@@ -47,7 +47,7 @@ module _ (n : ℕ) (rows : List ℕ) where
       let w : ResolvedFacts z (sectionsIn n rows) (plan ps) = rw (sym e) at (resolve-facts z (sectionsIn n rows)) in
       all-sized (sectionsIn n rows) n (length-sections n rows) (rw (length-sections n rows) at (w .1))
 
--- what is read of a text stands in it, in at most 128 rows
+-- what is read of a text stands in it
 pub ready : (s : List ℕ) (i : Image) (n : ℕ) (rows : List ℕ) → layout i (sectionsIn n rows) ≡ layoutOf s → Inside s (sectionsIn n rows)
 ready s i n rows e =
     let w : LayoutFacts s (layout i (sectionsIn n rows)) = rw (sym e) at (layout-facts s) in

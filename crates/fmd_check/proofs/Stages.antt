@@ -15,8 +15,8 @@ use Rattle.fmd_rows.specs.Rows.{foundFrom, firstRepeat, firstCbfs, undecided, f
 use Rattle.fmd_rows.specs.declared.Found.{Found}
 use Rattle.fmd_rows.specs.declared.Found.the-variants.{At, Nowhere}
 use Rattle.fmd_rows.proofs.Rows.{first-stop, first-done, first-from}
-use Rattle.fmd_plan.specs.Plans.{Resolved, unfit, plan, resolveFrom}
-use Rattle.fmd_plan.specs.Fitted.{Sized}
+use Rattle.fmd_check.specs.Plans.{Resolved, unfit, plan, resolveFrom}
+use Rattle.fmd_check.specs.Fitted.{Sized}
 use Rattle.fmd_check.specs.Check.{fault, good, noMap, placeOf, indexOf, checkList}
 use Rattle.fmd_check.specs.Invariants.{listFrom}
 use Rattle.fmd_check.specs.declared.Place.{Place}

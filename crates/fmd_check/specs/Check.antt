@@ -18,7 +18,7 @@ use Rattle.fmd_head.specs.declared.Image.{Image}
 use Rattle.fmd_rows.specs.Rows.{isFound, firstRepeat, firstCbfs, firstUndecided, fmapIn, hasChild}
 use Rattle.fmd_rows.specs.declared.Found.{Found}
 use Rattle.fmd_rows.specs.declared.Found.the-variants.{At, Nowhere}
-use Rattle.fmd_plan.specs.Plans.{Resolved, unfit, unsized, plan, resolveFrom}
+use Rattle.fmd_check.specs.Plans.{Resolved, unfit, unsized, plan, resolveFrom}
 use Rattle.fmd_check.specs.declared.Place.{Place}
 use Rattle.fmd_check.specs.declared.Place.the-variants.{Byte, NoPlace}
 use Rattle.fmd_check.specs.declared.Verdict.{Verdict}

@@ -10,7 +10,7 @@ use Rattle.fmd_table.specs.declared.Section.{Section}
 use Rattle.fmd_head.specs.declared.Image.{Image}
 use Rattle.fmd_rows.specs.Rows.{isFmap, hasChild, repeats}
 use Rattle.fmd_table.specs.Table.{blank}
-use Rattle.fmd_plan.specs.Fitted.{Fitted}
+use Rattle.fmd_check.specs.Fitted.{Fitted}
 use Rattle.fmd_table.specs.declared.Placed.{Placed}
 use Rattle.fmd_check.specs.Check.{Judged, fault, good}
 use Rattle.fmd_check.specs.declared.Place.{Place}

@@ -5,7 +5,7 @@ use lib.ListN.{drop}
 use Rattle.octets.specs.Rows.{refusal}
 use Rattle.fmd_table.specs.declared.Section.{Section}
 use Rattle.fmd_head.specs.declared.Image.{Image}
-use Rattle.fmd_plan.specs.Plans.{Resolved}
+use Rattle.fmd_check.specs.Plans.{Resolved}
 use Rattle.fmd_check.specs.Check.{Judged, listRows, judged}
 
 unfoldable pub listFrom : ℕ → List ℕ → Image → List Section → Resolved → Judged

@@ -9,15 +9,17 @@ ghost use Rattle.fmd_table.specs.Table.{sectionsIn, placedIn, HasRows, HasSpots
 ghost use Rattle.fmd_table.specs.Invariants.{Linked};
 ghost use Rattle.fmd_parse.specs.Trees.{blank};
 ghost use Rattle.fmd_rows.specs.Invariants.{Inside};
-ghost use Rattle.fmd_plan.specs.Plans.{unfit, plan, resolveFrom};
-ghost use Rattle.fmd_plan.specs.Fitted.{Sized};
+ghost use Rattle.fmd_check.specs.Plans.{unfit, plan, resolveFrom};
+ghost use Rattle.fmd_check.specs.Fitted.{Sized};
 ghost use Rattle.fmd_check.specs.Check.{verdictOf, noMap, checkText};
 ghost use Rattle.fmd_check.specs.Invariants.{listFrom};
+use crate::plan::Resolution;
 use fmd_head::Image;
 use fmd_parse::Answer;
-use fmd_plan::Resolution;
 use fmd_rows::Found;
 use fmd_table::row_at;
+
+mod plan; // plan.rt: offsets and sizes of the sections
 
 // Where a fault stands in the text, if it does.
 pub enum Place {
@@ -87,7 +89,7 @@ fn check_places(text: &[u8], i: Image, rows: &[u32], spots: &mut [u32], n: usize
     ensures { λ r. ⌜ verdictOf r (now (rows .entry)) (now (spots .exit))
         ≡ listFrom 2 (now (text .entry)) i (sectionsIn n (now (rows .entry))) (resolveFrom (i .size) [] (sectionsIn n (now (rows .entry)))) ⌝ }
 {
-    match fmd_plan::resolve(rows, n, i.size, spots) {
+    match plan::resolve(rows, n, i.size, spots) {
         Resolution::Unfits(k) => unfit_at(rows, n, k),
         Resolution::Unsized(k) => fault_at(57, rows, n, k),
         Resolution::Whole => check_map(text, i, rows, spots, n),

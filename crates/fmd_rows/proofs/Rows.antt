@@ -17,8 +17,8 @@ use Rattle.octets.proofs.Bools.{choice, bool-cases}
 use Rattle.octets.proofs.Tests.{any-make, any-false, any-on, any-stop, any-done}
 use Rattle.fmd_parse.specs.Trees.{blank, Tree}
 use Rattle.fmd_table.specs.declared.Section.{Section}
-use Rattle.fmd_table.specs.Table.{image, sectionAt, sectionsIn}
-use Rattle.fmd_table.specs.Invariants.{nextAt, lastAt, parentAt, Linked}
+use Rattle.fmd_table.specs.Table.{sectionAt, sectionsIn}
+use Rattle.fmd_table.specs.Invariants.{nextAt, lastAt, parentAt, NextIn, LastIn, Linked}
 use Rattle.fmd_table.proofs.Table.{length-sections, section-in}
 use Rattle.fmd_rows.specs.Rows.{foundFrom, nameOf, repeats, hasChild, siblingIn}
 use Rattle.fmd_rows.specs.Invariants.{Inside}
@@ -114,8 +114,7 @@ module _ (n : ℕ) (rows : List ℕ) where
         → Next (e .offset) ≡ siblingIn (parentAt rows k) (drop (k + 1) (sectionsIn n rows))
     next-is {j} {e} q h p = cases (w .after k b)
       where
-        cases : (nextAt rows k ≡ image) ⊎ ((k < nextAt rows k) × (nextAt rows k < n) × (parentAt rows (nextAt rows k) ≡ parentAt rows k))
-            → Next (e .offset) ≡ siblingIn (parentAt rows k) (drop (k + 1) (sectionsIn n rows))
+        cases : NextIn n rows k → Next (e .offset) ≡ siblingIn (parentAt rows k) (drop (k + 1) (sectionsIn n rows))
         cases (inl x) = absurd (omega (arith, w .room))
         cases (inr x) =
             let d : k + 1 + (j - (k + 1)) ≡ j = omega (arith, x .0) in
@@ -134,8 +133,7 @@ module _ (n : ℕ) (rows : List ℕ) where
     unfolding hasChild
     child-is {j} q = cases (bool-cases (ltb j n)) (w .last k (inr b))
       where
-        cases : (ltb j n ≡ true) ⊎ (ltb j n ≡ false) → (lastAt rows k ≡ image) ⊎ ((lastAt rows k < n) × (parentAt rows (lastAt rows k) ≡ k))
-            → ltb j n ≡ any (λ x. eqb (x .parent) k) (sectionsIn n rows)
+        cases : (ltb j n ≡ true) ⊎ (ltb j n ≡ false) → LastIn n rows k → ltb j n ≡ any (λ x. eqb (x .parent) k) (sectionsIn n rows)
         cases (inl x) (inl y) = absurd (omega (arith, ltb-true j n x, w .room))
         cases (inl x) (inr y) =
             x ∙ sym (any-make (λ x. eqb (x .parent) k) (sectionsIn n rows) blank (lastAt rows k) (omega (arith, y .0, length-sections n rows))

@@ -3,20 +3,19 @@ use mathlib.Core.Path.{_≡_, refl, sym, ap, _∙_}
 use mathlib.Core.Bool.{true, false}
 use mathlib.Core.Logic.{_⊎_, inl, inr}
 use mathlib.Core.List.{List, [], _∷_, _++_}
-use Prim.Native.Nat.{ℕ, suc, _+_, _*_, _≤_, _<_}
+use Prim.Native.Nat.{ℕ, _+_, _*_, _≤_, _<_}
 use native.Mathlib.Nat.{add-zero, eq-or-lt-of-le, not-suc-le-zero}
-use native.Mathlib.Numerals.{add-one}
 use native.Mathlib.Omega.{arith}
 use lib.Dec.{eqb, ltb}
 use lib.ListN.{length, getD, set, length-set, List·getD-append}
 use lib.Seq.{getD-at, getD-set-same, getD-set-other}
 use borrow.Author.Tests.{eqb-true, eqb-false, ltb-true, ltb-false}
-use Rattle.octets.specs.Bytes.{part, put}
+use Rattle.octets.specs.Bytes.{put}
 use Rattle.octets.proofs.Bools.{bool-cases}
 use Rattle.octets.proofs.Parts.{getD-part}
 use Rattle.octets.proofs.Puts.{getD-put-out, part-put-same}
 use Rattle.fmd_table.specs.Table.{image, wordsOf, sectionAt, sectionsIn, HasRows}
-use Rattle.fmd_table.specs.Invariants.{nextAt, lastAt, parentAt, IsParent, Linked, linkedTo}
+use Rattle.fmd_table.specs.Invariants.{nextAt, lastAt, parentAt, IsParent, NextIn, LastIn, Linked, linkedTo}
 use Rattle.fmd_table.specs.declared.Section.{Section}
 use Rattle.fmd_table.proofs.Listed.{listed-same}
 use Rattle.fmd_table.proofs.Table.{row-put, row-read, length-sections, section-in}
@@ -34,7 +33,18 @@ same-section : (xs ys : List ℕ) (k : ℕ) → ((i : ℕ) → i < 10 → getD x
 same-section xs ys k e =
     let e0 : getD xs (12 * k) 0 ≡ getD ys (12 * k) 0 = rw (sym (add-zero (12 * k))) (e 0 (omega arith)) in
     sym (row-read xs k _ _ refl refl)
-    ∙ rw (e0, e 1 (omega arith), e 2 (omega arith), e 3 (omega arith), e 4 (omega arith), e 5 (omega arith), e 6 (omega arith), e 7 (omega arith), e 8 (omega arith), e 9 (omega arith))
+    ∙ rw (
+      e0,
+      e 1 (omega arith),
+      e 2 (omega arith),
+      e 3 (omega arith),
+      e 4 (omega arith),
+      e 5 (omega arith),
+      e 6 (omega arith),
+      e 7 (omega arith),
+      e 8 (omega arith),
+      e 9 (omega arith),
+    )
     (row-read ys k _ _ refl refl)
 
 -- a link written
@@ -128,7 +138,7 @@ module _ (n : ℕ) (h : Section) (rows : List ℕ) (room : HasRows 129 rows) (fe
   last-in : lastAt rows (h .parent) ≤ image
   last-in = cases (l .last (h .parent) p)
     where
-      cases : (lastAt rows (h .parent) ≡ image) ⊎ ((lastAt rows (h .parent) < n) × (parentAt rows (lastAt rows (h .parent)) ≡ h .parent)) → lastAt rows (h .parent) ≤ image
+      cases : LastIn n rows (h .parent) → lastAt rows (h .parent) ≤ image
       cases (inl e) = omega arith
       cases (inr e) = omega (arith, e .0)
 
@@ -175,7 +185,7 @@ module _ (n : ℕ) (h : Section) (rows new : List ℕ) (few : n < image) (p : Is
   of-parent : (j : ℕ) → j < n → j ≡ lastAt rows (h .parent) → parentAt rows j ≡ h .parent
   of-parent j b e = cases (l .last (h .parent) p)
     where
-      cases : (lastAt rows (h .parent) ≡ image) ⊎ ((lastAt rows (h .parent) < n) × (parentAt rows (lastAt rows (h .parent)) ≡ h .parent)) → parentAt rows j ≡ h .parent
+      cases : LastIn n rows (h .parent) → parentAt rows j ≡ h .parent
       cases (inl d) = absurd (omega arith)
       cases (inr d) = rw e (d .1)
 
@@ -183,18 +193,16 @@ module _ (n : ℕ) (h : Section) (rows new : List ℕ) (few : n < image) (p : Is
   under j (inl e) = rw (e, u .own) p
   under j (inr b) = rw (u .old j b) (l .under j b)
 
-  after : (j : ℕ) → (j ≡ n) ⊎ (j < n)
-      → (nextAt new j ≡ image) ⊎ ((j < nextAt new j) × (nextAt new j < n + 1) × (parentAt new (nextAt new j) ≡ parentAt new j))
+  after : (j : ℕ) → (j ≡ n) ⊎ (j < n) → NextIn (n + 1) new j
   after j (inl e) = inl (rw e (u .no-next))
   after j (inr b) = cases (either j (lastAt rows (h .parent)))
     where
-      older : (nextAt rows j ≡ image) ⊎ ((j < nextAt rows j) × (nextAt rows j < n) × (parentAt rows (nextAt rows j) ≡ parentAt rows j))
+      older : NextIn n rows j
           → (nextAt rows j ≡ image) ⊎ ((j < nextAt rows j) × (nextAt rows j < n + 1) × (parentAt new (nextAt rows j) ≡ parentAt new j))
       older (inl e) = inl e
       older (inr e) = inr (e .0, omega (arith, e .1), u .old (nextAt rows j) (e .1) ∙ e .2 ∙ sym (u .old j b))
 
-      cases : (j ≡ lastAt rows (h .parent)) ⊎ (j ≡ lastAt rows (h .parent) → ⊥)
-          → (nextAt new j ≡ image) ⊎ ((j < nextAt new j) × (nextAt new j < n + 1) × (parentAt new (nextAt new j) ≡ parentAt new j))
+      cases : (j ≡ lastAt rows (h .parent)) ⊎ (j ≡ lastAt rows (h .parent) → ⊥) → NextIn (n + 1) new j
       cases (inl e) = inr (rw (u .next j b e) (b, omega arith, u .own ∙ sym (u .old j b ∙ of-parent j b e)))
       cases (inr d) = rw (u .next-other j b d) (older (l .after j b))
 
@@ -228,24 +236,23 @@ module _ (n : ℕ) (h : Section) (rows new : List ℕ) (few : n < image) (p : Is
       cases (inl d) = absurd (omega (arith, d, ap (lastAt rows) (same ∙ of-parent j b d), l .greatest i c .0))
       cases (inr d) = rw (u .next-other j b d) (l .between j i o c same)
 
-  last : (q : ℕ) → IsParent (n + 1) q → (q ≡ h .parent) ⊎ (q ≡ h .parent → ⊥)
-      → (lastAt new q ≡ image) ⊎ ((lastAt new q < n + 1) × (parentAt new (lastAt new q) ≡ q))
+  last : (q : ℕ) → IsParent (n + 1) q → (q ≡ h .parent) ⊎ (q ≡ h .parent → ⊥) → LastIn (n + 1) new q
   last q i (inl e) = inr (rw (e, u .child) (omega arith, u .own))
   last q i (inr d) = place i
     where
-      older : (lastAt rows q ≡ image) ⊎ ((lastAt rows q < n) × (parentAt rows (lastAt rows q) ≡ q))
+      older : LastIn n rows q
           → (lastAt rows q ≡ image) ⊎ ((lastAt rows q < n + 1) × (parentAt new (lastAt rows q) ≡ q))
       older (inl e) = inl e
       older (inr e) = inr (omega (arith, e .0), u .old (lastAt rows q) (e .0) ∙ e .1)
 
-      known : IsParent n q → (lastAt new q ≡ image) ⊎ ((lastAt new q < n + 1) × (parentAt new (lastAt new q) ≡ q))
+      known : IsParent n q → LastIn (n + 1) new q
       known k = rw (u .child-other q k d) (older (l .last q k))
 
-      row : (q ≡ n) ⊎ (q < n) → (lastAt new q ≡ image) ⊎ ((lastAt new q < n + 1) × (parentAt new (lastAt new q) ≡ q))
+      row : (q ≡ n) ⊎ (q < n) → LastIn (n + 1) new q
       row (inl e) = inl (rw e (u .no-child))
       row (inr e) = known (inr e)
 
-      place : IsParent (n + 1) q → (lastAt new q ≡ image) ⊎ ((lastAt new q < n + 1) × (parentAt new (lastAt new q) ≡ q))
+      place : IsParent (n + 1) q → LastIn (n + 1) new q
       place (inl e) = known (inl e)
       place (inr e) = row (split q e)
 

@@ -9,7 +9,8 @@ use lib.Dec.{eqb}
 use lib.ListN.{length, getD, set}
 use Rattle.octets.specs.Bytes.{part, put}
 use Rattle.octets.proofs.Parts.{getD-part}
-use Rattle.fmd_table.specs.Table.{listed, image, wordsOf, markWord, offsetTag, offsetWord, sizeTag, sizeWord, offsetFrom, sizeFrom, sectionOf, sectionAt, sectionsIn, HasRows}
+use Rattle.fmd_table.specs.Table.{listed, image, wordsOf, markWord, offsetTag, offsetWord, sizeTag, sizeWord, offsetFrom, sizeFrom}
+use Rattle.fmd_table.specs.Table.{sectionOf, sectionAt, sectionsIn, HasRows}
 use Rattle.fmd_table.specs.declared.Offset.{Offset}
 use Rattle.fmd_table.specs.declared.Offset.the-variants.{Given as GivenOffset, Omitted as OmittedOffset}
 use Rattle.fmd_table.specs.declared.Size.{Size}
@@ -47,7 +48,9 @@ row-put rows k h room = rows-put 12 sectionOf rows (wordsOf h) k refl (omega (ar
 
 -- twelve stores, one after the other
 stored : (xs : List ℕ) (at a b c d e f g h i j y z : ℕ)
-    → set (set (set (set (set (set (set (set (set (set (set (set xs at a) (at + 1) b) (at + 2) c) (at + 3) d) (at + 4) e) (at + 5) f) (at + 6) g) (at + 7) h) (at + 8) i) (at + 9) j) (at + 10) y) (at + 11) z
+    → set (set (set (set (set (set
+    (set (set (set (set (set (set xs at a) (at + 1) b) (at + 2) c) (at + 3) d) (at + 4) e) (at + 5) f)
+    (at + 6) g) (at + 7) h) (at + 8) i) (at + 9) j) (at + 10) y) (at + 11) z
     ≡ put at (a ∷ b ∷ c ∷ d ∷ e ∷ f ∷ g ∷ h ∷ i ∷ j ∷ y ∷ z ∷ []) xs
 unfolding put
 stored xs at a b c d e f g h i j y z =
@@ -66,9 +69,9 @@ stored xs at a b c d e f g h i j y z =
 
 pub row-stored : (rows : List ℕ) (k : ℕ) (s : Section) (a b c d g h : ℕ) → a ≡ offsetTag (s .offset) → b ≡ offsetWord (s .offset)
     → c ≡ sizeTag (s .size) → d ≡ sizeWord (s .size) → g ≡ markWord (s .cbfs) → h ≡ markWord (s .preserve)
-    → set (set
-    (set (set (set (set (set (set (set (set (set (set rows (12 * k) a) (12 * k + 1) b) (12 * k + 2) c) (12 * k + 3) d) (12 * k + 4) (s .place)) (12 * k + 5) (s .length)) (12 * k + 6) g) (12 * k + 7) h)
-    (12 * k + 8) (s .parent)) (12 * k + 9) (s .level)) (12 * k + 10) image) (12 * k + 11) image
+    → set (set (set (set (set (set
+    (set (set (set (set (set (set rows (12 * k) a) (12 * k + 1) b) (12 * k + 2) c) (12 * k + 3) d) (12 * k + 4) (s .place)) (12 * k + 5) (s .length))
+    (12 * k + 6) g) (12 * k + 7) h) (12 * k + 8) (s .parent)) (12 * k + 9) (s .level)) (12 * k + 10) image) (12 * k + 11) image
     ≡ put (12 * k) (wordsOf s) rows
 row-stored rows k s a b c d g h p q r t u v = rw (stored rows (12 * k) a b c d (s .place) (s .length) g h (s .parent) (s .level) image image, p, q, r, t, u, v)
 

@@ -20,13 +20,21 @@ parentAt rows k = sectionAt rows k .parent
 abbrev pub IsParent : ℕ → ℕ → Type 0
 IsParent n p = (p ≡ image) ⊎ (p < n)
 
+-- section j's next sibling: none, or a later section with its parent
+abbrev pub NextIn : ℕ → List ℕ → ℕ → Type 0
+NextIn n rows j = (nextAt rows j ≡ image) ⊎ ((j < nextAt rows j) × (nextAt rows j < n) × (parentAt rows (nextAt rows j) ≡ parentAt rows j))
+
+-- the last child of p: none, or a section with the parent p
+abbrev pub LastIn : ℕ → List ℕ → ℕ → Type 0
+LastIn n rows p = (lastAt rows p ≡ image) ⊎ ((lastAt rows p < n) × (parentAt rows (lastAt rows p) ≡ p))
+
 -- the links among the first n sections
 pub record Linked (n : ℕ) (rows : List ℕ) : Type 0 where
   pub room : n ≤ image
   pub under : (j : ℕ) → j < n → IsParent j (parentAt rows j)
-  pub after : (j : ℕ) → j < n → (nextAt rows j ≡ image) ⊎ ((j < nextAt rows j) × (nextAt rows j < n) × (parentAt rows (nextAt rows j) ≡ parentAt rows j))
+  pub after : (j : ℕ) → j < n → NextIn n rows j
   pub between : (j i : ℕ) → j < i → i < n → parentAt rows i ≡ parentAt rows j → nextAt rows j ≤ i
-  pub last : (p : ℕ) → IsParent n p → (lastAt rows p ≡ image) ⊎ ((lastAt rows p < n) × (parentAt rows (lastAt rows p) ≡ p))
+  pub last : (p : ℕ) → IsParent n p → LastIn n rows p
   pub greatest : (j : ℕ) → j < n → (j ≤ lastAt rows (parentAt rows j)) × (lastAt rows (parentAt rows j) < n)
 
 -- row k as the next sibling of the parent's last child, and as the last child

@@ -1,9 +1,9 @@
 use Rattle.fmd_rows.proofs.Rows.{item}
-use Rattle.fmd_plan.specs.Plans.{placeOf}
+use Rattle.fmd_check.specs.Plans.{placeOf}
 use mathlib.Core.Path.{sym}
 use borrow.Author.Needs.{needs}
-use Rattle.fmd_plan.proofs.place_at.Statement.{statement}
-use Rattle.fmd_plan.proofs.place_at.Tie as tie
+use Rattle.fmd_check.proofs.plan.place_at.Statement.{statement}
+use Rattle.fmd_check.proofs.plan.place_at.Tie as tie
 
 row-at-requires : tie.Need-row-at-requires
 row-at-requires c κs = search needs

@@ -21,15 +21,15 @@ use Rattle.fmd_table.specs.declared.Size.{Size}
 use Rattle.fmd_table.specs.declared.Size.the-variants.{Given as GivenSize, Omitted as OmittedSize}
 use Rattle.fmd_table.specs.declared.Section.{Section}
 use Rattle.fmd_table.specs.declared.Placed.{Placed}
-use Rattle.fmd_plan.specs.Plans.{endOf, endWith, endIn, roomOf, startOf, fits, spotOf, spotBy, spotIn, placeOf, Resolved, afterSpot, resolveFrom}
-use Rattle.fmd_plan.specs.Fitted.{Siblings, Neighbours, BeginsAt, EndsAt, Lies, Sized, ResolvedFacts}
+use Rattle.fmd_check.specs.Plans.{endOf, endWith, endIn, roomOf, startOf, fits, spotOf, spotBy, spotIn, placeOf, Resolved, afterSpot, resolveFrom}
+use Rattle.fmd_check.specs.Fitted.{Siblings, Neighbours, BeginsAt, EndsAt, Lies, Sized, ResolvedFacts}
 use Rattle.fmd_rows.specs.Rows.{siblingIn, reachOf, isUndecided, undecided}
 use Rattle.fmd_rows.specs.declared.Reach.{Reach}
 use Rattle.fmd_rows.specs.declared.Reach.the-variants.{OfSize, UpTo, ToParentEnd, Undecided}
 use Rattle.fmd_rows.specs.declared.Sibling.{Sibling}
 use Rattle.fmd_rows.specs.declared.Sibling.the-variants.{Next, Last}
-use Rattle.fmd_plan.specs.declared.Spot.{Spot}
-use Rattle.fmd_plan.specs.declared.Spot.the-variants.{Fits, Unfit, NoSize}
+use Rattle.fmd_check.specs.declared.plan.Spot.{Spot}
+use Rattle.fmd_check.specs.declared.plan.Spot.the-variants.{Fits, Unfit, NoSize}
 
 -- ---- one section
 

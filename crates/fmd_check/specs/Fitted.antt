@@ -12,7 +12,7 @@ use Rattle.fmd_parse.specs.Trees.{blank as blankSection}
 use Rattle.fmd_table.specs.Table.{blank}
 use Rattle.fmd_table.specs.declared.Section.{Section}
 use Rattle.fmd_table.specs.declared.Placed.{Placed}
-use Rattle.fmd_plan.specs.Plans.{endOf, roomOf, Resolved, unfit, unsized, plan}
+use Rattle.fmd_check.specs.Plans.{endOf, roomOf, Resolved, unfit, unsized, plan}
 use Rattle.fmd_rows.specs.Rows.{undecided}
 
 -- sections j and k of the list l have the same parent

@@ -13,10 +13,10 @@ use Rattle.fmd_table.specs.declared.Placed.{Placed}
 use Rattle.fmd_rows.specs.Rows.{siblingIn, reachOf}
 use Rattle.fmd_rows.specs.declared.Reach.{Reach}
 use Rattle.fmd_rows.specs.declared.Reach.the-variants.{OfSize, UpTo, ToParentEnd, Undecided}
-use Rattle.fmd_plan.specs.declared.Spot.{Spot}
-use Rattle.fmd_plan.specs.declared.Spot.the-variants.{Fits, Unfit, NoSize}
-use Rattle.fmd_plan.specs.declared.Resolution.{Resolution}
-use Rattle.fmd_plan.specs.declared.Resolution.the-variants.{Unfits, Unsized, Whole}
+use Rattle.fmd_check.specs.declared.plan.Spot.{Spot}
+use Rattle.fmd_check.specs.declared.plan.Spot.the-variants.{Fits, Unfit, NoSize}
+use Rattle.fmd_check.specs.declared.plan.Resolution.{Resolution}
+use Rattle.fmd_check.specs.declared.plan.Resolution.the-variants.{Unfits, Unsized, Whole}
 
 -- the end of a section in its parent
 abbrev pub endOf : Placed → ℕ

@@ -1,10 +1,10 @@
 use Rattle.fmd_table.proofs.Spots.{length-placed, placed-in}
-use Rattle.fmd_plan.specs.Plans.{roomOf}
+use Rattle.fmd_check.specs.Plans.{roomOf}
 use borrow.Author.Tests.{lt-ltb, le-ltb}
 use mathlib.Core.Path.{sym, _∙_}
 use borrow.Author.Needs.{needs}
-use Rattle.fmd_plan.proofs.room_of.Statement.{statement}
-use Rattle.fmd_plan.proofs.room_of.Tie as tie
+use Rattle.fmd_check.proofs.plan.room_of.Statement.{statement}
+use Rattle.fmd_check.proofs.plan.room_of.Tie as tie
 
 placed-at-requires : tie.Need-placed-at-requires
 placed-at-requires c κs = search needs

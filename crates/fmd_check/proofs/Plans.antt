@@ -13,8 +13,8 @@ use Rattle.fmd_table.proofs.Table.{length-sections}
 use Rattle.fmd_table.proofs.Spots.{length-placed, none-placed}
 use Rattle.fmd_table.specs.declared.Placed.{Placed}
 use Rattle.fmd_parse.specs.Trees.{blank as blankSection}
-use Rattle.fmd_plan.specs.Plans.{endWith, endIn, placeOf, unfit, unsized, plan, resolveFrom}
-use Rattle.fmd_plan.specs.declared.Spot.the-variants.{Fits, Unfit, NoSize}
+use Rattle.fmd_check.specs.Plans.{endWith, endIn, placeOf, unfit, unsized, plan, resolveFrom}
+use Rattle.fmd_check.specs.declared.plan.Spot.the-variants.{Fits, Unfit, NoSize}
 
 -- ---- the end of the last section with a parent, sought from the last row back
 

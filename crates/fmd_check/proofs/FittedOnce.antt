@@ -19,8 +19,8 @@ use Rattle.fmd_table.specs.declared.Size.{Size}
 use Rattle.fmd_table.specs.declared.Size.the-variants.{Given as GivenSize, Omitted as OmittedSize}
 use Rattle.fmd_table.specs.declared.Section.{Section}
 use Rattle.fmd_table.specs.declared.Placed.{Placed}
-use Rattle.fmd_plan.specs.Plans.{endOf, roomOf}
-use Rattle.fmd_plan.specs.Fitted.{Siblings, Neighbours, BeginsAt, EndsAt, Fitted, FittedOnce}
+use Rattle.fmd_check.specs.Plans.{endOf, roomOf}
+use Rattle.fmd_check.specs.Fitted.{Siblings, Neighbours, BeginsAt, EndsAt, Fitted, FittedOnce}
 
 -- ---- a section has a previous sibling or none, and a next one or none
 

@@ -1,8 +1,8 @@
 use mathlib.Core.Path.{sym}
-use Rattle.fmd_plan.specs.Plans.{spotIn}
+use Rattle.fmd_check.specs.Plans.{spotIn}
 use borrow.Author.Needs.{needs}
-use Rattle.fmd_plan.proofs.spot_in.Statement.{statement}
-use Rattle.fmd_plan.proofs.spot_in.Tie as tie
+use Rattle.fmd_check.proofs.plan.spot_in.Statement.{statement}
+use Rattle.fmd_check.proofs.plan.spot_in.Tie as tie
 
 start-of-requires : tie.Need-start-of-requires
 start-of-requires c κs = search needs

@@ -1,6 +1,6 @@
 use borrow.Author.Needs.{needs}
-use Rattle.fmd_plan.proofs.Plans.{resolve-stop, resolve-unsized, resolve-on, resolve-done}
-use Rattle.fmd_plan.specs.Plans.{resolveFrom}
+use Rattle.fmd_check.proofs.Plans.{resolve-stop, resolve-unsized, resolve-on, resolve-done}
+use Rattle.fmd_check.specs.Plans.{resolveFrom}
 use Rattle.fmd_table.proofs.Spots.{none-placed}
 use Rattle.fmd_table.specs.Table.{sectionsIn, placedIn}
 use lib.ListN.{length, drop}
@@ -8,8 +8,8 @@ use native.Mathlib.Omega.{arith}
 use Prim.Native.Nat.{_≤_, _-_}
 use mathlib.Core.Path.{_≡_, sym, _∙_}
 use mathlib.Core.List.{[]}
-use Rattle.fmd_plan.proofs.resolve.Statement.{statement}
-use Rattle.fmd_plan.proofs.resolve.Tie as tie
+use Rattle.fmd_check.proofs.plan.resolve.Statement.{statement}
+use Rattle.fmd_check.proofs.plan.resolve.Tie as tie
 
 abbrev Inv-loop : tie.InvT-loop
 Inv-loop rows n size spots₀ k₀ spots k = (k ≤ n) × (length spots ≡ length spots₀) × (resolveFrom size (placedIn k spots) (drop k (sectionsIn n rows)) ≡ resolveFrom size [] (sectionsIn n rows))

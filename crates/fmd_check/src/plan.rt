@@ -1,5 +1,4 @@
 // Offsets and sizes of the sections, and row 58.
-// An inner crate: no user calls it, so its functions may have a `requires`, which each caller meets.
 ghost use mathlib.Core.List.{[]};
 ghost use mathlib.Core.Path.{_≡_};
 ghost use Prim.Native.Nat.{_+_, _-_, _≤_, _<_};
@@ -7,7 +6,7 @@ ghost use lib.ListN.{drop, getD};
 ghost use Rattle.fmd_table.specs.Table.{sectionsIn, placedIn, HasRows, HasSpots};
 ghost use Rattle.fmd_table.specs.Invariants.{Linked};
 ghost use Rattle.fmd_parse.specs.Trees.{blank as blankSection};
-ghost use Rattle.fmd_plan.specs.Plans.{endIn, roomOf, startOf, spotOf, spotIn, placeOf, resolveFrom, resolvedBy};
+ghost use Rattle.fmd_check.specs.Plans.{endIn, roomOf, startOf, spotOf, spotIn, placeOf, resolveFrom, resolvedBy};
 use fmd_rows::Reach;
 use fmd_table::Offset;
 use fmd_table::ParentOffset;

@@ -1,9 +1,9 @@
 use borrow.Author.Needs.{needs}
 use borrow.Author.Tests.{le-leb, lt-leb}
 use Rattle.octets.specs.Tests.{_and_}
-use Rattle.fmd_plan.specs.Plans.{spotOf, fits}
-use Rattle.fmd_plan.proofs.spot_of.Statement.{statement}
-use Rattle.fmd_plan.proofs.spot_of.Tie as tie
+use Rattle.fmd_check.specs.Plans.{spotOf, fits}
+use Rattle.fmd_check.proofs.plan.spot_of.Statement.{statement}
+use Rattle.fmd_check.proofs.plan.spot_of.Tie as tie
 
 returns : tie.Need-returns
 unfolding spotOf fits _and_
