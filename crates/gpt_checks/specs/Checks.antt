@@ -8,6 +8,7 @@ use Rattle.octets.specs.Tests.{_and_}
 use Rattle.octets.specs.Rows.{Row, row}
 use Rattle.gpt_model.specs.Disk.{disk512, inRange, state}
 use Rattle.gpt_model.specs.Calls.{lengthsOk, commonRows}
+use Rattle.gpt_checks.specs.Refusals.{numberOf}
 use Rattle.gpt_checks.specs.declared.Check.{Check}
 use Rattle.gpt_checks.specs.declared.Check.the-variants.{Pass, Stop}
 use Rattle.gpt_checks.specs.declared.Start.{Start}
@@ -16,16 +17,16 @@ use Rattle.gpt_checks.specs.declared.Start.the-variants as start
 -- the number of the first row that holds, if one does
 abbrev pub stopOf : Check → Option ℕ
 stopOf Pass = none
-stopOf (Stop k) = some k
+stopOf (Stop r) = some (numberOf r)
 
 abbrev pub stopBy : Start → Option ℕ
 stopBy (start.At b) = none
-stopBy (start.Stop k) = some k
+stopBy (start.Stop r) = some (numberOf r)
 
 -- D15: the lowest start with enough free blocks, where no row holds
 abbrev pub startBy : Start → Option ℕ
 startBy (start.At b) = some (b .0)
-startBy (start.Stop k) = none
+startBy (start.Stop r) = none
 
 -- 1, 2
 abbrev pub lentRows : ℕ → List ℕ → List ℕ → List Row
