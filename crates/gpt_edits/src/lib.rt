@@ -9,10 +9,8 @@ ghost use mathlib.Core.Option.{none, some};
 ghost use Prim.Native.Nat.{_*_, _≤_};
 ghost use lib.ListN.{length};
 ghost use Rattle.octets.specs.Rows.{refusal};
-ghost use Rattle.gpt_model.specs.Ranges.{lowestStart};
-ghost use Rattle.gpt_model.specs.Table.{rangesOf};
 ghost use Rattle.gpt_model.specs.Disk.{disk512, lastUsable, primary, backup, lentBytes, guidIn, entriesIn, tableOf, withCopy};
-ghost use Rattle.gpt_model.specs.Calls.{accepted, outcome, step, rowsOf, edit, add as addCall, newPartition, delete as deleteCall, resize as resizeCall, rename as renameCall};
+ghost use Rattle.gpt_model.specs.Calls.{accepted, outcome, startFor, step, rowsOf, edit, add as addCall, newPartition, delete as deleteCall, resize as resizeCall, rename as renameCall};
 
 pub fn delete(head: &mut [u8], tail: &mut [u8], n: u64, slot: u64)
     requires { ⌜ refusal (rowsOf disk512 n (now head) (now tail) (edit (deleteCall slot))) ≡ none ⌝ }
@@ -62,7 +60,8 @@ pub fn add(
     first: Block,
 ) -> u64
     requires { ⌜ (refusal (rowsOf disk512 n (now head) (now tail) (edit (addCall (newPartition (now kind) (now unique) size attributes (now name))))) ≡ none)
-        × (lowestStart (rangesOf (tableOf disk512 n (now head) (now tail))) (disk512 .first) (lastUsable disk512 n) size ≡ some (first .0)) ⌝ }
+        × (startFor (disk512 .first) (lastUsable disk512 n) (tableOf disk512 n (now head) (now tail))
+        (newPartition (now kind) (now unique) size attributes (now name)) ≡ some (first .0)) ⌝ }
     ensures { λ r. ⌜ outcome (accepted (r ∷ first .0 ∷ [])) (now (head .exit)) (now (tail .exit))
         ≡ step disk512 n (now (head .entry)) (now (tail .entry))
         (edit (addCall (newPartition (now (kind .entry)) (now (unique .entry)) size attributes (now (name .entry))))) ⌝ }
