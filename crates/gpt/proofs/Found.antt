@@ -24,8 +24,9 @@ use Rattle.gpt_copies.specs.declared.State.{State}
 use Rattle.gpt_copies.specs.declared.State.the-variants.{Neither}
 use Rattle.gpt_checks.specs.Checks.{lentRows}
 use Rattle.gpt_checks.proofs.Judged.{Lent, lent-facts}
-use Rattle.gpt.specs.Answers.{numberOf, readingOf, part, handedBy, handedPart}
-use Rattle.gpt.specs.declared.Refusal.{Refusal}
+use Rattle.gpt_checks.specs.Refusals.{numberOf}
+use Rattle.gpt_checks.specs.declared.Refusal.{Refusal}
+use Rattle.gpt.specs.Answers.{readingOf, handed, handedBy, handedPart}
 use Rattle.gpt.specs.declared.Reading.{Reading}
 use Rattle.gpt.specs.declared.Reading.the-variants.{Refused}
 
@@ -96,9 +97,9 @@ module _ (n : ℕ) (h t : List ℕ) (r x : Reading) (e : outcome (readingOf r) h
     pub table-in-tail : s ≡ 4 → entriesIn disk512 backup t ≡ tableOf disk512 n h t
     table-in-tail q = sym (table-four disk512 n h t (both .1 ∙ q))
 
-    pub handed-is : (bs : List ℕ) (p hp tp : ℕ × ℕ) → bs ≡ tableOf disk512 n h t → p ≡ entriesPlace (usedSide s) hp tp → part bs p ≡ handedPart n h t hp tp
+    pub handed-is : (bs : List ℕ) (p hp tp : ℕ × ℕ) → bs ≡ tableOf disk512 n h t → p ≡ entriesPlace (usedSide s) hp tp → handed bs p ≡ handedPart n h t hp tp
     handed-is bs p hp tp a b =
-        ap₂ part a (b ∙ sym (ap (λ (k : ℕ). entriesPlace (usedSide k) hp tp) (both .1))) ∙ sym (ap (handedBy n h t hp tp) (both .0))
+        ap₂ handed a (b ∙ sym (ap (λ (k : ℕ). entriesPlace (usedSide k) hp tp) (both .1))) ∙ sym (ap (handedBy n h t hp tp) (both .0))
 
     pub counts-are : (tb : List ℕ) (a : Answer) → tb ≡ tableOf disk512 n h t → a ≡ accepted (freeCount (rangesOf tb) 34 (n - 34) ∷ longestFree (rangesOf tb) 34 (n - 34) ∷ [])
         → outcome a h t ≡ step disk512 n h t freeCounts
@@ -108,8 +109,8 @@ module _ (n : ℕ) (h t : List ℕ) (r x : Reading) (e : outcome (readingOf r) h
 
 -- a refused part is empty and lies at the head's start
 pub handed-nothing : (n : ℕ) (h t bs : List ℕ) (p hp tp : ℕ × ℕ) (k : ℕ) → refusal (commonRows disk512 n h t true) ≡ some k → bs ≡ [] → p ≡ behind 0 hp
-    → part bs p ≡ handedPart n h t hp tp
-handed-nothing n h t bs p hp tp k e a b = ap₂ part a b ∙ sym (ap (handedBy n h t hp tp) e)
+    → handed bs p ≡ handedPart n h t hp tp
+handed-nothing n h t bs p hp tp k e a b = ap₂ handed a b ∙ sym (ap (handedBy n h t hp tp) e)
 
 -- ---- formatting
 
