@@ -18,7 +18,7 @@ use fmap_rules::ImagePosition;
 use fmd_areas::area_at;
 use fmd_check::Verdict;
 use fmd_head::Address;
-use fmd_head::Image as TextImage;
+use fmd_head::TextImage;
 use fmd_table::ROWS;
 use fmd_table::SPOTS;
 

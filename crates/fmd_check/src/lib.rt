@@ -14,8 +14,8 @@ ghost use Rattle.fmd_check.specs.Fitted.{Sized};
 ghost use Rattle.fmd_check.specs.Check.{verdictOf, noMap, checkText};
 ghost use Rattle.fmd_check.specs.Invariants.{listFrom};
 use crate::plan::Resolution;
-use fmd_head::Image;
-use fmd_parse::Answer;
+use fmd_head::TextImage;
+use fmd_parse::LayoutAnswer;
 use fmd_rows::Found;
 use fmd_table::row_at;
 
@@ -29,7 +29,7 @@ pub enum Place {
 
 // The image, how many sections there are, and the index of section FMAP; or a fault's number and place.
 pub enum Verdict {
-    Good(Image, usize, usize),
+    Good(TextImage, usize, usize),
     Fault(u16, Place),
 }
 
@@ -55,7 +55,7 @@ fn no_map(rows: &[u32], spots: &[u32], n: usize, k: usize) -> bool
 }
 
 // Row 59.
-fn check_map(text: &[u8], i: Image, rows: &[u32], spots: &[u32], n: usize) -> Verdict
+fn check_map(text: &[u8], i: TextImage, rows: &[u32], spots: &[u32], n: usize) -> Verdict
     requires { ⌜ HasRows n (now rows) × HasSpots n (now spots) × Linked n (now rows) × Inside (now text) (sectionsIn n (now rows)) ⌝ }
     ensures { λ r. ⌜ verdictOf r (now (rows .entry)) (now (spots .entry))
         ≡ listFrom 4 (now (text .entry)) i (sectionsIn n (now (rows .entry))) (plan (placedIn n (now (spots .entry)))) ⌝ }
@@ -74,7 +74,7 @@ fn check_map(text: &[u8], i: Image, rows: &[u32], spots: &[u32], n: usize) -> Ve
 // Rows 57 and 58, where section k is the first that does not fit.
 fn unfit_at(rows: &[u32], n: usize, k: usize) -> Verdict
     requires { ⌜ HasRows n (now rows) × (k < n) × Sized (sectionsIn n (now rows)) (k + 1) × Linked n (now rows) ⌝ }
-    ensures { λ r. ⌜ ((s : List ℕ) (i : Image) (spots : List ℕ) → verdictOf r (now (rows .entry)) spots
+    ensures { λ r. ⌜ ((s : List ℕ) (i : TextImage) (spots : List ℕ) → verdictOf r (now (rows .entry)) spots
         ≡ listFrom 2 s i (sectionsIn n (now (rows .entry))) (unfit k)) ⌝ }
 {
     match fmd_rows::first_undecided(rows, n, k + 1) {
@@ -84,7 +84,7 @@ fn unfit_at(rows: &[u32], n: usize, k: usize) -> Verdict
 }
 
 // Rows 57 to 59.
-fn check_places(text: &[u8], i: Image, rows: &[u32], spots: &mut [u32], n: usize) -> Verdict
+fn check_places(text: &[u8], i: TextImage, rows: &[u32], spots: &mut [u32], n: usize) -> Verdict
     requires { ⌜ HasRows n (now rows) × HasSpots n (now spots) × Linked n (now rows) × Inside (now text) (sectionsIn n (now rows)) ⌝ }
     ensures { λ r. ⌜ verdictOf r (now (rows .entry)) (now (spots .exit))
         ≡ listFrom 2 (now (text .entry)) i (sectionsIn n (now (rows .entry))) (resolveFrom (i .size) [] (sectionsIn n (now (rows .entry)))) ⌝ }
@@ -97,7 +97,7 @@ fn check_places(text: &[u8], i: Image, rows: &[u32], spots: &mut [u32], n: usize
 }
 
 // Rows 56 to 59.
-fn check_marks(text: &[u8], i: Image, rows: &[u32], spots: &mut [u32], n: usize) -> Verdict
+fn check_marks(text: &[u8], i: TextImage, rows: &[u32], spots: &mut [u32], n: usize) -> Verdict
     requires { ⌜ HasRows n (now rows) × HasSpots n (now spots) × Linked n (now rows) × Inside (now text) (sectionsIn n (now rows)) ⌝ }
     ensures { λ r. ⌜ verdictOf r (now (rows .entry)) (now (spots .exit))
         ≡ listFrom 1 (now (text .entry)) i (sectionsIn n (now (rows .entry))) (resolveFrom (i .size) [] (sectionsIn n (now (rows .entry)))) ⌝ }
@@ -109,7 +109,7 @@ fn check_marks(text: &[u8], i: Image, rows: &[u32], spots: &mut [u32], n: usize)
 }
 
 // Rows 54 to 59.
-fn check_list(text: &[u8], i: Image, rows: &[u32], spots: &mut [u32], n: usize) -> Verdict
+fn check_list(text: &[u8], i: TextImage, rows: &[u32], spots: &mut [u32], n: usize) -> Verdict
     requires { ⌜ HasRows n (now rows) × HasSpots n (now spots) × Linked n (now rows) × Inside (now text) (sectionsIn n (now rows)) ⌝ }
     ensures { λ r. ⌜ verdictOf r (now (rows .entry)) (now (spots .exit))
         ≡ listFrom 0 (now (text .entry)) i (sectionsIn n (now (rows .entry))) (resolveFrom (i .size) [] (sectionsIn n (now (rows .entry)))) ⌝ }
@@ -129,7 +129,7 @@ pub fn check(text: &[u8], rows: &mut [u32], spots: &mut [u32]) -> Verdict
         return Verdict::Fault(50, Place::NoPlace);
     }
     match fmd_parse::read_layout(text, rows) {
-        Answer::Accepted(i, n) => check_list(text, i, rows, spots, n),
-        Answer::Refused(n, p) => Verdict::Fault(n, Place::Byte(p)),
+        LayoutAnswer::Accepted(i, n) => check_list(text, i, rows, spots, n),
+        LayoutAnswer::Refused(n, p) => Verdict::Fault(n, Place::Byte(p)),
     }
 }

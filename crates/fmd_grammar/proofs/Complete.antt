@@ -27,7 +27,7 @@ use Rattle.fmd_table.specs.declared.Size.the-variants.{Omitted as OmittedSize}
 use Rattle.fmd_table.specs.declared.Section.{Section}
 use Rattle.fmd_head.specs.declared.Address.{Address}
 use Rattle.fmd_head.specs.declared.Address.the-variants.{Omitted}
-use Rattle.fmd_head.specs.declared.Image.{Image}
+use Rattle.fmd_head.specs.declared.TextImage.{TextImage}
 use Rattle.fmd_grammar.specs.Grammar.{Lexeme, word, sign, OptionalFlags, noFlags, onlyCbfs, onlyPreserve, cbfsPreserve, preserveCbfs, OptionalOffset}
 use Rattle.fmd_grammar.specs.Grammar.{noOffset, offset, OptionalSize, noSize, size, SectionTree, section, noBraces, braces, SectionList, one, more}
 use Rattle.fmd_grammar.specs.Grammar.{OptionalAddress, noAddress, address, LayoutText, image}
@@ -270,7 +270,7 @@ unfolding imageP pickRow
 image-complete p n q a w v g o m i j us =
     rw (g, addresses-complete p (length w) o (word q v ∷ sign a 123 ∷ us) tt, m, and-i _ _ (le-leb 98 n i) (le-leb n 16777216 j))
 
-pub layout-complete : {ts : List Lexeme} {i : Image} {l : List Section} → LayoutText 128 8 ts i l → (f : ℕ) → 2 * length ts ≤ f → layoutP f ts ≡ ok (i, l) []
+pub layout-complete : {ts : List Lexeme} {i : TextImage} {l : List Section} → LayoutText 128 8 ts i l → (f : ℕ) → 2 * length ts ≤ f → layoutP f ts ≡ ok (i, l) []
 unfolding layoutP
 layout-complete (image {place = p} {n} q a b c {name = w} v {os} {ts} g o m x y d) f h =
     rw (

@@ -24,8 +24,8 @@ use Rattle.fmd_head.specs.Heads.{next, isKind, counted, amountAt, onward, judge
 use Rattle.fmd_head.specs.Heads.{withOffset, offsetAt, withSize, sizeAt, headAt}
 use Rattle.fmd_head.specs.declared.Amount.{Amount}
 use Rattle.fmd_head.specs.declared.Amount.the-variants.{Counted, Uncounted}
-use Rattle.fmd_head.specs.declared.Part.{Part}
-use Rattle.fmd_head.specs.declared.Part.the-variants.{Read, Fault}
+use Rattle.fmd_head.specs.declared.HeadPart.{HeadPart}
+use Rattle.fmd_head.specs.declared.HeadPart.the-variants.{Read, Fault}
 use mathlib.Core.Option.{none}
 use Rattle.fmd_head.specs.Heads.{setCbfs, setPreserve, setSize}
 use Rattle.fmd_table.specs.declared.Offset.the-variants.{Omitted as OmittedOffset}
@@ -52,7 +52,7 @@ Numbers s (Counted n u) (no m q) = ⊥
 Numbers s (Uncounted k p) (ok m us) = ⊥
 Numbers s (Uncounted k p) (no m q) = (k ≡ m) × (p ≡ q)
 
-abbrev pub Parts : List ℕ → Part → Got Section → Type 0
+abbrev pub Parts : List ℕ → HeadPart → Got Section → Type 0
 Parts s (Read h u) (ok k us) = (h ≡ k) × View s u us
 Parts s (Read h u) (no m q) = ⊥
 Parts s (Fault n p) (ok k us) = ⊥
@@ -135,7 +135,7 @@ same-sign {A} {B} M {s} {t} k n m (sign p j ∷ xs) v x y q r f g = rw (as-sign 
     go true e = f xs (after-sign v (λ z. n (sym (eqb-true j k e) ∙ z)))
     go false e = g
 
-part-then : {s : List ℕ} (q : Part) (g : Got Section) (f : Section → Token → Part) (k : Section → Parser Section) → Parts s q g
+part-then : {s : List ℕ} (q : HeadPart) (g : Got Section) (f : Section → Token → HeadPart) (k : Section → Parser Section) → Parts s q g
     → ((h : Section) (u : Token) (us : List Lexeme) → View s u us → Parts s (f h u) (k h us)) → Parts s (onward q f) (after g k)
 part-then {s} (Read h u) (ok i us) f k w c = rw (w .0) (c i u us (w .1))
 part-then (Read h u) (no m p) f k w c = absurd w

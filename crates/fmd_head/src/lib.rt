@@ -6,16 +6,30 @@ use fmd_table::Section;
 pub mod section; // section.rt: a section up to its braces
 pub mod front; // front.rt: the image up to its opening brace
 
-// A number and the token after it; or a fault's number and place.
-pub enum Amount {
-    Counted(u32, Token),
-    Uncounted(u16, usize),
+// Why a layout text is refused; specs/Refusals has each case's number.
+pub enum Refusal {
+    TooLong,
+    OutOfGrammar,
+    BadNumber,
+    BadName,
+    NameTwice,
+    TooMany,
+    BadFlag,
+    Undecided,
+    Unfit,
+    NoMapSection,
 }
 
-// A section with what is read of it so far and the token after that; or a fault's number and place.
-pub enum Part {
+// A number and the token after it; or a fault and its place.
+pub enum Amount {
+    Counted(u32, Token),
+    Uncounted(Refusal, usize),
+}
+
+// A section with what is read of it so far and the token after that; or a fault and its place.
+pub enum HeadPart {
     Read(Section, Token),
-    Fault(u16, usize),
+    Fault(Refusal, usize),
 }
 
 pub enum Address {
@@ -24,15 +38,15 @@ pub enum Address {
 }
 
 // The image as it stands in the text: its name by place and length.
-pub struct Image {
+pub struct TextImage {
     pub address: Address,
     pub size: u32,
     pub place: u16,
     pub length: u8,
 }
 
-// The image with what is read of it so far and the token after that; or a fault's number and place.
+// The image with what is read of it so far and the token after that; or a fault and its place.
 pub enum Heading {
-    Read(Image, Token),
-    Fault(u16, usize),
+    Read(TextImage, Token),
+    Fault(Refusal, usize),
 }
