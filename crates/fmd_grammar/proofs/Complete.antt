@@ -9,7 +9,6 @@ use lib.Dec.{eqb, leb, ltb}
 use lib.ListN.{length, getD, length-append}
 use borrow.Author.Tests.{eqb-true, le-leb, lt-leb, le-ltb, ltb-true, ltb-false}
 use Rattle.octets.specs.Tests.{_and_}
-use Rattle.octets.specs.Rows.{pickRow}
 use Rattle.octets.specs.Bytes.{same}
 use Rattle.octets.proofs.Bools.{choice, clash, and-i, and-r, not-t}
 use Rattle.text_words.specs.Classes.{isDigit, digitOf}
@@ -173,7 +172,7 @@ module _ (p n lv par : ℕ) where
 head-complete : (lv par k p : ℕ) (w : List ℕ) {fs os zs : List Lexeme} {c v : Bool} {o : Offset} {z : Size} → goodName w ≡ true → k < 128 → lv ≤ 8
     → OptionalFlags fs c v → OptionalOffset os o → OptionalSize zs z → (us : List Lexeme) → Ends us
     → headP lv par k (word p w ∷ (fs ++ (os ++ (zs ++ us)))) ≡ ok (built p (length w) lv par c v o z) us
-unfolding headP pickRow
+unfolding headP
 head-complete lv par k p w {fs} {os} {zs} {c} {v} {o} {z} g r d x y n us e =
     rw (
       g,
@@ -266,7 +265,7 @@ addresses-complete p n (address m) us e = rw m
 image-complete : {os : List Lexeme} {d : Address} (p n q a : ℕ) (w v : List ℕ) → goodName w ≡ true → OptionalAddress os d → numberOf v ≡ Value n → 98 ≤ n →
     n ≤ 16777216
     → (us : List Lexeme) → imageP (word p w ∷ (os ++ (word q v ∷ sign a 123 ∷ us))) ≡ ok (record { address = d; size = n; place = p; length = length w }) us
-unfolding imageP pickRow
+unfolding imageP
 image-complete p n q a w v g o m i j us =
     rw (g, addresses-complete p (length w) o (word q v ∷ sign a 123 ∷ us) tt, m, and-i _ _ (le-leb 98 n i) (le-leb n 16777216 j))
 

@@ -2,14 +2,12 @@
 use mathlib.Core.Path.{_≡_, refl, sym, ap, subst, _∙_}
 use mathlib.Core.Bool.{Bool, true, false, cond, not}
 use mathlib.Core.List.{List, [], _∷_, _++_, append-assoc, append-nil}
-use mathlib.Core.Option.{none}
 use Prim.Native.Nat.{ℕ, _≤_}
 use native.Mathlib.Omega.{arith}
 use lib.Dec.{eqb, leb}
 use lib.ListN.{length}
 use borrow.Author.Tests.{eqb-true, leb-true, le-leb}
 use Rattle.octets.specs.Tests.{_and_}
-use Rattle.octets.specs.Rows.{pickRow}
 use Rattle.octets.proofs.Bools.{and-l, and-r, clash, and-i, choice}
 use Rattle.octets.specs.Ascii.{ascii}
 use Rattle.fmd_lex.specs.Numbers.{numberOf}
@@ -17,7 +15,6 @@ use Rattle.fmd_lex.specs.Names.{goodName}
 use Rattle.fmd_lex.specs.declared.Number.{Number}
 use Rattle.fmd_lex.specs.declared.Number.the-variants.{Value, Wrong}
 use Rattle.fmd_table.specs.declared.Section.{Section}
-use Rattle.fmd_head.specs.Heads.{judged}
 use Rattle.fmd_head.specs.Images.{setAddress, setLength}
 use Rattle.fmd_head.specs.declared.Address.{Address}
 use Rattle.fmd_head.specs.declared.Address.the-variants.{Given, Omitted}
@@ -109,14 +106,13 @@ titled : Viable []
 titled = (word 0 (ascii "A") ∷ word 0 (ascii "98") ∷ sign 0 123 ∷ tail, _, _, an-image 0 (ascii "A") (letter 0 0 0))
 
 title-steady : Steady titleAct
-unfolding pickRow
 title-steady p w v d = go (goodName w)
   where
     bad : {n : ℕ} → n ≡ 53 → Exchange n v → titleAct (word p v) ≡ stop 53
     bad z (noNumber e) = absurd (omega arith)
     bad z (noName e) = rw e
 
-    go : (b : Bool) → Follow (judged (pickRow (not b) 53 none) stop (eat (pictured p (length w) Omitted 0))) v (titleAct (word p v))
+    go : (b : Bool) → Follow (cond (not b) (stop 53) (eat (pictured p (length w) Omitted 0))) v (titleAct (word p v))
     go true = tt
     go false = bad refl
 
@@ -131,11 +127,10 @@ length-steady i p w v d = go (numberOf w)
     go Wrong = wrong-follows _ v
 
 title-fine : (x : Lexeme) → Fine Titled Viable x (titleAct x)
-unfolding pickRow
 title-fine (sign p k) = (unfitSign, titled)
 title-fine (word p w) = go (goodName w) refl
   where
-    go : (b : Bool) → goodName w ≡ b → Fine Titled Viable (word p w) (judged (pickRow (not b) 53 none) stop (eat (pictured p (length w) Omitted 0)))
+    go : (b : Bool) → goodName w ≡ b → Fine Titled Viable (word p w) (cond (not b) (stop 53) (eat (pictured p (length w) Omitted 0)))
     go true g = (p, w, refl, g, refl)
     go false g = (badName g (λ v h. (word 0 (ascii "98") ∷ sign 0 123 ∷ tail, _, _, an-image p v h)), titled)
 

@@ -5,7 +5,6 @@ use Prim.Native.Nat.{ℕ, zero, suc, _+_}
 use lib.Dec.{eqb, leb, ltb}
 use lib.ListN.{length, getD}
 use Rattle.octets.specs.Tests.{_and_}
-use Rattle.octets.specs.Rows.{row, refusal}
 use Rattle.text_words.specs.Classes.{isDigit}
 use Rattle.fmd_lex.specs.Numbers.{numberOf}
 use Rattle.fmd_lex.specs.Names.{goodName, flagOf}
@@ -16,7 +15,7 @@ use Rattle.fmd_lex.specs.declared.Flag.the-variants.{Cbfs, Preserve, Unknown}
 use Rattle.fmd_table.specs.declared.Offset.the-variants.{Omitted as OmittedOffset}
 use Rattle.fmd_table.specs.declared.Size.the-variants.{Omitted as OmittedSize}
 use Rattle.fmd_table.specs.declared.Section.{Section}
-use Rattle.fmd_head.specs.Heads.{judged, setCbfs, setPreserve, setOffset, setSize}
+use Rattle.fmd_head.specs.Heads.{setCbfs, setPreserve, setOffset, setSize}
 use Rattle.fmd_head.specs.Images.{setAddress, setLength}
 use Rattle.fmd_head.specs.declared.Address.the-variants.{Omitted}
 use Rattle.fmd_head.specs.declared.TextImage.{TextImage}
@@ -76,8 +75,10 @@ numberAct (sign p k) = stop 51
 
 abbrev pub nameAct : ℕ → ℕ → ℕ → Lexeme → Act Section
 nameAct lv par n (word p w) =
-    judged (refusal (row (not (goodName w)) 53 ∷ row (leb 128 n) 55 ∷ row (ltb 8 lv) 55 ∷ [])) stop
-    (eat (record { offset = OmittedOffset; size = OmittedSize; place = p; length = length w; cbfs = false; preserve = false; parent = par; level = lv }))
+    cond (not (goodName w)) (stop 53)
+    (cond (leb 128 n) (stop 55)
+    (cond (ltb 8 lv) (stop 55)
+    (eat (record { offset = OmittedOffset; size = OmittedSize; place = p; length = length w; cbfs = false; preserve = false; parent = par; level = lv }))))
 nameAct lv par n (sign p k) = stop 51
 
 abbrev pub flagAct : Section → Flag → Act Section
@@ -95,7 +96,7 @@ sizeAct h (sign p k) = leave h
 
 abbrev pub titleAct : Lexeme → Act TextImage
 titleAct (word p w) =
-    judged (refusal (row (not (goodName w)) 53 ∷ [])) stop (eat (record { address = Omitted; size = 0; place = p; length = length w }))
+    cond (not (goodName w)) (stop 53) (eat (record { address = Omitted; size = 0; place = p; length = length w }))
 titleAct (sign p k) = stop 51
 
 abbrev pub lengthAct : TextImage → Lexeme → Act TextImage
