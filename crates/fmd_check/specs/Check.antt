@@ -14,6 +14,7 @@ use Rattle.fmd_table.specs.declared.Section.{Section}
 use Rattle.fmd_table.specs.declared.Placed.{Placed}
 use Rattle.fmd_parse.specs.Trees.{blank as blankSection}
 use Rattle.fmd_parse.specs.Layouts.{Layout, layout, refused, layoutOf}
+use Rattle.fmd_head.specs.Refusals.{numberOf}
 use Rattle.fmd_head.specs.declared.TextImage.{TextImage}
 use Rattle.fmd_rows.specs.Rows.{isFound, firstRepeat, firstCbfs, firstUndecided, fmapIn, hasChild}
 use Rattle.fmd_rows.specs.declared.Found.{Found}
@@ -98,4 +99,4 @@ checkText s = cond (ltb 32768 (length s)) (fault 50 NoPlace) (checkLayout s (lay
 
 abbrev pub verdictOf : Verdict → List ℕ → List ℕ → Judged
 verdictOf (Good i n k) rows spots = good i (sectionsIn n rows) (placedIn n spots) k
-verdictOf (Fault n p) rows spots = fault n p
+verdictOf (Fault r p) rows spots = fault (numberOf r) p

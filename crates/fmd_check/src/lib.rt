@@ -14,6 +14,7 @@ ghost use Rattle.fmd_check.specs.Fitted.{Sized};
 ghost use Rattle.fmd_check.specs.Check.{verdictOf, noMap, checkText};
 ghost use Rattle.fmd_check.specs.Invariants.{listFrom};
 use crate::plan::Resolution;
+use fmd_head::Refusal;
 use fmd_head::TextImage;
 use fmd_parse::LayoutAnswer;
 use fmd_rows::Found;
@@ -27,19 +28,19 @@ pub enum Place {
     NoPlace,
 }
 
-// The image, how many sections there are, and the index of section FMAP; or a fault's number and place.
+// The image, how many sections there are, and the index of section FMAP; or a fault and its place.
 pub enum Verdict {
     Good(TextImage, usize, usize),
-    Fault(u16, Place),
+    Fault(Refusal, Place),
 }
 
 // A fault at the name of section k.
-fn fault_at(number: u16, rows: &[u32], n: usize, k: usize) -> Verdict
+fn fault_at(refusal: Refusal, rows: &[u32], n: usize, k: usize) -> Verdict
     requires { ⌜ HasRows n (now rows) × (k < n) ⌝ }
-    ensures { λ r. ⌜ r ≡ Verdict.Fault number (Place.Byte (getD (sectionsIn n (now (rows .entry))) k blank .place)) ⌝ }
+    ensures { λ r. ⌜ r ≡ Verdict.Fault refusal (Place.Byte (getD (sectionsIn n (now (rows .entry))) k blank .place)) ⌝ }
 {
     let h = row_at(rows, k);
-    Verdict::Fault(number, Place::Byte(h.place as usize))
+    Verdict::Fault(refusal, Place::Byte(h.place as usize))
 }
 
 // Section k has children, or is too small for a map.
@@ -61,10 +62,10 @@ fn check_map(text: &[u8], i: TextImage, rows: &[u32], spots: &[u32], n: usize) -
         ≡ listFrom 4 (now (text .entry)) i (sectionsIn n (now (rows .entry))) (plan (placedIn n (now (spots .entry)))) ⌝ }
 {
     match fmd_rows::find_fmap(text, rows, n) {
-        Found::Nowhere => Verdict::Fault(59, Place::NoPlace),
+        Found::Nowhere => Verdict::Fault(Refusal::NoMapSection, Place::NoPlace),
         Found::At(k) => {
             if no_map(rows, spots, n, k) {
-                return fault_at(59, rows, n, k);
+                return fault_at(Refusal::NoMapSection, rows, n, k);
             }
             Verdict::Good(i, n, k)
         }
@@ -78,8 +79,8 @@ fn unfit_at(rows: &[u32], n: usize, k: usize) -> Verdict
         ≡ listFrom 2 s i (sectionsIn n (now (rows .entry))) (unfit k)) ⌝ }
 {
     match fmd_rows::first_undecided(rows, n, k + 1) {
-        Found::At(j) => fault_at(57, rows, n, j),
-        Found::Nowhere => fault_at(58, rows, n, k),
+        Found::At(j) => fault_at(Refusal::Undecided, rows, n, j),
+        Found::Nowhere => fault_at(Refusal::Unfit, rows, n, k),
     }
 }
 
@@ -91,7 +92,7 @@ fn check_places(text: &[u8], i: TextImage, rows: &[u32], spots: &mut [u32], n: u
 {
     match plan::resolve(rows, n, i.size, spots) {
         Resolution::Unfits(k) => unfit_at(rows, n, k),
-        Resolution::Unsized(k) => fault_at(57, rows, n, k),
+        Resolution::Unsized(k) => fault_at(Refusal::Undecided, rows, n, k),
         Resolution::Whole => check_map(text, i, rows, spots, n),
     }
 }
@@ -103,7 +104,7 @@ fn check_marks(text: &[u8], i: TextImage, rows: &[u32], spots: &mut [u32], n: us
         ≡ listFrom 1 (now (text .entry)) i (sectionsIn n (now (rows .entry))) (resolveFrom (i .size) [] (sectionsIn n (now (rows .entry)))) ⌝ }
 {
     match fmd_rows::first_cbfs(rows, n) {
-        Found::At(k) => fault_at(56, rows, n, k),
+        Found::At(k) => fault_at(Refusal::BadFlag, rows, n, k),
         Found::Nowhere => check_places(text, i, rows, spots, n),
     }
 }
@@ -115,7 +116,7 @@ fn check_list(text: &[u8], i: TextImage, rows: &[u32], spots: &mut [u32], n: usi
         ≡ listFrom 0 (now (text .entry)) i (sectionsIn n (now (rows .entry))) (resolveFrom (i .size) [] (sectionsIn n (now (rows .entry)))) ⌝ }
 {
     match fmd_rows::first_repeat(text, rows, n) {
-        Found::At(k) => fault_at(54, rows, n, k),
+        Found::At(k) => fault_at(Refusal::NameTwice, rows, n, k),
         Found::Nowhere => check_marks(text, i, rows, spots, n),
     }
 }
@@ -126,10 +127,10 @@ pub fn check(text: &[u8], rows: &mut [u32], spots: &mut [u32]) -> Verdict
     ensures { λ r. ⌜ verdictOf r (now (rows .exit)) (now (spots .exit)) ≡ checkText (now (text .entry)) ⌝ }
 {
     if 32768 < text.len() {
-        return Verdict::Fault(50, Place::NoPlace);
+        return Verdict::Fault(Refusal::TooLong, Place::NoPlace);
     }
     match fmd_parse::read_layout(text, rows) {
         LayoutAnswer::Accepted(i, n) => check_list(text, i, rows, spots, n),
-        LayoutAnswer::Refused(n, p) => Verdict::Fault(n, Place::Byte(p)),
+        LayoutAnswer::Refused(r, p) => Verdict::Fault(r, Place::Byte(p)),
     }
 }
