@@ -1,12 +1,14 @@
 // Heads: the image of a layout text up to its opening brace, and a section up to its braces; or the first fault there.
 // An inner crate: no user calls it, so its functions may have a `requires`, which each caller meets.
+ghost use mathlib.Core.Path.{_≡_};
+ghost use Rattle.fmd_head.specs.Refusals.{numberOf};
 use fmd_lex::Token;
 use fmd_table::Section;
 
 pub mod section; // section.rt: a section up to its braces
 pub mod front; // front.rt: the image up to its opening brace
 
-// Why a layout text is refused; specs/Refusals has each case's number.
+// Why a layout text is refused.
 pub enum Refusal {
     TooLong,
     OutOfGrammar,
@@ -18,6 +20,24 @@ pub enum Refusal {
     Undecided,
     Unfit,
     NoMapSection,
+}
+
+// The number of a refusal.
+pub fn number(r: Refusal) -> u32
+    ensures { λ n. ⌜ n ≡ numberOf r ⌝ }
+{
+    match r {
+        Refusal::TooLong => 50,
+        Refusal::OutOfGrammar => 51,
+        Refusal::BadNumber => 52,
+        Refusal::BadName => 53,
+        Refusal::NameTwice => 54,
+        Refusal::TooMany => 55,
+        Refusal::BadFlag => 56,
+        Refusal::Undecided => 57,
+        Refusal::Unfit => 58,
+        Refusal::NoMapSection => 59,
+    }
 }
 
 // A number and the token after it; or a fault and its place.
