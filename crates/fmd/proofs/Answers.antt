@@ -4,38 +4,21 @@ use mathlib.Core.Option.{Option, none, some}
 use Prim.Native.Nat.{ℕ, _≤_, _<_}
 use native.Mathlib.Omega.{arith}
 use Rattle.octets.specs.Rows.{codeOf}
+use Rattle.fmd_head.proofs.Refusals.{in-range}
 use Rattle.fmd.specs.Calls.{numberOf}
 use Rattle.fmd.specs.Promises.{ZeroIsAccepted}
 use Rattle.fmd.specs.declared.Answer.{Answer}
-use Rattle.fmd.specs.declared.Answer.the-variants.{Accepted, WrongLength, TooLong, OutOfGrammar, BadNumber, BadName, NameTwice, TooMany, BadFlag, Undecided, Unfit, NoMapSection}
+use Rattle.fmd.specs.declared.Answer.the-variants.{Accepted, WrongLength, Refused}
 
 pub zero-is-accepted : ZeroIsAccepted
 zero-is-accepted Accepted e = refl
 zero-is-accepted WrongLength e = absurd (omega arith)
-zero-is-accepted TooLong e = absurd (omega arith)
-zero-is-accepted OutOfGrammar e = absurd (omega arith)
-zero-is-accepted BadNumber e = absurd (omega arith)
-zero-is-accepted BadName e = absurd (omega arith)
-zero-is-accepted NameTwice e = absurd (omega arith)
-zero-is-accepted TooMany e = absurd (omega arith)
-zero-is-accepted BadFlag e = absurd (omega arith)
-zero-is-accepted Undecided e = absurd (omega arith)
-zero-is-accepted Unfit e = absurd (omega arith)
-zero-is-accepted NoMapSection e = absurd (omega arith)
+zero-is-accepted (Refused r) e = absurd (omega (arith, in-range r .0))
 
 below-60 : (a : Answer) → codeOf (numberOf a) < 60
 below-60 Accepted = omega arith
 below-60 WrongLength = omega arith
-below-60 TooLong = omega arith
-below-60 OutOfGrammar = omega arith
-below-60 BadNumber = omega arith
-below-60 BadName = omega arith
-below-60 NameTwice = omega arith
-below-60 TooMany = omega arith
-below-60 BadFlag = omega arith
-below-60 Undecided = omega arith
-below-60 Unfit = omega arith
-below-60 NoMapSection = omega arith
+below-60 (Refused r) = omega (arith, in-range r .1)
 
 is-some : (n : Option ℕ) → 0 < codeOf n → n ≡ some (codeOf n)
 is-some none h = absurd (omega arith)

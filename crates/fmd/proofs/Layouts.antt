@@ -13,11 +13,10 @@ use Rattle.fmap_rules.specs.declared.Area.{Area}
 use Rattle.fmap_write.proofs.Fields.{map-written}
 use Rattle.fmd_table.specs.Table.{sectionsIn, placedIn, HasRows, HasSpots}
 use Rattle.fmd_table.proofs.Table.{length-sections}
-use Rattle.fmd_head.specs.declared.Image.{Image}
+use Rattle.fmd_head.specs.declared.TextImage.{TextImage}
 use Rattle.fmd_table.proofs.Spots.{length-placed, none-placed}
 use Rattle.fmd_check.specs.Check.{fault, good, checkText}
 use Rattle.fmd_check.specs.declared.Place.{Place}
-use Rattle.fmd_check.specs.Facts.{Numbered}
 use Rattle.fmd_check.proofs.Facts.{check-facts}
 use Rattle.fmd_areas.specs.Areas.{areaFrom, areaAt, areasFrom, areasOf}
 use Rattle.fmd_areas.specs.Invariants.{Laid}
@@ -33,14 +32,11 @@ use Rattle.fmd.specs.declared.Reading.{Reading}
 -- ---- the tables of a text that is accepted
 
 -- what a check of the text answers, with the tables afterwards
-pub held : (s : List ℕ) (i : Image) (rows spots : List ℕ) (n m : ℕ) → HasRows 129 rows → HasSpots 128 spots
+pub held : (s : List ℕ) (i : TextImage) (rows spots : List ℕ) (n m : ℕ) → HasRows 129 rows → HasSpots 128 spots
     → good i (sectionsIn n rows) (placedIn n spots) m ≡ checkText s → Held s i rows spots n m
 held s i rows spots n m p q e = record { rows-room = p; spots-room = q; accepted = rw (sym e) at (check-facts s) }
 
-pub numbered : (s : List ℕ) (n : ℕ) (p : Place) → fault n p ≡ checkText s → Numbered n
-numbered s n p e = (rw (sym e) at (check-facts s)) .0
-
-module _ {s : List ℕ} {i : Image} {rows spots : List ℕ} {n m : ℕ} (g : Held s i rows spots n m) where
+module _ {s : List ℕ} {i : TextImage} {rows spots : List ℕ} {n m : ℕ} (g : Held s i rows spots n m) where
   pub few : n ≤ 128
   few = omega (arith, g .accepted .tree .room, length-sections n rows)
 

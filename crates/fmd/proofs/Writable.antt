@@ -17,7 +17,7 @@ use Rattle.fmap_rules.specs.declared.Area.{Area}
 use Rattle.fmap_rules.proofs.Good.{areas-good}
 use Rattle.fmd_parse.specs.Trees.{blank as blankSection}
 use Rattle.fmd_table.specs.declared.Section.{Section}
-use Rattle.fmd_head.specs.declared.Image.{Image}
+use Rattle.fmd_head.specs.declared.TextImage.{TextImage}
 use Rattle.fmd_table.specs.declared.Placed.{Placed}
 use Rattle.fmd_check.specs.Facts.{Accepted}
 use Rattle.fmd_areas.specs.Areas.{storedName, flagsOf, areaFrom, areaAt, areasOf}
@@ -30,7 +30,7 @@ flags-small : (b : Bool) → flagsOf b < 256 ^ 2
 flags-small true = omega arith
 flags-small false = omega arith
 
-module _ (s : List ℕ) (i : Image) (l : List Section) (ps : List Placed) (m : ℕ) (a : Accepted s i l ps m) where
+module _ (s : List ℕ) (i : TextImage) (l : List Section) (ps : List Placed) (m : ℕ) (a : Accepted s i l ps m) where
   abbrev areas : List Area
   areas = areasOf s l ps
 

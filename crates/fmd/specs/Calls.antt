@@ -10,14 +10,14 @@ use Rattle.fmap_rules.specs.Map.{position}
 use Rattle.fmap_rules.specs.Written.{areaBytes, mapBytes}
 use Rattle.fmap_rules.specs.declared.ImagePosition.{ImagePosition}
 use Rattle.fmap_rules.specs.declared.Area.{Area}
+use Rattle.fmd_head.specs.Refusals.{numberOf as refusalNumber}
 use Rattle.fmd_head.specs.declared.Address.{Address}
 use Rattle.fmd_head.specs.declared.Address.the-variants.{Given, Omitted}
-use Rattle.fmd_head.specs.declared.Image.{Image as TextImage}
+use Rattle.fmd_head.specs.declared.TextImage.{TextImage}
 use Rattle.fmd_check.specs.Check.{Judged, fault, good, checkText}
 use Rattle.fmd_areas.specs.Areas.{storedName, areaAt, areasOf}
 use Rattle.fmd.specs.declared.Answer.{Answer}
-use Rattle.fmd.specs.declared.Answer.the-variants.{Accepted, WrongLength, TooLong, OutOfGrammar, BadNumber, BadName, NameTwice, TooMany}
-use Rattle.fmd.specs.declared.Answer.the-variants.{BadFlag, Undecided, Unfit, NoMapSection}
+use Rattle.fmd.specs.declared.Answer.the-variants.{Accepted, WrongLength, Refused}
 use Rattle.fmd.specs.declared.Image.{Image}
 use Rattle.fmd.specs.declared.Reading.{Reading}
 use Rattle.fmd.specs.declared.Section.{Section}
@@ -27,16 +27,7 @@ use Rattle.fmd.specs.declared.Writing.{Writing}
 abbrev pub numberOf : Answer → Option ℕ
 numberOf Accepted = none
 numberOf WrongLength = some 1
-numberOf TooLong = some 50
-numberOf OutOfGrammar = some 51
-numberOf BadNumber = some 52
-numberOf BadName = some 53
-numberOf NameTwice = some 54
-numberOf TooMany = some 55
-numberOf BadFlag = some 56
-numberOf Undecided = some 57
-numberOf Unfit = some 58
-numberOf NoMapSection = some 59
+numberOf (Refused r) = some (refusalNumber r)
 
 -- ---- what a layout text says
 

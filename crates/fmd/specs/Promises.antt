@@ -11,7 +11,7 @@ use Rattle.fmap_rules.specs.declared.Area.{Area}
 use Rattle.fmap.specs.Written.{Holds}
 use Rattle.fmd_table.specs.declared.Section.{Section}
 use Rattle.fmd_table.specs.declared.Placed.{Placed}
-use Rattle.fmd_head.specs.declared.Image.{Image as TextImage}
+use Rattle.fmd_head.specs.declared.TextImage.{TextImage}
 use Rattle.fmd_check.specs.Fitted.{Fitted}
 use Rattle.fmd_check.specs.Check.{good, checkText}
 use Rattle.fmd_areas.specs.Nested.{startAt, Nested, Stands}

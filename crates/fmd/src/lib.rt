@@ -1,6 +1,6 @@
 // The layout language: a layout text read, listed as sections, and written as a map into an image.
 ghost use mathlib.Core.List.{map};
-ghost use mathlib.Core.Option.{none, some};
+ghost use mathlib.Core.Option.{none};
 ghost use mathlib.Core.Path.{_≡_};
 ghost use Prim.Native.Nat.{_+_, _≤_, _<_};
 ghost use lib.ListN.{length};
@@ -8,7 +8,6 @@ ghost use Rattle.octets.specs.Rows.{codeOf};
 ghost use Rattle.fmap_rules.specs.Map.{position};
 ghost use Rattle.fmd_table.specs.Table.{sectionsIn, placedIn, HasRows, HasSpots};
 ghost use Rattle.fmd_check.specs.Check.{good};
-ghost use Rattle.fmd_check.specs.Facts.{Numbered};
 ghost use Rattle.fmd_areas.specs.Areas.{areaAt, areasOf};
 ghost use Rattle.fmd_areas.specs.Invariants.{Laid};
 ghost use Rattle.fmd.specs.Calls.{numberOf, blank as blankImage, baseOf, imageOf, saidBy, reading, readText, sectionOf, filled, listed};
@@ -18,7 +17,8 @@ use fmap_rules::ImagePosition;
 use fmd_areas::area_at;
 use fmd_check::Verdict;
 use fmd_head::Address;
-use fmd_head::Image as TextImage;
+use fmd_head::Refusal;
+use fmd_head::TextImage;
 use fmd_table::ROWS;
 use fmd_table::SPOTS;
 
@@ -26,16 +26,7 @@ use fmd_table::SPOTS;
 pub enum Answer {
     Accepted,
     WrongLength,
-    TooLong,
-    OutOfGrammar,
-    BadNumber,
-    BadName,
-    NameTwice,
-    TooMany,
-    BadFlag,
-    Undecided,
-    Unfit,
-    NoMapSection,
+    Refused(Refusal),
 }
 
 // The image that a layout text describes: its name as a map holds it, its size, its address or 0, and how many sections it has.
@@ -79,16 +70,7 @@ pub fn number(a: Answer) -> u32
     match a {
         Answer::Accepted => 0,
         Answer::WrongLength => 1,
-        Answer::TooLong => 50,
-        Answer::OutOfGrammar => 51,
-        Answer::BadNumber => 52,
-        Answer::BadName => 53,
-        Answer::NameTwice => 54,
-        Answer::TooMany => 55,
-        Answer::BadFlag => 56,
-        Answer::Undecided => 57,
-        Answer::Unfit => 58,
-        Answer::NoMapSection => 59,
+        Answer::Refused(r) => fmd_head::number(r),
     }
 }
 
@@ -105,25 +87,6 @@ fn unread(answer: Answer) -> Reading
     Reading {
         answer: answer,
         image: image,
-    }
-}
-
-// The answer of a refusal's number.
-fn answer_of(n: u16) -> Answer
-    requires { ⌜ Numbered n ⌝ }
-    ensures { λ r. ⌜ numberOf r ≡ some n ⌝ }
-{
-    match n {
-        50 => Answer::TooLong,
-        51 => Answer::OutOfGrammar,
-        52 => Answer::BadNumber,
-        53 => Answer::BadName,
-        54 => Answer::NameTwice,
-        55 => Answer::TooMany,
-        56 => Answer::BadFlag,
-        57 => Answer::Undecided,
-        58 => Answer::Unfit,
-        _ => Answer::NoMapSection,
     }
 }
 
@@ -164,7 +127,7 @@ pub fn read(text: &[u8]) -> Reading
                 image: image,
             }
         }
-        Verdict::Fault(k, _) => unread(answer_of(k)),
+        Verdict::Fault(r, _) => unread(Answer::Refused(r)),
     }
 }
 
@@ -191,8 +154,8 @@ fn read_for(text: &[u8], places: usize, rows: &mut [u32], spots: &mut [u32]) -> 
                 count: n,
             }
         }
-        Verdict::Fault(k, _) => {
-            let reading = unread(answer_of(k));
+        Verdict::Fault(r, _) => {
+            let reading = unread(Answer::Refused(r));
             Counted {
                 reading: reading,
                 count: 0,
@@ -266,7 +229,7 @@ pub fn put_records(text: &[u8], records: &mut [u8]) -> Reading
                 image: image,
             }
         }
-        Verdict::Fault(k, _) => unread(answer_of(k)),
+        Verdict::Fault(r, _) => unread(Answer::Refused(r)),
     }
 }
 
@@ -319,6 +282,6 @@ pub fn write_map(text: &[u8], image: &mut [u8]) -> Writing
     let mut spots = [0u32; SPOTS];
     match fmd_check::check(text, &mut rows, &mut spots) {
         Verdict::Good(i, n, m) => put_layout(text, i, &rows, &spots, n, m, image),
-        Verdict::Fault(k, _) => unwritten(answer_of(k)),
+        Verdict::Fault(r, _) => unwritten(Answer::Refused(r)),
     }
 }

@@ -15,7 +15,7 @@ use Rattle.fmd_parse.specs.Trees.{blank as blankSection, Tree, Imaged, LayoutFa
 use Rattle.fmd_parse.specs.Layouts.{Layout, layout, refused, layoutOf}
 use Rattle.fmd_table.specs.Table.{blank}
 use Rattle.fmd_table.specs.declared.Section.{Section}
-use Rattle.fmd_head.specs.declared.Image.{Image}
+use Rattle.fmd_head.specs.declared.TextImage.{TextImage}
 use Rattle.fmd_parse.proofs.Trees.{layout-facts}
 use Rattle.fmd_rows.specs.Rows.{foundFrom, repeats, firstRepeat, holdsCbfs, firstCbfs, undecided, firstUndecided, isFmap, fmapIn, hasChild}
 use Rattle.fmd_rows.specs.declared.Found.{Found}
@@ -42,7 +42,7 @@ between a b n (x ∷ xs) w e = cases (λ q. between a b n xs (and-r (leb a x and
         (rw e (leb-true a x (and-l (leb a x) _ h)), rw e (leb-true x b (and-r (leb a x) _ h)))
     cases f (inr q) = f q
 
-module _ (s : List ℕ) (i : Image) (l : List Section) (short : length s ≤ 32768) (image : Imaged s i) (tree : Tree s l) (some : 0 < length l) where
+module _ (s : List ℕ) (i : TextImage) (l : List Section) (short : length s ≤ 32768) (image : Imaged s i) (tree : Tree s l) (some : 0 < length l) where
   -- the place of a section's name lies in the text
   here : (k : ℕ) → k < length l → getD l k blankSection .place ≤ length s
   here k h = let w = tree .each k h .named .inside in omega arith

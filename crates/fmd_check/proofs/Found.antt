@@ -9,7 +9,7 @@ use Rattle.fmd_table.specs.Table.{sectionsIn}
 use Rattle.fmd_table.proofs.Table.{length-sections}
 use Rattle.fmd_parse.specs.Layouts.{layout, layoutOf}
 use Rattle.fmd_parse.specs.Trees.{LayoutFacts}
-use Rattle.fmd_head.specs.declared.Image.{Image}
+use Rattle.fmd_head.specs.declared.TextImage.{TextImage}
 use Rattle.fmd_parse.proofs.Trees.{layout-facts}
 use Rattle.fmd_rows.specs.Rows.{foundFrom, firstUndecided}
 use Rattle.fmd_rows.specs.Invariants.{Inside}
@@ -48,7 +48,7 @@ module _ (n : ℕ) (rows : List ℕ) where
       all-sized (sectionsIn n rows) n (length-sections n rows) (rw (length-sections n rows) at (w .1))
 
 -- what is read of a text stands in it
-pub ready : (s : List ℕ) (i : Image) (n : ℕ) (rows : List ℕ) → layout i (sectionsIn n rows) ≡ layoutOf s → Inside s (sectionsIn n rows)
+pub ready : (s : List ℕ) (i : TextImage) (n : ℕ) (rows : List ℕ) → layout i (sectionsIn n rows) ≡ layoutOf s → Inside s (sectionsIn n rows)
 ready s i n rows e =
     let w : LayoutFacts s (layout i (sectionsIn n rows)) = rw (sym e) at (layout-facts s) in
     inside (w .1)

@@ -10,7 +10,7 @@ use Rattle.octets.specs.Rows.{pickRow}
 use Rattle.fmd_table.specs.declared.Section.{Section}
 use Rattle.fmd_table.specs.declared.Placed.{Placed}
 use Rattle.fmd_parse.specs.Trees.{blank as blankSection}
-use Rattle.fmd_head.specs.declared.Image.{Image}
+use Rattle.fmd_head.specs.declared.TextImage.{TextImage}
 use Rattle.fmd_rows.specs.Rows.{foundFrom, firstRepeat, firstCbfs, undecided, firstUndecided, fmapIn}
 use Rattle.fmd_rows.specs.declared.Found.{Found}
 use Rattle.fmd_rows.specs.declared.Found.the-variants.{At, Nowhere}
@@ -26,7 +26,7 @@ use Rattle.fmd_check.specs.declared.Place.the-variants.{Byte, NoPlace}
 abbrev pub named : List Section → ℕ → Place
 named l k = Byte (getD l k blankSection .place)
 
-module _ (s : List ℕ) (i : Image) (l : List Section) where
+module _ (s : List ℕ) (i : TextImage) (l : List Section) where
   pub whole : listFrom 0 s i l (resolveFrom (i .size) [] l) ≡ checkList s i l
   unfolding listFrom checkList
   whole = refl

@@ -14,7 +14,8 @@ use Rattle.fmd_table.specs.declared.Section.{Section}
 use Rattle.fmd_table.specs.declared.Placed.{Placed}
 use Rattle.fmd_parse.specs.Trees.{blank as blankSection}
 use Rattle.fmd_parse.specs.Layouts.{Layout, layout, refused, layoutOf}
-use Rattle.fmd_head.specs.declared.Image.{Image}
+use Rattle.fmd_head.specs.Refusals.{numberOf}
+use Rattle.fmd_head.specs.declared.TextImage.{TextImage}
 use Rattle.fmd_rows.specs.Rows.{isFound, firstRepeat, firstCbfs, firstUndecided, fmapIn, hasChild}
 use Rattle.fmd_rows.specs.declared.Found.{Found}
 use Rattle.fmd_rows.specs.declared.Found.the-variants.{At, Nowhere}
@@ -27,7 +28,7 @@ use Rattle.fmd_check.specs.declared.Verdict.the-variants.{Good, Fault}
 -- a fault's number and place; or image, sections, their places, and the index of section FMAP
 pub data Judged : Type 0 where
   fault : ℕ → Place → Judged
-  good : Image → List Section → List Placed → ℕ → Judged
+  good : TextImage → List Section → List Placed → ℕ → Judged
 
 -- ---- over the whole list: the sections l of the text s, resolved as r
 
@@ -77,11 +78,11 @@ abbrev pub indexOf : Found → ℕ
 indexOf (At k) = k
 indexOf Nowhere = 0
 
-abbrev pub judged : List ℕ → Image → List Section → Resolved → Option ℕ → Judged
+abbrev pub judged : List ℕ → TextImage → List Section → Resolved → Option ℕ → Judged
 judged s i l r (some n) = fault n (placeOf l (atFault s l r n))
 judged s i l r none = good i l (placesOf r) (indexOf (fmapIn s l))
 
-unfoldable pub checkList : List ℕ → Image → List Section → Judged
+unfoldable pub checkList : List ℕ → TextImage → List Section → Judged
 checkList s i l = judged s i l (resolveFrom (i .size) [] l) (refusal (listRows s l (resolveFrom (i .size) [] l)))
 
 -- ---- a text
@@ -98,4 +99,4 @@ checkText s = cond (ltb 32768 (length s)) (fault 50 NoPlace) (checkLayout s (lay
 
 abbrev pub verdictOf : Verdict → List ℕ → List ℕ → Judged
 verdictOf (Good i n k) rows spots = good i (sectionsIn n rows) (placedIn n spots) k
-verdictOf (Fault n p) rows spots = fault n p
+verdictOf (Fault r p) rows spots = fault (numberOf r) p

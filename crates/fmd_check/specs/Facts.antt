@@ -7,7 +7,7 @@ use lib.ListN.{length, getD}
 use Rattle.fmap_rules.specs.Map.{mapSize}
 use Rattle.fmd_parse.specs.Trees.{Tree, Imaged}
 use Rattle.fmd_table.specs.declared.Section.{Section}
-use Rattle.fmd_head.specs.declared.Image.{Image}
+use Rattle.fmd_head.specs.declared.TextImage.{TextImage}
 use Rattle.fmd_rows.specs.Rows.{isFmap, hasChild, repeats}
 use Rattle.fmd_table.specs.Table.{blank}
 use Rattle.fmd_check.specs.Fitted.{Fitted}
@@ -26,7 +26,7 @@ InText s (Byte p) = p ≤ length s
 InText s NoPlace = Unit {0}
 
 -- image, sections, their places, and the index of section FMAP
-pub record Accepted (s : List ℕ) (i : Image) (l : List Section) (ps : List Placed) (m : ℕ) : Type 0 where
+pub record Accepted (s : List ℕ) (i : TextImage) (l : List Section) (ps : List Placed) (m : ℕ) : Type 0 where
   pub short : length s ≤ 32768
   pub image : Imaged s i
   pub tree : Tree s l

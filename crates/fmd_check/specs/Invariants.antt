@@ -4,9 +4,9 @@ use Prim.Native.Nat.{ℕ}
 use lib.ListN.{drop}
 use Rattle.octets.specs.Rows.{refusal}
 use Rattle.fmd_table.specs.declared.Section.{Section}
-use Rattle.fmd_head.specs.declared.Image.{Image}
+use Rattle.fmd_head.specs.declared.TextImage.{TextImage}
 use Rattle.fmd_check.specs.Plans.{Resolved}
 use Rattle.fmd_check.specs.Check.{Judged, listRows, judged}
 
-unfoldable pub listFrom : ℕ → List ℕ → Image → List Section → Resolved → Judged
+unfoldable pub listFrom : ℕ → List ℕ → TextImage → List Section → Resolved → Judged
 listFrom k s i l r = judged s i l r (refusal (drop k (listRows s l r)))

@@ -14,8 +14,9 @@ ghost use Rattle.fmd_check.specs.Fitted.{Sized};
 ghost use Rattle.fmd_check.specs.Check.{verdictOf, noMap, checkText};
 ghost use Rattle.fmd_check.specs.Invariants.{listFrom};
 use crate::plan::Resolution;
-use fmd_head::Image;
-use fmd_parse::Answer;
+use fmd_head::Refusal;
+use fmd_head::TextImage;
+use fmd_parse::LayoutAnswer;
 use fmd_rows::Found;
 use fmd_table::row_at;
 
@@ -27,19 +28,19 @@ pub enum Place {
     NoPlace,
 }
 
-// The image, how many sections there are, and the index of section FMAP; or a fault's number and place.
+// The image, how many sections there are, and the index of section FMAP; or a fault and its place.
 pub enum Verdict {
-    Good(Image, usize, usize),
-    Fault(u16, Place),
+    Good(TextImage, usize, usize),
+    Fault(Refusal, Place),
 }
 
 // A fault at the name of section k.
-fn fault_at(number: u16, rows: &[u32], n: usize, k: usize) -> Verdict
+fn fault_at(refusal: Refusal, rows: &[u32], n: usize, k: usize) -> Verdict
     requires { ⌜ HasRows n (now rows) × (k < n) ⌝ }
-    ensures { λ r. ⌜ r ≡ Verdict.Fault number (Place.Byte (getD (sectionsIn n (now (rows .entry))) k blank .place)) ⌝ }
+    ensures { λ r. ⌜ r ≡ Verdict.Fault refusal (Place.Byte (getD (sectionsIn n (now (rows .entry))) k blank .place)) ⌝ }
 {
     let h = row_at(rows, k);
-    Verdict::Fault(number, Place::Byte(h.place as usize))
+    Verdict::Fault(refusal, Place::Byte(h.place as usize))
 }
 
 // Section k has children, or is too small for a map.
@@ -55,16 +56,16 @@ fn no_map(rows: &[u32], spots: &[u32], n: usize, k: usize) -> bool
 }
 
 // Row 59.
-fn check_map(text: &[u8], i: Image, rows: &[u32], spots: &[u32], n: usize) -> Verdict
+fn check_map(text: &[u8], i: TextImage, rows: &[u32], spots: &[u32], n: usize) -> Verdict
     requires { ⌜ HasRows n (now rows) × HasSpots n (now spots) × Linked n (now rows) × Inside (now text) (sectionsIn n (now rows)) ⌝ }
     ensures { λ r. ⌜ verdictOf r (now (rows .entry)) (now (spots .entry))
         ≡ listFrom 4 (now (text .entry)) i (sectionsIn n (now (rows .entry))) (plan (placedIn n (now (spots .entry)))) ⌝ }
 {
     match fmd_rows::find_fmap(text, rows, n) {
-        Found::Nowhere => Verdict::Fault(59, Place::NoPlace),
+        Found::Nowhere => Verdict::Fault(Refusal::NoMapSection, Place::NoPlace),
         Found::At(k) => {
             if no_map(rows, spots, n, k) {
-                return fault_at(59, rows, n, k);
+                return fault_at(Refusal::NoMapSection, rows, n, k);
             }
             Verdict::Good(i, n, k)
         }
@@ -74,48 +75,48 @@ fn check_map(text: &[u8], i: Image, rows: &[u32], spots: &[u32], n: usize) -> Ve
 // Rows 57 and 58, where section k is the first that does not fit.
 fn unfit_at(rows: &[u32], n: usize, k: usize) -> Verdict
     requires { ⌜ HasRows n (now rows) × (k < n) × Sized (sectionsIn n (now rows)) (k + 1) × Linked n (now rows) ⌝ }
-    ensures { λ r. ⌜ ((s : List ℕ) (i : Image) (spots : List ℕ) → verdictOf r (now (rows .entry)) spots
+    ensures { λ r. ⌜ ((s : List ℕ) (i : TextImage) (spots : List ℕ) → verdictOf r (now (rows .entry)) spots
         ≡ listFrom 2 s i (sectionsIn n (now (rows .entry))) (unfit k)) ⌝ }
 {
     match fmd_rows::first_undecided(rows, n, k + 1) {
-        Found::At(j) => fault_at(57, rows, n, j),
-        Found::Nowhere => fault_at(58, rows, n, k),
+        Found::At(j) => fault_at(Refusal::Undecided, rows, n, j),
+        Found::Nowhere => fault_at(Refusal::Unfit, rows, n, k),
     }
 }
 
 // Rows 57 to 59.
-fn check_places(text: &[u8], i: Image, rows: &[u32], spots: &mut [u32], n: usize) -> Verdict
+fn check_places(text: &[u8], i: TextImage, rows: &[u32], spots: &mut [u32], n: usize) -> Verdict
     requires { ⌜ HasRows n (now rows) × HasSpots n (now spots) × Linked n (now rows) × Inside (now text) (sectionsIn n (now rows)) ⌝ }
     ensures { λ r. ⌜ verdictOf r (now (rows .entry)) (now (spots .exit))
         ≡ listFrom 2 (now (text .entry)) i (sectionsIn n (now (rows .entry))) (resolveFrom (i .size) [] (sectionsIn n (now (rows .entry)))) ⌝ }
 {
     match plan::resolve(rows, n, i.size, spots) {
         Resolution::Unfits(k) => unfit_at(rows, n, k),
-        Resolution::Unsized(k) => fault_at(57, rows, n, k),
+        Resolution::Unsized(k) => fault_at(Refusal::Undecided, rows, n, k),
         Resolution::Whole => check_map(text, i, rows, spots, n),
     }
 }
 
 // Rows 56 to 59.
-fn check_marks(text: &[u8], i: Image, rows: &[u32], spots: &mut [u32], n: usize) -> Verdict
+fn check_marks(text: &[u8], i: TextImage, rows: &[u32], spots: &mut [u32], n: usize) -> Verdict
     requires { ⌜ HasRows n (now rows) × HasSpots n (now spots) × Linked n (now rows) × Inside (now text) (sectionsIn n (now rows)) ⌝ }
     ensures { λ r. ⌜ verdictOf r (now (rows .entry)) (now (spots .exit))
         ≡ listFrom 1 (now (text .entry)) i (sectionsIn n (now (rows .entry))) (resolveFrom (i .size) [] (sectionsIn n (now (rows .entry)))) ⌝ }
 {
     match fmd_rows::first_cbfs(rows, n) {
-        Found::At(k) => fault_at(56, rows, n, k),
+        Found::At(k) => fault_at(Refusal::BadFlag, rows, n, k),
         Found::Nowhere => check_places(text, i, rows, spots, n),
     }
 }
 
 // Rows 54 to 59.
-fn check_list(text: &[u8], i: Image, rows: &[u32], spots: &mut [u32], n: usize) -> Verdict
+fn check_list(text: &[u8], i: TextImage, rows: &[u32], spots: &mut [u32], n: usize) -> Verdict
     requires { ⌜ HasRows n (now rows) × HasSpots n (now spots) × Linked n (now rows) × Inside (now text) (sectionsIn n (now rows)) ⌝ }
     ensures { λ r. ⌜ verdictOf r (now (rows .entry)) (now (spots .exit))
         ≡ listFrom 0 (now (text .entry)) i (sectionsIn n (now (rows .entry))) (resolveFrom (i .size) [] (sectionsIn n (now (rows .entry)))) ⌝ }
 {
     match fmd_rows::first_repeat(text, rows, n) {
-        Found::At(k) => fault_at(54, rows, n, k),
+        Found::At(k) => fault_at(Refusal::NameTwice, rows, n, k),
         Found::Nowhere => check_marks(text, i, rows, spots, n),
     }
 }
@@ -126,10 +127,10 @@ pub fn check(text: &[u8], rows: &mut [u32], spots: &mut [u32]) -> Verdict
     ensures { λ r. ⌜ verdictOf r (now (rows .exit)) (now (spots .exit)) ≡ checkText (now (text .entry)) ⌝ }
 {
     if 32768 < text.len() {
-        return Verdict::Fault(50, Place::NoPlace);
+        return Verdict::Fault(Refusal::TooLong, Place::NoPlace);
     }
     match fmd_parse::read_layout(text, rows) {
-        Answer::Accepted(i, n) => check_list(text, i, rows, spots, n),
-        Answer::Refused(n, p) => Verdict::Fault(n, Place::Byte(p)),
+        LayoutAnswer::Accepted(i, n) => check_list(text, i, rows, spots, n),
+        LayoutAnswer::Refused(r, p) => Verdict::Fault(r, Place::Byte(p)),
     }
 }

@@ -11,7 +11,7 @@ use Rattle.fmd_table.specs.declared.Size.{Size}
 use Rattle.fmd_table.specs.declared.Size.the-variants.{Omitted as OmittedSize}
 use Rattle.fmd_table.specs.declared.Section.{Section}
 use Rattle.fmd_head.specs.declared.Address.{Address}
-use Rattle.fmd_head.specs.declared.Image.{Image}
+use Rattle.fmd_head.specs.declared.TextImage.{TextImage}
 use Rattle.fmd_grammar.specs.Grammar.{Lexeme, word, OptionalFlags, OptionalOffset, OptionalSize, SectionTree, section, OptionalBraces, OptionalAddress}
 
 abbrev pub built : ℕ → ℕ → ℕ → ℕ → Bool → Bool → Offset → Size → Section
@@ -52,8 +52,8 @@ section-of {own} {bs} {h} {l} d b =
     rw (d .says, d .list, append-assoc (d .fs) (d .os ++ d .zs) bs, append-assoc (d .os) (d .zs) bs)
     (section (d .good) (d .room) (d .deep) (d .flags) (d .offsets) (d .sizes) b)
 
-abbrev pub pictured : ℕ → ℕ → Address → ℕ → Image
+abbrev pub pictured : ℕ → ℕ → Address → ℕ → TextImage
 pictured p n d z = record { address = d; size = z; place = p; length = n }
 
-abbrev pub Addressed : ℕ → ℕ → List Lexeme → Image → Type 0
+abbrev pub Addressed : ℕ → ℕ → List Lexeme → TextImage → Type 0
 Addressed p n own i = (d : Address) × OptionalAddress own d × (i ≡ pictured p n d 0)

@@ -9,7 +9,6 @@ use lib.Dec.{eqb, leb, ltb}
 use lib.ListN.{length, getD, length-append}
 use borrow.Author.Tests.{eqb-true, le-leb, lt-leb, le-ltb, ltb-true, ltb-false}
 use Rattle.octets.specs.Tests.{_and_}
-use Rattle.octets.specs.Rows.{pickRow}
 use Rattle.octets.specs.Bytes.{same}
 use Rattle.octets.proofs.Bools.{choice, clash, and-i, and-r, not-t}
 use Rattle.text_words.specs.Classes.{isDigit, digitOf}
@@ -27,7 +26,7 @@ use Rattle.fmd_table.specs.declared.Size.the-variants.{Omitted as OmittedSize}
 use Rattle.fmd_table.specs.declared.Section.{Section}
 use Rattle.fmd_head.specs.declared.Address.{Address}
 use Rattle.fmd_head.specs.declared.Address.the-variants.{Omitted}
-use Rattle.fmd_head.specs.declared.Image.{Image}
+use Rattle.fmd_head.specs.declared.TextImage.{TextImage}
 use Rattle.fmd_grammar.specs.Grammar.{Lexeme, word, sign, OptionalFlags, noFlags, onlyCbfs, onlyPreserve, cbfsPreserve, preserveCbfs, OptionalOffset}
 use Rattle.fmd_grammar.specs.Grammar.{noOffset, offset, OptionalSize, noSize, size, SectionTree, section, noBraces, braces, SectionList, one, more}
 use Rattle.fmd_grammar.specs.Grammar.{OptionalAddress, noAddress, address, LayoutText, image}
@@ -173,7 +172,7 @@ module _ (p n lv par : ℕ) where
 head-complete : (lv par k p : ℕ) (w : List ℕ) {fs os zs : List Lexeme} {c v : Bool} {o : Offset} {z : Size} → goodName w ≡ true → k < 128 → lv ≤ 8
     → OptionalFlags fs c v → OptionalOffset os o → OptionalSize zs z → (us : List Lexeme) → Ends us
     → headP lv par k (word p w ∷ (fs ++ (os ++ (zs ++ us)))) ≡ ok (built p (length w) lv par c v o z) us
-unfolding headP pickRow
+unfolding headP
 head-complete lv par k p w {fs} {os} {zs} {c} {v} {o} {z} g r d x y n us e =
     rw (
       g,
@@ -266,11 +265,11 @@ addresses-complete p n (address m) us e = rw m
 image-complete : {os : List Lexeme} {d : Address} (p n q a : ℕ) (w v : List ℕ) → goodName w ≡ true → OptionalAddress os d → numberOf v ≡ Value n → 98 ≤ n →
     n ≤ 16777216
     → (us : List Lexeme) → imageP (word p w ∷ (os ++ (word q v ∷ sign a 123 ∷ us))) ≡ ok (record { address = d; size = n; place = p; length = length w }) us
-unfolding imageP pickRow
+unfolding imageP
 image-complete p n q a w v g o m i j us =
     rw (g, addresses-complete p (length w) o (word q v ∷ sign a 123 ∷ us) tt, m, and-i _ _ (le-leb 98 n i) (le-leb n 16777216 j))
 
-pub layout-complete : {ts : List Lexeme} {i : Image} {l : List Section} → LayoutText 128 8 ts i l → (f : ℕ) → 2 * length ts ≤ f → layoutP f ts ≡ ok (i, l) []
+pub layout-complete : {ts : List Lexeme} {i : TextImage} {l : List Section} → LayoutText 128 8 ts i l → (f : ℕ) → 2 * length ts ≤ f → layoutP f ts ≡ ok (i, l) []
 unfolding layoutP
 layout-complete (image {place = p} {n} q a b c {name = w} v {os} {ts} g o m x y d) f h =
     rw (

@@ -3,7 +3,6 @@ use mathlib.Core.Path.{_≡_, refl, sym, ap, subst, _∙_}
 use mathlib.Core.Logic.{_⊎_, inl, inr}
 use mathlib.Core.Bool.{Bool, true, false, cond, not}
 use mathlib.Core.List.{List, [], _∷_, _++_, append-assoc, append-nil}
-use mathlib.Core.Option.{none}
 use Prim.Native.Nat.{ℕ, _≤_, _<_}
 use native.Mathlib.Omega.{arith}
 use lib.Dec.{leb, ltb}
@@ -12,7 +11,6 @@ use borrow.Author.Tests.{leb-false, ltb-false}
 use Rattle.octets.specs.Tests.{_and_}
 use Rattle.octets.specs.Ascii.{ascii}
 use Rattle.octets.specs.Bytes.{same}
-use Rattle.octets.specs.Rows.{pickRow}
 use Rattle.octets.proofs.Bools.{choice, clash}
 use Rattle.octets.proofs.Equal.{same-true}
 use Rattle.text_words.specs.Classes.{isDigit, digitOf}
@@ -28,7 +26,7 @@ use Rattle.fmd_table.specs.declared.Offset.the-variants.{Given as GivenOffset, 
 use Rattle.fmd_table.specs.declared.Size.{Size}
 use Rattle.fmd_table.specs.declared.Size.the-variants.{Given as GivenSize, Omitted as OmittedSize}
 use Rattle.fmd_table.specs.declared.Section.{Section}
-use Rattle.fmd_head.specs.Heads.{judged, setCbfs, setPreserve, setOffset, setSize}
+use Rattle.fmd_head.specs.Heads.{setCbfs, setPreserve, setOffset, setSize}
 use Rattle.fmd_grammar.specs.Grammar.{Lexeme, word, sign, OptionalFlags, noFlags, onlyCbfs, onlyPreserve, cbfsPreserve, preserveCbfs, OptionalOffset}
 use Rattle.fmd_grammar.specs.Grammar.{noOffset, offset, OptionalSize, noSize, size}
 use Rattle.fmd_grammar.specs.Claims.{unfitSign, badNumber, badSize, badName, tooMany, badFlag}
@@ -285,7 +283,6 @@ module _ (lv par k : ℕ) where
   letter = refl
 
   name-steady : Steady (nameAct lv par k)
-  unfolding pickRow
   name-steady p w v d = go (goodName w) (leb 128 k) (ltb 8 lv)
     where
       P : Act Section → Type 0
@@ -299,14 +296,13 @@ module _ (lv par k : ℕ) where
       bad z (noName e) = rw e
 
       go : (b e f : Bool)
-          → P (judged (pickRow (not b) 53 (pickRow e 55 (pickRow f 55 none))) stop (eat (built p (length w) lv par false false OmittedOffset OmittedSize)))
+          → P (cond (not b) (stop 53) (cond e (stop 55) (cond f (stop 55) (eat (built p (length w) lv par false false OmittedOffset OmittedSize)))))
       go false e f = bad refl
       go true true f = many
       go true false true = many
       go true false false = tt
 
   name-fine : k < 129 → lv ≤ 9 → (x : Lexeme) → Fine (Named lv par k) (HeadOn lv par k) x (nameAct lv par k x)
-  unfolding pickRow
   name-fine r d (sign p j) = (unfitSign, (word 0 (ascii "A") ∷ [], _, headed letter r d noFlags noOffset noSize))
   name-fine r d (word p w) = go (goodName w) (leb 128 k) (ltb 8 lv) refl refl refl
     where
@@ -318,7 +314,7 @@ module _ (lv par k : ℕ) where
 
       go : (b e f : Bool) → goodName w ≡ b → leb 128 k ≡ e → ltb 8 lv ≡ f
           → Fine (Named lv par k) (HeadOn lv par k) (word p w)
-          (judged (pickRow (not b) 53 (pickRow e 55 (pickRow f 55 none))) stop (eat (built p (length w) lv par false false OmittedOffset OmittedSize)))
+          (cond (not b) (stop 53) (cond e (stop 55) (cond f (stop 55) (eat (built p (length w) lv par false false OmittedOffset OmittedSize)))))
       go false e f g x y = (badName g any, may)
       go true true f g x y = (tooMany g any, may)
       go true false true g x y = (tooMany g any, may)

@@ -2,14 +2,12 @@
 use mathlib.Core.Path.{_≡_, refl, sym, ap, subst, _∙_}
 use mathlib.Core.Bool.{Bool, true, false, cond, not}
 use mathlib.Core.List.{List, [], _∷_, _++_, append-assoc, append-nil}
-use mathlib.Core.Option.{none}
 use Prim.Native.Nat.{ℕ, _≤_}
 use native.Mathlib.Omega.{arith}
 use lib.Dec.{eqb, leb}
 use lib.ListN.{length}
 use borrow.Author.Tests.{eqb-true, leb-true, le-leb}
 use Rattle.octets.specs.Tests.{_and_}
-use Rattle.octets.specs.Rows.{pickRow}
 use Rattle.octets.proofs.Bools.{and-l, and-r, clash, and-i, choice}
 use Rattle.octets.specs.Ascii.{ascii}
 use Rattle.fmd_lex.specs.Numbers.{numberOf}
@@ -17,11 +15,10 @@ use Rattle.fmd_lex.specs.Names.{goodName}
 use Rattle.fmd_lex.specs.declared.Number.{Number}
 use Rattle.fmd_lex.specs.declared.Number.the-variants.{Value, Wrong}
 use Rattle.fmd_table.specs.declared.Section.{Section}
-use Rattle.fmd_head.specs.Heads.{judged}
 use Rattle.fmd_head.specs.Images.{setAddress, setLength}
 use Rattle.fmd_head.specs.declared.Address.{Address}
 use Rattle.fmd_head.specs.declared.Address.the-variants.{Given, Omitted}
-use Rattle.fmd_head.specs.declared.Image.{Image}
+use Rattle.fmd_head.specs.declared.TextImage.{TextImage}
 use Rattle.fmd_grammar.specs.Grammar.{Lexeme, word, sign, noFlags, noOffset, noSize, section, noBraces, SectionList, one, OptionalAddress, noAddress}
 use Rattle.fmd_grammar.specs.Grammar.{address, LayoutText, image}
 use Rattle.fmd_grammar.specs.Claims.{Viable, Fault, unfitSign, wordBeforeBraces, wordAfterBraces, badImageSize, badLength, badName}
@@ -45,7 +42,7 @@ lone = one (section {level = 1} {before = 0} {name = ascii "A"} (letter 0 0 0) (
 
 module _ {p : ℕ} {w : List ℕ} (g : goodName w ≡ true) where
   -- the tokens ts after the name, and an ending
-  moved : {xs : List Lexeme} {i : Image} {l : List Section} (ys us : List Lexeme) → xs ≡ ys ++ us → LayoutText 129 9 (word p w ∷ xs) i l → Viable
+  moved : {xs : List Lexeme} {i : TextImage} {l : List Section} (ys us : List Lexeme) → xs ≡ ys ++ us → LayoutText 129 9 (word p w ∷ xs) i l → Viable
       (word p w ∷ ys)
   moved {xs} {i} {l} ys us e d = (us, i, l, subst (λ (ts : List Lexeme). LayoutText 129 9 (word p w ∷ ts) i l) e d)
 
@@ -76,7 +73,7 @@ module _ {p : ℕ} {w : List ℕ} (g : goodName w ≡ true) where
 -- ---- the image
 
 -- its tokens ts and us, up to its opening brace
-pub record Front (own : List Lexeme) (i : Image) : Type 0 where
+pub record Front (own : List Lexeme) (i : TextImage) : Type 0 where
   pub p : ℕ
   pub q : ℕ
   pub a : ℕ
@@ -93,10 +90,10 @@ pub record Front (own : List Lexeme) (i : Image) : Type 0 where
   pub list : own ≡ word p w ∷ (os ++ (word q v ∷ sign a 123 ∷ []))
   pub says : i ≡ pictured p (length w) d n
 
-abbrev Titled : List Lexeme → Image → Type 0
+abbrev Titled : List Lexeme → TextImage → Type 0
 Titled own i = (p : ℕ) × (w : List ℕ) × (own ≡ word p w ∷ []) × (goodName w ≡ true) × (i ≡ pictured p (length w) Omitted 0)
 
-abbrev Long : ℕ → ℕ → Address → List Lexeme → Image → Type 0
+abbrev Long : ℕ → ℕ → Address → List Lexeme → TextImage → Type 0
 Long p m d own i =
     (q : ℕ) × (v : List ℕ) × (n : ℕ) × (own ≡ word q v ∷ []) × (numberOf v ≡ Value n) × (98 ≤ n) × (n ≤ 16777216) × (i ≡ pictured p m d n)
 
@@ -109,21 +106,20 @@ titled : Viable []
 titled = (word 0 (ascii "A") ∷ word 0 (ascii "98") ∷ sign 0 123 ∷ tail, _, _, an-image 0 (ascii "A") (letter 0 0 0))
 
 title-steady : Steady titleAct
-unfolding pickRow
 title-steady p w v d = go (goodName w)
   where
     bad : {n : ℕ} → n ≡ 53 → Exchange n v → titleAct (word p v) ≡ stop 53
     bad z (noNumber e) = absurd (omega arith)
     bad z (noName e) = rw e
 
-    go : (b : Bool) → Follow (judged (pickRow (not b) 53 none) stop (eat (pictured p (length w) Omitted 0))) v (titleAct (word p v))
+    go : (b : Bool) → Follow (cond (not b) (stop 53) (eat (pictured p (length w) Omitted 0))) v (titleAct (word p v))
     go true = tt
     go false = bad refl
 
-length-steady : (i : Image) → Steady (lengthAct i)
+length-steady : (i : TextImage) → Steady (lengthAct i)
 length-steady i p w v d = go (numberOf w)
   where
-    P : Act Image → Type 0
+    P : Act TextImage → Type 0
     P a = Follow a v (lengthAct i (word p v))
 
     go : (n : Number) → P (valued n (λ m. cond (leb 98 m and leb m 16777216) (eat (setLength m i)) (stop 52)))
@@ -131,11 +127,10 @@ length-steady i p w v d = go (numberOf w)
     go Wrong = wrong-follows _ v
 
 title-fine : (x : Lexeme) → Fine Titled Viable x (titleAct x)
-unfolding pickRow
 title-fine (sign p k) = (unfitSign, titled)
 title-fine (word p w) = go (goodName w) refl
   where
-    go : (b : Bool) → goodName w ≡ b → Fine Titled Viable (word p w) (judged (pickRow (not b) 53 none) stop (eat (pictured p (length w) Omitted 0)))
+    go : (b : Bool) → goodName w ≡ b → Fine Titled Viable (word p w) (cond (not b) (stop 53) (eat (pictured p (length w) Omitted 0)))
     go true g = (p, w, refl, g, refl)
     go false g = (badName g (λ v h. (word 0 (ascii "98") ∷ sign 0 123 ∷ tail, _, _, an-image p v h)), titled)
 
@@ -145,7 +140,7 @@ module _ (p : ℕ) (w : List ℕ) (g : goodName w ≡ true) where
   unfolding addressP
   address-good =
       let i = pictured p (length w) Omitted 0 in
-      let q : Parser Image = bind (item numberAct) (λ m. ret (setAddress m i)) in
+      let q : Parser TextImage = bind (item numberAct) (λ m. ret (setAddress m i)) in
       sign-good 64 q (λ e. q) (ret i) (λ e. ret i)
       (λ a. bind-good {F = Numbered} (item numberAct) (λ e. item numberAct) (λ m. ret (setAddress m i)) (λ e m. ret (setAddress m i))
       (item-good numberAct number-steady
@@ -160,7 +155,7 @@ module _ (p : ℕ) (w : List ℕ) (g : goodName w ≡ true) where
     length-fine (sign q k) = (unfitSign, length-on g o)
     length-fine (word q v) = go (numberOf v) refl
       where
-        P : Act Image → Type 0
+        P : Act TextImage → Type 0
         P = Fine (Long p (length w) d) (λ (us : List Lexeme). Viable (word p w ∷ (os ++ us))) (word q v)
 
         may : Viable (word p w ∷ (os ++ (word q (ascii "98") ∷ sign 0 123 ∷ tail)))
@@ -193,11 +188,11 @@ image-good =
     bind-good {F = Titled} (item titleAct) (λ e. item titleAct) _ _ (item-good titleAct title-steady title-fine)
     (λ own i f. rw (f .2, f .4) (titled (f .0) (f .1) (f .3)))
   where
-    J : Image → Parser Image
+    J : TextImage → Parser TextImage
     J j = bind (item (lengthAct j)) (λ k. item (mustBe 123 k))
 
     addressed : (p : ℕ) (w : List ℕ) → goodName w ≡ true → (os : List Lexeme) (d : Address) → OptionalAddress os d
-        → Good (λ (us : List Lexeme) (i : Image). Front (word p w ∷ (os ++ us)) i) (λ (us : List Lexeme). Viable (word p w ∷ (os ++ us)))
+        → Good (λ (us : List Lexeme) (i : TextImage). Front (word p w ∷ (os ++ us)) i) (λ (us : List Lexeme). Viable (word p w ∷ (os ++ us)))
         (J (pictured p (length w) d 0)) (λ e. J (pictured p (length w) d 0))
     addressed p w g os d o =
         bind-good {F = Long p (length w) d} (item (lengthAct (pictured p (length w) d 0))) (λ e. item (lengthAct (pictured p (length w) d 0))) _ _
@@ -227,7 +222,7 @@ image-good =
         (open-on g (f .0) (f .2) (f .1) o (f .4) (f .5) (f .6))))
 
     titled : (p : ℕ) (w : List ℕ) → goodName w ≡ true
-        → Good (λ (us : List Lexeme) (i : Image). Front (word p w ∷ us) i) (λ (us : List Lexeme). Viable (word p w ∷ us))
+        → Good (λ (us : List Lexeme) (i : TextImage). Front (word p w ∷ us) i) (λ (us : List Lexeme). Viable (word p w ∷ us))
         (bind (addressP (pictured p (length w) Omitted 0)) J) (λ e. bind (addressP (pictured p (length w) Omitted 0)) J)
     titled p w g =
         bind-good {F = Addressed p (length w)} (addressP (pictured p (length w) Omitted 0)) (λ e. addressP (pictured p (length w) Omitted 0)) J (λ e. J)
@@ -236,14 +231,14 @@ image-good =
 
 -- ---- the whole
 
-module _ (most deepest : ℕ) (own : List Lexeme) (i : Image) (f : Front own i) where
+module _ (most deepest : ℕ) (own : List Lexeme) (i : TextImage) (f : Front own i) where
   whole : (b c : ℕ) (ts us : List Lexeme) (l : List Section) → SectionList most deepest 1 128 0 ts l → us ≡ ts ++ (sign b 125 ∷ sign c 0 ∷ []) → LayoutText
       most deepest (own ++ us) i l
   whole b c ts us l d e =
       rw (f .says, f .list, append-assoc (f .os) (word (f .q) (f .v) ∷ sign (f .a) 123 ∷ []) us, e)
       (image (f .q) (f .a) b c (f .v) (f .good) (f .addresses) (f .number) (f .low) (f .high) d)
 
-pub layout-good : (f : ℕ) → Good (λ (ts : List Lexeme) (r : Image × List Section). LayoutText 128 8 ts (r .0) (r .1)) Viable (layoutP f)
+pub layout-good : (f : ℕ) → Good (λ (ts : List Lexeme) (r : TextImage × List Section). LayoutText 128 8 ts (r .0) (r .1)) Viable (layoutP f)
     (λ k. layoutP (plus f k))
 unfolding layoutP
 layout-good f =
@@ -254,7 +249,7 @@ layout-good f =
     (λ us l s.
     must-good 0 (i, l) (λ c. ended own i x us l s c) (λ q w. wordAfterBraces (endable own i x us l s q)) (unended own i x us l s)))
   where
-    listed : (own : List Lexeme) (i : Image) → Front own i → (ts : List Lexeme) → ListOn 1 128 0 ts → Viable (own ++ ts)
+    listed : (own : List Lexeme) (i : TextImage) → Front own i → (ts : List Lexeme) → ListOn 1 128 0 ts → Viable (own ++ ts)
     listed own i x ts s = (
       s .0 ++ (sign 0 0 ∷ []),
       i,
@@ -265,14 +260,14 @@ layout-good f =
           (sign 0 0 ∷ []))),
     )
 
-    ended : (own : List Lexeme) (i : Image) → Front own i → (us : List Lexeme) (l : List Section) → ListSays 1 128 [] us l → (c : ℕ) → LayoutText 128 8
+    ended : (own : List Lexeme) (i : TextImage) → Front own i → (us : List Lexeme) (l : List Section) → ListSays 1 128 [] us l → (c : ℕ) → LayoutText 128 8
         (own ++ (us ++ (sign c 0 ∷ []))) i l
     ended own i x us l s c =
         rw (s .1)
         (whole 128 8 own i x (s .2) c (s .3) (us ++ (sign c 0 ∷ [])) (s .0) (s .5 128 8 (omega arith) (omega arith))
         (ap (λ (r : List Lexeme). r ++ (sign c 0 ∷ [])) (s .4) ∙ append-assoc (s .3) (sign (s .2) 125 ∷ []) (sign c 0 ∷ [])))
 
-    unended : (own : List Lexeme) (i : Image) → Front own i → (us : List Lexeme) (l : List Section) → ListSays 1 128 [] us l → Viable (own ++ (us ++ []))
+    unended : (own : List Lexeme) (i : TextImage) → Front own i → (us : List Lexeme) (l : List Section) → ListSays 1 128 [] us l → Viable (own ++ (us ++ []))
     unended own i x us l s = (
       sign 0 0 ∷ [],
       i,
@@ -282,7 +277,7 @@ layout-good f =
           (ap (λ (r : List Lexeme). r ++ (sign 0 0 ∷ [])) (append-nil us ∙ s .4) ∙ append-assoc (s .3) (sign (s .2) 125 ∷ []) (sign 0 0 ∷ []))),
     )
 
-    endable : (own : List Lexeme) (i : Image) → Front own i → (us : List Lexeme) (l : List Section) → ListSays 1 128 [] us l → (c : ℕ)
+    endable : (own : List Lexeme) (i : TextImage) → Front own i → (us : List Lexeme) (l : List Section) → ListSays 1 128 [] us l → (c : ℕ)
         → Viable (own ++ (us ++ (sign c 0 ∷ [])))
     endable own i x us l s c = (
       [],

@@ -5,7 +5,6 @@ use Prim.Native.Nat.{ℕ, zero, suc, _+_}
 use lib.Dec.{eqb, leb, ltb}
 use lib.ListN.{length, getD}
 use Rattle.octets.specs.Tests.{_and_}
-use Rattle.octets.specs.Rows.{row, refusal}
 use Rattle.text_words.specs.Classes.{isDigit}
 use Rattle.fmd_lex.specs.Numbers.{numberOf}
 use Rattle.fmd_lex.specs.Names.{goodName, flagOf}
@@ -16,10 +15,10 @@ use Rattle.fmd_lex.specs.declared.Flag.the-variants.{Cbfs, Preserve, Unknown}
 use Rattle.fmd_table.specs.declared.Offset.the-variants.{Omitted as OmittedOffset}
 use Rattle.fmd_table.specs.declared.Size.the-variants.{Omitted as OmittedSize}
 use Rattle.fmd_table.specs.declared.Section.{Section}
-use Rattle.fmd_head.specs.Heads.{judged, setCbfs, setPreserve, setOffset, setSize}
+use Rattle.fmd_head.specs.Heads.{setCbfs, setPreserve, setOffset, setSize}
 use Rattle.fmd_head.specs.Images.{setAddress, setLength}
 use Rattle.fmd_head.specs.declared.Address.the-variants.{Omitted}
-use Rattle.fmd_head.specs.declared.Image.{Image}
+use Rattle.fmd_head.specs.declared.TextImage.{TextImage}
 use Rattle.fmd_grammar.specs.Grammar.{Lexeme, word, sign}
 use Rattle.fmd_grammar.specs.Claims.{placeOf}
 
@@ -76,8 +75,10 @@ numberAct (sign p k) = stop 51
 
 abbrev pub nameAct : ℕ → ℕ → ℕ → Lexeme → Act Section
 nameAct lv par n (word p w) =
-    judged (refusal (row (not (goodName w)) 53 ∷ row (leb 128 n) 55 ∷ row (ltb 8 lv) 55 ∷ [])) stop
-    (eat (record { offset = OmittedOffset; size = OmittedSize; place = p; length = length w; cbfs = false; preserve = false; parent = par; level = lv }))
+    cond (not (goodName w)) (stop 53)
+    (cond (leb 128 n) (stop 55)
+    (cond (ltb 8 lv) (stop 55)
+    (eat (record { offset = OmittedOffset; size = OmittedSize; place = p; length = length w; cbfs = false; preserve = false; parent = par; level = lv }))))
 nameAct lv par n (sign p k) = stop 51
 
 abbrev pub flagAct : Section → Flag → Act Section
@@ -93,12 +94,12 @@ abbrev pub sizeAct : Section → Lexeme → Act Section
 sizeAct h (word p w) = cond (isDigit (getD w 0 0)) (valued (numberOf w) (λ n. eat (setSize n h))) (leave h)
 sizeAct h (sign p k) = leave h
 
-abbrev pub titleAct : Lexeme → Act Image
+abbrev pub titleAct : Lexeme → Act TextImage
 titleAct (word p w) =
-    judged (refusal (row (not (goodName w)) 53 ∷ [])) stop (eat (record { address = Omitted; size = 0; place = p; length = length w }))
+    cond (not (goodName w)) (stop 53) (eat (record { address = Omitted; size = 0; place = p; length = length w }))
 titleAct (sign p k) = stop 51
 
-abbrev pub lengthAct : Image → Lexeme → Act Image
+abbrev pub lengthAct : TextImage → Lexeme → Act TextImage
 lengthAct i (word p w) = valued (numberOf w) (λ n. cond (leb 98 n and leb n 16777216) (eat (setLength n i)) (stop 52))
 lengthAct i (sign p k) = stop 51
 
@@ -134,11 +135,11 @@ unfoldable mutual
   listP zero lv par l = λ ts. no 0 0
   listP (suc f) lv par l = bind (sectionP f lv par l) (λ m. bind (item (isIt 125)) (λ b. cond b (ret m) (listP f lv par m)))
 
-unfoldable pub addressP : Image → Parser Image
+unfoldable pub addressP : TextImage → Parser TextImage
 addressP i = bind (item (isIt 64)) (λ b. cond b (bind (item numberAct) (λ n. ret (setAddress n i))) (ret i))
 
-unfoldable pub imageP : Parser Image
+unfoldable pub imageP : Parser TextImage
 imageP = bind (item titleAct) (λ i. bind (addressP i) (λ j. bind (item (lengthAct j)) (λ k. item (mustBe 123 k))))
 
-unfoldable pub layoutP : ℕ → Parser (Image × List Section)
+unfoldable pub layoutP : ℕ → Parser (TextImage × List Section)
 layoutP f = bind imageP (λ i. bind (listP f 1 128 []) (λ l. item (mustBe 0 (i, l))))

@@ -9,7 +9,6 @@ use lib.ListN.{length, getD, drop}
 use lib.Seq.{getD-take, getD-drop}
 use borrow.Author.Tests.{eqb-true, ne-eqb}
 use Rattle.octets.specs.Bytes.{part}
-use Rattle.octets.specs.Rows.{pickRow}
 use Rattle.text_words.specs.Classes.{isDigit}
 use Rattle.fmd_lex.specs.Tokens.{wordKind, bytesOf}
 use Rattle.fmd_lex.specs.Numbers.{numberOf}
@@ -20,13 +19,14 @@ use Rattle.fmd_lex.specs.declared.Number.the-variants.{Value, Wrong}
 use Rattle.fmd_lex.specs.declared.Flag.{Flag}
 use Rattle.fmd_lex.specs.declared.Flag.the-variants.{Cbfs, Preserve, Unknown}
 use Rattle.fmd_table.specs.declared.Section.{Section}
-use Rattle.fmd_head.specs.Heads.{next, isKind, counted, amountAt, onward, judged, bare, namedAt, setOffset, marked, markAt, lastAt, otherAt, flagsAt}
+use Rattle.fmd_head.specs.Refusals.{numberOf as refusalNumber}
+use Rattle.fmd_head.specs.Heads.{next, isKind, counted, amountAt, onward, bare, namedAt, setOffset, marked, markAt, lastAt, otherAt, flagsAt}
 use Rattle.fmd_head.specs.Heads.{withOffset, offsetAt, withSize, sizeAt, headAt}
+use Rattle.fmd_head.specs.declared.Refusal.the-variants.{BadName, TooMany, BadFlag}
 use Rattle.fmd_head.specs.declared.Amount.{Amount}
 use Rattle.fmd_head.specs.declared.Amount.the-variants.{Counted, Uncounted}
-use Rattle.fmd_head.specs.declared.Part.{Part}
-use Rattle.fmd_head.specs.declared.Part.the-variants.{Read, Fault}
-use mathlib.Core.Option.{none}
+use Rattle.fmd_head.specs.declared.HeadPart.{HeadPart}
+use Rattle.fmd_head.specs.declared.HeadPart.the-variants.{Read, Fault}
 use Rattle.fmd_head.specs.Heads.{setCbfs, setPreserve, setSize}
 use Rattle.fmd_table.specs.declared.Offset.the-variants.{Omitted as OmittedOffset}
 use Rattle.fmd_table.specs.declared.Size.the-variants.{Omitted as OmittedSize}
@@ -49,14 +49,14 @@ view-some (View.step h e k v) = tt
 abbrev pub Numbers : List ℕ → Amount → Got ℕ → Type 0
 Numbers s (Counted n u) (ok m us) = (n ≡ m) × View s u us
 Numbers s (Counted n u) (no m q) = ⊥
-Numbers s (Uncounted k p) (ok m us) = ⊥
-Numbers s (Uncounted k p) (no m q) = (k ≡ m) × (p ≡ q)
+Numbers s (Uncounted r p) (ok m us) = ⊥
+Numbers s (Uncounted r p) (no m q) = (refusalNumber r ≡ m) × (p ≡ q)
 
-abbrev pub Parts : List ℕ → Part → Got Section → Type 0
+abbrev pub Parts : List ℕ → HeadPart → Got Section → Type 0
 Parts s (Read h u) (ok k us) = (h ≡ k) × View s u us
 Parts s (Read h u) (no m q) = ⊥
-Parts s (Fault n p) (ok k us) = ⊥
-Parts s (Fault n p) (no m q) = (n ≡ m) × (p ≡ q)
+Parts s (Fault r p) (ok k us) = ⊥
+Parts s (Fault r p) (no m q) = (refusalNumber r ≡ m) × (p ≡ q)
 
 pub same-number : {s : List ℕ} {t : Token} (ts : List Lexeme) → View s t ts → Numbers s (amountAt s t) (item numberAct ts)
 unfolding amountAt
@@ -69,7 +69,7 @@ same-number {s} {t} (word p w ∷ xs) v = let a = as-word v in rw (a .kind, a .b
     by-number a Wrong = (refl, a .place)
 
 same-flag : {s : List ℕ} {t : Token} {p : ℕ} {w : List ℕ} {xs : List Lexeme} → Worded s t p w xs → (b : Bool) (k : Section)
-    → Parts s (cond b (Fault 56 (t .start)) (Read k (next s t))) (acted (cond b (stop 56) (eat k)) (word p w) xs)
+    → Parts s (cond b (Fault BadFlag (t .start)) (Read k (next s t))) (acted (cond b (stop 56) (eat k)) (word p w) xs)
 same-flag a true k = (refl, a .place)
 same-flag a false k = (refl, a .then)
 
@@ -105,16 +105,15 @@ same-size {s} {t} (word p w ∷ xs) v h =
     by-digit a false n = (refl, v)
 
 same-name : {s : List ℕ} {t : Token} (ts : List Lexeme) → View s t ts → (lv par n : ℕ) → Parts s (namedAt s t lv par n) (item (nameAct lv par n) ts)
-unfolding namedAt pickRow
+unfolding namedAt
 same-name [] v lv par n = absurd (view-some v)
 same-name {s} {t} (sign p k ∷ xs) v lv par n = let a = as-sign v in rw (a .wordless) (refl, a .place)
 same-name {s} {t} (word p w ∷ xs) v lv par n =
     let a = as-word v in rw (a .kind, a .bytes) (by-rows a (goodName w) (leb 128 n) (ltb 8 lv))
   where
     by-rows : Worded s t p w xs → (b c d : Bool)
-        → Parts s (judged (pickRow (not b) 53 (pickRow c 55 (pickRow d 55 none))) (λ m. Fault m (t .start)) (Read (bare t lv par) (next s t)))
-        (acted (judged (pickRow (not b) 53 (pickRow c 55 (pickRow d 55 none))) stop (eat (built p (length w) lv par false false OmittedOffset OmittedSize)))
-        (word p w) xs)
+        → Parts s (cond (not b) (Fault BadName (t .start)) (cond c (Fault TooMany (t .start)) (cond d (Fault TooMany (t .start)) (Read (bare t lv par) (next s t)))))
+        (acted (cond (not b) (stop 53) (cond c (stop 55) (cond d (stop 55) (eat (built p (length w) lv par false false OmittedOffset OmittedSize))))) (word p w) xs)
     by-rows a false c d = (refl, a .place)
     by-rows a true true d = (refl, a .place)
     by-rows a true false true = (refl, a .place)
@@ -135,12 +134,12 @@ same-sign {A} {B} M {s} {t} k n m (sign p j ∷ xs) v x y q r f g = rw (as-sign 
     go true e = f xs (after-sign v (λ z. n (sym (eqb-true j k e) ∙ z)))
     go false e = g
 
-part-then : {s : List ℕ} (q : Part) (g : Got Section) (f : Section → Token → Part) (k : Section → Parser Section) → Parts s q g
+part-then : {s : List ℕ} (q : HeadPart) (g : Got Section) (f : Section → Token → HeadPart) (k : Section → Parser Section) → Parts s q g
     → ((h : Section) (u : Token) (us : List Lexeme) → View s u us → Parts s (f h u) (k h us)) → Parts s (onward q f) (after g k)
 part-then {s} (Read h u) (ok i us) f k w c = rw (w .0) (c i u us (w .1))
 part-then (Read h u) (no m p) f k w c = absurd w
-part-then (Fault n p) (ok i us) f k w c = absurd w
-part-then (Fault n p) (no m q) f k w c = w
+part-then (Fault r p) (ok i us) f k w c = absurd w
+part-then (Fault r p) (no m q) f k w c = w
 
 -- ---- a section's head
 
@@ -171,8 +170,8 @@ module _ {s : List ℕ} where
       go : (m : Amount) (g : Got ℕ) → Numbers s m g → Parts s (withOffset h m) (after g (λ n. ret (setOffset n h)))
       go (Counted n u) (ok k us) w = (ap (λ (i : ℕ). setOffset i h) (w .0), w .1)
       go (Counted n u) (no k p) w = absurd w
-      go (Uncounted n p) (ok k us) w = absurd w
-      go (Uncounted n p) (no k q) w = w
+      go (Uncounted r p) (ok k us) w = absurd w
+      go (Uncounted r p) (no k q) w = w
 
   pub same-head : {t : Token} (ts : List Lexeme) → View s t ts → (lv par n : ℕ) → Parts s (headAt s t lv par n) (headP lv par n ts)
   unfolding headAt headP

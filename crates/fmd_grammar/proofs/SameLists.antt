@@ -2,14 +2,12 @@
 use mathlib.Core.Path.{_≡_, refl, sym, ap, subst, _∙_}
 use mathlib.Core.Bool.{Bool, true, false, cond, not}
 use mathlib.Core.List.{List, [], _∷_, _++_}
-use mathlib.Core.Option.{none}
 use Prim.Native.Nat.{ℕ, zero, suc, _+_, _*_, _-_}
 use native.Mathlib.Omega.{arith}
 use lib.Dec.{eqb, leb}
 use lib.ListN.{length}
 use borrow.Author.Tests.{eqb-true, ne-eqb}
 use Rattle.octets.specs.Tests.{_and_}
-use Rattle.octets.specs.Rows.{pickRow}
 use Rattle.fmd_lex.specs.Tokens.{wordKind, tokenAt}
 use Rattle.fmd_lex.specs.Numbers.{numberOf}
 use Rattle.fmd_lex.specs.Names.{goodName}
@@ -17,16 +15,18 @@ use Rattle.fmd_lex.specs.declared.Token.{Token}
 use Rattle.fmd_lex.specs.declared.Number.{Number}
 use Rattle.fmd_lex.specs.declared.Number.the-variants.{Value, Wrong}
 use Rattle.fmd_table.specs.declared.Section.{Section}
-use Rattle.fmd_head.specs.Heads.{next, isKind, counted, amountAt, judged, headAt}
+use Rattle.fmd_head.specs.Refusals.{numberOf as refusalNumber}
+use Rattle.fmd_head.specs.Heads.{next, isKind, counted, amountAt, headAt}
 use Rattle.fmd_head.specs.Images.{onward, titleAt, setAddress, withAddress, addressAt, setLength, withLength, lengthAt, openAt, imageAt}
 use Rattle.fmd_parse.specs.Layouts.{Parsed, fault, parsed, afterHead, afterSection, sectionFrom, listFrom, Layout, layout, refused, afterImage, afterList}
 use Rattle.fmd_parse.specs.Layouts.{endedBy, layoutOf}
+use Rattle.fmd_head.specs.declared.Refusal.the-variants.{BadNumber, BadName}
 use Rattle.fmd_head.specs.declared.Address.the-variants.{Omitted}
 use Rattle.fmd_head.specs.declared.Amount.{Amount}
 use Rattle.fmd_head.specs.declared.Amount.the-variants.{Counted, Uncounted}
-use Rattle.fmd_head.specs.declared.Part.{Part}
-use Rattle.fmd_head.specs.declared.Part.the-variants.{Read, Fault}
-use Rattle.fmd_head.specs.declared.Image.{Image}
+use Rattle.fmd_head.specs.declared.HeadPart.{HeadPart}
+use Rattle.fmd_head.specs.declared.HeadPart.the-variants.{Read, Fault}
+use Rattle.fmd_head.specs.declared.TextImage.{TextImage}
 use Rattle.fmd_head.specs.declared.Heading.{Heading}
 use Rattle.fmd_head.specs.declared.Heading.the-variants.{Read as ReadImage, Fault as FaultImage}
 use Rattle.fmd_grammar.specs.Grammar.{Lexeme, word, sign, lexemesOf}
@@ -43,12 +43,12 @@ Listed s (parsed l u) (no m q) = ⊥
 Listed s (fault n p) (ok m us) = ⊥
 Listed s (fault n p) (no m q) = (n ≡ m) × (p ≡ q)
 
-head-then : {s : List ℕ} (q : Part) (g : Got Section) (f : Section → Token → Parsed) (k : Section → Parser (List Section)) → Parts s q g
+head-then : {s : List ℕ} (q : HeadPart) (g : Got Section) (f : Section → Token → Parsed) (k : Section → Parser (List Section)) → Parts s q g
     → ((h : Section) (u : Token) (us : List Lexeme) → View s u us → Listed s (f h u) (k h us)) → Listed s (afterHead q f) (after g k)
 head-then (Read h u) (ok i us) f k w c = rw (w .0) (c i u us (w .1))
 head-then (Read h u) (no m p) f k w c = absurd w
-head-then (Fault n p) (ok i us) f k w c = absurd w
-head-then (Fault n p) (no m q) f k w c = w
+head-then (Fault r p) (ok i us) f k w c = absurd w
+head-then (Fault r p) (no m q) f k w c = w
 
 list-then : {s : List ℕ} (q : Parsed) (g : Got (List Section)) (f : List Section → Token → Parsed) (k : List Section → Parser (List Section)) → Listed s q g
     → ((h : List Section) (u : Token) (us : List Lexeme) → View s u us → Listed s (f h u) (k h us)) → Listed s (afterSection q f) (after g k)
@@ -78,36 +78,36 @@ mutual
 
 -- ---- the image
 
-abbrev Imaged : List ℕ → Heading → Got Image → Type 0
+abbrev Imaged : List ℕ → Heading → Got TextImage → Type 0
 Imaged s (ReadImage i u) (ok j us) = (i ≡ j) × View s u us
 Imaged s (ReadImage i u) (no m q) = ⊥
-Imaged s (FaultImage n p) (ok j us) = ⊥
-Imaged s (FaultImage n p) (no m q) = (n ≡ m) × (p ≡ q)
+Imaged s (FaultImage r p) (ok j us) = ⊥
+Imaged s (FaultImage r p) (no m q) = (refusalNumber r ≡ m) × (p ≡ q)
 
-image-then : {s : List ℕ} (q : Heading) (g : Got Image) (f : Image → Token → Heading) (k : Image → Parser Image) → Imaged s q g
-    → ((i : Image) (u : Token) (us : List Lexeme) → View s u us → Imaged s (f i u) (k i us)) → Imaged s (onward q f) (after g k)
+image-then : {s : List ℕ} (q : Heading) (g : Got TextImage) (f : TextImage → Token → Heading) (k : TextImage → Parser TextImage) → Imaged s q g
+    → ((i : TextImage) (u : Token) (us : List Lexeme) → View s u us → Imaged s (f i u) (k i us)) → Imaged s (onward q f) (after g k)
 image-then (ReadImage h u) (ok i us) f k w c = rw (w .0) (c i u us (w .1))
 image-then (ReadImage h u) (no m p) f k w c = absurd w
-image-then (FaultImage n p) (ok i us) f k w c = absurd w
-image-then (FaultImage n p) (no m q) f k w c = w
+image-then (FaultImage r p) (ok i us) f k w c = absurd w
+image-then (FaultImage r p) (no m q) f k w c = w
 
-abbrev pictured : ℕ → ℕ → Image
+abbrev pictured : ℕ → ℕ → TextImage
 pictured p n = record { address = Omitted; size = 0; place = p; length = n }
 
 module _ {s : List ℕ} where
   same-title : {t : Token} (ts : List Lexeme) → View s t ts → Imaged s (titleAt s t) (item titleAct ts)
-  unfolding titleAt pickRow
+  unfolding titleAt
   same-title [] v = absurd (view-some v)
   same-title {t} (sign p k ∷ xs) v = let a = as-sign v in rw (a .wordless) (refl, a .place)
   same-title {t} (word p w ∷ xs) v = let a = as-word v in rw (a .kind, a .bytes) (by-name a (goodName w))
     where
       by-name : Worded s t p w xs → (b : Bool)
-          → Imaged s (judged (pickRow (not b) 53 none) (λ m. FaultImage m (t .start)) (ReadImage (pictured (t .start) (t .end - t .start)) (next s t)))
-          (acted (judged (pickRow (not b) 53 none) stop (eat (pictured p (length w)))) (word p w) xs)
+          → Imaged s (cond (not b) (FaultImage BadName (t .start)) (ReadImage (pictured (t .start) (t .end - t .start)) (next s t)))
+          (acted (cond (not b) (stop 53) (eat (pictured p (length w)))) (word p w) xs)
       by-name a false = (refl, a .place)
       by-name a true = (λ i. pictured (a .place i) ((sym (name-length s t (a .within)) ∙ ap length (a .bytes)) i), a .then)
 
-  same-address : {t : Token} (ts : List Lexeme) → View s t ts → (i : Image) → Imaged s (addressAt s t i) (addressP i ts)
+  same-address : {t : Token} (ts : List Lexeme) → View s t ts → (i : TextImage) → Imaged s (addressAt s t i) (addressP i ts)
   unfolding addressAt addressP
   same-address {t} ts v i =
       same-sign (Imaged s) 64 (λ z. omega arith) (λ z. omega arith) ts v _ _ (bind (item numberAct) (λ n. ret (setAddress n i))) (ret i)
@@ -116,17 +116,17 @@ module _ {s : List ℕ} where
       go : (m : Amount) (g : Got ℕ) → Numbers s m g → Imaged s (withAddress i m) (after g (λ n. ret (setAddress n i)))
       go (Counted n u) (ok k us) w = (ap (λ (j : ℕ). setAddress j i) (w .0), w .1)
       go (Counted n u) (no k p) w = absurd w
-      go (Uncounted n p) (ok k us) w = absurd w
-      go (Uncounted n p) (no k q) w = w
+      go (Uncounted r p) (ok k us) w = absurd w
+      go (Uncounted r p) (no k q) w = w
 
-  same-length : {t : Token} (ts : List Lexeme) → View s t ts → (i : Image) → Imaged s (lengthAt s t i) (item (lengthAct i) ts)
+  same-length : {t : Token} (ts : List Lexeme) → View s t ts → (i : TextImage) → Imaged s (lengthAt s t i) (item (lengthAct i) ts)
   unfolding lengthAt amountAt
   same-length [] v i = absurd (view-some v)
   same-length {t} (sign p k ∷ xs) v i = let a = as-sign v in rw (a .wordless) (refl, a .place)
   same-length {t} (word p w ∷ xs) v i = let a = as-word v in rw (a .kind, a .bytes) (by-number a (numberOf w))
     where
       in-range : Worded s t p w xs → (n : ℕ) (b : Bool)
-          → Imaged s (cond b (ReadImage (setLength n i) (next s t)) (FaultImage 52 (t .start))) (acted (cond b (eat (setLength n i)) (stop 52)) (word p w) xs)
+          → Imaged s (cond b (ReadImage (setLength n i) (next s t)) (FaultImage BadNumber (t .start))) (acted (cond b (eat (setLength n i)) (stop 52)) (word p w) xs)
       in-range a n true = (refl, a .then)
       in-range a n false = (refl, a .place)
 
@@ -157,7 +157,7 @@ module _ {s : List ℕ} where
 
 -- ---- the whole text
 
-abbrev pub Whole : Layout → Got (Image × List Section) → Type 0
+abbrev pub Whole : Layout → Got (TextImage × List Section) → Type 0
 Whole (layout i l) (ok r us) = (i ≡ r .0) × (l ≡ r .1) × (us ≡ [])
 Whole (layout i l) (no m q) = ⊥
 Whole (refused n p) (ok r us) = ⊥
@@ -171,18 +171,18 @@ same-layout s = by-image (imageAt s (tokenAt s 0)) (imageP (lexemesOf s)) (same-
     f : ℕ
     f = 2 * length s + 2
 
-    by-list : (i j : Image) → i ≡ j → (q : Parsed) (g : Got (List Section)) → Listed s q g
+    by-list : (i j : TextImage) → i ≡ j → (q : Parsed) (g : Got (List Section)) → Listed s q g
         → Whole (afterList q (endedBy i)) (after g (λ l. item (mustBe 0 (j, l))))
     by-list i j e (parsed l u) (ok m us) w =
-        same-must (λ (a : Layout) (g : Got (Image × List Section)). Whole a g) 0 (λ z. omega arith) us (w .1) _ _ (j, m) (λ p os x. (e, w .0, after-end x))
+        same-must (λ (a : Layout) (g : Got (TextImage × List Section)). Whole a g) 0 (λ z. omega arith) us (w .1) _ _ (j, m) (λ p os x. (e, w .0, after-end x))
         (λ p x. (refl, x))
     by-list i j e (parsed l u) (no m p) w = absurd w
     by-list i j e (fault n p) (ok m us) w = absurd w
     by-list i j e (fault n p) (no m q) w = w
 
-    by-image : (q : Heading) (g : Got Image) → Imaged s q g
+    by-image : (q : Heading) (g : Got TextImage) → Imaged s q g
         → Whole (afterImage q (λ i t. afterList (listFrom f s t 1 128 []) (endedBy i))) (after g (λ i. bind (listP f 1 128 []) (λ l. item (mustBe 0 (i, l)))))
     by-image (ReadImage i u) (ok j us) w = by-list i j (w .0) (listFrom f s u 1 128 []) (listP f 1 128 [] us) (same-list f us (w .1) 1 128 [])
     by-image (ReadImage i u) (no m p) w = absurd w
-    by-image (FaultImage n p) (ok i us) w = absurd w
-    by-image (FaultImage n p) (no m q) w = w
+    by-image (FaultImage r p) (ok i us) w = absurd w
+    by-image (FaultImage r p) (no m q) w = w

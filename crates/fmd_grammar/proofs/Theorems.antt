@@ -19,7 +19,7 @@ use Rattle.fmd_lex.specs.declared.Token.{Token}
 use Rattle.fmd_table.specs.declared.Section.{Section}
 use Rattle.fmd_head.specs.Heads.{next, isKind}
 use Rattle.fmd_parse.specs.Layouts.{Layout, layout, refused, layoutOf}
-use Rattle.fmd_head.specs.declared.Image.{Image}
+use Rattle.fmd_head.specs.declared.TextImage.{TextImage}
 use Rattle.fmd_grammar.specs.Grammar.{Lexeme, word, lexemeOf, lexemesFrom, lexemesOf, LayoutText, Derives}
 use Rattle.fmd_grammar.specs.Claims.{Exact, Viable, NoText, First}
 use Rattle.fmd_grammar.proofs.Parsers.{Got, no, ok, layoutP}
@@ -40,22 +40,22 @@ few : (s : List ℕ) → 2 * length (lexemesOf s) ≤ 2 * length s + 2
 unfolding lexemesOf
 few s = let h = items-few (length s + 1) s (tokenAt s 0) in omega arith
 
-whole-layout : (a : Layout) (i : Image) (l : List Section) → Whole a (ok (i, l) []) → a ≡ layout i l
+whole-layout : (a : Layout) (i : TextImage) (l : List Section) → Whole a (ok (i, l) []) → a ≡ layout i l
 whole-layout (layout j m) i l w = λ x. layout (w .0 x) (w .1 x)
 whole-layout (refused n p) i l w = absurd w
 
-complete : (s : List ℕ) {i : Image} {l : List Section} → Derives s i l → layoutOf s ≡ layout i l
+complete : (s : List ℕ) {i : TextImage} {l : List Section} → Derives s i l → layoutOf s ≡ layout i l
 complete s {i} {l} d =
     whole-layout (layoutOf s) i l (subst (Whole (layoutOf s)) (layout-complete d (2 * length s + 2) (few s)) (same-layout s))
 
-layout-ok : (a : Layout) (g : Got (Image × List Section)) (i : Image) (l : List Section) → a ≡ layout i l → Whole a g → g ≡ ok (i, l) []
+layout-ok : (a : Layout) (g : Got (TextImage × List Section)) (i : TextImage) (l : List Section) → a ≡ layout i l → Whole a g → g ≡ ok (i, l) []
 layout-ok a g i l e w = go g (rw e at w)
   where
-    go : (g : Got (Image × List Section)) → Whole (layout i l) g → g ≡ ok (i, l) []
+    go : (g : Got (TextImage × List Section)) → Whole (layout i l) g → g ≡ ok (i, l) []
     go (no m q) w = absurd w
     go (ok r us) w = λ x. ok (sym (w .0) x, sym (w .1) x) (w .2 x)
 
-sound : (s : List ℕ) {i : Image} {l : List Section} → layoutOf s ≡ layout i l → Derives s i l
+sound : (s : List ℕ) {i : TextImage} {l : List Section} → layoutOf s ≡ layout i l → Derives s i l
 sound s {i} {l} e =
     let f = 2 * length s + 2 in
     let t = layout-good f .passes (lexemesOf s) (i, l) [] (layout-ok (layoutOf s) (layoutP f (lexemesOf s)) i l e (same-layout s)) in
@@ -77,10 +77,10 @@ whole-refused : (a : Layout) (n p : ℕ) → Whole a (no n p) → a ≡ refused 
 whole-refused (layout j m) n p w = absurd w
 whole-refused (refused m q) n p w = λ x. refused (w .0 x) (w .1 x)
 
-refused-no : (a : Layout) (g : Got (Image × List Section)) (n p : ℕ) → a ≡ refused n p → Whole a g → g ≡ no n p
+refused-no : (a : Layout) (g : Got (TextImage × List Section)) (n p : ℕ) → a ≡ refused n p → Whole a g → g ≡ no n p
 refused-no a g n p e w = go g (rw e at w)
   where
-    go : (g : Got (Image × List Section)) → Whole (refused n p) g → g ≡ no n p
+    go : (g : Got (TextImage × List Section)) → Whole (refused n p) g → g ≡ no n p
     go (no m q) w = λ x. no (sym (w .0) x) (sym (w .1) x)
     go (ok r us) w = absurd w
 
@@ -104,7 +104,7 @@ module _ (s : List ℕ) (n p : ℕ) (e : layoutOf s ≡ refused n p) where
   lasting : (g : ℕ) → 2 * length s + 2 ≤ g → layoutP g (lexemesOf s) ≡ no n p
   lasting g h = let t = stopped s n p e in ap (layoutP g) (t .list) ∙ always g h (t .rest)
 
-  never : (ts : List Lexeme) (i : Image) (l : List Section) → LayoutText 128 8 (stopped s n p e .own ++ (stopped s n p e .it ∷ ts)) i l → ⊥
+  never : (ts : List Lexeme) (i : TextImage) (l : List Section) → LayoutText 128 8 (stopped s n p e .own ++ (stopped s n p e .it ∷ ts)) i l → ⊥
   never ts i l d =
       let t = stopped s n p e in
       let g = 2 * length s + 2 + 2 * length (t .own ++ (t .it ∷ ts)) in

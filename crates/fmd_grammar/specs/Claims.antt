@@ -14,12 +14,12 @@ use Rattle.fmd_lex.specs.Names.{goodName, cbfs}
 use Rattle.fmd_lex.specs.declared.Number.the-variants.{Value, Wrong}
 use Rattle.fmd_table.specs.declared.Section.{Section}
 use Rattle.fmd_parse.specs.Layouts.{layout, refused, layoutOf}
-use Rattle.fmd_head.specs.declared.Image.{Image}
+use Rattle.fmd_head.specs.declared.TextImage.{TextImage}
 use Rattle.fmd_grammar.specs.Grammar.{Lexeme, word, sign, lexemesOf, LayoutText, Derives}
 
 -- The reader accepts exactly the texts that derive, with what they say. So no text says two things.
 abbrev pub Exact : Type 0
-Exact = (s : List ℕ) (i : Image) (l : List Section) → (layoutOf s ≡ layout i l) ↔ Derives s i l
+Exact = (s : List ℕ) (i : TextImage) (l : List Section) → (layoutOf s ≡ layout i l) ↔ Derives s i l
 
 -- ---- the first fault
 
@@ -31,11 +31,11 @@ placeOf (sign p b) = p
 -- the tokens ts can be continued to a layout text, if one section and one level more than the limits are allowed:
 -- after { on level 8 no text within the limits goes on, yet a } there is 51
 abbrev pub Viable : List Lexeme → Type 0
-Viable ts = (us : List Lexeme) × (i : Image) × (l : List Section) × LayoutText 129 9 (ts ++ us) i l
+Viable ts = (us : List Lexeme) × (i : TextImage) × (l : List Section) × LayoutText 129 9 (ts ++ us) i l
 
 -- no layout text begins with the tokens ts
 abbrev pub NoText : List Lexeme → Type 0
-NoText ts = (us : List Lexeme) (i : Image) (l : List Section) → LayoutText 128 8 (ts ++ us) i l → ⊥
+NoText ts = (us : List Lexeme) (i : TextImage) (l : List Section) → LayoutText 128 8 (ts ++ us) i l → ⊥
 
 -- a number that stands at p may be the image's size: { A } and the text's end may come after it
 abbrev pub MayBeImageSize : (List Lexeme → Type 0) → ℕ → Type 0

@@ -19,7 +19,7 @@ use Rattle.fmd_table.specs.declared.Size.the-variants.{Given as GivenSize, Omit
 use Rattle.fmd_table.specs.declared.Section.{Section}
 use Rattle.fmd_head.specs.declared.Address.{Address}
 use Rattle.fmd_head.specs.declared.Address.the-variants.{Given, Omitted}
-use Rattle.fmd_head.specs.declared.Image.{Image}
+use Rattle.fmd_head.specs.declared.TextImage.{TextImage}
 
 -- ---- tokens
 
@@ -105,7 +105,7 @@ pub data OptionalAddress : List Lexeme → Address → Type 0 where
 -- Q4: A flash image is 98 to 16,777,216 bytes.
 -- L10: After the last brace only blanks and comments.
 -- So the text's end is the next token.
-pub data LayoutText (most deepest : ℕ) : List Lexeme → Image → List Section → Type 0 where
+pub data LayoutText (most deepest : ℕ) : List Lexeme → TextImage → List Section → Type 0 where
   image : {place n : ℕ} (a b c d : ℕ) {name : List ℕ} (w : List ℕ) {os ts : List Lexeme} {at : Address} {l : List Section}
       → goodName name ≡ true → OptionalAddress os at → numberOf w ≡ Value n → 98 ≤ n → n ≤ 16777216 → SectionList most deepest 1 128 0 ts l
       → LayoutText most deepest
@@ -113,5 +113,5 @@ pub data LayoutText (most deepest : ℕ) : List Lexeme → Image → List Sectio
       (record { address = at; size = n; place = place; length = length name }) l
 
 -- the text s says the image i and the sections l
-abbrev pub Derives : List ℕ → Image → List Section → Type 0
+abbrev pub Derives : List ℕ → TextImage → List Section → Type 0
 Derives s i l = LayoutText 128 8 (lexemesOf s) i l

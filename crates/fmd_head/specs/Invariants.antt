@@ -3,8 +3,8 @@ use Prim.Native.Nat.{ℕ, _≤_, _<_}
 use Rattle.fmd_lex.specs.Invariants.{Within}
 use Rattle.fmd_head.specs.declared.Amount.{Amount}
 use Rattle.fmd_head.specs.declared.Amount.the-variants.{Counted, Uncounted}
-use Rattle.fmd_head.specs.declared.Part.{Part}
-use Rattle.fmd_head.specs.declared.Part.the-variants.{Read, Fault}
+use Rattle.fmd_head.specs.declared.HeadPart.{HeadPart}
+use Rattle.fmd_head.specs.declared.HeadPart.the-variants.{Read, Fault}
 use Rattle.fmd_head.specs.declared.Heading.{Heading}
 use Rattle.fmd_head.specs.declared.Heading.the-variants.{Read as ReadImage, Fault as FaultImage}
 
@@ -12,17 +12,17 @@ use Rattle.fmd_head.specs.declared.Heading.the-variants.{Read as ReadIma
 
 abbrev pub AmountIn : ℕ → ℕ → Amount → Type 0
 AmountIn n at (Counted m u) = Within n at u
-AmountIn n at (Uncounted k p) = Unit {0}
+AmountIn n at (Uncounted r p) = Unit {0}
 
-abbrev pub PartIn : ℕ → ℕ → Part → Type 0
+abbrev pub PartIn : ℕ → ℕ → HeadPart → Type 0
 PartIn n at (Read h u) = Within n at u
-PartIn n at (Fault k p) = Unit {0}
+PartIn n at (Fault r p) = Unit {0}
 
 -- and a section that is read is neither too deep, at the level lv, nor one too many, after k others
-abbrev pub HeadIn : ℕ → ℕ → ℕ → ℕ → Part → Type 0
+abbrev pub HeadIn : ℕ → ℕ → ℕ → ℕ → HeadPart → Type 0
 HeadIn n at lv k (Read h u) = Within n at u × (lv ≤ 8) × (k < 128)
-HeadIn n at lv k (Fault m p) = Unit {0}
+HeadIn n at lv k (Fault r p) = Unit {0}
 
 abbrev pub HeadingIn : ℕ → Heading → Type 0
 HeadingIn n (ReadImage i u) = Within n 0 u
-HeadingIn n (FaultImage k p) = Unit {0}
+HeadingIn n (FaultImage r p) = Unit {0}

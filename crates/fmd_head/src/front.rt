@@ -8,7 +8,8 @@ ghost use Rattle.fmd_head.specs.Invariants.{HeadingIn};
 use super::Address;
 use super::Amount;
 use super::Heading;
-use super::Image;
+use super::Refusal;
+use super::TextImage;
 use super::section::amount_at;
 use fmd_lex::AT;
 use fmd_lex::OPEN;
@@ -23,11 +24,11 @@ fn title_at(text: &[u8], t: Token) -> Heading
     ensures within { λ r. ⌜ HeadingIn (length (now (text .entry))) r ⌝ }
 {
     if t.kind != WORD {
-        return Heading::Fault(51, t.start);
+        return Heading::Fault(Refusal::OutOfGrammar, t.start);
     }
     if fmd_lex::name_at(text, t) {
         let u = next_token(text, t.end);
-        let i = Image {
+        let i = TextImage {
             address: Address::Omitted,
             size: 0,
             place: t.start as u16,
@@ -35,13 +36,13 @@ fn title_at(text: &[u8], t: Token) -> Heading
         };
         return Heading::Read(i, u);
     }
-    Heading::Fault(53, t.start)
+    Heading::Fault(Refusal::BadName, t.start)
 }
 
-fn with_address(i: Image, n: u32) -> Image
+fn with_address(i: TextImage, n: u32) -> TextImage
     ensures { λ r. ⌜ r ≡ setAddress n i ⌝ }
 {
-    Image {
+    TextImage {
         address: Address::Given(n),
         size: i.size,
         place: i.place,
@@ -49,11 +50,11 @@ fn with_address(i: Image, n: u32) -> Image
     }
 }
 
-fn with_length(i: Image, n: u32) -> Image
+fn with_length(i: TextImage, n: u32) -> TextImage
     ensures { λ r. ⌜ r ≡ setLength n i ⌝ }
 {
     let address = i.address;
-    Image {
+    TextImage {
         address: address,
         size: n,
         place: i.place,
@@ -62,7 +63,7 @@ fn with_length(i: Image, n: u32) -> Image
 }
 
 // The address, where an @ stands.
-fn address_at(text: &[u8], t: Token, i: Image) -> Heading
+fn address_at(text: &[u8], t: Token, i: TextImage) -> Heading
     requires { ⌜ Within (length (now text)) 0 t ⌝ }
     ensures { λ r. ⌜ r ≡ addressAt (now (text .entry)) t i ⌝ }
     ensures within { λ r. ⌜ HeadingIn (length (now (text .entry))) r ⌝ }
@@ -78,7 +79,7 @@ fn address_at(text: &[u8], t: Token, i: Image) -> Heading
 }
 
 // The image's size.
-fn length_at(text: &[u8], t: Token, i: Image) -> Heading
+fn length_at(text: &[u8], t: Token, i: TextImage) -> Heading
     requires { ⌜ Within (length (now text)) 0 t ⌝ }
     ensures { λ r. ⌜ r ≡ lengthAt (now (text .entry)) t i ⌝ }
     ensures within { λ r. ⌜ HeadingIn (length (now (text .entry))) r ⌝ }
@@ -86,10 +87,10 @@ fn length_at(text: &[u8], t: Token, i: Image) -> Heading
     match amount_at(text, t) {
         Amount::Counted(n, u) => {
             if n < 98 {
-                return Heading::Fault(52, t.start);
+                return Heading::Fault(Refusal::BadNumber, t.start);
             }
             if 16777216 < n {
-                return Heading::Fault(52, t.start);
+                return Heading::Fault(Refusal::BadNumber, t.start);
             }
             Heading::Read(with_length(i, n), u)
         }
@@ -98,7 +99,7 @@ fn length_at(text: &[u8], t: Token, i: Image) -> Heading
 }
 
 // The opening brace.
-fn open_at(text: &[u8], t: Token, i: Image) -> Heading
+fn open_at(text: &[u8], t: Token, i: TextImage) -> Heading
     requires { ⌜ Within (length (now text)) 0 t ⌝ }
     ensures { λ r. ⌜ r ≡ openAt (now (text .entry)) t i ⌝ }
     ensures within { λ r. ⌜ HeadingIn (length (now (text .entry))) r ⌝ }
@@ -107,7 +108,7 @@ fn open_at(text: &[u8], t: Token, i: Image) -> Heading
         let u = next_token(text, t.end);
         return Heading::Read(i, u);
     }
-    Heading::Fault(51, t.start)
+    Heading::Fault(Refusal::OutOfGrammar, t.start)
 }
 
 // The image up to its opening brace.

@@ -1,15 +1,13 @@
 -- What each part of a section keeps of the section read so far, and where its fault stands.
 use mathlib.Core.Path.{_≡_, refl, _∙_}
-use mathlib.Core.Bool.{Bool, true, false, not}
+use mathlib.Core.Bool.{true, not}
 use mathlib.Core.List.{List}
-use mathlib.Core.Option.{Option}
 use Prim.Native.Nat.{ℕ, _+_, _-_, _≤_, _<_}
 use native.Mathlib.Omega.{arith}
 use lib.Dec.{ltb, leb}
 use lib.ListN.{length, getD}
 use borrow.Author.Tests.{leb-false, ltb-false, eqb-true}
 use Rattle.octets.specs.Tests.{_or_, all}
-use Rattle.octets.specs.Rows.{pickRow}
 use Rattle.octets.proofs.Bools.{choice, not-f}
 use Rattle.text_words.specs.Classes.{isDigit}
 use Rattle.fmd_lex.specs.Chars.{isWord}
@@ -25,14 +23,15 @@ use Rattle.fmd_lex.specs.declared.Flag.the-variants.{Cbfs, Preserve, Unknown}
 use Rattle.fmd_lex.proofs.Numbers.{NumberFits, number-fits}
 use Rattle.fmd_lex.proofs.Tokens.{earlier}
 use Rattle.fmd_lex.proofs.Places.{token-within, word-bytes}
-use Rattle.fmd_head.specs.Heads.{next, isKind, counted, amountAt, onward, judged, namedAt, marked, markAt, lastAt, otherAt, flagsAt, withOffset}
+use Rattle.fmd_head.specs.Refusals.{numberOf as refusalNumber}
+use Rattle.fmd_head.specs.Heads.{next, isKind, counted, amountAt, onward, namedAt, marked, markAt, lastAt, otherAt, flagsAt, withOffset}
 use Rattle.fmd_head.specs.Heads.{offsetAt, withSize, sizeAt, headAt}
 use Rattle.fmd_parse.specs.Trees.{Numbered, Named}
 use Rattle.fmd_table.specs.declared.Section.{Section}
 use Rattle.fmd_head.specs.declared.Amount.{Amount}
 use Rattle.fmd_head.specs.declared.Amount.the-variants.{Counted, Uncounted}
-use Rattle.fmd_head.specs.declared.Part.{Part}
-use Rattle.fmd_head.specs.declared.Part.the-variants.{Read, Fault}
+use Rattle.fmd_head.specs.declared.HeadPart.{HeadPart}
+use Rattle.fmd_head.specs.declared.HeadPart.the-variants.{Read, Fault}
 
 -- ---- tokens of the text
 
@@ -72,7 +71,7 @@ module _ {s : List ℕ} {a : ℕ} {t : Token} (w : From s a t) where
 
 abbrev pub AmountFrom : List ℕ → ℕ → Amount → Type 0
 AmountFrom s a (Counted n u) = From s a u × (n ≤ 4294967295)
-AmountFrom s a (Uncounted k p) = Faulty s k p
+AmountFrom s a (Uncounted r p) = Faulty s (refusalNumber r) p
 
 pub amount-from : {s : List ℕ} {a : ℕ} {t : Token} → From s a t → AmountFrom s (t .end) (amountAt s t)
 unfolding amountAt _or_
@@ -97,19 +96,19 @@ kept h = record { place = refl; length = refl; parent = refl; level = refl }
 pub kept-on : {h k l : Section} → Kept h k → Kept k l → Kept h l
 kept-on p q = record { place = q .place ∙ p .place; length = q .length ∙ p .length; parent = q .parent ∙ p .parent; level = q .level ∙ p .level }
 
-abbrev pub Keeps : List ℕ → ℕ → Section → Part → Type 0
+abbrev pub Keeps : List ℕ → ℕ → Section → HeadPart → Type 0
 Keeps s a h (Read k u) = From s a u × Kept h k
-Keeps s a h (Fault n p) = Faulty s n p
+Keeps s a h (Fault r p) = Faulty s (refusalNumber r) p
 
-pub keeps : (s : List ℕ) (a b : ℕ) (h k : Section) (p : Part) → Kept h k → b ≤ a → Keeps s a k p → Keeps s b h p
+pub keeps : (s : List ℕ) (a b : ℕ) (h k : Section) (p : HeadPart) → Kept h k → b ≤ a → Keeps s a k p → Keeps s b h p
 keeps s a b h k (Read l u) q o w = (from-earlier (w .0) o, kept-on q (w .1))
-keeps s a b h k (Fault n p) q o w = w
+keeps s a b h k (Fault r p) q o w = w
 
-pub onward-keeps : (s : List ℕ) (a b : ℕ) (h : Section) (p : Part) (f : Section → Token → Part) → Keeps s a h p → b ≤ a
+pub onward-keeps : (s : List ℕ) (a b : ℕ) (h : Section) (p : HeadPart) (f : Section → Token → HeadPart) → Keeps s a h p → b ≤ a
     → ((k : Section) (u : Token) → From s a u → Keeps s (u .start) k (f k u)) → Keeps s b h (onward p f)
 onward-keeps s a b h (Read k u) f w o g =
     let x = w .0 in keeps s (u .start) b h k (f k u) (w .1) (omega arith) (g k u x)
-onward-keeps s a b h (Fault n p) f w o g = w
+onward-keeps s a b h (Fault r p) f w o g = w
 
 module _ {s : List ℕ} {a : ℕ} {t : Token} (w : From s a t) (h : Section) where
   flag-keeps : Keeps s (t .end) h (markAt s t h)
@@ -145,7 +144,7 @@ module _ {s : List ℕ} {a : ℕ} {t : Token} (w : From s a t) (h : Section) whe
       by-amount (Counted n u) v =
           let x = next-from w in
           (from-earlier (v .0) (omega arith), record { place = refl; length = refl; parent = refl; level = refl })
-      by-amount (Uncounted k p) v = v
+      by-amount (Uncounted r p) v = v
 
   pub size-keeps : Keeps s (t .start) h (sizeAt s t h)
   unfolding sizeAt
@@ -156,7 +155,7 @@ module _ {s : List ℕ} {a : ℕ} {t : Token} (w : From s a t) (h : Section) whe
     where
       by-amount : (m : Amount) → AmountFrom s (t .end) m → Keeps s (t .start) h (withSize h m)
       by-amount (Counted n u) v = (from-earlier (v .0) (omega arith), record { place = refl; length = refl; parent = refl; level = refl })
-      by-amount (Uncounted k p) v = v
+      by-amount (Uncounted r p) v = v
 
 pub flags-keeps : {s : List ℕ} {a : ℕ} {t : Token} → From s a t → (h : Section) → Keeps s (t .start) h (flagsAt s t h)
 unfolding flagsAt
@@ -177,24 +176,18 @@ pub record Headed (s : List ℕ) (lv par n : ℕ) (h : Section) : Type 0 where
   pub parent : h .parent ≡ par
   pub level : h .level ≡ lv
 
-abbrev pub Heads : List ℕ → ℕ → ℕ → ℕ → ℕ → Part → Type 0
+abbrev pub Heads : List ℕ → ℕ → ℕ → ℕ → ℕ → HeadPart → Type 0
 Heads s a lv par n (Read h u) = From s a u × Headed s lv par n h
-Heads s a lv par n (Fault m p) = Faulty s m p
-
-pub row-choice : {A : Type 0} (P : A → Type 0) (b : Bool) (k : ℕ) (r : Option ℕ) (f : ℕ → A) (x : A) → (b ≡ true → P (f k))
-    → (b ≡ false → P (judged r f x)) → P (judged (pickRow b k r) f x)
-unfolding pickRow
-row-choice P true k r f x p q = p refl
-row-choice P false k r f x p q = q refl
+Heads s a lv par n (Fault r p) = Faulty s (refusalNumber r) p
 
 named-heads : {s : List ℕ} {a : ℕ} {t : Token} → From s a t → (lv par n : ℕ) → Heads s (t .start + 1) lv par n (namedAt s t lv par n)
 unfolding namedAt _or_
 named-heads {s} {a} {t} w lv par n =
     let P = Heads s (t .start + 1) lv par n in
-    row-choice P (not (isKind wordKind t)) 51 _ _ _ (λ e. fault-here w 51 refl)
-    (λ e. row-choice P (not (goodName (bytesOf s t))) 53 _ _ _ (λ f. fault-here w 53 refl)
-    (λ f. row-choice P (leb 128 n) 55 _ _ _ (λ g. fault-here w 55 refl)
-    (λ g. row-choice P (ltb 8 lv) 55 _ _ _ (λ d. fault-here w 55 refl)
+    choice P (not (isKind wordKind t)) _ _ (λ e. fault-here w 51 refl)
+    (λ e. choice P (not (goodName (bytesOf s t))) _ _ (λ f. fault-here w 53 refl)
+    (λ f. choice P (leb 128 n) _ _ (λ g. fault-here w 55 refl)
+    (λ g. choice P (ltb 8 lv) _ _ (λ d. fault-here w 55 refl)
     (λ d.
     let k : t .kind ≡ wordKind = eqb-true (t .kind) wordKind (not-f (isKind wordKind t) e) in
     let l = w .within .filled k in (
@@ -208,13 +201,13 @@ named-heads {s} {a} {t} w lv par n =
       },
     )))))
 
-onward-heads : (s : List ℕ) (a lv par n : ℕ) (p : Part) (f : Section → Token → Part) → Heads s a lv par n p
+onward-heads : (s : List ℕ) (a lv par n : ℕ) (p : HeadPart) (f : Section → Token → HeadPart) → Heads s a lv par n p
     → ((h : Section) (u : Token) → From s a u → Keeps s (u .start) h (f h u)) → Heads s a lv par n (onward p f)
-onward-heads s a lv par n (Fault m p) f w g = w
+onward-heads s a lv par n (Fault r p) f w g = w
 onward-heads s a lv par n (Read h u) f w g = go (f h u) (g h u (w .0))
   where
-    go : (p : Part) → Keeps s (u .start) h p → Heads s a lv par n p
-    go (Fault m p) x = x
+    go : (p : HeadPart) → Keeps s (u .start) h p → Heads s a lv par n p
+    go (Fault r p) x = x
     go (Read k v) x =
         let o = w .0 in
         let q = x .1 in

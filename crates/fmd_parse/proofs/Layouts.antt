@@ -17,7 +17,8 @@ use Rattle.fmd_table.proofs.Table.{length-sections, no-sections}
 use Rattle.fmd_head.specs.Heads.{headAt}
 use Rattle.fmd_parse.specs.Layouts.{Parsed, sectionFrom, listFrom}
 use Rattle.fmd_parse.specs.Invariants.{stepOf, StepIn, SectionRead, ListRead}
-use Rattle.fmd_head.specs.declared.Part.the-variants.{Read, Fault}
+use Rattle.fmd_head.specs.declared.Refusal.{Refusal}
+use Rattle.fmd_head.specs.declared.HeadPart.the-variants.{Read, Fault}
 use Rattle.fmd_parse.specs.declared.Step.{Step}
 use Rattle.fmd_parse.specs.declared.Step.the-variants.{Onward, Stopped}
 
@@ -41,7 +42,7 @@ parent-next (inr e) = inr (omega arith)
 
 -- n rows of the table old before
 module _ {s : List ℕ} {t : Token} {lv par : ℕ} (n : ℕ) (old : List ℕ) where
-  pub section-stopped : {k p : ℕ} {rows : List ℕ} → headAt s t lv par n ≡ Fault k p → SectionRead s t lv par (sectionsIn n old) rows (Stopped k p)
+  pub section-stopped : {k : Refusal} {p : ℕ} {rows : List ℕ} → headAt s t lv par n ≡ Fault k p → SectionRead s t lv par (sectionsIn n old) rows (Stopped k p)
   unfolding sectionFrom
   section-stopped {k} {p} {rows} e = record { within = tt; same = same }
     where
@@ -71,7 +72,7 @@ module _ {s : List ℕ} {t : Token} {lv par : ℕ} (n : ℕ) (old : List ℕ) wh
         same (suc f) m = rw (length-sections n old, e, eq-eqb (u .kind) 123 k, sym z, sym q) (o .same f (omega arith))
 
 module _ {s : List ℕ} {t : Token} {lv par : ℕ} {l : List Section} {new : List ℕ} {o : Step} (h : SectionRead s t lv par l new o) where
-  pub list-stopped : {k p : ℕ} → o ≡ Stopped k p → ListRead s t lv par l new (Stopped k p)
+  pub list-stopped : {k : Refusal} {p : ℕ} → o ≡ Stopped k p → ListRead s t lv par l new (Stopped k p)
   unfolding listFrom
   list-stopped {k} {p} e = record { within = tt; same = same }
     where

@@ -16,26 +16,25 @@ use Rattle.fmd_head.specs.Heads.{next, isKind, amountAt, onward, namedAt, marke
 use Rattle.fmd_table.specs.declared.Section.{Section}
 use Rattle.fmd_head.specs.declared.Amount.{Amount}
 use Rattle.fmd_head.specs.declared.Amount.the-variants.{Counted, Uncounted}
-use Rattle.fmd_head.specs.declared.Part.{Part}
-use Rattle.fmd_head.specs.declared.Part.the-variants.{Read, Fault}
-use Rattle.fmd_parse.proofs.Kept.{row-choice}
+use Rattle.fmd_head.specs.declared.HeadPart.{HeadPart}
+use Rattle.fmd_head.specs.declared.HeadPart.the-variants.{Read, Fault}
 
-abbrev Of : ℕ → Part → Type 0
+abbrev Of : ℕ → HeadPart → Type 0
 Of par (Read h u) = h .parent ≡ par
-Of par (Fault n p) = Unit {0}
+Of par (Fault r p) = Unit {0}
 
-onward-of : (par : ℕ) (p : Part) (f : Section → Token → Part) → Of par p → ((h : Section) (u : Token) → h .parent ≡ par → Of par (f h u)) → Of par (onward p f)
+onward-of : (par : ℕ) (p : HeadPart) (f : Section → Token → HeadPart) → Of par p → ((h : Section) (u : Token) → h .parent ≡ par → Of par (f h u)) → Of par (onward p f)
 onward-of par (Read h u) f e g = g h u e
-onward-of par (Fault n p) f e g = tt
+onward-of par (Fault r p) f e g = tt
 
 module _ (par : ℕ) (s : List ℕ) (t : Token) where
   offset-by : (h : Section) → h .parent ≡ par → (m : Amount) → Of par (withOffset h m)
   offset-by h e (Counted n u) = e
-  offset-by h e (Uncounted k p) = tt
+  offset-by h e (Uncounted r p) = tt
 
   size-by : (h : Section) → h .parent ≡ par → (m : Amount) → Of par (withSize h m)
   size-by h e (Counted n u) = e
-  size-by h e (Uncounted k p) = tt
+  size-by h e (Uncounted r p) = tt
 
   mark-by : (h : Section) → h .parent ≡ par → (f : Flag) → Of par (marked s t h f)
   mark-by h e Cbfs = choice (Of par) (h .cbfs) _ _ (λ q. tt) (λ q. e)
@@ -63,10 +62,10 @@ module _ (par : ℕ) (s : List ℕ) (t : Token) where
   named-of : (lv n : ℕ) → Of par (namedAt s t lv par n)
   unfolding namedAt
   named-of lv n =
-      row-choice (Of par) (not (isKind wordKind t)) 51 _ _ _ (λ e. tt)
-      (λ e. row-choice (Of par) (not (goodName (bytesOf s t))) 53 _ _ _ (λ f. tt)
-      (λ f. row-choice (Of par) (leb 128 n) 55 _ _ _ (λ g. tt)
-      (λ g. row-choice (Of par) (ltb 8 lv) 55 _ _ _ (λ d. tt) (λ d. refl))))
+      choice (Of par) (not (isKind wordKind t)) _ _ (λ e. tt)
+      (λ e. choice (Of par) (not (goodName (bytesOf s t))) _ _ (λ f. tt)
+      (λ f. choice (Of par) (leb 128 n) _ _ (λ g. tt)
+      (λ g. choice (Of par) (ltb 8 lv) _ _ (λ d. tt) (λ d. refl))))
 
 module _ (par : ℕ) (s : List ℕ) (t : Token) where
   other-of : (h : Section) → h .parent ≡ par → Of par (otherAt s t h)

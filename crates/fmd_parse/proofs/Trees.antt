@@ -3,7 +3,6 @@ use mathlib.Core.Path.{_≡_, refl, sym, ap, _∙_}
 use mathlib.Core.Logic.{inl, inr}
 use mathlib.Core.Bool.{Bool, true, false, not}
 use mathlib.Core.List.{List, [], _∷_, _++_}
-use mathlib.Core.Option.{none}
 use Prim.Native.Nat.{ℕ, zero, suc, _+_, _*_, _-_, _≤_, _<_}
 use native.Mathlib.Nat.{not-suc-le-zero}
 use native.Mathlib.Omega.{arith}
@@ -16,20 +15,22 @@ use Rattle.octets.proofs.Bools.{choice, not-f, and-l, and-r}
 use Rattle.fmd_lex.specs.Tokens.{endKind, wordKind, tokenAt, bytesOf}
 use Rattle.fmd_lex.specs.Names.{goodName}
 use Rattle.fmd_lex.specs.declared.Token.{Token}
+use Rattle.fmd_head.specs.Refusals.{numberOf}
 use Rattle.fmd_head.specs.Heads.{next, isKind, amountAt, headAt}
 use Rattle.fmd_head.specs.Images.{onward, titleAt, withAddress, addressAt, withLength, lengthAt, openAt, imageAt}
 use Rattle.fmd_parse.specs.Layouts.{Parsed, fault, parsed, afterHead, afterSection, sectionFrom, listFrom, afterImage, afterList, endedBy, layoutOf}
 use Rattle.fmd_parse.specs.Trees.{Named, blank, Under, Standing, Tree, AddressFits, Imaged, LayoutFacts}
 use Rattle.fmd_table.specs.declared.Section.{Section}
-use Rattle.fmd_head.specs.declared.Part.{Part}
-use Rattle.fmd_head.specs.declared.Part.the-variants.{Read, Fault}
+use Rattle.fmd_head.specs.declared.Refusal.{Refusal}
+use Rattle.fmd_head.specs.declared.HeadPart.{HeadPart}
+use Rattle.fmd_head.specs.declared.HeadPart.the-variants.{Read, Fault}
 use Rattle.fmd_head.specs.declared.Amount.{Amount}
 use Rattle.fmd_head.specs.declared.Amount.the-variants.{Counted, Uncounted}
-use Rattle.fmd_head.specs.declared.Image.{Image}
+use Rattle.fmd_head.specs.declared.TextImage.{TextImage}
 use Rattle.fmd_head.specs.declared.Heading.{Heading}
 use Rattle.fmd_head.specs.declared.Heading.the-variants.{Read as ReadImage, Fault as FaultImage}
 use Rattle.fmd_parse.proofs.Kept.{From, token-from, from-earlier, own-from, Faulty, next-from, fault-here, name-here, AmountFrom, amount-from}
-use Rattle.fmd_parse.proofs.Kept.{Headed, Heads, row-choice, head-heads}
+use Rattle.fmd_parse.proofs.Kept.{Headed, Heads, head-heads}
 
 -- ---- a list that grows
 
@@ -113,9 +114,9 @@ facts-on : (s : List ℕ) (l m : List Section) (a b : ℕ) (p : Parsed) → Grow
 facts-on s l m a b (fault n p) g o w = w
 facts-on s l m a b (parsed k u) g o w = (from-earlier (w .0) o, w .1, grown-on g (w .2))
 
-after-head : (s : List ℕ) (l : List Section) (a lv par : ℕ) (p : Part) (f : Section → Token → Parsed) → Heads s a lv par (length l) p
+after-head : (s : List ℕ) (l : List Section) (a lv par : ℕ) (p : HeadPart) (f : Section → Token → Parsed) → Heads s a lv par (length l) p
     → ((h : Section) (u : Token) → From s a u → Headed s lv par (length l) h → Facts s l a (f h u)) → Facts s l a (afterHead p f)
-after-head s l a lv par (Fault n p) f w g = w
+after-head s l a lv par (Fault r p) f w g = w
 after-head s l a lv par (Read h u) f w g = g h u (w .0) (w .1)
 
 after-section : (s : List ℕ) (l : List Section) (a : ℕ) (p : Parsed) (f : List Section → Token → Parsed) → Facts s l a p
@@ -156,21 +157,21 @@ mutual
 
 abbrev Titled : List ℕ → Heading → Type 0
 Titled s (ReadImage i u) = From s 0 u × Named s (i .place) (i .length) × AddressFits (i .address)
-Titled s (FaultImage n p) = Faulty s n p
+Titled s (FaultImage r p) = Faulty s (numberOf r) p
 
 abbrev Measured : List ℕ → Heading → Type 0
 Measured s (ReadImage i u) = From s 0 u × Imaged s i
-Measured s (FaultImage n p) = Faulty s n p
+Measured s (FaultImage r p) = Faulty s (numberOf r) p
 
 module _ {s : List ℕ} {a : ℕ} {t : Token} (w : From s a t) where
   title-facts : Titled s (titleAt s t)
   unfolding titleAt _or_
   title-facts =
-      row-choice (Titled s) (not (isKind wordKind t)) 51 _ _ _ (λ e. fault-here w 51 refl)
-      (λ e. row-choice (Titled s) (not (goodName (bytesOf s t))) 53 _ _ _ (λ f. fault-here w 53 refl)
+      choice (Titled s) (not (isKind wordKind t)) _ _ (λ e. fault-here w 51 refl)
+      (λ e. choice (Titled s) (not (goodName (bytesOf s t))) _ _ (λ f. fault-here w 53 refl)
       (λ f. (from-earlier (next-from w) (omega arith), name-here w (eqb-true (t .kind) wordKind (not-f (isKind wordKind t) e)) (not-f _ f), tt)))
 
-  module _ (i : Image) (d : Named s (i .place) (i .length)) (f : AddressFits (i .address)) where
+  module _ (i : TextImage) (d : Named s (i .place) (i .length)) (f : AddressFits (i .address)) where
     address-facts : Titled s (addressAt s t i)
     unfolding addressAt
     address-facts =
@@ -179,7 +180,7 @@ module _ {s : List ℕ} {a : ℕ} {t : Token} (w : From s a t) where
       where
         by-amount : (m : Amount) → AmountFrom s (next s t .end) m → Titled s (withAddress i m)
         by-amount (Counted n u) v = (from-earlier (v .0) (omega arith), d, v .1)
-        by-amount (Uncounted k p) v = v
+        by-amount (Uncounted r p) v = v
 
     length-facts : Measured s (lengthAt s t i)
     unfolding lengthAt _or_
@@ -199,22 +200,22 @@ module _ {s : List ℕ} {a : ℕ} {t : Token} (w : From s a t) where
               },
             ))
             (λ e. fault-here w 52 refl)
-        by-amount (Uncounted k p) v = v
+        by-amount (Uncounted r p) v = v
 
-  open-facts : (i : Image) → Imaged s i → Measured s (openAt s t i)
+  open-facts : (i : TextImage) → Imaged s i → Measured s (openAt s t i)
   unfolding openAt _or_
   open-facts i d = choice (Measured s) (isKind 123 t) _ _ (λ e. (from-earlier (next-from w) (omega arith), d)) (λ e. fault-here w 51 refl)
 
-titled-on : (s : List ℕ) (P : Heading → Type 0) (p : Heading) (f : Image → Token → Heading) → Titled s p
-    → ((n k : ℕ) → Faulty s n k → P (FaultImage n k)) → ((i : Image) (u : Token) → From s 0 u → Named s (i .place) (i .length) → AddressFits (i .address) →
+titled-on : (s : List ℕ) (P : Heading → Type 0) (p : Heading) (f : TextImage → Token → Heading) → Titled s p
+    → ((r : Refusal) (k : ℕ) → Faulty s (numberOf r) k → P (FaultImage r k)) → ((i : TextImage) (u : Token) → From s 0 u → Named s (i .place) (i .length) → AddressFits (i .address) →
     P (f i u)) → P (onward p f)
 titled-on s P (ReadImage i u) f w k g = g i u (w .0) (w .1) (w .2)
-titled-on s P (FaultImage n p) f w k g = k n p w
+titled-on s P (FaultImage r p) f w k g = k r p w
 
-measured-on : (s : List ℕ) (p : Heading) (f : Image → Token → Heading) → Measured s p
-    → ((i : Image) (u : Token) → From s 0 u → Imaged s i → Measured s (f i u)) → Measured s (onward p f)
+measured-on : (s : List ℕ) (p : Heading) (f : TextImage → Token → Heading) → Measured s p
+    → ((i : TextImage) (u : Token) → From s 0 u → Imaged s i → Measured s (f i u)) → Measured s (onward p f)
 measured-on s (ReadImage i u) f w g = g i u (w .0) (w .1)
-measured-on s (FaultImage n p) f w g = w
+measured-on s (FaultImage r p) f w g = w
 
 image-facts : {s : List ℕ} {a : ℕ} {t : Token} → From s a t → Measured s (imageAt s t)
 unfolding imageAt
@@ -233,13 +234,13 @@ layout-facts s = by-image (imageAt s (tokenAt s 0)) (image-facts (token-from s 0
     none : Tree s []
     none = record { room = omega arith; each = λ k q. absurd (not-suc-le-zero q) }
 
-    by-list : (i : Image) (a : ℕ) → Imaged s i → (p : Parsed) → Facts s [] a p → LayoutFacts s (afterList p (endedBy i))
+    by-list : (i : TextImage) (a : ℕ) → Imaged s i → (p : Parsed) → Facts s [] a p → LayoutFacts s (afterList p (endedBy i))
     by-list i a d (fault n p) w = w
     by-list i a d (parsed l u) w =
         choice (LayoutFacts s) (isKind endKind u) _ _ (λ e. (d, w .1, w .2 .longer)) (λ e. fault-here (w .0) 51 refl)
 
     by-image : (p : Heading) → Measured s p → LayoutFacts s (afterImage p (λ i t. afterList (listFrom (2 * length s + 2) s t 1 128 []) (endedBy i)))
-    by-image (FaultImage n p) w = w
+    by-image (FaultImage r p) w = w
     by-image (ReadImage i t) w =
         by-list i (t .start + 1) (w .1) (listFrom (2 * length s + 2) s t 1 128 [])
         (list-facts (2 * length s + 2) s 0 t 1 128 [] (omega arith) (w .0) (omega arith) (inl (refl, refl)) none)

@@ -8,23 +8,24 @@ use Rattle.fmd_lex.specs.declared.Token.{Token}
 use Rattle.fmd_table.specs.Table.{sectionsIn}
 use Rattle.fmd_table.specs.Invariants.{IsParent, Linked}
 use Rattle.fmd_table.specs.declared.Section.{Section}
+use Rattle.fmd_head.specs.Refusals.{numberOf}
 use Rattle.fmd_parse.specs.Layouts.{Parsed, fault, parsed, sectionFrom, listFrom}
 use Rattle.fmd_parse.specs.declared.Step.{Step}
 use Rattle.fmd_parse.specs.declared.Step.the-variants.{Onward, Stopped}
-use Rattle.fmd_parse.specs.declared.Answer.{Answer}
-use Rattle.fmd_parse.specs.declared.Answer.the-variants.{Accepted, Refused}
+use Rattle.fmd_parse.specs.declared.LayoutAnswer.{LayoutAnswer}
+use Rattle.fmd_parse.specs.declared.LayoutAnswer.the-variants.{Accepted, Refused}
 
 -- ---- the two readers that call each other: the sections l before, the table rows after
 
 -- what a step says
 abbrev pub stepOf : Step → List ℕ → Parsed
 stepOf (Onward u n) rows = parsed (sectionsIn n rows) u
-stepOf (Stopped n p) rows = fault n p
+stepOf (Stopped r p) rows = fault (numberOf r) p
 
 -- and the sections are linked; par is still a parent that a further one may have
 abbrev pub StepIn : ℕ → ℕ → ℕ → List ℕ → Step → Type 0
 StepIn n at par rows (Onward u k) = Within n at u × IsParent k par × Linked k rows
-StepIn n at par rows (Stopped k p) = Unit {0}
+StepIn n at par rows (Stopped r p) = Unit {0}
 
 pub record SectionRead (s : List ℕ) (t : Token) (lv par : ℕ) (l : List Section) (rows : List ℕ) (r : Step) : Type 0 where
   pub within : StepIn (length s) (t .start + 1) par rows r
@@ -37,6 +38,6 @@ pub record ListRead (s : List ℕ) (t : Token) (lv par : ℕ) (l : List Section)
 -- ---- the whole text
 
 -- the sections are linked
-abbrev pub AnswerIn : List ℕ → Answer → Type 0
+abbrev pub AnswerIn : List ℕ → LayoutAnswer → Type 0
 AnswerIn rows (Accepted i n) = Linked n rows
-AnswerIn rows (Refused n p) = Unit {0}
+AnswerIn rows (Refused r p) = Unit {0}

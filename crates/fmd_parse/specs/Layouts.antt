@@ -7,27 +7,28 @@ use lib.ListN.{length}
 use Rattle.fmd_lex.specs.Tokens.{endKind, tokenAt}
 use Rattle.fmd_lex.specs.declared.Token.{Token}
 use Rattle.fmd_table.specs.Table.{sectionsIn}
+use Rattle.fmd_head.specs.Refusals.{numberOf}
 use Rattle.fmd_head.specs.Heads.{next, isKind, headAt}
 use Rattle.fmd_head.specs.Images.{imageAt}
 use Rattle.fmd_table.specs.declared.Section.{Section}
-use Rattle.fmd_head.specs.declared.Part.{Part}
-use Rattle.fmd_head.specs.declared.Part.the-variants.{Read, Fault}
-use Rattle.fmd_head.specs.declared.Image.{Image}
+use Rattle.fmd_head.specs.declared.HeadPart.{HeadPart}
+use Rattle.fmd_head.specs.declared.HeadPart.the-variants.{Read, Fault}
+use Rattle.fmd_head.specs.declared.TextImage.{TextImage}
 use Rattle.fmd_head.specs.declared.Heading.{Heading}
 use Rattle.fmd_head.specs.declared.Heading.the-variants.{Read as ReadImage, Fault as FaultImage}
-use Rattle.fmd_parse.specs.declared.Answer.{Answer}
-use Rattle.fmd_parse.specs.declared.Answer.the-variants.{Accepted, Refused}
+use Rattle.fmd_parse.specs.declared.LayoutAnswer.{LayoutAnswer}
+use Rattle.fmd_parse.specs.declared.LayoutAnswer.the-variants.{Accepted, Refused}
 
 -- ---- sections
 
--- the sections so far, in the text's order, and the token after them; or the first fault
+-- the sections so far, in the text's order, and the token after them; or the first fault: its number and its place
 pub data Parsed : Type 0 where
   fault : ℕ → ℕ → Parsed
   parsed : List Section → Token → Parsed
 
-abbrev pub afterHead : Part → (Section → Token → Parsed) → Parsed
+abbrev pub afterHead : HeadPart → (Section → Token → Parsed) → Parsed
 afterHead (Read h t) k = k h t
-afterHead (Fault n p) k = fault n p
+afterHead (Fault r p) k = fault (numberOf r) p
 
 abbrev pub afterSection : Parsed → (List Section → Token → Parsed) → Parsed
 afterSection (fault n p) k = fault n p
@@ -56,18 +57,18 @@ unfoldable mutual
 -- its image and its sections, or its first fault: R33
 pub data Layout : Type 0 where
   refused : ℕ → ℕ → Layout
-  layout : Image → List Section → Layout
+  layout : TextImage → List Section → Layout
 
-abbrev pub afterImage : Heading → (Image → Token → Layout) → Layout
+abbrev pub afterImage : Heading → (TextImage → Token → Layout) → Layout
 afterImage (ReadImage i t) k = k i t
-afterImage (FaultImage n p) k = refused n p
+afterImage (FaultImage r p) k = refused (numberOf r) p
 
 abbrev pub afterList : Parsed → (List Section → Token → Layout) → Layout
 afterList (fault n p) k = refused n p
 afterList (parsed l t) k = k l t
 
 -- L10: After the last brace only blanks and comments.
-abbrev pub endedBy : Image → List Section → Token → Layout
+abbrev pub endedBy : TextImage → List Section → Token → Layout
 endedBy i l u = cond (isKind endKind u) (layout i l) (refused 51 (u .start))
 
 -- L1: An image: .., braces.
@@ -78,6 +79,6 @@ layoutOf s =
 
 -- ---- what the answer says, with the table that was lent
 
-abbrev pub answerOf : Answer → List ℕ → Layout
+abbrev pub answerOf : LayoutAnswer → List ℕ → Layout
 answerOf (Accepted i n) rows = layout i (sectionsIn n rows)
-answerOf (Refused n p) rows = refused n p
+answerOf (Refused r p) rows = refused (numberOf r) p

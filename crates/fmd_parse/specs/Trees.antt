@@ -16,7 +16,7 @@ use Rattle.fmd_table.specs.declared.Size.the-variants.{Given as GivenSize}
 use Rattle.fmd_head.specs.declared.Address.{Address}
 use Rattle.fmd_head.specs.declared.Address.the-variants.{Given, Omitted}
 use Rattle.fmd_table.specs.declared.Section.{Section}
-use Rattle.fmd_head.specs.declared.Image.{Image}
+use Rattle.fmd_head.specs.declared.TextImage.{TextImage}
 
 -- R33: the first fault in the text (51, 52, 53, 55, unknown or repeated flag 56)
 abbrev pub Numbered : ℕ → Type 0
@@ -53,7 +53,7 @@ AddressFits (Given a) = a ≤ 4294967295
 AddressFits Omitted = Unit {0}
 
 -- L1: size (an image length in range); Q4: A flash image is 98 to 16,777,216 bytes.
-pub record Imaged (s : List ℕ) (i : Image) : Type 0 where
+pub record Imaged (s : List ℕ) (i : TextImage) : Type 0 where
   pub named : Named s (i .place) (i .length)
   pub address : AddressFits (i .address)
   pub low : 98 ≤ i .size

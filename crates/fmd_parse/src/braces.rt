@@ -7,7 +7,7 @@ ghost use Rattle.fmd_table.specs.Table.{sectionsIn, HasRows};
 ghost use Rattle.fmd_table.specs.Invariants.{IsParent, Linked};
 ghost use Rattle.fmd_parse.specs.Invariants.{SectionRead, ListRead};
 use super::Step;
-use fmd_head::Part;
+use fmd_head::HeadPart;
 use fmd_head::section::head_at;
 use fmd_lex::CLOSE;
 use fmd_lex::OPEN;
@@ -21,7 +21,7 @@ fn read_section(text: &[u8], t: Token, level: u32, parent: u32, rows: &mut [u32]
     ensures { λ r. ⌜ SectionRead (now (text .entry)) t level parent (sectionsIn n (now (rows .entry))) (now (rows .exit)) r ⌝ }
 {
     match head_at(text, t, level, parent, n) {
-        Part::Read(h, u) => {
+        HeadPart::Read(h, u) => {
             fmd_table::push(rows, n, h);
             let more = n + 1;
             if u.kind != OPEN {
@@ -31,7 +31,7 @@ fn read_section(text: &[u8], t: Token, level: u32, parent: u32, rows: &mut [u32]
             let v = next_token(text, u.end);
             read_list(text, v, level + 1, own, rows, more)
         }
-        Part::Fault(k, p) => Step::Stopped(k, p),
+        HeadPart::Fault(k, p) => Step::Stopped(k, p),
     }
 }
 

@@ -8,42 +8,43 @@ ghost use Rattle.fmd_table.specs.Table.{HasRows};
 ghost use Rattle.fmd_parse.specs.Layouts.{answerOf, afterList, endedBy, layoutOf};
 ghost use Rattle.fmd_parse.specs.Invariants.{stepOf, StepIn, AnswerIn};
 use fmd_head::Heading;
-use fmd_head::Image;
+use fmd_head::Refusal;
+use fmd_head::TextImage;
 use fmd_lex::Token;
 use fmd_lex::next_token;
 
 mod braces; // braces.rt: a section, and the sections in braces
 
-// The token after what was read, and how many sections the table then has; or a fault's number and place.
+// The token after what was read, and how many sections the table then has; or a fault and its place.
 pub enum Step {
     Onward(Token, usize),
-    Stopped(u16, usize),
+    Stopped(Refusal, usize),
 }
 
-// The image, and how many sections the table has; or the first fault's number and place.
-pub enum Answer {
-    Accepted(Image, usize),
-    Refused(u16, usize),
+// The image, and how many sections the table has; or the first fault and its place.
+pub enum LayoutAnswer {
+    Accepted(TextImage, usize),
+    Refused(Refusal, usize),
 }
 
 // After the last brace.
-fn ended(i: Image, o: Step) -> Answer
+fn ended(i: TextImage, o: Step) -> LayoutAnswer
     ensures { λ r. ⌜ ((rows : List ℕ) → answerOf r rows ≡ afterList (stepOf o rows) (endedBy i)) ⌝ }
     ensures linked { λ r. ⌜ ((rows : List ℕ) (n at par : ℕ) → StepIn n at par rows o → AnswerIn rows r) ⌝ }
 {
     match o {
         Step::Onward(u, n) => {
             if u.kind == fmd_lex::END {
-                return Answer::Accepted(i, n);
+                return LayoutAnswer::Accepted(i, n);
             }
-            Answer::Refused(51, u.start)
+            LayoutAnswer::Refused(Refusal::OutOfGrammar, u.start)
         }
-        Step::Stopped(k, p) => Answer::Refused(k, p),
+        Step::Stopped(k, p) => LayoutAnswer::Refused(k, p),
     }
 }
 
 // Image and sections of a layout text, or its first fault.
-pub fn read_layout(text: &[u8], rows: &mut [u32]) -> Answer
+pub fn read_layout(text: &[u8], rows: &mut [u32]) -> LayoutAnswer
     requires { ⌜ (length (now text) ≤ 32768) × HasRows 129 (now rows) ⌝ }
     ensures { λ r. ⌜ answerOf r (now (rows .exit)) ≡ layoutOf (now (text .entry)) ⌝ }
     ensures linked { λ r. ⌜ AnswerIn (now (rows .exit)) r ⌝ }
@@ -55,6 +56,6 @@ pub fn read_layout(text: &[u8], rows: &mut [u32]) -> Answer
             let o = braces::read_list(text, u, 1, 128, rows, 0);
             ended(i, o)
         }
-        Heading::Fault(k, p) => Answer::Refused(k, p),
+        Heading::Fault(k, p) => LayoutAnswer::Refused(k, p),
     }
 }

@@ -1,7 +1,6 @@
 -- Samples 7 and 8.
 use mathlib.Core.Path.{refl}
 use Rattle.octets.specs.Tests.{_and_, _or_}
-use Rattle.octets.specs.Rows.{pickRow}
 use Rattle.octets.specs.Bytes.{part}
 use Rattle.text_words.specs.Classes.{isBlank, isDigit, digitOf}
 use Rattle.text_words.specs.Numerals.{upTo, digitsFrom, someDigits, afterZero, numeralOf}
@@ -15,9 +14,9 @@ use Rattle.fmd_parse.specs.Layouts.{sectionFrom, listFrom, layoutOf}
 use Rattle.starred.specs.Starred.{Sample7, Sample8}
 
 pub sample7 : Sample7
-unfolding layoutOf imageAt titleAt addressAt lengthAt openAt listFrom sectionFrom headAt namedAt flagsAt offsetAt sizeAt amountAt numberOf scaled capped numeralOf someDigits digitsFrom upTo digitOf goodName isDigit tokenAt tokenHere skipFrom wordFrom isBlank isSign isWord part pickRow _and_ _or_
+unfolding layoutOf imageAt titleAt addressAt lengthAt openAt listFrom sectionFrom headAt namedAt flagsAt offsetAt sizeAt amountAt numberOf scaled capped numeralOf someDigits digitsFrom upTo digitOf goodName isDigit tokenAt tokenHere skipFrom wordFrom isBlank isSign isWord part _and_ _or_
 sample7 = refl
 
 pub sample8 : Sample8
-unfolding layoutOf imageAt titleAt addressAt lengthAt openAt listFrom sectionFrom headAt namedAt flagsAt offsetAt sizeAt amountAt numberOf scaled capped numeralOf afterZero someDigits digitsFrom upTo digitOf goodName isDigit tokenAt tokenHere skipFrom wordFrom isBlank isSign isWord part pickRow _and_ _or_
+unfolding layoutOf imageAt titleAt addressAt lengthAt openAt listFrom sectionFrom headAt namedAt flagsAt offsetAt sizeAt amountAt numberOf scaled capped numeralOf afterZero someDigits digitsFrom upTo digitOf goodName isDigit tokenAt tokenHere skipFrom wordFrom isBlank isSign isWord part _and_ _or_
 sample8 = (refl, refl)

@@ -17,7 +17,7 @@ use Rattle.gpt_model.specs.Claims.{Formats}
 use Rattle.guid.specs.Calls.{readTypeOf}
 use Rattle.fmd_parse.specs.Layouts.{layout, refused as refusedText, layoutOf}
 use Rattle.fmd_head.specs.declared.Address.the-variants.{Omitted}
-use Rattle.fmd_head.specs.declared.Image.{Image}
+use Rattle.fmd_head.specs.declared.TextImage.{TextImage}
 use Rattle.fmd_table.specs.declared.Offset.the-variants.{Omitted as OmittedOffset}
 use Rattle.fmd_table.specs.declared.Size.{Size}
 use Rattle.fmd_table.specs.declared.Size.the-variants.{Given as GivenSize, Omitted as OmittedSize}
@@ -94,7 +94,7 @@ Sample6 =
     }
 
 -- the image I of 98 bytes, its name at the text's start
-abbrev pub image : Image
+abbrev pub image : TextImage
 image = record { address = Omitted; size = 98; place = 0; length = 1 }
 
 -- a section of level 1 with a name of one byte at place p

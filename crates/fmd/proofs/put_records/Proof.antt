@@ -1,11 +1,7 @@
 use Rattle.fmd.proofs.Records.{records-wrong, records-good, records-fault}
-use Rattle.fmd.proofs.Layouts.{held, numbered, laid, named, read-is}
-use Rattle.fmd.specs.Calls.{Read, blank}
+use Rattle.fmd.proofs.Layouts.{held, laid, named, read-is}
 use Rattle.fmd_areas.proofs.Listed.{few}
 use native.Mathlib.Omega.{arith}
-use Prim.Native.Nat.{ℕ}
-use mathlib.Core.Option.{Option}
-use mathlib.Core.Path.{sym, ap, _∙_}
 use borrow.Author.Needs.{needs}
 use Rattle.fmd.proofs.put_records.Statement.{statement}
 use Rattle.fmd.proofs.put_records.Tie as tie
@@ -41,11 +37,8 @@ put-areas-requires c κs = let w = laid (held _ _ _ _ _ _ (search needs) (search
 image-of-requires : tie.Need-image-of-requires
 image-of-requires c κs = named (held _ _ _ _ _ _ (search needs) (search needs) (rw (c .before .before .before .before .before .before .before .i .given .1) at (c .before .before .before .before .before .before .before .before .before .before .before .check .ensures)))
 
-enum-known-k : tie.Need-enum-known-k
-enum-known-k c = search needs
-
-answer-of-requires : tie.Need-answer-of-requires
-answer-of-requires c κs = numbered _ _ _ (rw (c .before .k .given .1) at (c .before .before .before .before .before .check .ensures))
+enum-known-r : tie.Need-enum-known-r
+enum-known-r c = search needs
 
 unread-requires-2 : tie.Need-unread-requires-2
 unread-requires-2 c κs = search needs
@@ -57,7 +50,7 @@ returns-2 : tie.Need-returns-2
 returns-2 c = records-good _ _ (c .before .before .before .before .before .before .before .before .before .before .before .before .before .before .before .if1 .left) _ (rw (c .before .before .before .before .before .before .before .before .i .given .1) at (c .before .before .before .before .before .before .before .before .before .before .before .before .check .ensures)) _ _ (read-is (held _ _ _ _ _ _ (search needs) (search needs) (rw (c .before .before .before .before .before .before .before .before .i .given .1) at (c .before .before .before .before .before .before .before .before .before .before .before .before .check .ensures))) (c .image-of .ensures)) (c .before .before .before .put-areas .ensures)
 
 returns-3 : tie.Need-returns-3
-returns-3 c = records-fault _ _ (c .before .before .before .before .before .before .before .before .before .before .if1 .left) _ _ (rw (c .before .before .before .k .given .1) at (c .before .before .before .before .before .before .before .check .ensures)) _ (c .unread2 .ensures ∙ ap {B = Read} (λ (a : Option ℕ). record { answer = a; image = blank }) (c .before .answer-of .ensures))
+returns-3 c = records-fault _ _ (c .before .before .before .before .before .before .before .before .before .if1 .left) _ _ (rw (c .before .before .r .given .1) at (c .before .before .before .before .before .before .check .ensures)) _ (c .unread2 .ensures)
 
 pub put-records-spec : {M : Type 1} → statement M
 put-records-spec =
@@ -73,8 +66,7 @@ put-records-spec =
     slice-aggregate-put-areas-2
     put-areas-requires
     image-of-requires
-    enum-known-k
-    answer-of-requires
+    enum-known-r
     unread-requires-2
     same-length
     returns-2

@@ -1,8 +1,6 @@
-use Rattle.fmd.proofs.Layouts.{held, numbered, named, read-is}
-use Rattle.fmd.specs.Calls.{Read, blank, layoutIn, readText}
-use Prim.Native.Nat.{ℕ}
-use mathlib.Core.Option.{Option}
-use mathlib.Core.Path.{sym, ap, _∙_}
+use Rattle.fmd.proofs.Layouts.{held, named, read-is}
+use Rattle.fmd.specs.Calls.{layoutIn, readText}
+use mathlib.Core.Path.{sym}
 use borrow.Author.Needs.{needs}
 use Rattle.fmd.proofs.read.Statement.{statement}
 use Rattle.fmd.proofs.read.Tie as tie
@@ -22,11 +20,8 @@ enum-known-i c = search needs
 image-of-requires : tie.Need-image-of-requires
 image-of-requires c κs = named (held _ _ _ _ _ _ (search needs) (search needs) (rw (c .before .i .given .1) at (c .before .before .before .before .before .check .ensures)))
 
-enum-known-k : tie.Need-enum-known-k
-enum-known-k c = search needs
-
-answer-of-requires : tie.Need-answer-of-requires
-answer-of-requires c κs = numbered _ _ _ (rw (c .before .k .given .1) at (c .before .before .before .before .before .check .ensures))
+enum-known-r : tie.Need-enum-known-r
+enum-known-r c = search needs
 
 unread-requires : tie.Need-unread-requires
 unread-requires c κs = search needs
@@ -37,7 +32,7 @@ returns c = rw (sym (rw (c .before .before .i .given .1) at (c .before .before .
 
 returns-2 : tie.Need-returns-2
 unfolding readText layoutIn
-returns-2 c = rw (sym (rw (c .before .before .before .k .given .1) at (c .before .before .before .before .before .before .before .check .ensures))) (c .unread .ensures ∙ ap {B = Read} (λ (a : Option ℕ). record { answer = a; image = blank }) (c .before .answer-of .ensures))
+returns-2 c = rw (sym (rw (c .before .before .r .given .1) at (c .before .before .before .before .before .before .check .ensures))) (c .unread .ensures)
 
 pub read-spec : {M : Type 1} → statement M
 read-spec =
@@ -48,8 +43,7 @@ read-spec =
     check-requires
     enum-known-i
     image-of-requires
-    enum-known-k
-    answer-of-requires
+    enum-known-r
     unread-requires
     returns
     returns-2)

@@ -1,8 +1,4 @@
-use Rattle.fmd.proofs.Layouts.{held, numbered, named, counted, counted-none, wrong-places, text-fault}
-use Rattle.fmd.specs.Calls.{Read, blank}
-use mathlib.Core.Option.{Option}
-use mathlib.Core.Path.{ap, _∙_}
-use Prim.Native.Nat.{ℕ}
+use Rattle.fmd.proofs.Layouts.{held, named, counted, counted-none, wrong-places, text-fault}
 use borrow.Author.Needs.{needs}
 use Rattle.fmd.proofs.read_for.Statement.{statement}
 use Rattle.fmd.proofs.read_for.Tie as tie
@@ -22,11 +18,8 @@ enum-known-i c = search needs
 image-of-requires : tie.Need-image-of-requires
 image-of-requires c κs = named (held _ _ _ _ _ _ (search needs) (search needs) (rw (c .before .i .given .1) at (c .before .before .before .before .before .before .before .check .ensures)))
 
-enum-known-k : tie.Need-enum-known-k
-enum-known-k c = search needs
-
-answer-of-requires : tie.Need-answer-of-requires
-answer-of-requires c κs = numbered _ _ _ (rw (c .before .k .given .1) at (c .before .before .before .before .before .before .before .check .ensures))
+enum-known-r : tie.Need-enum-known-r
+enum-known-r c = search needs
 
 unread-requires-2 : tie.Need-unread-requires-2
 unread-requires-2 c κs = search needs
@@ -50,9 +43,9 @@ same-length-4 c = search needs
 
 returns-3 : tie.Need-returns-3
 returns-3 c =
-    counted-none _ _ _ _ (text-fault _ _ _ _ (c .before .before .before .before .before .before .before .before .before .before .before .before .if1 .left) (rw (c .before .before .before .k .given .1) at (c .before .before .before .before .before .before .before .before .before .check .ensures)))
-    (c .unread2 .ensures ∙ ap {B = Read} (λ (a : Option ℕ). record { answer = a; image = blank }) (c .before .answer-of .ensures))
+    counted-none _ _ _ _ (text-fault _ _ _ _ (c .before .before .before .before .before .before .before .before .before .before .before .if1 .left) (rw (c .before .before .r .given .1) at (c .before .before .before .before .before .before .before .before .check .ensures)))
+    (c .unread2 .ensures)
 
 pub read-for-spec : {M : Type 1} → statement M
-read-for-spec = tie.close (tie.spec unread-requires returns check-requires enum-known-i image-of-requires enum-known-k answer-of-requires unread-requires-2
+read-for-spec = tie.close (tie.spec unread-requires returns check-requires enum-known-i image-of-requires enum-known-r unread-requires-2
     same-length same-length-2 returns-2 same-length-3 same-length-4 returns-3)

@@ -1,10 +1,7 @@
-use Rattle.fmd.proofs.Layouts.{held, numbered}
-use Rattle.fmap_rules.specs.Map.{position}
-use Rattle.fmd.specs.Calls.{Written, layoutIn, writeText, written}
+use Rattle.fmd.proofs.Layouts.{held}
+use Rattle.fmd.specs.Calls.{layoutIn, writeText, written}
 use Rattle.fmd.specs.declared.Writing.{Writing}
-use Prim.Native.Nat.{ℕ}
-use mathlib.Core.Option.{Option}
-use mathlib.Core.Path.{sym, ap, _∙_}
+use mathlib.Core.Path.{sym, ap}
 use borrow.Author.Needs.{needs}
 use Rattle.fmd.proofs.write_map.Statement.{statement}
 use Rattle.fmd.proofs.write_map.Tie as tie
@@ -30,11 +27,8 @@ slice-aggregate-put-layout-2 c = search needs
 put-layout-requires : tie.Need-put-layout-requires
 put-layout-requires c κs = (held _ _ _ _ _ _ (search needs) (search needs) (rw (c .before .before .before .before .i .given .1) at (c .before .before .before .before .before .before .before .before .check .ensures)))
 
-enum-known-k : tie.Need-enum-known-k
-enum-known-k c = search needs
-
-answer-of-requires : tie.Need-answer-of-requires
-answer-of-requires c κs = numbered _ _ _ (rw (c .before .k .given .1) at (c .before .before .before .before .before .check .ensures))
+enum-known-r : tie.Need-enum-known-r
+enum-known-r c = search needs
 
 unwritten-requires : tie.Need-unwritten-requires
 unwritten-requires c κs = search needs
@@ -48,9 +42,8 @@ returns c = rw (sym (rw (c .before .before .before .before .before .before .befo
 
 returns-2 : tie.Need-returns-2
 unfolding writeText layoutIn
-returns-2 c = rw (sym (rw (c .before .before .before .k .given .1) at (c .before .before .before .before .before .before .before .check .ensures)))
-    (ap (λ (w : Writing). written w (c .before .before .before .before .before .before .before .before .before .before .before .before .args .image .now)) (c .unwritten .ensures)
-    ∙ ap {B = Written} (λ (x : Option ℕ). record { answer = x; at = position 0; image = c .before .before .before .before .before .before .before .before .before .before .before .before .args .image .now }) (c .before .answer-of .ensures))
+returns-2 c = rw (sym (rw (c .before .before .r .given .1) at (c .before .before .before .before .before .before .check .ensures)))
+    (ap (λ (w : Writing). written w (c .before .before .before .before .before .before .before .before .before .before .before .args .image .now)) (c .unwritten .ensures))
 
 pub write-map-spec : {M : Type 1} → statement M
 write-map-spec =
@@ -63,8 +56,7 @@ write-map-spec =
     slice-aggregate-put-layout
     slice-aggregate-put-layout-2
     put-layout-requires
-    enum-known-k
-    answer-of-requires
+    enum-known-r
     unwritten-requires
     same-length
     returns

@@ -24,8 +24,8 @@ check-list-requires c κs =
     let l = rw (c .before .before .before .i .given .1) at (c .before .before .before .before .before .before .before .read-layout .ensures .1) in
     (omega arith, omega arith, l, w)
 
-enum-known-n : tie.Need-enum-known-n
-enum-known-n c = search needs
+enum-known-r : tie.Need-enum-known-r
+enum-known-r c = search needs
 
 same-length : tie.Need-same-length
 same-length c = search needs
@@ -42,7 +42,7 @@ same-length-3 c = search needs
 
 returns-3 : tie.Need-returns-3
 unfolding checkText
-returns-3 c = rw (le-ltb _ _ (c .before .before .before .before .before .before .before .if1 .left), sym (rw (c .before .n .given .1) at (c .before .before .before .before .before .read-layout .ensures .0)))
+returns-3 c = rw (le-ltb _ _ (c .before .before .before .before .before .before .before .if1 .left), sym (rw (c .before .r .given .1) at (c .before .before .before .before .before .read-layout .ensures .0)))
 
 pub check-spec : {M : Type 1} → statement M
 check-spec =
@@ -52,7 +52,7 @@ check-spec =
     read-layout-requires
     enum-known-i
     check-list-requires
-    enum-known-n
+    enum-known-r
     same-length
     same-length-2
     returns-2

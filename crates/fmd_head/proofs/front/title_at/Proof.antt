@@ -2,7 +2,6 @@ use mathlib.Core.Path.{sym, _∙_}
 use native.Mathlib.Omega.{arith}
 use borrow.Author.Needs.{needs}
 use borrow.Author.Tests.{eq-eqb, ne-eqb}
-use Rattle.octets.specs.Rows.{pickRow}
 use Rattle.fmd_head.specs.Images.{titleAt}
 use Rattle.fmd_lex.proofs.Names.{name-size}
 use Rattle.fmd_lex.proofs.Tokens.{earlier}
@@ -10,7 +9,7 @@ use Rattle.fmd_head.proofs.front.title_at.Statement.{statement}
 use Rattle.fmd_head.proofs.front.title_at.Tie as tie
 
 returns : tie.Need-returns
-unfolding titleAt pickRow
+unfolding titleAt
 returns c = (rw (ne-eqb _ _ (c .if1 .taken)), tt)
 
 name-at-requires : tie.Need-name-at-requires
@@ -19,14 +18,14 @@ name-at-requires c κs = search needs
 next-token-requires : tie.Need-next-token-requires
 next-token-requires c κs = search needs
 
-cast-t8 : tie.Need-cast-t8
-cast-t8 c = search needs
+cast-t9 : tie.Need-cast-t9
+cast-t9 c = search needs
 
-sub-t9 : tie.Need-sub-t9
-sub-t9 c = search needs
+sub-t10 : tie.Need-sub-t10
+sub-t10 c = search needs
 
-cast-t10 : tie.Need-cast-t10
-cast-t10 c =
+cast-t11 : tie.Need-cast-t11
+cast-t11 c =
     let start = c .before .before .before .before .before .before .before .before in
     omega (
       arith,
@@ -35,7 +34,7 @@ cast-t10 c =
     )
 
 returns-2 : tie.Need-returns-2
-unfolding titleAt pickRow
+unfolding titleAt
 returns-2 c =
     let s1 = c .before .before in (
       rw (
@@ -48,7 +47,7 @@ returns-2 c =
     )
 
 returns-3 : tie.Need-returns-3
-unfolding titleAt pickRow
+unfolding titleAt
 returns-3 c = (rw (eq-eqb _ _ (c .before .before .if1 .left), sym (c .before .name-at .ensures) ∙ c .if2 .left), tt)
 
 pub title-at-spec : {M : Type 1} → statement M
@@ -58,8 +57,8 @@ title-at-spec =
     returns
     name-at-requires
     next-token-requires
-    cast-t8
-    sub-t9
-    cast-t10
+    cast-t9
+    sub-t10
+    cast-t11
     returns-2
     returns-3)

@@ -2,7 +2,6 @@ use mathlib.Core.Path.{sym, _∙_}
 use native.Mathlib.Omega.{arith}
 use borrow.Author.Needs.{needs}
 use borrow.Author.Tests.{eq-eqb, ne-eqb, le-leb, lt-leb, le-ltb, lt-ltb}
-use Rattle.octets.specs.Rows.{pickRow}
 use Rattle.fmd_head.specs.Heads.{namedAt}
 use Rattle.fmd_lex.proofs.Names.{name-size}
 use Rattle.fmd_lex.proofs.Tokens.{earlier}
@@ -10,14 +9,14 @@ use Rattle.fmd_head.proofs.section.named_at.Statement.{statement}
 use Rattle.fmd_head.proofs.section.named_at.Tie as tie
 
 returns : tie.Need-returns
-unfolding namedAt pickRow
+unfolding namedAt
 returns c = (rw (ne-eqb _ _ (c .if1 .taken)), tt)
 
 name-at-requires : tie.Need-name-at-requires
 name-at-requires c κs = search needs
 
 returns-2 : tie.Need-returns-2
-unfolding namedAt pickRow
+unfolding namedAt
 returns-2 c = (
   rw (
     eq-eqb _ _ (c .before .before .before .if1 .left),
@@ -29,7 +28,7 @@ returns-2 c = (
 )
 
 returns-3 : tie.Need-returns-3
-unfolding namedAt pickRow
+unfolding namedAt
 returns-3 c = (
   rw (
     eq-eqb _ _ (c .before .before .before .before .if1 .left),
@@ -44,14 +43,14 @@ returns-3 c = (
 next-token-requires : tie.Need-next-token-requires
 next-token-requires c κs = search needs
 
-cast-t13 : tie.Need-cast-t13
-cast-t13 c = search needs
+cast-t16 : tie.Need-cast-t16
+cast-t16 c = search needs
 
-sub-t14 : tie.Need-sub-t14
-sub-t14 c = search needs
+sub-t17 : tie.Need-sub-t17
+sub-t17 c = search needs
 
-cast-t15 : tie.Need-cast-t15
-cast-t15 c =
+cast-t18 : tie.Need-cast-t18
+cast-t18 c =
     let start = c .before .before .before .before .before .before .before .before .before .before in
     omega (
       arith,
@@ -60,7 +59,7 @@ cast-t15 c =
     )
 
 returns-4 : tie.Need-returns-4
-unfolding namedAt pickRow
+unfolding namedAt
 returns-4 c =
     let s1 = c .before .before in
     let s2 = s1 .before in
@@ -85,7 +84,7 @@ returns-4 c =
     )
 
 returns-5 : tie.Need-returns-5
-unfolding namedAt pickRow
+unfolding namedAt
 returns-5 c = (rw (eq-eqb _ _ (c .before .before .if1 .left), sym (c .before .name-at .ensures) ∙ c .if2 .left), tt)
 
 pub named-at-spec : {M : Type 1} → statement M
@@ -97,8 +96,8 @@ named-at-spec =
     returns-2
     returns-3
     next-token-requires
-    cast-t13
-    sub-t14
-    cast-t15
+    cast-t16
+    sub-t17
+    cast-t18
     returns-4
     returns-5)
