@@ -20,14 +20,14 @@ use Rattle.fmap.specs.Faults.{faultReply, faultAt}
 use Rattle.fmap.specs.Carry.{carriedNumber}
 use Rattle.fmap.proofs.Places.{rule-some, fault-behind}
 use Rattle.fmap.specs.Areas.{Looked, looked, lookupReply, indexReply}
-use Rattle.fmap.specs.declared.Found.{Found}
+use Rattle.fmap.specs.declared.MapFound.{MapFound}
 use Rattle.fmap.specs.declared.AreaIndex.{AreaIndex}
 use Rattle.fmap.specs.declared.AreaFound.{AreaFound}
 use Rattle.fmap.specs.declared.Lookup.{Lookup}
 use Rattle.fmap.specs.declared.Carried.{Carried}
-use Rattle.fmap.specs.declared.Fault.{Fault}
-use Rattle.fmap.specs.declared.Found.the-variants as found
-use Rattle.fmap.specs.declared.Fault.the-variants as fault
+use Rattle.fmap.specs.declared.MapFault.{MapFault}
+use Rattle.fmap.specs.declared.MapFound.the-variants as found
+use Rattle.fmap.specs.declared.MapFault.the-variants as fault
 use Rattle.fmap.specs.declared.Lookup.the-variants as lookup
 use Rattle.fmap.specs.declared.AreaIndex.the-variants as index
 use Rattle.fmap.specs.declared.Carried.the-variants as carried
@@ -46,7 +46,7 @@ unfolding positionOf
 position-high n h = rw (le-ltb n 4294967295 h)
 
 -- an answer f that is x, of the position r that n stands for
-pub fault-tells : (old : ℕ) (image : List ℕ) (n r : ℕ) {f x : Fault} → r ≡ positionOf n → f ≡ x → faultReply f ≡ faultAt image r
+pub fault-tells : (old : ℕ) (image : List ℕ) (n r : ℕ) {f x : MapFault} → r ≡ positionOf n → f ≡ x → faultReply f ≡ faultAt image r
     → faultEffect old (faultReply x) ≡ faultEffect old (faultAt image n)
 fault-tells old image n r {f} {x} p q e = tells (faultEffect old) faultReply q (e ∙ go (bool-cases (ltb n 4294967295)))
   where
@@ -81,13 +81,13 @@ abbrev number-in : {A : Type 0} → Reply A → ℕ
 number-in (accepted a) = 1
 number-in (refused k) = k
 
-found-none : (f : Found) → foundReply f ≡ refused 0 → ⊥
+found-none : (f : MapFound) → foundReply f ≡ refused 0 → ⊥
 found-none (found.At p) e = omega (arith, ap number-in e)
 found-none found.WrongLength e = omega (arith, ap number-in e)
 found-none found.NoSignature e = omega (arith, ap number-in e)
 found-none found.NoGoodMap e = omega (arith, ap number-in e)
 
-fault-refused : (f : Fault) → faultReply f ≡ refused 0 → ⊥
+fault-refused : (f : MapFault) → faultReply f ≡ refused 0 → ⊥
 fault-refused fault.Good e = omega (arith, ap number-in e)
 fault-refused (fault.Breaks k) e = omega (arith, ap number-in e)
 fault-refused fault.WrongLength e = omega (arith, ap number-in e)

@@ -15,8 +15,8 @@ use Rattle.fmap.specs.Find.{Reply, accepted, refused, foundReply}
 use Rattle.fmap.specs.Faults.{faultReply, faultAt}
 use Rattle.fmap.specs.Areas.{Looked, lookupReply, indexReply}
 use Rattle.fmap.specs.Carry.{carriedNumber}
-use Rattle.fmap.specs.declared.Found.{Found}
-use Rattle.fmap.specs.declared.Fault.{Fault}
+use Rattle.fmap.specs.declared.MapFound.{MapFound}
+use Rattle.fmap.specs.declared.MapFault.{MapFault}
 use Rattle.fmap.specs.declared.Lookup.{Lookup}
 use Rattle.fmap.specs.declared.AreaIndex.{AreaIndex}
 use Rattle.fmap.specs.declared.Carried.{Carried}
@@ -72,8 +72,8 @@ carryEffect o = record { result = codeOf (o .answer); buffer = o .image }
 
 -- no refusal's number is 0, and no rule's
 pub record NoneIsZero : Type 0 where
-  pub find : (f : Found) → foundReply f ≡ refused 0 → ⊥
-  pub fault : (f : Fault) → faultReply f ≡ refused 0 → ⊥
+  pub find : (f : MapFound) → foundReply f ≡ refused 0 → ⊥
+  pub fault : (f : MapFault) → faultReply f ≡ refused 0 → ⊥
   pub rule : (image : List ℕ) (at : ℕ) → faultAt image at ≡ accepted (some 0) → ⊥
   pub area : (a : Lookup) → lookupReply a ≡ refused 0 → ⊥
   pub named : (a : AreaIndex) → indexReply a ≡ refused 0 → ⊥

@@ -10,9 +10,9 @@ ghost use Rattle.c_flash.specs.Effects.{findEffect, positionOf, faultEff
 use fmap::AreaFound;
 use fmap::AreaIndex;
 use fmap::Carried;
-use fmap::Fault;
-use fmap::Found;
 use fmap::Lookup;
+use fmap::MapFault;
+use fmap::MapFound;
 use fmap_rules::ImagePosition;
 
 #[no_mangle]
@@ -20,13 +20,13 @@ pub extern "C" fn usi_fmap_find(image: &[u8], position: &mut u64) -> u32
     ensures { λ r. ⌜ record { result = r; value = now (position .exit) } ≡ findEffect (now (position .entry)) (findMap (now (image .entry))) ⌝ }
 {
     match fmap::find(image) {
-        Found::At(p) => {
+        MapFound::At(p) => {
             *position = p.0 as u64;
             0
         }
-        Found::WrongLength => 40,
-        Found::NoSignature => 41,
-        Found::NoGoodMap => 42,
+        MapFound::WrongLength => 40,
+        MapFound::NoSignature => 41,
+        MapFound::NoGoodMap => 42,
     }
 }
 
@@ -45,15 +45,15 @@ pub extern "C" fn usi_fmap_fault(image: &[u8], position: u64, rule: &mut u64) ->
     ensures { λ r. ⌜ record { result = r; value = now (rule .exit) } ≡ faultEffect (now (rule .entry)) (faultAt (now (image .entry)) position) ⌝ }
 {
     match fmap::fault_at(image, position_of(position)) {
-        Fault::Good => {
+        MapFault::Good => {
             *rule = 0;
             0
         }
-        Fault::Breaks(k) => {
+        MapFault::Breaks(k) => {
             *rule = k as u64;
             0
         }
-        Fault::WrongLength => 40,
+        MapFault::WrongLength => 40,
     }
 }
 

@@ -9,7 +9,7 @@ use borrow.Author.Tests.{eq-eqb, ne-eqb}
 use Rattle.octets.specs.Rows.{codeOf}
 use Rattle.fmd.specs.Calls.{numberOf, reading, Read, Recorded, Written, written}
 use Rattle.fmd.specs.declared.Writing.{Writing}
-use Rattle.fmd.specs.declared.Reading.{Reading}
+use Rattle.fmd.specs.declared.LayoutReading.{LayoutReading}
 use Rattle.fmd.proofs.Answers.{refused-by, accepted-by}
 use Rattle.octets.specs.Bytes.{put}
 use Rattle.octets.proofs.Puts.{put-all}
@@ -17,11 +17,11 @@ use Rattle.c_layout.specs.Effects.{ReadEffect, replied, imageEffect, rea
 
 -- ---- reading
 
-pub image-refused : (name old : List ℕ) (r : Reading) (k : ℕ) → k ≡ codeOf (numberOf (r .answer)) → k ≢ 0
+pub image-refused : (name old : List ℕ) (r : LayoutReading) (k : ℕ) → k ≡ codeOf (numberOf (r .answer)) → k ≢ 0
     → record { result = k; name = name; values = old } ≡ imageEffect name old (reading r)
 image-refused name old r k p q = ap (replied name old (r .image)) (sym (refused-by (r .answer) k p (omega arith)))
 
-pub image-accepted : (name new old : List ℕ) (r : Reading) (k : ℕ) → length name ≡ 32 → length (r .image .name) ≡ 32 → k ≡ codeOf (numberOf (r .answer)) → k ≡ 0
+pub image-accepted : (name new old : List ℕ) (r : LayoutReading) (k : ℕ) → length name ≡ 32 → length (r .image .name) ≡ 32 → k ≡ codeOf (numberOf (r .answer)) → k ≡ 0
     → new ≡ put 0 (r .image .name) name
     → record { result = 0; name = new; values = r .image .size ∷ r .image .address ∷ r .image .count ∷ [] } ≡ imageEffect name old (reading r)
 image-accepted name new old r k l w p q e =
@@ -39,11 +39,11 @@ read-right name old r s t h p q = rw (eq-eqb (length name) 32 h) (p ∙ ap (imag
 
 -- ---- listing
 
-pub count-refused : (old : ℕ) (r : Reading) (k : ℕ) → k ≡ codeOf (numberOf (r .answer)) → k ≢ 0
+pub count-refused : (old : ℕ) (r : LayoutReading) (k : ℕ) → k ≡ codeOf (numberOf (r .answer)) → k ≢ 0
     → (k ≡ codeOf (numberOf (r .answer))) × (old ≡ countFor old (r .image) (numberOf (r .answer)))
 count-refused old r k p q = (p, ap (countFor old (r .image)) (sym (refused-by (r .answer) k p (omega arith))))
 
-pub count-accepted : (old : ℕ) (r : Reading) (k : ℕ) → k ≡ codeOf (numberOf (r .answer)) → k ≡ 0
+pub count-accepted : (old : ℕ) (r : LayoutReading) (k : ℕ) → k ≡ codeOf (numberOf (r .answer)) → k ≡ 0
     → (0 ≡ codeOf (numberOf (r .answer))) × (r .image .count ≡ countFor old (r .image) (numberOf (r .answer)))
 count-accepted old r k p q = (sym q ∙ p, ap (countFor old (r .image)) (sym (accepted-by (r .answer) k p (omega arith))))
 

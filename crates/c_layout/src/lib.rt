@@ -5,10 +5,16 @@ ghost use lib.ListN.{length};
 ghost use Rattle.octets.specs.Rows.{codeOf};
 ghost use Rattle.fmd.specs.Calls.{numberOf, reading, readText, recordText, writeText};
 ghost use Rattle.c_layout.specs.Effects.{imageEffect, readEffect, countFor, recordsEffect, writeEffect};
-use fmd::Reading;
+use fmd::LayoutReading;
 
 // Hands an accepted image out.
-fn image(a: Reading, name: &mut [u8], size: &mut u64, address: &mut u64, count: &mut u64) -> u32
+fn image(
+    a: LayoutReading,
+    name: &mut [u8],
+    size: &mut u64,
+    address: &mut u64,
+    count: &mut u64,
+) -> u32
     requires { ⌜ length (now name) ≡ 32 ⌝ }
     ensures { λ r. ⌜ record { result = r; name = now (name .exit); values = now (size .exit) ∷ now (address .exit) ∷ now (count .exit) ∷ [] }
         ≡ imageEffect (now (name .entry)) (now (size .entry) ∷ now (address .entry) ∷ now (count .entry) ∷ []) (reading a) ⌝ }
@@ -45,7 +51,7 @@ pub extern "C" fn usi_fmd_read(
 }
 
 // Hands the number of an accepted image's sections out.
-fn counted(a: Reading, count: &mut u64) -> u32
+fn counted(a: LayoutReading, count: &mut u64) -> u32
     ensures { λ r. ⌜ (r ≡ codeOf (numberOf (a .answer))) × (now (count .exit) ≡ countFor (now (count .entry)) (a .image) (numberOf (a .answer))) ⌝ }
 {
     let answer = a.answer;

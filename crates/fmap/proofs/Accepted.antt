@@ -19,8 +19,8 @@ use Rattle.octets.proofs.Equal.{same-refl}
 use Rattle.fmap_rules.specs.declared.ImagePosition.{ImagePosition}
 use Rattle.fmap_rules.specs.declared.Extent.{Extent}
 use Rattle.fmap_rules.specs.declared.Area.{Area}
-use Rattle.fmap_rules.specs.Map.{areasOf, blank, named, fmapName, endOf, disjoint, goodMap}
-use Rattle.fmap_carry.specs.Carry.{preserved, withName, target, missing, otherSize, clearBy, clear, onMap, carryRows, Outcome, outcome, carried, carryAreas}
+use Rattle.fmap_rules.specs.Map.{areasOf, blankArea, named, fmapName, endOf, disjoint, goodMap}
+use Rattle.fmap_carry.specs.Carry.{preserved, withName, target, missing, otherSize, clearBy, clear, onMap, carryRows, Outcome, unlessRefused, carried, carryAreas}
 use Rattle.fmap_carry.proofs.Passed.{size-same, all-apart, judge-free}
 use Rattle.fmap.specs.Find.{Reply, accepted, refused, findMap}
 use Rattle.fmap.specs.Carry.{placeRows, carryAt, carryTo, carryFrom, carryImages}
@@ -78,16 +78,16 @@ module _ (old : List ℕ) (at : ℕ) (new : List ℕ) (bt : ℕ) (g : goodMap ol
   news = areasOf (rest bt new)
 
   -- where an area goes, in numbers
-  goal-start : (i j : ℕ) → Goes old at new bt i j → target news (getD olds i blank) .start .0 ≡ startIn new (recordOf bt j)
+  goal-start : (i j : ℕ) → Goes old at new bt i j → target news (getD olds i blankArea) .start .0 ≡ startIn new (recordOf bt j)
   goal-start i j w = ap (λ (x : Extent). x .start .0) (goes-to old at new bt g h i j w) ∙ start-is new bt h j (w .new-record)
 
-  goal-size : (i j : ℕ) → Goes old at new bt i j → target news (getD olds i blank) .size ≡ sizeIn new (recordOf bt j)
+  goal-size : (i j : ℕ) → Goes old at new bt i j → target news (getD olds i blankArea) .size ≡ sizeIn new (recordOf bt j)
   goal-size i j w = ap (λ (x : Extent). x .size) (goes-to old at new bt g h i j w) ∙ size-is new bt h j (w .new-record)
 
   -- area FMAP of the new map
-  fmap-at : (f : ℕ) → f < countIn new bt → nameIn new (recordOf bt f) ≡ fmapName → withName news fmapName .place ≡ getD news f blank .place
+  fmap-at : (f : ℕ) → f < countIn new bt → nameIn new (recordOf bt f) ≡ fmapName → withName news fmapName .place ≡ getD news f blankArea .place
   unfolding withName
-  fmap-at f l e = ap (λ (k : ℕ). getD news k blank .place) (only old at new bt g h fmapName f (there new bt h f l) (sym (name-is new bt h f l ∙ e)))
+  fmap-at f l e = ap (λ (k : ℕ). getD news k blankArea .place) (only old at new bt g h fmapName f (there new bt h f l) (sym (name-is new bt h f l ∙ e)))
 
   -- ---- what the rows ask, by bytes
 
@@ -99,46 +99,46 @@ module _ (old : List ℕ) (at : ℕ) (new : List ℕ) (bt : ℕ) (g : goodMap ol
         ∙ goal-size i j w
 
     both : (i j k l : ℕ) → i < k → Goes old at new bt i j → Goes old at new bt k l
-        → (disjoint (getD olds i blank .place) (getD olds k blank .place) ≡ true)
-        × (disjoint (target news (getD olds i blank)) (target news (getD olds k blank)) ≡ true)
+        → (disjoint (getD olds i blankArea .place) (getD olds k blankArea .place) ≡ true)
+        × (disjoint (target news (getD olds i blankArea)) (target news (getD olds k blankArea)) ≡ true)
     unfolding clear clearBy
     both i j k l o w v =
-        let c = pairs-get (clear news) olds blank (all-apart olds news e) i k o (there old at g k (v .old-record)) in
+        let c = pairs-get (clear news) olds blankArea (all-apart olds news e) i k o (there old at g k (v .old-record)) in
         let d =
         or-skip _ _ (ap not (marked old at new bt g h k (v .old-record) (v .preserve)))
         (or-skip _ _ (ap not (marked old at new bt g h i (w .old-record) (w .preserve))) c) in
         (and-l _ _ d, and-r _ _ d)
 
-    clear-of-map : (i j : ℕ) → Goes old at new bt i j → disjoint (target news (getD olds i blank)) (withName news fmapName .place) ≡ true
+    clear-of-map : (i j : ℕ) → Goes old at new bt i j → disjoint (target news (getD olds i blankArea)) (withName news fmapName .place) ≡ true
     unfolding onMap
     clear-of-map i j w =
         not-false _ (and-skip _ _ (marked old at new bt g h i (w .old-record) (w .preserve))
-        (any-none (onMap news) olds blank (passes 63 (carryRows olds news) e) i (there old at g i (w .old-record))))
+        (any-none (onMap news) olds blankArea (passes 63 (carryRows olds news) e) i (there old at g i (w .old-record))))
 
   -- ---- and back
 
   module _ (m : MayCarry old at new bt) where
-    goes : (i : ℕ) → i < length olds → preserved (getD olds i blank) ≡ true → (j : ℕ) × Goes old at new bt i j
+    goes : (i : ℕ) → i < length olds → preserved (getD olds i blankArea) ≡ true → (j : ℕ) × Goes old at new bt i j
     goes i l p = m .none-missing i (back old at g i l) (unmarked old at new bt g h i (back old at g i l) p)
 
     none-missing : any (missing news) olds ≡ false
     unfolding missing named
     none-missing =
-        any-false (missing news) olds blank
-        (λ i l. unasked (λ a. any (named (a .name)) news) (getD olds i blank)
+        any-false (missing news) olds blankArea
+        (λ i l. unasked (λ a. any (named (a .name)) news) (getD olds i blankArea)
         (λ p.
         let n = goes i l p in
         let w = n .1 in
-        any-make (named (getD olds i blank .name)) news blank (n .0) (there new bt h (n .0) (w .new-record))
-        (ap (same (getD olds i blank .name))
+        any-make (named (getD olds i blankArea .name)) news blankArea (n .0) (there new bt h (n .0) (w .new-record))
+        (ap (same (getD olds i blankArea .name))
         (name-is new bt h (n .0) (w .new-record) ∙ sym (w .same-name) ∙ sym (name-is old at g i (w .old-record)))
-        ∙ same-refl (getD olds i blank .name))))
+        ∙ same-refl (getD olds i blankArea .name))))
 
     none-other : any (otherSize news) olds ≡ false
     unfolding otherSize
     none-other =
-        any-false (otherSize news) olds blank
-        (λ i l. unasked (λ a. eqb (a .place .size) (target news a .size)) (getD olds i blank)
+        any-false (otherSize news) olds blankArea
+        (λ i l. unasked (λ a. eqb (a .place .size) (target news a .size)) (getD olds i blankArea)
         (λ p.
         let n = goes i l p in
         let w = n .1 in
@@ -147,11 +147,11 @@ module _ (old : List ℕ) (at : ℕ) (new : List ℕ) (bt : ℕ) (g : goodMap ol
     all-clear : pairs (clear news) olds ≡ true
     unfolding clear clearBy
     all-clear =
-        pairs-make (clear news) olds blank
-        (λ i k o l. go i k o l (bool-cases (preserved (getD olds i blank))) (bool-cases (preserved (getD olds k blank))))
+        pairs-make (clear news) olds blankArea
+        (λ i k o l. go i k o l (bool-cases (preserved (getD olds i blankArea))) (bool-cases (preserved (getD olds k blankArea))))
       where
-        go : (i k : ℕ) → i < k → k < length olds → (preserved (getD olds i blank) ≡ true) ⊎ (preserved (getD olds i blank) ≡ false)
-            → (preserved (getD olds k blank) ≡ true) ⊎ (preserved (getD olds k blank) ≡ false) → clear news (getD olds i blank) (getD olds k blank) ≡ true
+        go : (i k : ℕ) → i < k → k < length olds → (preserved (getD olds i blankArea) ≡ true) ⊎ (preserved (getD olds i blankArea) ≡ false)
+            → (preserved (getD olds k blankArea) ≡ true) ⊎ (preserved (getD olds k blankArea) ≡ false) → clear news (getD olds i blankArea) (getD olds k blankArea) ≡ true
         go i k o l (inr p) q = or-il _ _ (ap not p)
         go i k o l (inl p) (inr q) = or-ir _ _ (or-il _ _ (ap not q))
         go i k o l (inl p) (inl q) =
@@ -172,8 +172,8 @@ module _ (old : List ℕ) (at : ℕ) (new : List ℕ) (bt : ℕ) (g : goodMap ol
         let f = m .new-map .own-area in
         let t = m .new-map .own-there in
         let place = fmap-at f t (m .new-map .own-name) in
-        any-false (onMap news) olds blank
-        (λ i l. unasked (λ a. disjoint (target news a) (withName news fmapName .place)) (getD olds i blank)
+        any-false (onMap news) olds blankArea
+        (λ i l. unasked (λ a. disjoint (target news a) (withName news fmapName .place)) (getD olds i blankArea)
         (λ p.
         let n = goes i l p in
         let w = n .1 in
@@ -224,7 +224,7 @@ does-carry old at new bt m =
     let a = sym (place-good old at (in-range _ (m .old-length .0) (m .old-length .1)) (is-signed old at g) g) in
     let b = sym (place-good new bt (in-range _ (m .new-length .0) (m .new-length .1)) (is-signed new bt h) h) in
     sym (ap (λ (o : Outcome). o .answer) (both-stand old at new bt a b))
-    ∙ ap (λ (o : Option ℕ). outcome o (carried old (areasOf (rest bt new)) (areasOf (rest at old)) new) new .answer) (sym (rows-free old at new bt g h m))
+    ∙ ap (λ (o : Option ℕ). unlessRefused o (carried old (areasOf (rest bt new)) (areasOf (rest at old)) new) new .answer) (sym (rows-free old at new bt g h m))
 
 pub accepted-by-bytes : AcceptedByBytes
 accepted-by-bytes old at new bt = (may-carry old at new bt, does-carry old at new bt)

@@ -19,7 +19,7 @@ use Rattle.octets.proofs.Parts.{length-part, getD-part, part-part}
 use Rattle.octets.proofs.Equal.{same-true, same-refl}
 use Rattle.fmap_rules.specs.declared.ImagePosition.{ImagePosition}
 use Rattle.fmap_rules.specs.declared.Area.{Area}
-use Rattle.fmap_rules.specs.Map.{areasOf, blank, nameLength, legalName, goodMap}
+use Rattle.fmap_rules.specs.Map.{areasOf, blankArea, nameLength, legalName, goodMap}
 use Rattle.fmap.specs.Find.{accepted, findMap}
 use Rattle.fmap.specs.Areas.{called, indexBy, indexNamed}
 use Rattle.fmap.specs.InBytes.{recordOf, countIn, nameIn, CalledAt, NamedByBytes}
@@ -115,8 +115,8 @@ module _ (image name : List ℕ) (p : ImagePosition) (k : ℕ) (f : findMap imag
   in-map : k < countIn image (p .0)
   in-map = back image (p .0) good k (subst (λ (i : ℕ). i < length areas) (chosen .1) there)
 
-  hit : called name (getD areas k blank) ≡ true
-  hit = subst (λ (i : ℕ). called name (getD areas i blank) ≡ true) (chosen .1) (first-passes (called name) areas there)
+  hit : called name (getD areas k blankArea) ≡ true
+  hit = subst (λ (i : ℕ). called name (getD areas i blankArea) ≡ true) (chosen .1) (first-passes (called name) areas there)
 
   is-called : CalledAt image (recordOf (p .0) k) name
   unfolding called
@@ -137,7 +137,7 @@ module _ (image name : List ℕ) (p : ImagePosition) (k : ℕ) (found : findMap 
   in-list : k < length listed
   in-list = listed-there image (p .0) is-good k b
 
-  passes : called name (getD listed k blank) ≡ true
+  passes : called name (getD listed k blankArea) ≡ true
   unfolding called
   passes =
       ap (λ (x : List ℕ). same (part 0 (nameLength x) x) name) (name-is image (p .0) is-good k b)
@@ -145,11 +145,11 @@ module _ (image name : List ℕ) (p : ImagePosition) (k : ℕ) (found : findMap 
       (spelled image (recordOf (p .0) k) name (area-room image (p .0) is-good k b) (area-legal image (p .0) is-good k b) c)
       ∙ same-refl name
 
-  first : (findIx (called name) listed < length listed) × (called name (getD listed (findIx (called name) listed) blank) ≡ true)
-  first = findIx-get (called name) listed blank (any-make (called name) listed blank k in-list passes)
+  first : (findIx (called name) listed < length listed) × (called name (getD listed (findIx (called name) listed) blankArea) ≡ true)
+  first = findIx-get (called name) listed blankArea (any-make (called name) listed blankArea k in-list passes)
 
   -- another record of that name would have the same 32 bytes
-  one-name : (j : ℕ) → j < countIn image (p .0) → called name (getD listed j blank) ≡ true → nameIn image (recordOf (p .0) j) ≡ nameIn image (recordOf (p .0) k)
+  one-name : (j : ℕ) → j < countIn image (p .0) → called name (getD listed j blankArea) ≡ true → nameIn image (recordOf (p .0) j) ≡ nameIn image (recordOf (p .0) k)
   unfolding called
   one-name j a q =
       let room = area-room image (p .0) is-good in

@@ -20,7 +20,7 @@ use Rattle.octets.proofs.Parts.{length-part, length-rest, getD-part, part-of-re
 use Rattle.octets.proofs.Equal.{same-refl, same-false}
 use Rattle.fmap_rules.specs.declared.Extent.{Extent}
 use Rattle.fmap_rules.specs.declared.Area.{Area}
-use Rattle.fmap_rules.specs.Map.{signature, signed, majorOf, minorOf, sizeOf, countOf, nameOf, graphic, stops, nameLength, legalName, fmapName, mapSize, areasOf, blank, named, endOf, disjoint, inside, disjointOrNested, headerRows, goodHeader, goodMap, holdsMap}
+use Rattle.fmap_rules.specs.Map.{signature, signed, majorOf, minorOf, sizeOf, countOf, nameOf, graphic, stops, nameLength, legalName, fmapName, mapSize, areasOf, blankArea, named, endOf, disjoint, inside, disjointOrNested, headerRows, goodMapHeader, goodMap, holdsMap}
 use Rattle.fmap_rules.proofs.Rules.{none-holds}
 use Rattle.fmap_rules.proofs.Good.{areas-good, map-good}
 use Rattle.fmap_rules.proofs.Signature.{signed-part}
@@ -89,8 +89,8 @@ module _ (image : List ℕ) (at : ℕ) (m : MapAt image at) where
   byte-at : (k : ℕ) → field k 1 o ≡ getD image (at + k) 0
   byte-at k = ap unle (part-of-rest k 1 at image) ∙ field-1 (at + k) image
 
-  header : goodHeader (length image) o ≡ true
-  unfolding goodHeader
+  header : goodMapHeader (length image) o ≡ true
+  unfolding goodMapHeader
   header =
       let c = count-in image at in
       let w = whole in
@@ -111,13 +111,13 @@ module _ (image : List ℕ) (at : ℕ) (m : MapAt image at) where
   back : (k : ℕ) → k < length areas → k < countIn image at
   back k h = omega (arith, count-whole image at whole)
 
-  start-is : (k : ℕ) → k < length areas → getD areas k blank .place .start .0 ≡ startIn image (recordOf at k)
+  start-is : (k : ℕ) → k < length areas → getD areas k blankArea .place .start .0 ≡ startIn image (recordOf at k)
   start-is k h = ap (λ (a : Area). a .place .start .0) (record-whole image at whole k (back k h)) ∙ start-at image (recordOf at k)
 
-  size-is : (k : ℕ) → k < length areas → getD areas k blank .place .size ≡ sizeIn image (recordOf at k)
+  size-is : (k : ℕ) → k < length areas → getD areas k blankArea .place .size ≡ sizeIn image (recordOf at k)
   size-is k h = ap (λ (a : Area). a .place .size) (record-whole image at whole k (back k h)) ∙ size-at image (recordOf at k)
 
-  name-is : (k : ℕ) → k < length areas → getD areas k blank .name ≡ nameIn image (recordOf at k)
+  name-is : (k : ℕ) → k < length areas → getD areas k blankArea .name ≡ nameIn image (recordOf at k)
   name-is k h = ap (λ (a : Area). a .name) (record-whole image at whole k (back k h)) ∙ name-at image (recordOf at k)
 
   nested : (x y : Extent) (sx zx sy zy : ℕ) → x .start .0 ≡ sx → x .size ≡ zx → y .start .0 ≡ sy → y .size ≡ zy
@@ -135,12 +135,12 @@ module _ (image : List ℕ) (at : ℕ) (m : MapAt image at) where
   own =
       let k = m .own-area in
       let h : k < length areas = omega (arith, count-whole image at whole, m .own-there) in
-      let z : mapSize (length areas) ≤ getD areas k blank .place .size = omega (arith, size-is k h, m .own-size, count-whole image at whole) in
-      any-make (holdsMap at (length areas)) areas blank k h
+      let z : mapSize (length areas) ≤ getD areas k blankArea .place .size = omega (arith, size-is k h, m .own-size, count-whole image at whole) in
+      any-make (holdsMap at (length areas)) areas blankArea k h
       (and-i _ _ (ap (same fmapName) (name-is k h ∙ m .own-name) ∙ same-refl fmapName)
       (and-i _ _ (eq-eqb _ at (start-is k h ∙ m .own-start)) (le-leb _ _ z)))
 
-  differ : (i j : ℕ) → i < j → j < length areas → named (getD areas i blank .name) (getD areas j blank) ≡ false
+  differ : (i j : ℕ) → i < j → j < length areas → named (getD areas i blankArea .name) (getD areas j blankArea) ≡ false
   unfolding named
   differ i j h k =
       same-false _ _ (λ e. m .names-differ i j h (back j k) (sym (name-is i (omega arith)) ∙ e ∙ name-is j k))

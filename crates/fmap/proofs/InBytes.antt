@@ -20,7 +20,7 @@ use Rattle.octets.proofs.Parts.{getD-part, part-of-rest}
 use Rattle.octets.proofs.Equal.{same-true, same-refl}
 use Rattle.fmap_rules.specs.declared.Extent.{Extent}
 use Rattle.fmap_rules.specs.declared.Area.{Area}
-use Rattle.fmap_rules.specs.Map.{signature, signed, minorOf, fmapName, legalName, mapSize, areaOf, areasOf, blank, named, endOf, disjoint, inside, disjointOrNested, headerRows, areaRows, goodHeader, goodAreas, goodMap, holdsMap, empty, goodPlaces}
+use Rattle.fmap_rules.specs.Map.{signature, signed, minorOf, fmapName, legalName, mapSize, areaOf, areasOf, blankArea, named, endOf, disjoint, inside, disjointOrNested, headerRows, areaRows, goodMapHeader, goodAreas, goodMap, holdsMap, empty, goodPlaces}
 use Rattle.fmap_rules.proofs.Rules.{holds-none}
 use Rattle.fmap_rules.proofs.Good.{good-header, good-areas, good-fits, good-within, header-signed, holder, ends-in, legal, names-differ}
 use Rattle.fmap_rules.proofs.Signature.{signed-part}
@@ -46,20 +46,20 @@ module _ (image : List ℕ) (at : ℕ) (g : goodMap image at ≡ true) where
   pub back : (k : ℕ) → k < length areas → k < countIn image at
   back k h = omega (arith, areas-count image at g)
 
-  pub start-is : (k : ℕ) → k < countIn image at → getD areas k blank .place .start .0 ≡ startIn image (recordOf at k)
+  pub start-is : (k : ℕ) → k < countIn image at → getD areas k blankArea .place .start .0 ≡ startIn image (recordOf at k)
   start-is k h = ap (λ (a : Area). a .place .start .0) (record-at image at g k h) ∙ start-at image (recordOf at k)
 
-  pub size-is : (k : ℕ) → k < countIn image at → getD areas k blank .place .size ≡ sizeIn image (recordOf at k)
+  pub size-is : (k : ℕ) → k < countIn image at → getD areas k blankArea .place .size ≡ sizeIn image (recordOf at k)
   size-is k h = ap (λ (a : Area). a .place .size) (record-at image at g k h) ∙ size-at image (recordOf at k)
 
-  pub name-is : (k : ℕ) → k < countIn image at → getD areas k blank .name ≡ nameIn image (recordOf at k)
+  pub name-is : (k : ℕ) → k < countIn image at → getD areas k blankArea .name ≡ nameIn image (recordOf at k)
   name-is k h = ap (λ (a : Area). a .name) (record-at image at g k h) ∙ name-at image (recordOf at k)
 
-  flags-is : (k : ℕ) → k < countIn image at → getD areas k blank .flags ≡ field (recordOf at k + 40) 2 image
+  flags-is : (k : ℕ) → k < countIn image at → getD areas k blankArea .flags ≡ field (recordOf at k + 40) 2 image
   flags-is k h = ap (λ (a : Area). a .flags) (record-at image at g k h) ∙ flags-at image (recordOf at k)
 
   rows : refusal (headerRows (length image) (rest at image)) ≡ none
-  unfolding goodHeader
+  unfolding goodMapHeader
   rows = holds-none (headerRows (length image) (rest at image)) (good-header image at g)
 
   area-rows : refusal (areaRows (length image) at areas) ≡ none
@@ -75,7 +75,7 @@ module _ (image : List ℕ) (at : ℕ) (g : goodMap image at ≡ true) where
   some-byte : (k : ℕ) → k < countIn image at → 1 ≤ sizeIn image (recordOf at k)
   unfolding empty
   some-byte k h =
-      let e : getD areas k blank .place .size ≡ 0 → ⊥ = eqb-false _ 0 (any-none empty areas blank (passes 10 (areaRows (length image) at areas) area-rows) k (there k h)) in
+      let e : getD areas k blankArea .place .size ≡ 0 → ⊥ = eqb-false _ 0 (any-none empty areas blankArea (passes 10 (areaRows (length image) at areas) area-rows) k (there k h)) in
       let s = size-is k h in
       omega (arith, e)
 
@@ -100,7 +100,7 @@ module _ (image : List ℕ) (at : ℕ) (g : goodMap image at ≡ true) where
   unfolding named
   differ i j h k e =
       let n = names-differ (length image) at areas (good-areas image at g) i j h (there j k) in
-      clash (ap (same (getD areas i blank .name)) (name-is j k ∙ sym e ∙ sym (name-is i (omega arith))) ∙ same-refl (getD areas i blank .name)) n
+      clash (ap (same (getD areas i blankArea .name)) (name-is j k ∙ sym e ∙ sym (name-is i (omega arith))) ∙ same-refl (getD areas i blankArea .name)) n
 
   -- M7 of two areas, by their numbers
   sides : (x y : Extent) (sx zx sy zy : ℕ) → x .start .0 ≡ sx → x .size ≡ zx → y .start .0 ≡ sy → y .size ≡ zy → disjointOrNested x y ≡ true
@@ -132,11 +132,11 @@ module _ (image : List ℕ) (at : ℕ) (g : goodMap image at ≡ true) where
   unfolding goodPlaces
   apart i j h k =
       let w : i < countIn image at = omega arith in
-      sides (getD areas i blank .place) (getD areas j blank .place) _ _ _ _ (start-is i w) (size-is i w) (start-is j k) (size-is j k)
-      (pairs-get goodPlaces areas blank (not-f _ (passes 15 (areaRows (length image) at areas) area-rows)) i j h (there j k))
+      sides (getD areas i blankArea .place) (getD areas j blankArea .place) _ _ _ _ (start-is i w) (size-is i w) (start-is j k) (size-is j k)
+      (pairs-get goodPlaces areas blankArea (not-f _ (passes 15 (areaRows (length image) at areas) area-rows)) i j h (there j k))
 
-  pub held : (k : ℕ) × (k < length areas) × (holdsMap at (length areas) (getD areas k blank) ≡ true)
-  held = any-get (holdsMap at (length areas)) areas blank (holder (length image) at areas (good-areas image at g))
+  pub held : (k : ℕ) × (k < length areas) × (holdsMap at (length areas) (getD areas k blankArea) ≡ true)
+  held = any-get (holdsMap at (length areas)) areas blankArea (holder (length image) at areas (good-areas image at g))
 
   held-name : nameIn image (recordOf at (held .0)) ≡ fmapName
   unfolding holdsMap named
@@ -149,7 +149,7 @@ module _ (image : List ℕ) (at : ℕ) (g : goodMap image at ≡ true) where
   held-size : 56 + 42 * countIn image at ≤ sizeIn image (recordOf at (held .0))
   unfolding holdsMap
   held-size =
-      let w : mapSize (length areas) ≤ getD areas (held .0) blank .place .size = leb-true _ _ (and-r _ _ (and-r _ _ (held .2))) in
+      let w : mapSize (length areas) ≤ getD areas (held .0) blankArea .place .size = leb-true _ _ (and-r _ _ (and-r _ _ (held .2))) in
       omega (arith, w, size-is (held .0) (back (held .0) (held .1)), areas-count image at g)
 
 pub good-is-map : GoodIsMap
@@ -188,27 +188,27 @@ module _ (old : List ℕ) (at : ℕ) (new : List ℕ) (bt : ℕ) (g : goodMap ol
   abbrev news : List Area
   news = areasOf (rest bt new)
 
-  pub marked : (i : ℕ) → i < countIn old at → field (recordOf at i + 40) 2 old / 8 % 2 ≡ 1 → preserved (getD olds i blank) ≡ true
+  pub marked : (i : ℕ) → i < countIn old at → field (recordOf at i + 40) 2 old / 8 % 2 ≡ 1 → preserved (getD olds i blankArea) ≡ true
   unfolding preserved
   marked i l e = eq-eqb _ 1 (ap (λ (f : ℕ). f / 8 % 2) (flags-is old at g i l) ∙ e)
 
-  pub unmarked : (i : ℕ) → i < countIn old at → preserved (getD olds i blank) ≡ true → field (recordOf at i + 40) 2 old / 8 % 2 ≡ 1
+  pub unmarked : (i : ℕ) → i < countIn old at → preserved (getD olds i blankArea) ≡ true → field (recordOf at i + 40) 2 old / 8 % 2 ≡ 1
   unfolding preserved
   unmarked i l e = sym (ap (λ (f : ℕ). f / 8 % 2) (flags-is old at g i l)) ∙ eqb-true _ 1 e
 
   -- the first area of a name is its only one
-  pub only : (n : List ℕ) (j : ℕ) → j < length news → n ≡ getD news j blank .name → findIx (named n) news ≡ j
+  pub only : (n : List ℕ) (j : ℕ) → j < length news → n ≡ getD news j blankArea .name → findIx (named n) news ≡ j
   unfolding named
   only n j l e = go (eqb f j) refl
     where
       f : ℕ
       f = findIx (named n) news
 
-      hit : (f < length news) × (named n (getD news f blank) ≡ true)
-      hit = findIx-get (named n) news blank (any-make (named n) news blank j l (ap (same n) (sym e) ∙ same-refl n))
+      hit : (f < length news) × (named n (getD news f blankArea) ≡ true)
+      hit = findIx-get (named n) news blankArea (any-make (named n) news blankArea j l (ap (same n) (sym e) ∙ same-refl n))
 
-      name-f : getD news f blank .name ≡ getD news j blank .name
-      name-f = sym (same-true n (getD news f blank .name) (hit .1)) ∙ e
+      name-f : getD news f blankArea .name ≡ getD news j blankArea .name
+      name-f = sym (same-true n (getD news f blankArea .name) (hit .1)) ∙ e
 
       go : (t : Bool) → eqb f j ≡ t → f ≡ j
       go true q = eqb-true _ _ q
@@ -219,18 +219,18 @@ module _ (old : List ℕ) (at : ℕ) (new : List ℕ) (bt : ℕ) (g : goodMap ol
 
           lower : (t : Bool) → ltb f j ≡ t → f ≡ j
           lower true w =
-              absurd (clash (ap (same (getD news f blank .name)) (sym name-f) ∙ same-refl (getD news f blank .name))
+              absurd (clash (ap (same (getD news f blankArea .name)) (sym name-f) ∙ same-refl (getD news f blankArea .name))
               (names-differ (length new) bt news (good-areas new bt h) f j (ltb-true _ _ w) l))
           lower false w =
               let m : j ≤ f = ltb-false _ _ w in
-              absurd (clash (ap (same (getD news j blank .name)) name-f ∙ same-refl (getD news j blank .name))
+              absurd (clash (ap (same (getD news j blankArea .name)) name-f ∙ same-refl (getD news j blankArea .name))
               (names-differ (length new) bt news (good-areas new bt h) j f (omega (arith, ne)) (hit .0)))
 
-  pub goes-to : (i j : ℕ) → Goes old at new bt i j → target news (getD olds i blank) ≡ getD news j blank .place
+  pub goes-to : (i j : ℕ) → Goes old at new bt i j → target news (getD olds i blankArea) ≡ getD news j blankArea .place
   unfolding withName
   goes-to i j w =
-      ap (λ (k : ℕ). getD news k blank .place)
-      (only (getD olds i blank .name) j (there new bt h j (w .new-record))
+      ap (λ (k : ℕ). getD news k blankArea .place)
+      (only (getD olds i blankArea .name) j (there new bt h j (w .new-record))
       (name-is old at g i (w .old-record) ∙ w .same-name ∙ sym (name-is new bt h j (w .new-record))))
 
   module _ (image : List ℕ) (e : refusal (carryRows olds news) ≡ none) (r : Arrived old olds new news image) where
@@ -239,28 +239,28 @@ module _ (old : List ℕ) (at : ℕ) (new : List ℕ) (bt : ℕ) (g : goodMap ol
     arrive i j w k l =
         let a = r .arrive i (there old at g i (w .old-record)) (marked i (w .old-record) (w .preserve)) in
         let t = goes-to i j w in
-        let ts : target news (getD olds i blank) .start .0 ≡ startIn new (recordOf bt j) = ap (λ (x : Extent). x .start .0) t ∙ start-is new bt h j (w .new-record) in
+        let ts : target news (getD olds i blankArea) .start .0 ≡ startIn new (recordOf bt j) = ap (λ (x : Extent). x .start .0) t ∙ start-is new bt h j (w .new-record) in
         let os = start-is old at g i (w .old-record) in
         let oz = size-is old at g i (w .old-record) in
         let z = size-same olds news e i (there old at g i (w .old-record)) (marked i (w .old-record) (w .preserve)) in
         ap (λ (s : ℕ). getD image (s + k) 0) (sym ts)
-        ∙ sym (getD-part image (target news (getD olds i blank) .start .0) (target news (getD olds i blank) .size) k (omega (arith, z, oz)))
+        ∙ sym (getD-part image (target news (getD olds i blankArea) .start .0) (target news (getD olds i blankArea) .size) k (omega (arith, z, oz)))
         ∙ ap (λ (xs : List ℕ). getD xs k 0) a
-        ∙ getD-part old (getD olds i blank .place .start .0) (getD olds i blank .place .size) k (omega (arith, oz))
+        ∙ getD-part old (getD olds i blankArea .place .start .0) (getD olds i blankArea .place .size) k (omega (arith, oz))
         ∙ ap (λ (s : ℕ). getD old (s + k) 0) os
 
     none-lost : (i : ℕ) → i < countIn old at → field (recordOf at i + 40) 2 old / 8 % 2 ≡ 1 → (j : ℕ) × Goes old at new bt i j
     unfolding named
     none-lost i l p =
-        let f = findIx-get (named (getD olds i blank .name)) news blank (present olds news e i (there old at g i l) (marked i l p)) in
-        let j = findIx (named (getD olds i blank .name)) news in
+        let f = findIx-get (named (getD olds i blankArea .name)) news blankArea (present olds news e i (there old at g i l) (marked i l p)) in
+        let j = findIx (named (getD olds i blankArea .name)) news in
         let b = back new bt h j (f .0) in (
           j,
           record {
             old-record = l;
             new-record = b;
             preserve = p;
-            same-name = sym (name-is old at g i l) ∙ same-true (getD olds i blank .name) (getD news j blank .name) (f .1) ∙ name-is new bt h j b;
+            same-name = sym (name-is old at g i l) ∙ same-true (getD olds i blankArea .name) (getD news j blankArea .name) (f .1) ∙ name-is new bt h j b;
           },
         )
 
@@ -269,8 +269,8 @@ module _ (old : List ℕ) (at : ℕ) (new : List ℕ) (bt : ℕ) (g : goodMap ol
         → getD image x 0 ≡ getD new x 0
     stay x c = r .stay x (λ i l p. side i l p)
       where
-        side : (i : ℕ) → i < length olds → preserved (getD olds i blank) ≡ true
-            → (x < target news (getD olds i blank) .start .0) ⊎ (endOf (target news (getD olds i blank)) ≤ x)
+        side : (i : ℕ) → i < length olds → preserved (getD olds i blankArea) ≡ true
+            → (x < target news (getD olds i blankArea) .start .0) ⊎ (endOf (target news (getD olds i blankArea)) ≤ x)
         side i l p = turn (c i (n .0) (n .1))
           where
             b : i < countIn old at
@@ -279,17 +279,17 @@ module _ (old : List ℕ) (at : ℕ) (new : List ℕ) (bt : ℕ) (g : goodMap ol
             n : (j : ℕ) × Goes old at new bt i j
             n = none-lost i b (unmarked i b p)
 
-            t : target news (getD olds i blank) ≡ getD news (n .0) blank .place
+            t : target news (getD olds i blankArea) ≡ getD news (n .0) blankArea .place
             t = goes-to i (n .0) (n .1)
 
-            ts : target news (getD olds i blank) .start .0 ≡ startIn new (recordOf bt (n .0))
+            ts : target news (getD olds i blankArea) .start .0 ≡ startIn new (recordOf bt (n .0))
             ts = ap (λ (y : Extent). y .start .0) t ∙ start-is new bt h (n .0) (n .1 .new-record)
 
-            tz : target news (getD olds i blank) .size ≡ sizeIn new (recordOf bt (n .0))
+            tz : target news (getD olds i blankArea) .size ≡ sizeIn new (recordOf bt (n .0))
             tz = ap (λ (y : Extent). y .size) t ∙ size-is new bt h (n .0) (n .1 .new-record)
 
             turn : (x < startIn new (recordOf bt (n .0))) ⊎ (startIn new (recordOf bt (n .0)) + sizeIn new (recordOf bt (n .0)) ≤ x)
-                → (x < target news (getD olds i blank) .start .0) ⊎ (endOf (target news (getD olds i blank)) ≤ x)
+                → (x < target news (getD olds i blankArea) .start .0) ⊎ (endOf (target news (getD olds i blankArea)) ≤ x)
             turn (inl q) = inl (omega (arith, ts))
             turn (inr q) = inr (omega (arith, ts, tz))
 

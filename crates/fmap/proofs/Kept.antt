@@ -20,7 +20,7 @@ use Rattle.octets.proofs.Equal.{same-true}
 use Rattle.fmap_rules.specs.declared.Extent.{Extent}
 use Rattle.fmap_rules.specs.declared.ImagePosition.{ImagePosition}
 use Rattle.fmap_rules.specs.declared.Area.{Area}
-use Rattle.fmap_rules.specs.Map.{position, countOf, areaOf, areasOf, blank, named, fmapName, endOf, disjoint, holdsMap, mapSize, goodMap}
+use Rattle.fmap_rules.specs.Map.{position, countOf, areaOf, areasOf, blankArea, named, fmapName, endOf, disjoint, holdsMap, mapSize, goodMap}
 use Rattle.fmap_rules.specs.Written.{areaBytes}
 use Rattle.fmap_rules.proofs.Good.{good-within}
 use Rattle.fmap_rules.proofs.Records.{count-at, areas-count, record-at, area-is-its-bytes, same-map}
@@ -84,11 +84,11 @@ module _ (old : List ℕ) (at : ℕ) (new : List ℕ) (bt : ℕ) (image : List �
   size = 56 + 42 * field (bt + 54) 2 new
 
   -- area FMAP begins at the map and holds it
-  own : withName news fmapName ≡ getD news (held new bt h .0) blank
+  own : withName news fmapName ≡ getD news (held new bt h .0) blankArea
   unfolding withName holdsMap named
   own =
       let w = held new bt h in
-      ap (λ (k : ℕ). getD news k blank) (only old at new bt g h fmapName (w .0) (w .1) (same-true _ _ (and-l _ _ (w .2))))
+      ap (λ (k : ℕ). getD news k blankArea) (only old at new bt g h fmapName (w .0) (w .1) (same-true _ _ (and-l _ _ (w .2))))
 
   own-start : withName news fmapName .place .start .0 ≡ bt
   unfolding holdsMap
@@ -97,7 +97,7 @@ module _ (old : List ℕ) (at : ℕ) (new : List ℕ) (bt : ℕ) (image : List �
   own-size : size ≤ withName news fmapName .place .size
   unfolding holdsMap
   own-size =
-      let w : mapSize (length news) ≤ getD news (held new bt h .0) blank .place .size = leb-true _ _ (and-r _ _ (and-r _ _ (held new bt h .2))) in
+      let w : mapSize (length news) ≤ getD news (held new bt h .0) blankArea .place .size = leb-true _ _ (and-r _ _ (and-r _ _ (held new bt h .2))) in
       omega (arith, w, ap (λ (a : Area). a .place .size) own, areas-count new bt h)
 
   sides : (x y : Extent) → disjoint x y ≡ true → (endOf x ≤ y .start .0) ⊎ (endOf y ≤ x .start .0)
@@ -108,17 +108,17 @@ module _ (old : List ℕ) (at : ℕ) (new : List ℕ) (bt : ℕ) (image : List �
       go (inl w) = inl (leb-true _ _ w)
       go (inr w) = inr (leb-true _ _ w)
 
-  clear : (x : ℕ) → bt ≤ x → x < bt + size → (i : ℕ) → i < length olds → preserved (getD olds i blank) ≡ true
-      → (x < target news (getD olds i blank) .start .0) ⊎ (endOf (target news (getD olds i blank)) ≤ x)
+  clear : (x : ℕ) → bt ≤ x → x < bt + size → (i : ℕ) → i < length olds → preserved (getD olds i blankArea) ≡ true
+      → (x < target news (getD olds i blankArea) .start .0) ⊎ (endOf (target news (getD olds i blankArea)) ≤ x)
   unfolding onMap
   clear x lo hi i l p =
-      turn (sides (target news (getD olds i blank)) (withName news fmapName .place)
-      (not-f _ (and-skip _ _ p (any-none (onMap news) olds blank
+      turn (sides (target news (getD olds i blankArea)) (withName news fmapName .place)
+      (not-f _ (and-skip _ _ p (any-none (onMap news) olds blankArea
       (passes 63 (carryRows olds news) (rows-pass old at new bt image e)) i l))))
     where
-      turn : (endOf (target news (getD olds i blank)) ≤ withName news fmapName .place .start .0)
-          ⊎ (endOf (withName news fmapName .place) ≤ target news (getD olds i blank) .start .0)
-          → (x < target news (getD olds i blank) .start .0) ⊎ (endOf (target news (getD olds i blank)) ≤ x)
+      turn : (endOf (target news (getD olds i blankArea)) ≤ withName news fmapName .place .start .0)
+          ⊎ (endOf (withName news fmapName .place) ≤ target news (getD olds i blankArea) .start .0)
+          → (x < target news (getD olds i blankArea) .start .0) ⊎ (endOf (target news (getD olds i blankArea)) ≤ x)
       turn (inl q) = inr (omega (arith, own-start))
       turn (inr q) = inl (omega (arith, own-start, own-size))
 

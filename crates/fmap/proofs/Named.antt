@@ -16,7 +16,7 @@ use Rattle.octets.proofs.Bools.{and-l, and-r, bool-cases}
 use Rattle.octets.proofs.Equal.{same-true}
 use Rattle.fmap_rules.specs.declared.ImagePosition.{ImagePosition}
 use Rattle.fmap_rules.specs.declared.Area.{Area}
-use Rattle.fmap_rules.specs.Map.{areasOf, blank, nameLength, legalName}
+use Rattle.fmap_rules.specs.Map.{areasOf, blankArea, nameLength, legalName}
 use Rattle.fmap_rules.proofs.Good.{good-areas, legal}
 use Rattle.fmap.specs.Find.{Reply, accepted, refused, findMap}
 use Rattle.fmap.specs.Areas.{called, areaIn, areaBy, areaNumbered, areaNamed, indexBy, indexNamed}
@@ -24,12 +24,12 @@ use Rattle.fmap.specs.Promises.{LongNameIsNothing, IndexIsNamed}
 use Rattle.fmap.proofs.Finding.{found-good}
 
 -- where the first is in range, the test holds there
-pub first-passes : (p : Area → Bool) (areas : List Area) → findIx p areas < length areas → p (getD areas (findIx p areas) blank) ≡ true
+pub first-passes : (p : Area → Bool) (areas : List Area) → findIx p areas < length areas → p (getD areas (findIx p areas) blankArea) ≡ true
 first-passes p [] h = absurd (not-suc-le-zero h)
 first-passes p (a ∷ areas) h = go (bool-cases (p a)) h (first-passes p areas)
   where
-    go : (p a ≡ true) ⊎ (p a ≡ false) → findIx p (a ∷ areas) < suc (length areas) → (findIx p areas < length areas → p (getD areas (findIx p areas) blank) ≡ true)
-        → p (getD (a ∷ areas) (findIx p (a ∷ areas)) blank) ≡ true
+    go : (p a ≡ true) ⊎ (p a ≡ false) → findIx p (a ∷ areas) < suc (length areas) → (findIx p areas < length areas → p (getD areas (findIx p areas) blankArea) ≡ true)
+        → p (getD (a ∷ areas) (findIx p (a ∷ areas)) blankArea) ≡ true
     go (inl q) h ih = rw (q, findIx) q
     go (inr q) h ih = rw (q, findIx) (ih (le-of-suc-le-suc (rw (q, findIx) at h)))
 
@@ -48,7 +48,7 @@ module _ (image name : List ℕ) where
       let t : ltb (findIx (called name) areas) (length areas) ≡ true = cc in
       let i : findIx (called name) areas < length areas = ltb-true _ _ t in
       let a = legal (length image) (p .0) areas (good-areas image (p .0) (found-good image p f)) (findIx (called name) areas) i in
-      short name (getD areas (findIx (called name) areas) blank) a (first-passes (called name) areas i)
+      short name (getD areas (findIx (called name) areas) blankArea) a (first-passes (called name) areas i)
   by-find (refused k) f e = let z : _≡_ {A = ℕ} 0 1 = cc in absurd (omega arith)
 
 pub long-name-is-nothing : LongNameIsNothing

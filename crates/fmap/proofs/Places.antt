@@ -15,7 +15,7 @@ use lib.ListN.{length}
 use Rattle.fmap_rules.specs.Map.{areasOf, mapRows, goodMap}
 use Rattle.fmap_rules.proofs.Rules.{code-none, map-no-zero}
 use Rattle.fmap_rules.proofs.Good.{unsigned-first}
-use Rattle.fmap_carry.specs.Carry.{Outcome, outcome, carryRows, carried, carryAreas}
+use Rattle.fmap_carry.specs.Carry.{Outcome, unlessRefused, carryRows, carried, carryAreas}
 use Rattle.fmap.specs.Find.{Reply, accepted, refused, reply, outOfRange, signedAt}
 use Rattle.fmap.specs.Faults.{faultAt}
 use Rattle.fmap.specs.Carry.{placeRows, carryAtRows, carryAt}
@@ -95,9 +95,9 @@ module _ (image : List ℕ) (at : ℕ) where
 
 module _ (old : List ℕ) (at : ℕ) (new : List ℕ) (bt : ℕ) where
   rows-give : (o : Option ℕ) → o ≡ refusal (carryAtRows old at new bt)
-      → outcome o (carried old (areasOf (rest bt new)) (areasOf (rest at old)) new) new ≡ carryAt old at new bt
+      → unlessRefused o (carried old (areasOf (rest bt new)) (areasOf (rest at old)) new) new ≡ carryAt old at new bt
   unfolding carryAt
-  rows-give o e = ap (λ (x : Option ℕ). outcome x (carried old (areasOf (rest bt new)) (areasOf (rest at old)) new) new) e
+  rows-give o e = ap (λ (x : Option ℕ). unlessRefused x (carried old (areasOf (rest bt new)) (areasOf (rest at old)) new) new) e
 
   pub old-stops : (k : ℕ) → some k ≡ refusal (placeRows old at) → record { answer = some k; image = new } ≡ carryAt old at new bt
   old-stops k e =
@@ -119,7 +119,7 @@ module _ (old : List ℕ) (at : ℕ) (new : List ℕ) (bt : ℕ) where
 
 -- ---- an accepted carry by two positions
 
-was-free : (o : Option ℕ) (done new image : List ℕ) → outcome o done new ≡ record { answer = none; image = image } → o ≡ none
+was-free : (o : Option ℕ) (done new image : List ℕ) → unlessRefused o done new ≡ record { answer = none; image = image } → o ≡ none
 was-free none done new image e = refl
 was-free (some k) done new image e = let z : _≡_ {A = ℕ} 0 1 = cc (ap (λ (r : Outcome). r .answer) e) in absurd (omega arith)
 

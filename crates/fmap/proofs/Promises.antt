@@ -18,7 +18,7 @@ use Rattle.fmap_rules.specs.Map.{position, areasOf, goodMap}
 use Rattle.fmap_rules.specs.Written.{mapBytes}
 use Rattle.fmap_rules.proofs.Good.{good-within, good-header, header-signed}
 use Rattle.fmap_rules.proofs.Written.{written-is-good}
-use Rattle.fmap_carry.specs.Carry.{Outcome, outcome, carried}
+use Rattle.fmap_carry.specs.Carry.{Outcome, unlessRefused, carried}
 use Rattle.fmap_carry.specs.Arrived.{Arrived}
 use Rattle.fmap_carry.proofs.Passed.{good-ends-of}
 use Rattle.fmap_carry.proofs.Accepted.{accepted as accepted-areas}
@@ -58,7 +58,7 @@ carry-arrives old new image e = start old new image (findMap old) refl e
 
 -- ---- a carry that is refused
 
-stays : (o : Option ℕ) (done new : List ℕ) (n : ℕ) → outcome o done new .answer ≡ some n → outcome o done new .image ≡ new
+stays : (o : Option ℕ) (done new : List ℕ) (n : ℕ) → unlessRefused o done new .answer ≡ some n → unlessRefused o done new .image ≡ new
 stays none done new n e = absurd (some-none (sym e))
 stays (some k) done new n e = refl
 

@@ -14,19 +14,19 @@ use Rattle.octets.proofs.Puts.{put-all}
 use Rattle.fmap_rules.specs.declared.ImagePosition.{ImagePosition}
 use Rattle.fmap_rules.specs.declared.Extent.{Extent}
 use Rattle.fmap_rules.specs.declared.Area.{Area}
-use Rattle.fmap_rules.specs.Map.{areaOf, areasIn, areasOf, blank, nameLength}
+use Rattle.fmap_rules.specs.Map.{areaOf, areasIn, areasOf, blankArea, nameLength}
 use Rattle.fmap_rules.proofs.Areas.{length-areas}
 use Rattle.fmap.specs.Find.{Reply, accepted, foundReply, findMap}
 use Rattle.fmap.specs.Areas.{areaIn, indexIn, indexBy, indexNamed, called}
-use Rattle.fmap.specs.declared.Found.{Found}
-use Rattle.fmap.specs.declared.Found.the-variants.{At}
+use Rattle.fmap.specs.declared.MapFound.{MapFound}
+use Rattle.fmap.specs.declared.MapFound.the-variants.{At}
 
-pub area-none : (xs : List ℕ) (k : ℕ) → length xs / 42 ≤ k → record { answer = accepted false; area = blank } ≡ areaIn (areasIn xs) k
+pub area-none : (xs : List ℕ) (k : ℕ) → length xs / 42 ≤ k → record { answer = accepted false; area = blankArea } ≡ areaIn (areasIn xs) k
 area-none xs k h =
     let l : length (areasIn xs) ≤ k = omega (arith, length-areas xs) in
-    rw (le-ltb k (length (areasIn xs)) l, List·getD-eq-default (areasIn xs) blank l)
+    rw (le-ltb k (length (areasIn xs)) l, List·getD-eq-default (areasIn xs) blankArea l)
 
-pub area-there : (xs : List ℕ) (k : ℕ) (a : Area) → k < length xs / 42 → a ≡ getD (areasIn xs) k blank
+pub area-there : (xs : List ℕ) (k : ℕ) (a : Area) → k < length xs / 42 → a ≡ getD (areasIn xs) k blankArea
     → record { answer = accepted true; area = a } ≡ areaIn (areasIn xs) k
 area-there xs k a h e =
     let l : k < length (areasIn xs) = omega (arith, length-areas xs) in
@@ -43,11 +43,11 @@ index-there xs k i e h =
     rw (lt-ltb i (length (areasIn xs)) l, e)
 
 -- the number of the area with a name, by what finding answered
-pub index-by : (image name : List ℕ) (f x : Found) → f ≡ x → foundReply f ≡ findMap image → indexBy image (findIx (called name)) (foundReply x) ≡ indexNamed image name
+pub index-by : (image name : List ℕ) (f x : MapFound) → f ≡ x → foundReply f ≡ findMap image → indexBy image (findIx (called name)) (foundReply x) ≡ indexNamed image name
 unfolding indexNamed
 index-by image name f x p q = ap (indexBy image (findIx (called name))) (sym (ap foundReply p) ∙ q)
 
-pub index-found : (image name : List ℕ) (f : Found) (p : ImagePosition) (areas : List Area) (r : Reply (Option ℕ)) → f ≡ At p → foundReply f ≡ findMap image
+pub index-found : (image name : List ℕ) (f : MapFound) (p : ImagePosition) (areas : List Area) (r : Reply (Option ℕ)) → f ≡ At p → foundReply f ≡ findMap image
     → areas ≡ areasOf (rest (p .0) image) → r ≡ accepted (indexIn areas (findIx (called name) areas)) → r ≡ indexNamed image name
 index-found image name f p areas r e q l k =
     k ∙ ap (λ (x : List Area). accepted (indexIn x (findIx (called name) x))) l ∙ index-by image name f (At p) e q

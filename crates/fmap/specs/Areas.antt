@@ -9,7 +9,7 @@ use Rattle.octets.specs.Tests.{findIx}
 use Rattle.octets.specs.Bytes.{part, rest, same}
 use Rattle.fmap_rules.specs.declared.ImagePosition.{ImagePosition}
 use Rattle.fmap_rules.specs.declared.Area.{Area}
-use Rattle.fmap_rules.specs.Map.{areasOf, blank, nameLength}
+use Rattle.fmap_rules.specs.Map.{areasOf, blankArea, nameLength}
 use Rattle.fmap.specs.Find.{Reply, accepted, refused, findMap}
 use Rattle.fmap.specs.declared.AreaCount.{AreaCount}
 use Rattle.fmap.specs.declared.AreaCount.the-variants.{Count, WrongLength, NoSignature, NoGoodMap}
@@ -51,7 +51,7 @@ looked r = record { answer = lookupReply (r .answer); area = r .area }
 
 -- area k of a list, from 0
 abbrev pub areaIn : List Area → ℕ → Looked
-areaIn areas k = record { answer = accepted (ltb k (length areas)); area = getD areas k blank }
+areaIn areas k = record { answer = accepted (ltb k (length areas)); area = getD areas k blankArea }
 
 -- k, where a list has an area k
 abbrev pub indexIn : List Area → ℕ → Option ℕ
@@ -68,7 +68,7 @@ countBy image (refused k) = refused k
 
 abbrev pub areaBy : List ℕ → (List Area → ℕ) → Reply ImagePosition → Looked
 areaBy image k (accepted p) = areaIn (areasOf (rest (p .0) image)) (k (areasOf (rest (p .0) image)))
-areaBy image k (refused n) = record { answer = refused n; area = blank }
+areaBy image k (refused n) = record { answer = refused n; area = blankArea }
 
 abbrev pub indexBy : List ℕ → (List Area → ℕ) → Reply ImagePosition → Reply (Option ℕ)
 indexBy image k (accepted p) = accepted (indexIn (areasOf (rest (p .0) image)) (k (areasOf (rest (p .0) image))))

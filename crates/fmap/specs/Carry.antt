@@ -8,7 +8,7 @@ use Rattle.octets.specs.Rows.{Row, row, refusal}
 use Rattle.octets.specs.Bytes.{rest}
 use Rattle.fmap_rules.specs.declared.ImagePosition.{ImagePosition}
 use Rattle.fmap_rules.specs.Map.{areasOf, goodMap}
-use Rattle.fmap_carry.specs.Carry.{Outcome, outcome, carryRows, carried}
+use Rattle.fmap_carry.specs.Carry.{Outcome, unlessRefused, carryRows, carried}
 use Rattle.fmap.specs.Find.{Reply, accepted, refused, outOfRange, signedAt, findMap}
 use Rattle.fmap.specs.declared.Standing.{Standing}
 use Rattle.fmap.specs.declared.Standing.the-variants.{GoodMap, WrongLength as LengthToo, NoSignature as SignatureToo, NoGoodMap as MapToo}
@@ -47,7 +47,7 @@ carryAtRows old at new bt = placeRows old at ++ (placeRows new bt ++ carryRows (
 
 -- by the maps at two positions
 unfoldable pub carryAt : List ℕ → ℕ → List ℕ → ℕ → Outcome
-carryAt old at new bt = outcome (refusal (carryAtRows old at new bt)) (carried old (areasOf (rest bt new)) (areasOf (rest at old)) new) new
+carryAt old at new bt = unlessRefused (refusal (carryAtRows old at new bt)) (carried old (areasOf (rest bt new)) (areasOf (rest at old)) new) new
 
 abbrev pub carryTo : List ℕ → ImagePosition → List ℕ → Reply ImagePosition → Outcome
 carryTo old p new (accepted q) = carryAt old (p .0) new (q .0)

@@ -6,11 +6,11 @@ use lib.ListN.{length}
 use Rattle.octets.specs.Rows.{row, refusal}
 use Rattle.fmap_rules.specs.Map.{mapRows}
 use Rattle.fmap.specs.Find.{Reply, accepted, refused, reply, outOfRange}
-use Rattle.fmap.specs.declared.Fault.{Fault}
-use Rattle.fmap.specs.declared.Fault.the-variants.{Good, Breaks, WrongLength}
+use Rattle.fmap.specs.declared.MapFault.{MapFault}
+use Rattle.fmap.specs.declared.MapFault.the-variants.{Good, Breaks, WrongLength}
 
 -- (W15) the number and the value of each answer: none is a good map, else the number of a rule in `mapRows`
-abbrev pub faultReply : Fault → Reply (Option ℕ)
+abbrev pub faultReply : MapFault → Reply (Option ℕ)
 faultReply Good = accepted none
 faultReply (Breaks k) = accepted (some k)
 faultReply WrongLength = refused 40

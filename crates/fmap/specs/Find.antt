@@ -11,8 +11,8 @@ use Rattle.octets.specs.Bytes.{rest}
 use Rattle.fmap_rules.specs.declared.ImagePosition.{ImagePosition}
 use Rattle.fmap_rules.specs.Map.{position, signed, goodMap}
 use Rattle.fmap.specs.Lowest.{lowest, someBelow}
-use Rattle.fmap.specs.declared.Found.{Found}
-use Rattle.fmap.specs.declared.Found.the-variants.{At, WrongLength, NoSignature, NoGoodMap}
+use Rattle.fmap.specs.declared.MapFound.{MapFound}
+use Rattle.fmap.specs.declared.MapFound.the-variants.{At, WrongLength, NoSignature, NoGoodMap}
 
 -- R1, (R3) a call is accepted with a value, or refused with a number alone
 pub data Reply (A : Type 0) : Type 0 where
@@ -25,7 +25,7 @@ module _ {A : Type 0} where
   reply (some k) a = refused k
 
 -- (W15) the number and the value of each answer of finding
-abbrev pub foundReply : Found → Reply ImagePosition
+abbrev pub foundReply : MapFound → Reply ImagePosition
 foundReply (At p) = accepted p
 foundReply WrongLength = refused 40
 foundReply NoSignature = refused 41

@@ -6,7 +6,7 @@ ghost use lib.ListN.{length};
 ghost use lib.Dec.{eqb};
 ghost use Rattle.octets.specs.Tests.{any, findIx};
 ghost use Rattle.octets.specs.Rows.{refusal};
-ghost use Rattle.fmap_rules.specs.Map.{signature, areaOf, areasIn, blank};
+ghost use Rattle.fmap_rules.specs.Map.{signature, areaOf, areasIn, blankArea};
 ghost use Rattle.fmap.specs.Lowest.{firstFrom};
 ghost use Rattle.fmap.specs.Find.{accepted, foundReply, signedAt, findMap};
 ghost use Rattle.fmap_carry.specs.Carry.{judgedNumber};
@@ -20,7 +20,7 @@ use fmap_rules::Extent;
 use fmap_rules::ImagePosition;
 
 // What finding a map answers.
-pub enum Found {
+pub enum MapFound {
     At(ImagePosition),
     WrongLength,
     NoSignature,
@@ -28,7 +28,7 @@ pub enum Found {
 }
 
 // What a map at a position is; a rule by its number.
-pub enum Fault {
+pub enum MapFault {
     Good,
     Breaks(u32),
     WrongLength,
@@ -116,43 +116,43 @@ fn next_signed(image: &[u8], from: ImagePosition) -> ImagePosition
 }
 
 // Finds the lowest good map. Two signatures share two bytes at most, so the next one starts six bytes on or later.
-pub fn find(image: &[u8]) -> Found
+pub fn find(image: &[u8]) -> MapFound
     ensures { λ r. ⌜ foundReply r ≡ findMap (now (image .entry)) ⌝ }
 {
     if image.len() < 98 {
-        return Found::WrongLength;
+        return MapFound::WrongLength;
     }
     if 16777216 < image.len() {
-        return Found::WrongLength;
+        return MapFound::WrongLength;
     }
     let mut at = next_signed(image, ImagePosition(0));
     if image.len() <= at.0 as usize {
-        return Found::NoSignature;
+        return MapFound::NoSignature;
     }
     while (at.0 as usize) < image.len() {
         if fmap_rules::good_at(image, at) {
-            return Found::At(at);
+            return MapFound::At(at);
         }
         at = next_signed(image, ImagePosition(at.0 + 6));
     }
-    Found::NoGoodMap
+    MapFound::NoGoodMap
 }
 
 // The first rule that a map at a position breaks. Any position may be asked for.
-pub fn fault_at(image: &[u8], at: ImagePosition) -> Fault
+pub fn fault_at(image: &[u8], at: ImagePosition) -> MapFault
     ensures { λ r. ⌜ faultReply r ≡ faultAt (now (image .entry)) (at .0) ⌝ }
 {
     if image.len() < 98 {
-        return Fault::WrongLength;
+        return MapFault::WrongLength;
     }
     if 16777216 < image.len() {
-        return Fault::WrongLength;
+        return MapFault::WrongLength;
     }
     let k = fmap_rules::map_rule(image, at);
     if k == 0 {
-        return Fault::Good;
+        return MapFault::Good;
     }
-    Fault::Breaks(k)
+    MapFault::Breaks(k)
 }
 
 // How many areas the map has.
@@ -160,15 +160,15 @@ pub fn area_count(image: &[u8]) -> AreaCount
     ensures { λ r. ⌜ countReply r ≡ countAreas (now (image .entry)) ⌝ }
 {
     match find(image) {
-        Found::WrongLength => AreaCount::WrongLength,
-        Found::NoSignature => AreaCount::NoSignature,
-        Found::NoGoodMap => AreaCount::NoGoodMap,
-        Found::At(p) => AreaCount::Count((fmap_rules::areas_at(image, p).len() / 42) as u32),
+        MapFound::WrongLength => AreaCount::WrongLength,
+        MapFound::NoSignature => AreaCount::NoSignature,
+        MapFound::NoGoodMap => AreaCount::NoGoodMap,
+        MapFound::At(p) => AreaCount::Count((fmap_rules::areas_at(image, p).len() / 42) as u32),
     }
 }
 
 fn no_area(answer: Lookup) -> AreaFound
-    ensures { λ r. ⌜ looked r ≡ record { answer = lookupReply answer; area = blank } ⌝ }
+    ensures { λ r. ⌜ looked r ≡ record { answer = lookupReply answer; area = blankArea } ⌝ }
 {
     AreaFound {
         answer,
@@ -215,10 +215,10 @@ pub fn area(image: &[u8], k: u64) -> AreaFound
     ensures { λ r. ⌜ looked r ≡ areaNumbered (now (image .entry)) k ⌝ }
 {
     match find(image) {
-        Found::WrongLength => no_area(Lookup::WrongLength),
-        Found::NoSignature => no_area(Lookup::NoSignature),
-        Found::NoGoodMap => no_area(Lookup::NoGoodMap),
-        Found::At(p) => area_in(fmap_rules::areas_at(image, p), k as usize),
+        MapFound::WrongLength => no_area(Lookup::WrongLength),
+        MapFound::NoSignature => no_area(Lookup::NoSignature),
+        MapFound::NoGoodMap => no_area(Lookup::NoGoodMap),
+        MapFound::At(p) => area_in(fmap_rules::areas_at(image, p), k as usize),
     }
 }
 
@@ -256,10 +256,10 @@ pub fn area_named(image: &[u8], name: &[u8]) -> AreaFound
     ensures { λ r. ⌜ looked r ≡ areaNamed (now (image .entry)) (now (name .entry)) ⌝ }
 {
     match find(image) {
-        Found::WrongLength => no_area(Lookup::WrongLength),
-        Found::NoSignature => no_area(Lookup::NoSignature),
-        Found::NoGoodMap => no_area(Lookup::NoGoodMap),
-        Found::At(p) => area_called(fmap_rules::areas_at(image, p), name),
+        MapFound::WrongLength => no_area(Lookup::WrongLength),
+        MapFound::NoSignature => no_area(Lookup::NoSignature),
+        MapFound::NoGoodMap => no_area(Lookup::NoGoodMap),
+        MapFound::At(p) => area_called(fmap_rules::areas_at(image, p), name),
     }
 }
 
@@ -279,10 +279,10 @@ pub fn area_index(image: &[u8], name: &[u8]) -> AreaIndex
     ensures { λ r. ⌜ indexReply r ≡ indexNamed (now (image .entry)) (now (name .entry)) ⌝ }
 {
     match find(image) {
-        Found::WrongLength => AreaIndex::WrongLength,
-        Found::NoSignature => AreaIndex::NoSignature,
-        Found::NoGoodMap => AreaIndex::NoGoodMap,
-        Found::At(p) => index_called(fmap_rules::areas_at(image, p), name),
+        MapFound::WrongLength => AreaIndex::WrongLength,
+        MapFound::NoSignature => AreaIndex::NoSignature,
+        MapFound::NoGoodMap => AreaIndex::NoGoodMap,
+        MapFound::At(p) => index_called(fmap_rules::areas_at(image, p), name),
     }
 }
 
@@ -359,10 +359,10 @@ fn carry_from(old: &[u8], at: ImagePosition, new: &mut [u8]) -> Carried
         ≡ carryTo (now (old .entry)) at (now (new .entry)) (findMap (now (new .entry))) ⌝ }
 {
     match find(&new[..]) {
-        Found::WrongLength => Carried::WrongLength,
-        Found::NoSignature => Carried::NoSignature,
-        Found::NoGoodMap => Carried::NoGoodMap,
-        Found::At(bt) => carry_at(old, at, new, bt),
+        MapFound::WrongLength => Carried::WrongLength,
+        MapFound::NoSignature => Carried::NoSignature,
+        MapFound::NoGoodMap => Carried::NoGoodMap,
+        MapFound::At(bt) => carry_at(old, at, new, bt),
     }
 }
 
@@ -371,9 +371,9 @@ pub fn carry(old: &[u8], new: &mut [u8]) -> Carried
     ensures { λ r. ⌜ record { answer = carriedNumber r; image = now (new .exit) } ≡ carryImages (now (old .entry)) (now (new .entry)) ⌝ }
 {
     match find(old) {
-        Found::WrongLength => Carried::WrongLength,
-        Found::NoSignature => Carried::NoSignature,
-        Found::NoGoodMap => Carried::NoGoodMap,
-        Found::At(at) => carry_from(old, at, new),
+        MapFound::WrongLength => Carried::WrongLength,
+        MapFound::NoSignature => Carried::NoSignature,
+        MapFound::NoGoodMap => Carried::NoGoodMap,
+        MapFound::At(at) => carry_from(old, at, new),
     }
 }

@@ -13,8 +13,8 @@ use Rattle.octets.specs.Rows.{refusal}
 use Rattle.octets.specs.Bytes.{part}
 use Rattle.octets.proofs.Parts.{getD-part}
 use Rattle.fmap_rules.specs.declared.Area.{Area}
-use Rattle.fmap_rules.specs.Map.{blank, endOf}
-use Rattle.fmap_carry.specs.Carry.{target, carryRows, carried, Outcome, outcome, carryAreas}
+use Rattle.fmap_rules.specs.Map.{blankArea, endOf}
+use Rattle.fmap_carry.specs.Carry.{target, carryRows, carried, Outcome, unlessRefused, carryAreas}
 use Rattle.fmap_carry.specs.Invariants.{endsIn}
 use Rattle.fmap_carry.specs.Arrived.{Arrived}
 use Rattle.fmap_carry.proofs.Passed.{all-apart, fitting}
@@ -27,7 +27,7 @@ byte xs ys p e = at xs ∙ ap (λ (l : List ℕ). getD l 0 0) e ∙ sym (at ys)
     at : (zs : List ℕ) → getD zs p 0 ≡ getD (part p 1 zs) 0 0
     at zs = ap (λ (k : ℕ). getD zs k 0) (sym (add-zero p)) ∙ sym (getD-part zs p 1 0 (omega arith))
 
-was-free : (o : Option ℕ) (done new image : List ℕ) → outcome o done new ≡ record { answer = none; image = image } → (o ≡ none) × (done ≡ image)
+was-free : (o : Option ℕ) (done new image : List ℕ) → unlessRefused o done new ≡ record { answer = none; image = image } → (o ≡ none) × (done ≡ image)
 was-free none done new image e = (refl, ap (λ (r : Outcome). r .image) e)
 was-free (some k) done new image e = let z : _≡_ {A = ℕ} 0 1 = cc (ap (λ (r : Outcome). r .answer) e) in absurd (omega arith)
 
@@ -39,7 +39,7 @@ module _ (old : List ℕ) (olds : List Area) (new : List ℕ) (news : List Area)
       record {
         same-length = length-carried old news olds new;
         arrive = λ i h p. arrives old news (length new) olds new refl (all-apart olds news e) f i h p;
-        stay = λ p c. byte (carried old news olds new) new p (part-carried old news (length new) olds new p 1 f (λ i h q. side (getD olds i blank) p (c i h q)));
+        stay = λ p c. byte (carried old news olds new) new p (part-carried old news (length new) olds new p 1 f (λ i h q. side (getD olds i blankArea) p (c i h q)));
       }
     where
       side : (x : Area) (p : ℕ) → (p < target news x .start .0) ⊎ (endOf (target news x) ≤ p) → (endOf (target news x) ≤ p) ⊎ (p + 1 ≤ target news x .start .0)

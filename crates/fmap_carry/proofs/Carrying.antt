@@ -19,7 +19,7 @@ use Rattle.octets.proofs.Parts.{length-part}
 use Rattle.octets.proofs.Puts.{length-put, part-put-out, part-put-same}
 use Rattle.fmap_rules.specs.declared.Extent.{Extent}
 use Rattle.fmap_rules.specs.declared.Area.{Area}
-use Rattle.fmap_rules.specs.Map.{areaOf, areasIn, blank, endOf, disjoint}
+use Rattle.fmap_rules.specs.Map.{areaOf, areasIn, blankArea, endOf, disjoint}
 use Rattle.fmap_rules.proofs.Areas.{length-areas}
 use Rattle.fmap_carry.specs.Carry.{preserved, target, clearBy, clear, carryArea, carried}
 use Rattle.fmap_carry.specs.Invariants.{Fit, Fitting}
@@ -59,11 +59,11 @@ module _ (old : List ℕ) (news : List Area) where
 
   -- ---- along the loop: the rest decides
 
-  pub carried-next : (olds : List Area) (i : ℕ) (image image′ result : List ℕ) → i < length olds → image′ ≡ carryArea old news (getD olds i blank) image
+  pub carried-next : (olds : List Area) (i : ℕ) (image image′ result : List ℕ) → i < length olds → image′ ≡ carryArea old news (getD olds i blankArea) image
       → carried old news (drop i olds) image ≡ result → carried old news (drop (i + 1) olds) image′ ≡ result
   unfolding carried
   carried-next olds i image image′ result h e f =
-      rw (e, add-one) (sym (ap (λ (l : List Area). carried old news l image) (drop-cons olds i blank h)) ∙ f)
+      rw (e, add-one) (sym (ap (λ (l : List Area). carried old news l image) (drop-cons olds i blankArea h)) ∙ f)
 
   pub carried-over : (olds : List Area) (i : ℕ) (image result : List ℕ) → length olds ≤ i → carried old news (drop i olds) image ≡ result → image ≡ result
   unfolding carried
@@ -94,7 +94,7 @@ module _ (old : List ℕ) (news : List Area) where
         go (inr e) = ap (part s k) (carry-other a image e)
 
     pub part-carried : (olds : List Area) (image : List ℕ) (s k : ℕ) → Fitting (length old) m news olds
-        → ((i : ℕ) → i < length olds → Clear (getD olds i blank) s k) → part s k (carried old news olds image) ≡ part s k image
+        → ((i : ℕ) → i < length olds → Clear (getD olds i blankArea) s k) → part s k (carried old news olds image) ≡ part s k image
     unfolding carried
     part-carried [] image s k f c = refl
     part-carried (a ∷ olds) image s k f c =
@@ -114,14 +114,14 @@ module _ (old : List ℕ) (news : List Area) where
         ∙ part-put-same (part (a .place .start .0) (a .place .size) old) image (target news a .start .0) w
 
     pub arrives : (olds : List Area) (image : List ℕ) → length image ≡ m → pairs (clear news) olds ≡ true → Fitting (length old) m news olds
-        → (i : ℕ) → i < length olds → preserved (getD olds i blank) ≡ true
-        → part (target news (getD olds i blank) .start .0) (target news (getD olds i blank) .size) (carried old news olds image)
-        ≡ part (getD olds i blank .place .start .0) (getD olds i blank .place .size) old
+        → (i : ℕ) → i < length olds → preserved (getD olds i blankArea) ≡ true
+        → part (target news (getD olds i blankArea) .start .0) (target news (getD olds i blankArea) .size) (carried old news olds image)
+        ≡ part (getD olds i blankArea .place .start .0) (getD olds i blankArea .place .size) old
     unfolding carried
     arrives [] image l e f i h p = absurd (not-suc-le-zero h)
     arrives (a ∷ olds) image l e f zero h p =
         part-carried olds (carryArea old news a image) (target news a .start .0) (target news a .size) (λ j k. f (suc j) (suc-le-suc k))
-        (λ j k q. swap (getD olds j blank) (targets-apart news a (getD olds j blank) (all-get (clear news a) olds blank (and-l _ _ e) j k) p q))
+        (λ j k q. swap (getD olds j blankArea) (targets-apart news a (getD olds j blankArea) (all-get (clear news a) olds blankArea (and-l _ _ e) j k) p q))
         ∙ placed a image l p (f zero (zero-lt-suc _) p)
       where
         swap : (b : Area) → (endOf (target news a) ≤ target news b .start .0) ⊎ (endOf (target news b) ≤ target news a .start .0)
@@ -148,7 +148,7 @@ module _ (old : List ℕ) (news : List Area) (a : Area) (p : preserved a ≡ tru
       (omega (arith, f .from), omega (arith, f .to, f .size))
 
 pub fit-at : (xs : List ℕ) (lo ln m : ℕ) (news : List Area) (i : ℕ) (b : List ℕ) → Fitting lo ln news (areasIn xs) → i < length xs / 42
-    → areaOf b ≡ getD (areasIn xs) i blank → m ≡ ln → preserved (areaOf b) ≡ true → Fit lo m news (areaOf b)
+    → areaOf b ≡ getD (areasIn xs) i blankArea → m ≡ ln → preserved (areaOf b) ≡ true → Fit lo m news (areaOf b)
 fit-at xs lo ln m news i b f h e l p =
     subst (λ (k : ℕ). Fit lo k news (areaOf b)) (sym l)
     (subst (λ (a : Area). Fit lo ln news a) (sym e) (f i (omega (arith, length-areas xs)) (ap preserved (sym e) ∙ p)))

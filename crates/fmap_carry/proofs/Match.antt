@@ -14,31 +14,31 @@ use Rattle.octets.proofs.Bools.{and-t, or-false-l, or-false-r, bool-cases}
 use Rattle.octets.proofs.Tests.{findIx-get}
 use Rattle.fmap_rules.specs.declared.Extent.{Extent}
 use Rattle.fmap_rules.specs.declared.Area.{Area}
-use Rattle.fmap_rules.specs.Map.{areaOf, areasIn, blank, named, fmapName, position, disjoint}
+use Rattle.fmap_rules.specs.Map.{areaOf, areasIn, blankArea, named, fmapName, position, disjoint}
 use Rattle.fmap_rules.proofs.Areas.{length-areas}
 use Rattle.fmap_carry.specs.Carry.{preserved, withName, target, missing, otherSize, clearBy, clear, onMap}
 use Rattle.fmap_carry.specs.Invariants.{Matched}
 
-pub place-none : (xs : List ℕ) (k : ℕ) → length xs / 42 ≤ k → record { start = position 0; size = 0 } ≡ getD (areasIn xs) k blank .place
-place-none xs k h = ap (λ (a : Area). a .place) (sym (List·getD-eq-default (areasIn xs) blank (omega (arith, length-areas xs))))
+pub place-none : (xs : List ℕ) (k : ℕ) → length xs / 42 ≤ k → record { start = position 0; size = 0 } ≡ getD (areasIn xs) k blankArea .place
+place-none xs k h = ap (λ (a : Area). a .place) (sym (List·getD-eq-default (areasIn xs) blankArea (omega (arith, length-areas xs))))
 
 -- ---- the numbers looked up
 
 -- of the first i areas
 pub record MatchedTo (olds news : List Area) (matches : List ℕ) (i : ℕ) : Type 0 where
-  pub each : (j : ℕ) → j < i → getD matches j 0 ≡ findIx (named (getD olds j blank .name)) news
+  pub each : (j : ℕ) → j < i → getD matches j 0 ≡ findIx (named (getD olds j blankArea .name)) news
 
 pub matched-none : (olds news : List Area) (matches : List ℕ) → MatchedTo olds news matches 0
 matched-none olds news matches = record { each = λ j h. absurd (omega (arith, h)) }
 
 pub matched-more : (olds news : List Area) (matches : List ℕ) (i v : ℕ) → i < length matches → MatchedTo olds news matches i
-    → v ≡ findIx (named (getD olds i blank .name)) news → MatchedTo olds news (set matches i v) (i + 1)
+    → v ≡ findIx (named (getD olds i blankArea .name)) news → MatchedTo olds news (set matches i v) (i + 1)
 matched-more olds news matches i v h m e = record { each = λ j k. go j k (eqb j i) refl }
   where
-    go : (j : ℕ) → j < i + 1 → (t : Bool) → eqb j i ≡ t → getD (set matches i v) j 0 ≡ findIx (named (getD olds j blank .name)) news
+    go : (j : ℕ) → j < i + 1 → (t : Bool) → eqb j i ≡ t → getD (set matches i v) j 0 ≡ findIx (named (getD olds j blankArea .name)) news
     go j k true w =
         let q : j ≡ i = eqb-true _ _ w in
-        ap (λ (x : ℕ). getD (set matches i v) x 0) q ∙ getD-set-same matches i v 0 h ∙ e ∙ ap (λ (x : ℕ). findIx (named (getD olds x blank .name)) news) (sym q)
+        ap (λ (x : ℕ). getD (set matches i v) x 0) q ∙ getD-set-same matches i v 0 h ∙ e ∙ ap (λ (x : ℕ). findIx (named (getD olds x blankArea .name)) news) (sym q)
     go j k false w = let q : j ≡ i → ⊥ = eqb-false _ _ w in getD-set-other matches i j v 0 q ∙ m .each j (omega arith)
 
 pub matched-all : (xs : List ℕ) (news : List Area) (matches : List ℕ) (i : ℕ) → length xs / 42 ≤ i → length xs / 42 ≤ length matches
@@ -50,15 +50,15 @@ module _ (xs : List ℕ) (news : List Area) (matches : List ℕ) (m : Matched (a
   pub matched-long : (i : ℕ) → i < length xs / 42 → i < length matches
   matched-long i h = omega (arith, m .long, length-areas xs)
 
-  pub matched-each : (i : ℕ) → i < length xs / 42 → getD matches i 0 ≡ findIx (named (getD (areasIn xs) i blank .name)) news
+  pub matched-each : (i : ℕ) → i < length xs / 42 → getD matches i 0 ≡ findIx (named (getD (areasIn xs) i blankArea .name)) news
   matched-each i h = m .each i (omega (arith, length-areas xs))
 
-  pub matched-at : (i : ℕ) (b : List ℕ) → i < length xs / 42 → areaOf b ≡ getD (areasIn xs) i blank → getD matches i 0 ≡ findIx (named (areaOf b .name)) news
+  pub matched-at : (i : ℕ) (b : List ℕ) → i < length xs / 42 → areaOf b ≡ getD (areasIn xs) i blankArea → getD matches i 0 ≡ findIx (named (areaOf b .name)) news
   matched-at i b h e = matched-each i h ∙ ap (λ (a : Area). findIx (named (a .name)) news) (sym e)
 
-  pub target-at : (i : ℕ) (x : Extent) → i < length xs / 42 → x ≡ getD news (getD matches i 0) blank .place → x ≡ target news (getD (areasIn xs) i blank)
+  pub target-at : (i : ℕ) (x : Extent) → i < length xs / 42 → x ≡ getD news (getD matches i 0) blankArea .place → x ≡ target news (getD (areasIn xs) i blankArea)
   unfolding withName
-  target-at i x h e = e ∙ ap (λ (k : ℕ). getD news k blank .place) (matched-each i h)
+  target-at i x h e = e ∙ ap (λ (k : ℕ). getD news k blankArea .place) (matched-each i h)
 
 -- ---- the tests
 
@@ -77,20 +77,20 @@ find-count {A} p xs d = go (bool-cases (any p xs))
         ne-eqb (findIx p xs) (length xs) f ∙ ap not (sym q)
     go (inr q) = eq-eqb (findIx p xs) (length xs) (find-none p xs q) ∙ ap not (sym q)
 
-pub target-by : (xs : List ℕ) (a : Area) (k : ℕ) (y : Extent) → k ≡ findIx (named (a .name)) (areasIn xs) → y ≡ getD (areasIn xs) k blank .place → y ≡ target (areasIn xs) a
+pub target-by : (xs : List ℕ) (a : Area) (k : ℕ) (y : Extent) → k ≡ findIx (named (a .name)) (areasIn xs) → y ≡ getD (areasIn xs) k blankArea .place → y ≡ target (areasIn xs) a
 unfolding withName
-target-by xs a k y q r = r ∙ ap (λ (i : ℕ). getD (areasIn xs) i blank .place) q
+target-by xs a k y q r = r ∙ ap (λ (i : ℕ). getD (areasIn xs) i blankArea .place) q
 
 module _ (xs : List ℕ) (a : Area) (e : preserved a ≡ true) (k : ℕ) (q : k ≡ findIx (named (a .name)) (areasIn xs)) where
   pub missing-by : eqb k (length xs / 42) ≡ missing (areasIn xs) a
   unfolding missing
-  missing-by = and-t e (ap₂ eqb q (sym (length-areas xs)) ∙ find-count (named (a .name)) (areasIn xs) blank)
+  missing-by = and-t e (ap₂ eqb q (sym (length-areas xs)) ∙ find-count (named (a .name)) (areasIn xs) blankArea)
 
-  pub other-size-by : (x y : Extent) → x ≡ a .place → y ≡ getD (areasIn xs) k blank .place → not (eqb (x .size) (y .size)) ≡ otherSize (areasIn xs) a
+  pub other-size-by : (x y : Extent) → x ≡ a .place → y ≡ getD (areasIn xs) k blankArea .place → not (eqb (x .size) (y .size)) ≡ otherSize (areasIn xs) a
   unfolding otherSize
   other-size-by x y p r = and-t e (ap₂ (λ (u v : Extent). not (eqb (u .size) (v .size))) p (target-by xs a k y q r))
 
-  pub on-map-by : (x f : Extent) {t : Bool} → x ≡ getD (areasIn xs) k blank .place → f ≡ withName (areasIn xs) fmapName .place → t ≡ disjoint x f
+  pub on-map-by : (x f : Extent) {t : Bool} → x ≡ getD (areasIn xs) k blankArea .place → f ≡ withName (areasIn xs) fmapName .place → t ≡ disjoint x f
       → not t ≡ onMap (areasIn xs) a
   unfolding onMap
   on-map-by x f {t} r p d = and-t e (ap not (d ∙ ap₂ disjoint (target-by xs a k x q r) p))
@@ -100,9 +100,9 @@ unfolding clear
 clear-by news a b x y p q = ap₂ (λ (u v : Extent). clearBy a u b v) p q
 
 module _ (xs : List ℕ) (news : List Area) (matches : List ℕ) (m : Matched (areasIn xs) news matches) (i j : ℕ) (h : i < length xs / 42) (k : j < length xs / 42) where
-  pub clear-at : (a b : List ℕ) (x y : Extent) → areaOf a ≡ getD (areasIn xs) i blank → areaOf b ≡ getD (areasIn xs) j blank
-      → x ≡ getD news (getD matches i 0) blank .place → y ≡ getD news (getD matches j 0) blank .place
-      → clear news (getD (areasIn xs) i blank) (areaOf b) ≡ clearBy (areaOf a) x (areaOf b) y
+  pub clear-at : (a b : List ℕ) (x y : Extent) → areaOf a ≡ getD (areasIn xs) i blankArea → areaOf b ≡ getD (areasIn xs) j blankArea
+      → x ≡ getD news (getD matches i 0) blankArea .place → y ≡ getD news (getD matches j 0) blankArea .place
+      → clear news (getD (areasIn xs) i blankArea) (areaOf b) ≡ clearBy (areaOf a) x (areaOf b) y
   clear-at a b x y p q r t =
       ap (λ (l : Area). clear news l (areaOf b)) (sym p)
       ∙ sym (clear-by news (areaOf a) (areaOf b) x y (target-at xs news matches m i x h r ∙ ap (target news) (sym p)) (target-at xs news matches m j y k t ∙ ap (target news) (sym q)))

@@ -13,19 +13,19 @@ use Rattle.octets.proofs.Bools.{and-skip, not-f}
 use Rattle.octets.proofs.Tests.{all-get, all-make, any-none, findIx-get}
 use Rattle.octets.proofs.Rows.{passes, pick-true, pick-false}
 use Rattle.fmap_rules.specs.declared.Area.{Area}
-use Rattle.fmap_rules.specs.Map.{areasIn, areasOf, blank, named, goodMap}
+use Rattle.fmap_rules.specs.Map.{areasIn, areasOf, blankArea, named, goodMap}
 use Rattle.fmap_rules.proofs.Good.{good-areas, ends-in}
-use Rattle.fmap_carry.specs.Carry.{preserved, withName, target, missing, otherSize, clear, onMap, carryRows, carried, outcome, carryAreas}
+use Rattle.fmap_carry.specs.Carry.{preserved, withName, target, missing, otherSize, clear, onMap, carryRows, carried, unlessRefused, carryAreas}
 use Rattle.fmap_carry.specs.Invariants.{Fitting, endsIn}
 
 module _ (olds news : List Area) (e : refusal (carryRows olds news) ≡ none) where
-  pub present : (i : ℕ) → i < length olds → preserved (getD olds i blank) ≡ true → any (named (getD olds i blank .name)) news ≡ true
+  pub present : (i : ℕ) → i < length olds → preserved (getD olds i blankArea) ≡ true → any (named (getD olds i blankArea .name)) news ≡ true
   unfolding missing
-  present i h p = not-false _ (and-skip _ _ p (any-none (missing news) olds blank (passes 60 (carryRows olds news) e) i h))
+  present i h p = not-false _ (and-skip _ _ p (any-none (missing news) olds blankArea (passes 60 (carryRows olds news) e) i h))
 
-  pub size-same : (i : ℕ) → i < length olds → preserved (getD olds i blank) ≡ true → getD olds i blank .place .size ≡ target news (getD olds i blank) .size
+  pub size-same : (i : ℕ) → i < length olds → preserved (getD olds i blankArea) ≡ true → getD olds i blankArea .place .size ≡ target news (getD olds i blankArea) .size
   unfolding otherSize
-  size-same i h p = eqb-true _ _ (not-false _ (and-skip _ _ p (any-none (otherSize news) olds blank (passes 61 (carryRows olds news) e) i h)))
+  size-same i h p = eqb-true _ _ (not-false _ (and-skip _ _ p (any-none (otherSize news) olds blankArea (passes 61 (carryRows olds news) e) i h)))
 
   pub all-apart : pairs (clear news) olds ≡ true
   all-apart = not-f _ (passes 62 (carryRows olds news) e)
@@ -33,10 +33,10 @@ module _ (olds news : List Area) (e : refusal (carryRows olds news) ≡ none) wh
   pub fitting : (oldLength newLength : ℕ) → all (endsIn oldLength) olds ≡ true → all (endsIn newLength) news ≡ true → Fitting oldLength newLength news olds
   unfolding withName endsIn
   fitting oldLength newLength a b i h p =
-      let k = findIx-get (named (getD olds i blank .name)) news blank (present i h p) .0 in
+      let k = findIx-get (named (getD olds i blankArea .name)) news blankArea (present i h p) .0 in
       record {
-        from = leb-true _ _ (all-get (endsIn oldLength) olds blank a i h);
-        to = leb-true _ _ (all-get (endsIn newLength) news blank b (findIx (named (getD olds i blank .name)) news) k);
+        from = leb-true _ _ (all-get (endsIn oldLength) olds blankArea a i h);
+        to = leb-true _ _ (all-get (endsIn newLength) news blankArea b (findIx (named (getD olds i blankArea .name)) news) k);
         size = size-same i h p;
       }
 
@@ -66,19 +66,19 @@ module _ (olds news : List Area) where
 module _ (old : List ℕ) (olds : List Area) (new : List ℕ) (news : List Area) where
   pub refuses : (k : ℕ) → some k ≡ refusal (carryRows olds news) → record { answer = some k; image = new } ≡ carryAreas old olds new news
   unfolding carryAreas
-  refuses k e = ap (λ (o : Option ℕ). outcome o (carried old news olds new) new) e
+  refuses k e = ap (λ (o : Option ℕ). unlessRefused o (carried old news olds new) new) e
 
   pub accepts : (image : List ℕ) → none ≡ refusal (carryRows olds news) → image ≡ carried old news olds new
       → record { answer = none; image = image } ≡ carryAreas old olds new news
   unfolding carryAreas
   accepts image e f =
-      ap (λ (l : List ℕ). record { answer = none; image = l }) f ∙ ap (λ (o : Option ℕ). outcome o (carried old news olds new) new) e
+      ap (λ (l : List ℕ). record { answer = none; image = l }) f ∙ ap (λ (o : Option ℕ). unlessRefused o (carried old news olds new) new) e
 
 -- the areas of a good map end in the image
 pub good-ends-of : (image : List ℕ) (at : ℕ) → goodMap image at ≡ true → all (endsIn (length image)) (areasOf (rest at image)) ≡ true
 unfolding endsIn
 good-ends-of image at g =
-    all-make (endsIn (length image)) (areasOf (rest at image)) blank (λ i h. le-leb _ _ (ends-in (length image) at (areasOf (rest at image)) (good-areas image at g) i h))
+    all-make (endsIn (length image)) (areasOf (rest at image)) blankArea (λ i h. le-leb _ _ (ends-in (length image) at (areasOf (rest at image)) (good-areas image at g) i h))
 
 pub good-ends : (image xs : List ℕ) (at : ℕ) → goodMap image at ≡ true → areasIn xs ≡ areasOf (rest at image) → all (endsIn (length image)) (areasIn xs) ≡ true
 good-ends image xs at g e = ap (all (endsIn (length image))) e ∙ good-ends-of image at g

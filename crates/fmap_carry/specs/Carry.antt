@@ -10,7 +10,7 @@ use Rattle.octets.specs.Rows.{Row, row, refusal}
 use Rattle.octets.specs.Bytes.{part, put}
 use Rattle.fmap_rules.specs.declared.Extent.{Extent}
 use Rattle.fmap_rules.specs.declared.Area.{Area}
-use Rattle.fmap_rules.specs.Map.{blank, named, fmapName, disjoint}
+use Rattle.fmap_rules.specs.Map.{blankArea, named, fmapName, disjoint}
 use Rattle.fmap_carry.specs.declared.Judged.{Judged}
 use Rattle.fmap_carry.specs.declared.Judged.the-variants.{Free, Missing, OtherSize, Shared, OnMap}
 
@@ -20,7 +20,7 @@ preserved a = eqb (a .flags / 8 % 2) 1
 
 -- the area of a map with a name; blank where there is none
 unfoldable pub withName : List Area → List ℕ → Area
-withName areas n = getD areas (findIx (named n) areas) blank
+withName areas n = getD areas (findIx (named n) areas) blankArea
 
 -- (M11) where the same-named area of the new map lies, whatever its flags there
 abbrev pub target : List Area → Area → Extent
@@ -76,9 +76,9 @@ pub record Outcome : Type 0 where
   pub answer : Option ℕ
   pub image : List ℕ
 
-abbrev pub outcome : Option ℕ → List ℕ → List ℕ → Outcome
-outcome none done new = record { answer = none; image = done }
-outcome (some k) done new = record { answer = some k; image = new }
+abbrev pub unlessRefused : Option ℕ → List ℕ → List ℕ → Outcome
+unlessRefused none done new = record { answer = none; image = done }
+unlessRefused (some k) done new = record { answer = some k; image = new }
 
 unfoldable pub carryAreas : List ℕ → List Area → List ℕ → List Area → Outcome
-carryAreas old olds new news = outcome (refusal (carryRows olds news)) (carried old news olds new) new
+carryAreas old olds new news = unlessRefused (refusal (carryRows olds news)) (carried old news olds new) new

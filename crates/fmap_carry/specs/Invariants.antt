@@ -7,13 +7,13 @@ use lib.ListN.{length, getD}
 use lib.Dec.{leb}
 use Rattle.octets.specs.Tests.{findIx}
 use Rattle.fmap_rules.specs.declared.Area.{Area}
-use Rattle.fmap_rules.specs.Map.{blank, named, endOf}
+use Rattle.fmap_rules.specs.Map.{blankArea, named, endOf}
 use Rattle.fmap_carry.specs.Carry.{preserved, target}
 
 -- for each old area the number of the new one with its name; their count where there is none
 pub record Matched (olds news : List Area) (matches : List ℕ) : Type 0 where
   pub long : length olds ≤ length matches
-  pub each : (i : ℕ) → i < length olds → getD matches i 0 ≡ findIx (named (getD olds i blank .name)) news
+  pub each : (i : ℕ) → i < length olds → getD matches i 0 ≡ findIx (named (getD olds i blankArea .name)) news
 
 -- an area that is carried lies in the old image, and where it goes lies in the new one and has its size
 pub record Fit (oldLength newLength : ℕ) (news : List Area) (a : Area) : Type 0 where
@@ -23,7 +23,7 @@ pub record Fit (oldLength newLength : ℕ) (news : List Area) (a : Area) : Type 
 
 abbrev pub Fitting : ℕ → ℕ → List Area → List Area → Type 0
 Fitting oldLength newLength news olds =
-    (i : ℕ) → i < length olds → preserved (getD olds i blank) ≡ true → Fit oldLength newLength news (getD olds i blank)
+    (i : ℕ) → i < length olds → preserved (getD olds i blankArea) ≡ true → Fit oldLength newLength news (getD olds i blankArea)
 
 -- (M6) each area ends in the image
 unfoldable pub endsIn : ℕ → Area → Bool

@@ -7,7 +7,7 @@ ghost use lib.ListN.{length, getD, take, drop};
 ghost use Rattle.octets.specs.Tests.{all, any, pairs, findIx};
 ghost use Rattle.octets.specs.Rows.{refusal};
 ghost use Rattle.octets.specs.Bytes.{part, rest, put};
-ghost use Rattle.fmap_rules.specs.Map.{areaOf, areasIn, areasOf, blank, named, fmapName, endOf, goodMap};
+ghost use Rattle.fmap_rules.specs.Map.{areaOf, areasIn, areasOf, blankArea, named, fmapName, endOf, goodMap};
 ghost use Rattle.fmap_carry.specs.Carry.{preserved, withName, missing, otherSize, clearBy, clear, onMap, carryRows, judgedNumber, carryArea};
 ghost use Rattle.fmap_carry.specs.Carry.{carried, carryAreas};
 ghost use Rattle.fmap_carry.specs.Invariants.{Matched, Fit, Fitting, endsIn};
@@ -32,7 +32,7 @@ fn is_preserved(a: &[u8]) -> bool
 
 // Where area k lies; at 0 with no byte where there is no area k.
 fn place_of(areas: &[u8], k: usize) -> Extent
-    ensures { λ r. ⌜ r ≡ getD (areasIn (now (areas .entry))) k blank .place ⌝ }
+    ensures { λ r. ⌜ r ≡ getD (areasIn (now (areas .entry))) k blankArea .place ⌝ }
 {
     if areas.len() / 42 <= k {
         return Extent {
@@ -128,7 +128,7 @@ fn is_clear(a: &[u8], x: Extent, b: &[u8], y: Extent) -> bool
 // Area i goes with each later one.
 fn clear_of_later(olds: &[u8], news: &[u8], matches: &[u8], i: usize) -> bool
     requires { ⌜ Matched (areasIn (now olds)) (areasIn (now news)) (now matches) × (i < length (now olds) / 42) ⌝ }
-    ensures { λ r. ⌜ r ≡ all (clear (areasIn (now (news .entry))) (getD (areasIn (now (olds .entry))) i blank))
+    ensures { λ r. ⌜ r ≡ all (clear (areasIn (now (news .entry))) (getD (areasIn (now (olds .entry))) i blankArea))
         (drop (i + 1) (areasIn (now (olds .entry)))) ⌝ }
 {
     let x = place_of(news, matches[i] as usize);

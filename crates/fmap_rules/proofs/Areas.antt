@@ -14,24 +14,24 @@ use Rattle.octets.proofs.Chunks.{length-chunks, chunk-part}
 use Rattle.fmap_rules.specs.declared.Area.{Area}
 use Rattle.fmap_rules.specs.declared.AreaRule.{AreaRule}
 use Rattle.fmap_rules.specs.declared.PairRule.{PairRule}
-use Rattle.fmap_rules.specs.Map.{areaOf, areasIn, blank, countOf, mapSize}
+use Rattle.fmap_rules.specs.Map.{areaOf, areasIn, blankArea, countOf, mapSize}
 use Rattle.fmap_rules.specs.Invariants.{broken, goodPair}
 
 pub length-areas : (xs : List ℕ) → length (areasIn xs) ≡ length xs / 42
 unfolding areasIn
 length-areas xs = length-map (chunks 42 (length xs / 42) xs) areaOf ∙ length-chunks 42 (length xs / 42) xs
 
-pub area-part : (xs : List ℕ) (i : ℕ) → i < length xs / 42 → getD (areasIn xs) i blank ≡ areaOf (part (42 * i) 42 xs)
+pub area-part : (xs : List ℕ) (i : ℕ) → i < length xs / 42 → getD (areasIn xs) i blankArea ≡ areaOf (part (42 * i) 42 xs)
 unfolding areasIn
 area-part xs i h =
     let l = length-chunks 42 (length xs / 42) xs in
-    getD-map areaOf (chunks 42 (length xs / 42) xs) i blank [] (omega arith)
+    getD-map areaOf (chunks 42 (length xs / 42) xs) i blankArea [] (omega arith)
     ∙ ap areaOf (chunk-part 42 (length xs / 42) i xs h ∙ ap (λ (k : ℕ). part k 42 xs) (mul-comm i 42))
 
 -- ---- what a lent part holds
 
 pub area-slice : (xs : List ℕ) (i : ℕ) → i < length xs / 42
-    → (areaOf (take (42 * i + 42 - 42 * i) (drop (42 * i) xs)) ≡ getD (areasIn xs) i blank) × (length (take (42 * i + 42 - 42 * i) (drop (42 * i) xs)) ≡ 42)
+    → (areaOf (take (42 * i + 42 - 42 * i) (drop (42 * i) xs)) ≡ getD (areasIn xs) i blankArea) × (length (take (42 * i + 42 - 42 * i) (drop (42 * i) xs)) ≡ 42)
 unfolding part
 area-slice xs i h =
     let e : 42 * i + 42 - 42 * i ≡ 42 = omega arith in
@@ -46,31 +46,31 @@ areas-slice m n e h =
 
 -- ---- a loop over the areas that bytes hold; b is area i
 
-module _ (xs : List ℕ) (i : ℕ) (h : i < length xs / 42) (b : List ℕ) (e : areaOf b ≡ getD (areasIn xs) i blank) where
+module _ (xs : List ℕ) (i : ℕ) (h : i < length xs / 42) (b : List ℕ) (e : areaOf b ≡ getD (areasIn xs) i blankArea) where
   in-range : i < length (areasIn xs)
   in-range = omega (arith, length-areas xs)
 
-  here : (p : Area → Bool) {t : Bool} → p (areaOf b) ≡ t → p (getD (areasIn xs) i blank) ≡ t
+  here : (p : Area → Bool) {t : Bool} → p (areaOf b) ≡ t → p (getD (areasIn xs) i blankArea) ≡ t
   here p {t} q = ap p (sym e) ∙ q
 
   pub all-next : (p : Area → Bool) {r : Bool} → p (areaOf b) ≡ true → all p (drop i (areasIn xs)) ≡ r → all p (drop (i + 1) (areasIn xs)) ≡ r
-  all-next p {r} q f = sym (all-on p (areasIn xs) blank i in-range (here p q)) ∙ f
+  all-next p {r} q f = sym (all-on p (areasIn xs) blankArea i in-range (here p q)) ∙ f
 
   pub all-fails : (p : Area → Bool) {r : Bool} → p (areaOf b) ≡ false → all p (drop i (areasIn xs)) ≡ r → false ≡ r
-  all-fails p {r} q f = sym (all-stop p (areasIn xs) blank i in-range (here p q)) ∙ f
+  all-fails p {r} q f = sym (all-stop p (areasIn xs) blankArea i in-range (here p q)) ∙ f
 
   pub any-next : (p : Area → Bool) {r : Bool} → p (areaOf b) ≡ false → any p (drop i (areasIn xs)) ≡ r → any p (drop (i + 1) (areasIn xs)) ≡ r
-  any-next p {r} q f = sym (any-on p (areasIn xs) blank i in-range (here p q)) ∙ f
+  any-next p {r} q f = sym (any-on p (areasIn xs) blankArea i in-range (here p q)) ∙ f
 
   pub any-holds : (p : Area → Bool) {r : Bool} → p (areaOf b) ≡ true → any p (drop i (areasIn xs)) ≡ r → true ≡ r
-  any-holds p {r} q f = sym (any-stop p (areasIn xs) blank i in-range (here p q)) ∙ f
+  any-holds p {r} q f = sym (any-stop p (areasIn xs) blankArea i in-range (here p q)) ∙ f
 
   pub find-next : (p : Area → Bool) {r : ℕ} → p (areaOf b) ≡ false → i + findIx p (drop i (areasIn xs)) ≡ r
       → i + 1 + findIx p (drop (i + 1) (areasIn xs)) ≡ r
-  find-next p {r} q f = sym (findIx-on p (areasIn xs) blank i in-range (here p q)) ∙ f
+  find-next p {r} q f = sym (findIx-on p (areasIn xs) blankArea i in-range (here p q)) ∙ f
 
   pub find-here : (p : Area → Bool) {r : ℕ} → p (areaOf b) ≡ true → i + findIx p (drop i (areasIn xs)) ≡ r → i ≡ r
-  find-here p {r} q f = sym (findIx-stop p (areasIn xs) blank i in-range (here p q)) ∙ f
+  find-here p {r} q f = sym (findIx-stop p (areasIn xs) blankArea i in-range (here p q)) ∙ f
 
 module _ (xs : List ℕ) (i : ℕ) (h : length xs / 42 ≤ i) where
   over : length (areasIn xs) ≤ i
@@ -89,11 +89,11 @@ module _ (xs : List ℕ) (i : ℕ) (h : length xs / 42 ≤ i) where
   pairs-over q {r} f = sym (pairs-done q (areasIn xs) i over) ∙ f
 
 module _ (xs : List ℕ) (i : ℕ) (h : i < length xs / 42) (q : Area → Area → Bool) {r : Bool} where
-  pub pairs-next : all (q (getD (areasIn xs) i blank)) (drop (i + 1) (areasIn xs)) ≡ true → pairs q (drop i (areasIn xs)) ≡ r → pairs q (drop (i + 1) (areasIn xs)) ≡ r
-  pairs-next e f = sym (pairs-on q (areasIn xs) blank i (omega (arith, length-areas xs)) e) ∙ f
+  pub pairs-next : all (q (getD (areasIn xs) i blankArea)) (drop (i + 1) (areasIn xs)) ≡ true → pairs q (drop i (areasIn xs)) ≡ r → pairs q (drop (i + 1) (areasIn xs)) ≡ r
+  pairs-next e f = sym (pairs-on q (areasIn xs) blankArea i (omega (arith, length-areas xs)) e) ∙ f
 
-  pub pairs-fails : all (q (getD (areasIn xs) i blank)) (drop (i + 1) (areasIn xs)) ≡ false → pairs q (drop i (areasIn xs)) ≡ r → false ≡ r
-  pairs-fails e f = sym (pairs-stop q (areasIn xs) blank i (omega (arith, length-areas xs)) e) ∙ f
+  pub pairs-fails : all (q (getD (areasIn xs) i blankArea)) (drop (i + 1) (areasIn xs)) ≡ false → pairs q (drop i (areasIn xs)) ≡ r → false ≡ r
+  pairs-fails e f = sym (pairs-stop q (areasIn xs) blankArea i (omega (arith, length-areas xs)) e) ∙ f
 
 -- ---- by the case of a rule
 

@@ -15,7 +15,7 @@ use Rattle.octets.proofs.Rows.{passes, pick-true, pick-false, refusal-before, r
 use Rattle.octets.proofs.Tests.{any-none, any-false, pairs-get, pairs-make}
 use Rattle.octets.proofs.Parts.{length-rest, rest-slice}
 use Rattle.fmap_rules.specs.declared.Area.{Area}
-use Rattle.fmap_rules.specs.Map.{signed, countOf, mapSize, areasIn, areasOf, blank, endOf, legalName, named, disjointOrNested, empty, endsPast, misnamed, otherName, goodPlaces, headerRows, areaRows, mapRows, goodHeader, goodAreas, goodMap, holdsMap}
+use Rattle.fmap_rules.specs.Map.{signed, countOf, mapSize, areasIn, areasOf, blankArea, endOf, legalName, named, disjointOrNested, empty, endsPast, misnamed, otherName, goodPlaces, headerRows, areaRows, mapRows, goodMapHeader, goodAreas, goodMap, holdsMap}
 use Rattle.fmap_rules.proofs.Rules.{holds-none, none-holds, code-none, code-first, code-later, header-no-zero}
 use Rattle.fmap_rules.proofs.Signature.{short-unsigned}
 
@@ -36,9 +36,9 @@ rows-fit len m e =
       whole = ltb-false _ _ (passes 8 (headerRows len m) e);
     }
 
-module _ (len : ℕ) (m : List ℕ) (g : goodHeader len m ≡ true) where
+module _ (len : ℕ) (m : List ℕ) (g : goodMapHeader len m ≡ true) where
   header-rows : refusal (headerRows len m) ≡ none
-  unfolding goodHeader
+  unfolding goodMapHeader
   header-rows = holds-none (headerRows len m) g
 
   pub header-fits : Fits m
@@ -54,8 +54,8 @@ module _ (image : List ℕ) (at : ℕ) (g : goodMap image at ≡ true) where
   unfolding goodMap
   map-rows = refusal-before (headerRows (length image) (rest at image)) (areaRows (length image) at (areasOf (rest at image))) (holds-none (mapRows image at) g)
 
-  pub good-header : goodHeader (length image) (rest at image) ≡ true
-  unfolding goodHeader
+  pub good-header : goodMapHeader (length image) (rest at image) ≡ true
+  unfolding goodMapHeader
   good-header = none-holds _ (map-rows .0)
 
   pub good-areas : goodAreas (length image) at (areasOf (rest at image)) ≡ true
@@ -68,9 +68,9 @@ module _ (image : List ℕ) (at : ℕ) (g : goodMap image at ≡ true) where
   pub good-within : at + mapSize (countOf (rest at image)) ≤ length image
   good-within = omega (arith, good-fits .whole, good-fits .some, length-rest image at)
 
-pub map-good : (image : List ℕ) (at : ℕ) → goodHeader (length image) (rest at image) ≡ true → goodAreas (length image) at (areasOf (rest at image)) ≡ true
+pub map-good : (image : List ℕ) (at : ℕ) → goodMapHeader (length image) (rest at image) ≡ true → goodAreas (length image) at (areasOf (rest at image)) ≡ true
     → goodMap image at ≡ true
-unfolding goodMap goodHeader goodAreas
+unfolding goodMap goodMapHeader goodAreas
 map-good image at h a =
     none-holds (mapRows image at) (refusal-append (headerRows (length image) (rest at image)) (areaRows (length image) at (areasOf (rest at image)))
     (holds-none _ h) ∙ holds-none _ a)
@@ -119,46 +119,46 @@ module _ (len at : ℕ) (areas : List Area) (g : goodAreas len at areas ≡ true
   pub holder : any (holdsMap at (length areas)) areas ≡ true
   holder = not-f _ (passes 13 (areaRows len at areas) area-rows)
 
-  pub ends-in : (i : ℕ) → i < length areas → endOf (getD areas i blank .place) ≤ len
+  pub ends-in : (i : ℕ) → i < length areas → endOf (getD areas i blankArea .place) ≤ len
   unfolding endsPast
-  ends-in i h = ltb-false _ _ (any-none (endsPast len) areas blank (passes 11 (areaRows len at areas) area-rows) i h)
+  ends-in i h = ltb-false _ _ (any-none (endsPast len) areas blankArea (passes 11 (areaRows len at areas) area-rows) i h)
 
-  pub legal : (i : ℕ) → i < length areas → legalName (getD areas i blank .name) ≡ true
+  pub legal : (i : ℕ) → i < length areas → legalName (getD areas i blankArea .name) ≡ true
   unfolding misnamed
-  legal i h = not-f _ (any-none misnamed areas blank (passes 12 (areaRows len at areas) area-rows) i h)
+  legal i h = not-f _ (any-none misnamed areas blankArea (passes 12 (areaRows len at areas) area-rows) i h)
 
-  pub names-differ : (i j : ℕ) → i < j → j < length areas → named (getD areas i blank .name) (getD areas j blank) ≡ false
+  pub names-differ : (i j : ℕ) → i < j → j < length areas → named (getD areas i blankArea .name) (getD areas j blankArea) ≡ false
   unfolding otherName
-  names-differ i j h k = not-t _ (pairs-get otherName areas blank (not-f _ (passes 14 (areaRows len at areas) area-rows)) i j h k)
+  names-differ i j h k = not-t _ (pairs-get otherName areas blankArea (not-f _ (passes 14 (areaRows len at areas) area-rows)) i j h k)
 
 -- what makes areas good
 module _ (len at : ℕ) (areas : List Area)
-    (some : (i : ℕ) → i < length areas → 1 ≤ getD areas i blank .place .size)
-    (within : (i : ℕ) → i < length areas → endOf (getD areas i blank .place) ≤ len)
-    (legals : (i : ℕ) → i < length areas → legalName (getD areas i blank .name) ≡ true)
+    (some : (i : ℕ) → i < length areas → 1 ≤ getD areas i blankArea .place .size)
+    (within : (i : ℕ) → i < length areas → endOf (getD areas i blankArea .place) ≤ len)
+    (legals : (i : ℕ) → i < length areas → legalName (getD areas i blankArea .name) ≡ true)
     (held : any (holdsMap at (length areas)) areas ≡ true)
-    (differ : (i j : ℕ) → i < j → j < length areas → named (getD areas i blank .name) (getD areas j blank) ≡ false)
-    (apart : (i j : ℕ) → i < j → j < length areas → disjointOrNested (getD areas i blank .place) (getD areas j blank .place) ≡ true)
+    (differ : (i j : ℕ) → i < j → j < length areas → named (getD areas i blankArea .name) (getD areas j blankArea) ≡ false)
+    (apart : (i j : ℕ) → i < j → j < length areas → disjointOrNested (getD areas i blankArea .place) (getD areas j blankArea .place) ≡ true)
   where
     none-empty : any empty areas ≡ false
     unfolding empty
-    none-empty = any-false empty areas blank (λ i h. ne-eqb (getD areas i blank .place .size) 0 (λ e. omega (arith, e, some i h)))
+    none-empty = any-false empty areas blankArea (λ i h. ne-eqb (getD areas i blankArea .place .size) 0 (λ e. omega (arith, e, some i h)))
 
     none-past : any (endsPast len) areas ≡ false
     unfolding endsPast
-    none-past = any-false (endsPast len) areas blank (λ i h. le-ltb len _ (within i h))
+    none-past = any-false (endsPast len) areas blankArea (λ i h. le-ltb len _ (within i h))
 
     none-misnamed : any misnamed areas ≡ false
     unfolding misnamed
-    none-misnamed = any-false misnamed areas blank (λ i h. ap not (legals i h))
+    none-misnamed = any-false misnamed areas blankArea (λ i h. ap not (legals i h))
 
     all-differ : pairs otherName areas ≡ true
     unfolding otherName
-    all-differ = pairs-make otherName areas blank (λ i j h k. ap not (differ i j h k))
+    all-differ = pairs-make otherName areas blankArea (λ i j h k. ap not (differ i j h k))
 
     all-apart : pairs goodPlaces areas ≡ true
     unfolding goodPlaces
-    all-apart = pairs-make goodPlaces areas blank apart
+    all-apart = pairs-make goodPlaces areas blankArea apart
 
     pub areas-good : goodAreas len at areas ≡ true
     unfolding goodAreas

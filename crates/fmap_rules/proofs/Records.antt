@@ -13,7 +13,7 @@ use Rattle.octets.specs.Bytes.{le, unle, part, rest, field, same}
 use Rattle.octets.proofs.Rows.{passes, pick-false}
 use Rattle.octets.proofs.Parts.{length-part, length-rest, getD-part, part-on, part-part, part-of-rest}
 use Rattle.fmap_rules.specs.declared.Area.{Area}
-use Rattle.fmap_rules.specs.Map.{signature, signed, majorOf, minorOf, sizeOf, nameOf, countOf, mapSize, areaOf, areasIn, areasOf, blank, legalName, headerRows, goodHeader, goodAreas, goodMap}
+use Rattle.fmap_rules.specs.Map.{signature, signed, majorOf, minorOf, sizeOf, nameOf, countOf, mapSize, areaOf, areasIn, areasOf, blankArea, legalName, headerRows, goodMapHeader, goodAreas, goodMap}
 use Rattle.fmap_rules.specs.Written.{areaBytes, AreaIsItsBytes}
 use Rattle.fmap_rules.proofs.Areas.{length-areas, area-part}
 use Rattle.fmap_rules.proofs.Rules.{holds-none, none-holds}
@@ -56,7 +56,7 @@ module _ (image : List ℕ) (at : ℕ) where
     unfolding areasOf records
     count-whole = let l = length-records in length-areas records ∙ omega (arith, count-in)
 
-    pub record-whole : (i : ℕ) → i < field (at + 54) 2 image → getD (areasOf (rest at image)) i blank ≡ areaOf (part (at + (56 + 42 * i)) 42 image)
+    pub record-whole : (i : ℕ) → i < field (at + 54) 2 image → getD (areasOf (rest at image)) i blankArea ≡ areaOf (part (at + (56 + 42 * i)) 42 image)
     unfolding areasOf records
     record-whole i h =
         let l = length-records in
@@ -70,7 +70,7 @@ module _ (image : List ℕ) (at : ℕ) where
     pub areas-count : length (areasOf (rest at image)) ≡ field (at + 54) 2 image
     areas-count = count-whole (good-fits image at g .whole)
 
-    pub record-at : (i : ℕ) → i < field (at + 54) 2 image → getD (areasOf (rest at image)) i blank ≡ areaOf (part (at + (56 + 42 * i)) 42 image)
+    pub record-at : (i : ℕ) → i < field (at + 54) 2 image → getD (areasOf (rest at image)) i blankArea ≡ areaOf (part (at + (56 + 42 * i)) 42 image)
     record-at = record-whole (good-fits image at g .whole)
 
 -- ---- an area's bytes
@@ -139,11 +139,11 @@ module _ (image other : List ℕ) (at : ℕ) (l : length image ≡ length other)
   same-areas = ap (λ (k : ℕ). areasIn (part 56 (42 * k) m)) same-count ∙ ap areasIn (look 56 (42 * countOf o) (omega arith))
 
   rows : refusal (headerRows (length other) o) ≡ none
-  unfolding goodHeader
+  unfolding goodMapHeader
   rows = holds-none (headerRows (length other) o) (good-header other at g)
 
-  same-header : goodHeader (length image) m ≡ true
-  unfolding goodHeader signed
+  same-header : goodMapHeader (length image) m ≡ true
+  unfolding goodMapHeader signed
   same-header =
       let big : 56 ≤ mapSize (countOf o) = omega arith in
       none-holds (headerRows (length image) m)

@@ -18,7 +18,7 @@ use Rattle.octets.proofs.Parts.{part-here, part-skip, part-from, part-in, part-
 use Rattle.octets.proofs.Puts.{put-eq, length-put}
 use Rattle.octets.proofs.Equal.{same-refl}
 use Rattle.fmap_rules.specs.declared.Area.{Area}
-use Rattle.fmap_rules.specs.Map.{signature, signed, majorOf, minorOf, baseOf, sizeOf, nameOf, countOf, mapSize, areaOf, areasIn, areasOf, blank, legalName, headerRows, goodHeader, goodAreas, goodMap, holdsMap}
+use Rattle.fmap_rules.specs.Map.{signature, signed, majorOf, minorOf, baseOf, sizeOf, nameOf, countOf, mapSize, areaOf, areasIn, areasOf, blankArea, legalName, headerRows, goodMapHeader, goodAreas, goodMap, holdsMap}
 use Rattle.fmap_rules.specs.Written.{areaBytes, mapBytes, Stored, Writable, WrittenIsGood, WrittenHeader}
 use Rattle.fmap_rules.proofs.Good.{ends-in, holder, map-good}
 use Rattle.fmap_rules.proofs.Rules.{none-holds}
@@ -72,7 +72,7 @@ module _ (a : Area) (s : Stored a) where
 -- ---- all areas
 
 abbrev StoredAll : List Area → Type 0
-StoredAll areas = (i : ℕ) → i < length areas → Stored (getD areas i blank)
+StoredAll areas = (i : ℕ) → i < length areas → Stored (getD areas i blankArea)
 
 length-flat : (areas : List Area) → StoredAll areas → length (flat (map areaBytes areas)) ≡ 42 * length areas
 length-flat [] f = refl
@@ -183,10 +183,10 @@ module _ (image : List ℕ) (at : ℕ) (name : List ℕ) (base minor : ℕ) (are
   room : at + mapSize (length areas) ≤ length image
   unfolding holdsMap
   room =
-      let h = any-get (holdsMap at (length areas)) areas blank (holder (length image) at areas (w .good)) in
+      let h = any-get (holdsMap at (length areas)) areas blankArea (holder (length image) at areas (w .good)) in
       let e = ends-in (length image) at areas (w .good) (h .0) (h .1) in
-      let starts : getD areas (h .0) blank .place .start .0 ≡ at = eqb-true _ _ (and-l _ _ (and-r _ _ (h .2))) in
-      let whole : mapSize (length areas) ≤ getD areas (h .0) blank .place .size = leb-true _ _ (and-r _ _ (and-r _ _ (h .2))) in
+      let starts : getD areas (h .0) blankArea .place .start .0 ≡ at = eqb-true _ _ (and-l _ _ (and-r _ _ (h .2))) in
+      let whole : mapSize (length areas) ≤ getD areas (h .0) blankArea .place .size = leb-true _ _ (and-r _ _ (and-r _ _ (h .2))) in
       omega (arith, e, starts, whole)
 
   tail : List ℕ
@@ -242,8 +242,8 @@ module _ (image : List ℕ) (at : ℕ) (name : List ℕ) (base minor : ℕ) (are
   name-same : nameOf (rest at written) ≡ name
   name-same = look 22 32 (omega arith) ∙ name-at (length image) name base minor areas (w .name-fits) (w .stored)
 
-  header : goodHeader (length written) (rest at written) ≡ true
-  unfolding goodHeader signed
+  header : goodMapHeader (length written) (rest at written) ≡ true
+  unfolding goodMapHeader signed
   header =
       let c = count-is in
       let l = length-from in

@@ -57,8 +57,8 @@ unfoldable pub areasOf : List ℕ → List Area
 areasOf m = areasIn (part 56 (42 * countOf m) m)
 
 -- no area
-abbrev pub blank : Area
-blank = record { place = record { start = position 0; size = 0 }; name = zeros 32; flags = 0 }
+abbrev pub blankArea : Area
+blankArea = record { place = record { start = position 0; size = 0 }; name = zeros 32; flags = 0 }
 
 abbrev pub mapSize : ℕ → ℕ
 mapSize count = 56 + 42 * count
@@ -169,8 +169,8 @@ noneHolds rows = isNone (refusal rows)
 unfoldable pub goodMap : List ℕ → ℕ → Bool
 goodMap image at = noneHolds (mapRows image at)
 
-unfoldable pub goodHeader : ℕ → List ℕ → Bool
-goodHeader len m = noneHolds (headerRows len m)
+unfoldable pub goodMapHeader : ℕ → List ℕ → Bool
+goodMapHeader len m = noneHolds (headerRows len m)
 
 unfoldable pub goodAreas : ℕ → ℕ → List Area → Bool
 goodAreas len at areas = noneHolds (areaRows len at areas)

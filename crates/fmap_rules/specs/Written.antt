@@ -6,7 +6,7 @@ use Prim.Native.Nat.{ℕ, _≤_, _<_, _^_}
 use lib.ListN.{length, getD}
 use Rattle.octets.specs.Bytes.{le, part, rest, field, put, flat}
 use Rattle.fmap_rules.specs.declared.Area.{Area}
-use Rattle.fmap_rules.specs.Map.{signature, areaOf, areasOf, legalName, blank, goodAreas, goodMap}
+use Rattle.fmap_rules.specs.Map.{signature, areaOf, areasOf, legalName, blankArea, goodAreas, goodMap}
 
 -- (M2) the 42 bytes of an area
 unfoldable pub areaBytes : Area → List ℕ
@@ -36,7 +36,7 @@ pub record Writable (len at : ℕ) (name : List ℕ) (minor : ℕ) (areas : List
   pub few : length areas ≤ 128
   pub name-fits : length name ≡ 32
   pub legal : legalName name ≡ true
-  pub stored : (i : ℕ) → i < length areas → Stored (getD areas i blank)
+  pub stored : (i : ℕ) → i < length areas → Stored (getD areas i blankArea)
   pub good : goodAreas len at areas ≡ true
 
 -- (L18) a map written at the start of its area FMAP is good there, and its areas are those written

@@ -7,7 +7,7 @@ ghost use lib.ListN.{length, getD, drop};
 ghost use Rattle.octets.specs.Tests.{all, any, pairs, findIx};
 ghost use Rattle.octets.specs.Bytes.{part, rest};
 ghost use Rattle.octets.specs.Rows.{refusal, codeOf};
-ghost use Rattle.fmap_rules.specs.Map.{signed, nameLength, legalName, areaOf, areasIn, areasOf, blank, named, endOf, disjoint, inside};
+ghost use Rattle.fmap_rules.specs.Map.{signed, nameLength, legalName, areaOf, areasIn, areasOf, blankArea, named, endOf, disjoint, inside};
 ghost use Rattle.fmap_rules.specs.Map.{disjointOrNested, mapSize, countOf, holdsMap, headerRows, areaRows, mapRows, goodMap};
 ghost use Rattle.fmap_rules.specs.Invariants.{broken, goodPair};
 
@@ -60,7 +60,7 @@ pub fn is_legal_name(n: &[u8]) -> bool
 // The 42 bytes of area i.
 pub fn area_at<'a>(areas: &'a [u8], i: usize) -> &'a [u8]
     requires { ⌜ i < length (now areas) / 42 ⌝ }
-    ensures { λ r. ⌜ (areaOf (now r) ≡ getD (areasIn (now (areas .entry))) i blank) × (length (now r) ≡ 42) ⌝ }
+    ensures { λ r. ⌜ (areaOf (now r) ≡ getD (areasIn (now (areas .entry))) i blankArea) × (length (now r) ≡ 42) ⌝ }
 {
     let a = 42 * i;
     let e = a + 42;
@@ -165,7 +165,7 @@ fn is_good_pair(a: &[u8], b: &[u8], rule: PairRule) -> bool
 // Area i goes with each later one.
 fn good_with_later(areas: &[u8], i: usize, rule: PairRule) -> bool
     requires { ⌜ i < length (now areas) / 42 ⌝ }
-    ensures { λ r. ⌜ r ≡ all (goodPair rule (getD (areasIn (now (areas .entry))) i blank)) (drop (i + 1) (areasIn (now (areas .entry)))) ⌝ }
+    ensures { λ r. ⌜ r ≡ all (goodPair rule (getD (areasIn (now (areas .entry))) i blankArea)) (drop (i + 1) (areasIn (now (areas .entry)))) ⌝ }
 {
     let n = areas.len() / 42;
     let mut j = i + 1;

@@ -16,18 +16,18 @@ use Rattle.fmd_table.proofs.Table.{length-sections}
 use Rattle.fmd_head.specs.declared.TextImage.{TextImage}
 use Rattle.fmd_table.proofs.Spots.{length-placed, none-placed}
 use Rattle.fmd_check.specs.Check.{fault, good, checkText}
-use Rattle.fmd_check.specs.declared.Place.{Place}
+use Rattle.fmd_check.specs.declared.FaultPlace.{FaultPlace}
 use Rattle.fmd_check.proofs.Facts.{check-facts}
-use Rattle.fmd_areas.specs.Areas.{areaFrom, areaAt, areasFrom, areasOf}
+use Rattle.fmd_areas.specs.Areas.{areaFrom, areaAt, areasFrom, layoutAreas}
 use Rattle.fmd_areas.specs.Invariants.{Laid}
 use Rattle.fmd_areas.proofs.Names.{name-short, length-stored}
 use Rattle.fmd_areas.proofs.Places.{ends}
 use Rattle.fmd_areas.proofs.Shape.{length-areas}
-use Rattle.fmd.specs.Calls.{blank, imageOf, saidBy, layoutIn, layoutFor, Said, refusedWith, Read, reading, Written, withMap, writeBy}
+use Rattle.fmd.specs.Calls.{blankImage, imageOf, saidBy, layoutIn, layoutFor, Said, refusedWith, Read, reading, Written, withMap, writeBy}
 use Rattle.fmd.specs.Invariants.{Held, ReadFor}
 use Rattle.fmd.specs.declared.Image.{Image as SaidImage}
 use Rattle.fmd.specs.declared.Answer.the-variants.{Accepted}
-use Rattle.fmd.specs.declared.Reading.{Reading}
+use Rattle.fmd.specs.declared.LayoutReading.{LayoutReading}
 
 -- ---- the tables of a text that is accepted
 
@@ -92,11 +92,11 @@ module _ {s : List ℕ} {i : TextImage} {rows spots : List ℕ} {n m : ℕ} (g :
     module _ (image : List ℕ) (h : length image ≡ i .size) where
       pub map-is : (a : Area) (one two : List ℕ) → a ≡ areaAt s (sectionsIn n rows) (placedIn n spots) m
           → ((areas : List Area) → n ≡ length areas → one ≡ put (a .place .start .0) (part 0 56 (mapBytes (x .size) (x .name) (x .address) 1 areas)) image)
-          → two ≡ put (a .place .start .0 + 56) (flat (map areaBytes (areasOf s (sectionsIn n rows) (placedIn n spots)))) one
+          → two ≡ put (a .place .start .0 + 56) (flat (map areaBytes (layoutAreas s (sectionsIn n rows) (placedIn n spots)))) one
           → record { answer = none; at = a .place .start; image = two } ≡ writeBy (saidBy s (good i (sectionsIn n rows) (placedIn n spots) m)) image none
       unfolding imageOf
       map-is a one two d p q =
-          let areas = areasOf s (sectionsIn n rows) (placedIn n spots) in
+          let areas = layoutAreas s (sectionsIn n rows) (placedIn n spots) in
           let wide : length (x .name) ≡ 32 = rw e (length-stored (g .accepted .image .named)) in
           let w =
           map-written (x .size) (x .name) (x .address) 1 wide (a .place .start .0) areas image one two
@@ -107,12 +107,12 @@ module _ {s : List ℕ} {i : TextImage} {rows spots : List ℕ} {n m : ℕ} (g :
 
 -- ---- a text that is refused: the tables hold no section
 
-no-areas : (s rows spots : List ℕ) → areasOf s (sectionsIn 0 rows) (placedIn 0 spots) ≡ []
-unfolding areasOf areasFrom
+no-areas : (s rows spots : List ℕ) → layoutAreas s (sectionsIn 0 rows) (placedIn 0 spots) ≡ []
+unfolding layoutAreas areasFrom
 no-areas s rows spots = rw (none-placed spots)
 
-pub counted-none : {s : List ℕ} (places : ℕ) (rows spots : List ℕ) {r : Reading} (k : ℕ) → layoutFor s places ≡ refusedWith (some k)
-    → reading r ≡ record { answer = some k; image = blank } → ReadFor s places rows spots (record { reading = r; count = 0 })
+pub counted-none : {s : List ℕ} (places : ℕ) (rows spots : List ℕ) {r : LayoutReading} (k : ℕ) → layoutFor s places ≡ refusedWith (some k)
+    → reading r ≡ record { answer = some k; image = blankImage } → ReadFor s places rows spots (record { reading = r; count = 0 })
 counted-none {s} places rows spots {r} k e d = record {
   fits = omega arith;
   laid = λ h. absurd (omega arith);
@@ -125,6 +125,6 @@ pub wrong-places : (s : List ℕ) (places : ℕ) → places ≢ 128 → layoutFo
 unfolding layoutFor
 wrong-places s places h = rw (ne-eqb places 128 h)
 
-pub text-fault : (s : List ℕ) (places n : ℕ) (p : Place) → places ≡ 128 → fault n p ≡ checkText s → layoutFor s places ≡ refusedWith (some n)
+pub text-fault : (s : List ℕ) (places n : ℕ) (p : FaultPlace) → places ≡ 128 → fault n p ≡ checkText s → layoutFor s places ≡ refusedWith (some n)
 unfolding layoutFor layoutIn
 text-fault s places n p h c = rw (eq-eqb places 128 h, sym c)

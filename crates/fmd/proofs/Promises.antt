@@ -16,14 +16,14 @@ use Rattle.fmap.proofs.Written.{map-holds}
 use Rattle.fmd_parse.specs.Trees.{AddressFits}
 use Rattle.fmd_head.specs.declared.Address.{Address}
 use Rattle.fmd_head.specs.declared.Address.the-variants.{Given, Omitted}
-use Rattle.fmd_check.specs.Check.{Judged, fault, good, checkText}
+use Rattle.fmd_check.specs.Check.{Checked, fault, good, checkText}
 use Rattle.fmd_check.specs.Facts.{CheckedFacts}
 use Rattle.fmd_check.proofs.Facts.{check-facts}
 use Rattle.fmd_areas.proofs.Shape.{area-at}
 use Rattle.fmd_areas.specs.Areas.{areaFrom, areaAt}
 use Rattle.fmd_areas.proofs.Nested.{areas-nested}
 use Rattle.fmd_areas.proofs.Stands.{areas-stand}
-use Rattle.fmd.specs.Calls.{Said, baseOf, imageOf, saidBy, layoutIn, Written, withMap, writeBy, writeText}
+use Rattle.fmd.specs.Calls.{Said, addressOf, imageOf, saidBy, layoutIn, Written, withMap, writeBy, writeText}
 use Rattle.fmd.specs.Promises.{SectionsFitted, SectionsNested, SectionsInOrder, SaidIsWritable, WrittenHolds, WrittenAtFmap, RefusedStays}
 use Rattle.fmd.proofs.Writable.{writable}
 
@@ -35,11 +35,11 @@ pub record Sayable (x : Said) : Type 0 where
   pub high : x .image .size ≤ 16777216
   pub base : x .image .address < 256 ^ 8
 
-base-fits : (a : Address) → AddressFits a → baseOf a < 256 ^ 8
+base-fits : (a : Address) → AddressFits a → addressOf a < 256 ^ 8
 base-fits (Given n) h = omega arith
 base-fits Omitted h = omega arith
 
-sayable : (s : List ℕ) (j : Judged) → CheckedFacts s j → saidBy s j .answer ≡ none → Sayable (saidBy s j)
+sayable : (s : List ℕ) (j : Checked) → CheckedFacts s j → saidBy s j .answer ≡ none → Sayable (saidBy s j)
 unfolding imageOf
 sayable s (fault n p) f e = absurd (some-none e)
 sayable s (good i l ps m) f e =

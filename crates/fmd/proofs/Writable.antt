@@ -11,16 +11,16 @@ use Rattle.octets.specs.Bytes.{same}
 use Rattle.octets.proofs.Bools.{and-i}
 use Rattle.octets.proofs.Tests.{any-make}
 use Rattle.octets.proofs.Equal.{same-refl}
-use Rattle.fmap_rules.specs.Map.{blank as blankArea, legalName, fmapName, named, mapSize, goodAreas, holdsMap}
+use Rattle.fmap_rules.specs.Map.{blankArea, legalName, fmapName, named, mapSize, goodAreas, holdsMap}
 use Rattle.fmap_rules.specs.Written.{Stored, Writable}
 use Rattle.fmap_rules.specs.declared.Area.{Area}
 use Rattle.fmap_rules.proofs.Good.{areas-good}
-use Rattle.fmd_parse.specs.Trees.{blank as blankSection}
+use Rattle.fmd_parse.specs.Trees.{blankSection}
 use Rattle.fmd_table.specs.declared.Section.{Section}
 use Rattle.fmd_head.specs.declared.TextImage.{TextImage}
 use Rattle.fmd_table.specs.declared.Placed.{Placed}
 use Rattle.fmd_check.specs.Facts.{Accepted}
-use Rattle.fmd_areas.specs.Areas.{storedName, flagsOf, areaFrom, areaAt, areasOf}
+use Rattle.fmd_areas.specs.Areas.{storedName, flagsOf, areaFrom, areaAt, layoutAreas}
 use Rattle.fmd_areas.specs.Nested.{Nested}
 use Rattle.fmd_areas.proofs.Shape.{length-areas, area-at}
 use Rattle.fmd_areas.proofs.Nested.{areas-nested, apart-test}
@@ -32,7 +32,7 @@ flags-small false = omega arith
 
 module _ (s : List ℕ) (i : TextImage) (l : List Section) (ps : List Placed) (m : ℕ) (a : Accepted s i l ps m) where
   abbrev areas : List Area
-  areas = areasOf s l ps
+  areas = layoutAreas s l ps
 
   -- the position of section FMAP
   abbrev at : ℕ

@@ -14,13 +14,13 @@ use Rattle.fmd_head.specs.Refusals.{numberOf as refusalNumber}
 use Rattle.fmd_head.specs.declared.Address.{Address}
 use Rattle.fmd_head.specs.declared.Address.the-variants.{Given, Omitted}
 use Rattle.fmd_head.specs.declared.TextImage.{TextImage}
-use Rattle.fmd_check.specs.Check.{Judged, fault, good, checkText}
-use Rattle.fmd_areas.specs.Areas.{storedName, areaAt, areasOf}
+use Rattle.fmd_check.specs.Check.{Checked, fault, good, checkText}
+use Rattle.fmd_areas.specs.Areas.{storedName, areaAt, layoutAreas}
 use Rattle.fmd.specs.declared.Answer.{Answer}
 use Rattle.fmd.specs.declared.Answer.the-variants.{Accepted, WrongLength, Refused}
 use Rattle.fmd.specs.declared.Image.{Image}
-use Rattle.fmd.specs.declared.Reading.{Reading}
-use Rattle.fmd.specs.declared.Section.{Section}
+use Rattle.fmd.specs.declared.LayoutReading.{LayoutReading}
+use Rattle.fmd.specs.declared.SectionRecord.{SectionRecord}
 use Rattle.fmd.specs.declared.Writing.{Writing}
 
 -- (W15) the number of each answer
@@ -32,8 +32,8 @@ numberOf (Refused r) = some (refusalNumber r)
 -- ---- what a layout text says
 
 -- no image, where a text is refused
-abbrev pub blank : Image
-blank = record { name = zeros 32; size = 0; address = 0; count = 0 }
+abbrev pub blankImage : Image
+blankImage = record { name = zeros 32; size = 0; address = 0; count = 0 }
 
 -- a refusal's number or none; the image; its sections as areas of a map; the position of section FMAP
 pub record Said : Type 0 where
@@ -44,21 +44,21 @@ pub record Said : Type 0 where
 
 -- (R1) a refusal's number alone
 abbrev pub refusedWith : Option ℕ → Said
-refusedWith n = record { answer = n; image = blank; areas = []; at = position 0 }
+refusedWith n = record { answer = n; image = blankImage; areas = []; at = position 0 }
 
 -- L17: .. base the address or 0
-abbrev pub baseOf : Address → ℕ
-baseOf (Given a) = a
-baseOf Omitted = 0
+abbrev pub addressOf : Address → ℕ
+addressOf (Given a) = a
+addressOf Omitted = 0
 
 -- (R3) name, size, address and section count
 unfoldable pub imageOf : List ℕ → TextImage → ℕ → Image
-imageOf s i count = record { name = storedName s (i .place) (i .length); size = i .size; address = baseOf (i .address); count = count }
+imageOf s i count = record { name = storedName s (i .place) (i .length); size = i .size; address = addressOf (i .address); count = count }
 
-abbrev pub saidBy : List ℕ → Judged → Said
+abbrev pub saidBy : List ℕ → Checked → Said
 saidBy s (fault n p) = refusedWith (some n)
 saidBy s (good i l ps m) =
-    record { answer = none; image = imageOf s i (length l); areas = areasOf s l ps; at = areaAt s l ps m .place .start }
+    record { answer = none; image = imageOf s i (length l); areas = layoutAreas s l ps; at = areaAt s l ps m .place .start }
 
 unfoldable pub layoutIn : List ℕ → Said
 layoutIn s = saidBy s (checkText s)
@@ -77,24 +77,24 @@ readText s = record { answer = layoutIn s .answer; image = layoutIn s .image }
 pub record Listed : Type 0 where
   pub answer : Option ℕ
   pub image : Image
-  pub sections : List Section
+  pub sections : List SectionRecord
 
 -- an area as a section of the list
-abbrev pub sectionOf : Area → Section
-sectionOf a = record { position = a .place .start; size = a .place .size; flags = a .flags; name = a .name }
+abbrev pub listRecord : Area → SectionRecord
+listRecord a = record { position = a .place .start; size = a .place .size; flags = a .flags; name = a .name }
 
 -- L16: .. filled one record at a time (position, size, flags as in the map, name), children after parents; unused records stay.
-abbrev pub filled : List Section → List Section → List Section
+abbrev pub filled : List SectionRecord → List SectionRecord → List SectionRecord
 filled xs ys = xs ++ drop (length xs) ys
 
-abbrev pub listBy : Said → List Section → Listed
-listBy x ys = record { answer = x .answer; image = x .image; sections = filled (map sectionOf (x .areas)) ys }
+abbrev pub listBy : Said → List SectionRecord → Listed
+listBy x ys = record { answer = x .answer; image = x .image; sections = filled (map listRecord (x .areas)) ys }
 
 -- R33: FMD: 1 (section list not 128 records)
 unfoldable pub layoutFor : List ℕ → ℕ → Said
 layoutFor s places = cond (eqb places 128) (layoutIn s) (refusedWith (some 1))
 
-unfoldable pub listText : List ℕ → List Section → Listed
+unfoldable pub listText : List ℕ → List SectionRecord → Listed
 listText s ys = listBy (layoutFor s (length ys)) ys
 
 -- ---- listing as bytes
@@ -110,7 +110,7 @@ recordBy x bs = record { answer = x .answer; image = x .image; records = put 0 (
 
 -- (R33) 128 records of 42 bytes
 unfoldable pub recordText : List ℕ → List ℕ → Recorded
-recordText s bs = cond (eqb (length bs) 5376) (recordBy (layoutIn s) bs) (record { answer = some 1; image = blank; records = bs })
+recordText s bs = cond (eqb (length bs) 5376) (recordBy (layoutIn s) bs) (record { answer = some 1; image = blankImage; records = bs })
 
 -- ---- writing
 
@@ -138,13 +138,13 @@ writeText s image = writeBy (layoutIn s) image (layoutIn s .answer)
 
 -- ---- what the values of the code say
 
-abbrev pub reading : Reading → Read
+abbrev pub reading : LayoutReading → Read
 reading r = record { answer = numberOf (r .answer); image = r .image }
 
-abbrev pub listed : Reading → List Section → Listed
-listed r ys = record { answer = numberOf (r .answer); image = r .image; sections = ys }
+abbrev pub listOf : LayoutReading → List SectionRecord → Listed
+listOf r ys = record { answer = numberOf (r .answer); image = r .image; sections = ys }
 
-abbrev pub recorded : Reading → List ℕ → Recorded
+abbrev pub recorded : LayoutReading → List ℕ → Recorded
 recorded r bs = record { answer = numberOf (r .answer); image = r .image; records = bs }
 
 abbrev pub written : Writing → List ℕ → Written

@@ -5,7 +5,7 @@ use Prim.Native.Nat.{ℕ, _≤_, _<_}
 use Rattle.fmd_head.specs.declared.TextImage.{TextImage}
 use Rattle.fmd_table.specs.Table.{sectionsIn, placedIn, HasRows, HasSpots}
 use Rattle.fmd_check.specs.Facts.{Accepted}
-use Rattle.fmd_areas.specs.Areas.{areasOf}
+use Rattle.fmd_areas.specs.Areas.{layoutAreas}
 use Rattle.fmd_areas.specs.Invariants.{Laid}
 use Rattle.fmd.specs.Calls.{numberOf, layoutFor}
 use Rattle.fmd.specs.declared.Counted.{Counted}
@@ -22,4 +22,4 @@ pub record ReadFor (s : List ℕ) (places : ℕ) (rows spots : List ℕ) (r : Co
   pub laid : 0 < r .count → Laid s rows spots (r .count)
   pub answer : numberOf (r .reading .answer) ≡ layoutFor s places .answer
   pub image : r .reading .image ≡ layoutFor s places .image
-  pub areas : areasOf s (sectionsIn (r .count) rows) (placedIn (r .count) spots) ≡ layoutFor s places .areas
+  pub areas : layoutAreas s (sectionsIn (r .count) rows) (placedIn (r .count) spots) ≡ layoutFor s places .areas

@@ -5,7 +5,7 @@ use mathlib.Core.Option.{none, some}
 use Prim.Native.Nat.{ℕ, _≤_, _<_}
 use lib.ListN.{length, getD}
 use Rattle.octets.specs.Rows.{codeOf}
-use Rattle.fmap_rules.specs.Map.{position, blank}
+use Rattle.fmap_rules.specs.Map.{position, blankArea}
 use Rattle.fmap_rules.specs.Written.{Writable}
 use Rattle.fmap_rules.specs.declared.Area.{Area}
 use Rattle.fmap.specs.Written.{Holds}
@@ -14,10 +14,10 @@ use Rattle.fmd_table.specs.declared.Placed.{Placed}
 use Rattle.fmd_head.specs.declared.TextImage.{TextImage}
 use Rattle.fmd_check.specs.Fitted.{Fitted}
 use Rattle.fmd_check.specs.Check.{good, checkText}
-use Rattle.fmd_areas.specs.Nested.{startAt, Nested, Stands}
+use Rattle.fmd_areas.specs.Nested.{startAt, Nested, AreaStands}
 use Rattle.fmd.specs.Calls.{numberOf, layoutIn, listText, recordText, writeText}
 use Rattle.fmd.specs.declared.Answer.{Answer}
-use Rattle.fmd.specs.declared.Section.{Section as Listed}
+use Rattle.fmd.specs.declared.SectionRecord.{SectionRecord as Listed}
 
 -- no refusal's number is 0
 abbrev pub ZeroIsAccepted : Type 0
@@ -38,7 +38,7 @@ SectionsFitted =
 abbrev pub SectionsInOrder : Type 0
 SectionsInOrder =
     (s : List ℕ) (i : TextImage) (l : List Section) (ps : List Placed) (m : ℕ) → checkText s ≡ good i l ps m
-    → (k : ℕ) → k < length l → Stands s l ps (layoutIn s .areas) k
+    → (k : ℕ) → k < length l → AreaStands s l ps (layoutIn s .areas) k
 
 -- what getD answers past the end of a list
 abbrev pub blankListed : Listed
@@ -47,10 +47,10 @@ blankListed = record { position = position 0; size = 0; flags = 0; name = [] }
 -- (L16) record k is area k, and behind the last stands what stood there
 pub record Fills (areas : List Area) (ys zs : List Listed) : Type 0 where
   pub same-length : length zs ≡ length ys
-  pub positions : (k : ℕ) → k < length areas → getD zs k blankListed .position ≡ getD areas k blank .place .start
-  pub sizes : (k : ℕ) → k < length areas → getD zs k blankListed .size ≡ getD areas k blank .place .size
-  pub flags : (k : ℕ) → k < length areas → getD zs k blankListed .flags ≡ getD areas k blank .flags
-  pub names : (k : ℕ) → k < length areas → getD zs k blankListed .name ≡ getD areas k blank .name
+  pub positions : (k : ℕ) → k < length areas → getD zs k blankListed .position ≡ getD areas k blankArea .place .start
+  pub sizes : (k : ℕ) → k < length areas → getD zs k blankListed .size ≡ getD areas k blankArea .place .size
+  pub flags : (k : ℕ) → k < length areas → getD zs k blankListed .flags ≡ getD areas k blankArea .flags
+  pub names : (k : ℕ) → k < length areas → getD zs k blankListed .name ≡ getD areas k blankArea .name
   pub unused : (k : ℕ) → length areas ≤ k → getD zs k blankListed ≡ getD ys k blankListed
 
 abbrev pub ListedFills : Type 0

@@ -8,9 +8,9 @@ ghost use Rattle.octets.specs.Rows.{codeOf};
 ghost use Rattle.fmap_rules.specs.Map.{position};
 ghost use Rattle.fmd_table.specs.Table.{sectionsIn, placedIn, HasRows, HasSpots};
 ghost use Rattle.fmd_check.specs.Check.{good};
-ghost use Rattle.fmd_areas.specs.Areas.{areaAt, areasOf};
+ghost use Rattle.fmd_areas.specs.Areas.{areaAt, layoutAreas};
 ghost use Rattle.fmd_areas.specs.Invariants.{Laid};
-ghost use Rattle.fmd.specs.Calls.{numberOf, blank as blankImage, baseOf, imageOf, saidBy, reading, readText, sectionOf, filled, listed};
+ghost use Rattle.fmd.specs.Calls.{numberOf, blankImage, addressOf, imageOf, saidBy, reading, readText, listRecord, filled, listOf};
 ghost use Rattle.fmd.specs.Calls.{listText, recorded, recordText, written, writeBy, writeText};
 ghost use Rattle.fmd.specs.Invariants.{Held, ReadFor};
 use fmap_rules::ImagePosition;
@@ -38,13 +38,13 @@ pub struct Image {
 }
 
 // An answer with its image, which is blank unless the answer is Accepted.
-pub struct Reading {
+pub struct LayoutReading {
     pub answer: Answer,
     pub image: Image,
 }
 
 // A section of the image.
-pub struct Section {
+pub struct SectionRecord {
     pub position: ImagePosition,
     pub size: u32,
     pub flags: u16,
@@ -53,7 +53,7 @@ pub struct Section {
 
 // A reading with the number of sections that the tables then hold; none unless the answer is Accepted.
 struct Counted {
-    reading: Reading,
+    reading: LayoutReading,
     count: usize,
 }
 
@@ -75,7 +75,7 @@ pub fn number(a: Answer) -> u32
 }
 
 // No image.
-fn unread(answer: Answer) -> Reading
+fn unread(answer: Answer) -> LayoutReading
     ensures { λ r. ⌜ reading r ≡ record { answer = numberOf answer; image = blankImage } ⌝ }
 {
     let image = Image {
@@ -84,14 +84,14 @@ fn unread(answer: Answer) -> Reading
         address: 0,
         count: 0,
     };
-    Reading {
+    LayoutReading {
         answer: answer,
         image: image,
     }
 }
 
 fn base_of(a: Address) -> u32
-    ensures { λ r. ⌜ r ≡ baseOf a ⌝ }
+    ensures { λ r. ⌜ r ≡ addressOf a ⌝ }
 {
     match a {
         Address::Given(n) => n,
@@ -114,7 +114,7 @@ fn image_of(text: &[u8], i: TextImage, count: usize) -> Image
 }
 
 // Reads a layout text.
-pub fn read(text: &[u8]) -> Reading
+pub fn read(text: &[u8]) -> LayoutReading
     ensures { λ r. ⌜ reading r ≡ readText (now (text .entry)) ⌝ }
 {
     let mut rows = [0u32; ROWS];
@@ -122,7 +122,7 @@ pub fn read(text: &[u8]) -> Reading
     match fmd_check::check(text, &mut rows, &mut spots) {
         Verdict::Good(i, n, _) => {
             let image = image_of(text, i, n);
-            Reading {
+            LayoutReading {
                 answer: Answer::Accepted,
                 image: image,
             }
@@ -147,7 +147,7 @@ fn read_for(text: &[u8], places: usize, rows: &mut [u32], spots: &mut [u32]) -> 
         Verdict::Good(i, n, _) => {
             let image = image_of(text, i, n);
             Counted {
-                reading: Reading {
+                reading: LayoutReading {
                     answer: Answer::Accepted,
                     image: image,
                 },
@@ -165,15 +165,15 @@ fn read_for(text: &[u8], places: usize, rows: &mut [u32], spots: &mut [u32]) -> 
 }
 
 // Section k of n, as the list has it.
-fn section_at(text: &[u8], rows: &[u32], spots: &[u32], n: usize, k: usize) -> Section
+fn section_at(text: &[u8], rows: &[u32], spots: &[u32], n: usize, k: usize) -> SectionRecord
     requires { ⌜ Laid (now text) (now rows) (now spots) n × (k < n) ⌝ }
-    ensures { λ r. ⌜ r ≡ sectionOf (areaAt (now (text .entry)) (sectionsIn n (now (rows .entry))) (placedIn n (now (spots .entry))) k) ⌝ }
+    ensures { λ r. ⌜ r ≡ listRecord (areaAt (now (text .entry)) (sectionsIn n (now (rows .entry))) (placedIn n (now (spots .entry))) k) ⌝ }
 {
     let a = area_at(text, rows, spots, n, k);
     let place = a.place;
     let start = place.start;
     let name = a.name;
-    Section {
+    SectionRecord {
         position: start,
         size: place.size,
         flags: a.flags,
@@ -183,7 +183,7 @@ fn section_at(text: &[u8], rows: &[u32], spots: &[u32], n: usize, k: usize) -> S
 
 // The sections, one at a time, from the start of the list on.
 fn fill<'a, 'b, 'c, 'd>(
-    sections: &'a mut [Section],
+    sections: &'a mut [SectionRecord],
     text: &'b [u8],
     rows: &'c [u32],
     spots: &'d [u32],
@@ -191,7 +191,7 @@ fn fill<'a, 'b, 'c, 'd>(
 )
     requires { ⌜ (0 < n → Laid (now text) (now rows) (now spots) n) × (n ≤ length (now sections)) ⌝ }
     ensures { λ _. ⌜ now (sections .exit)
-        ≡ filled (map sectionOf (areasOf (now (text .entry)) (sectionsIn n (now (rows .entry))) (placedIn n (now (spots .entry))))) (now (sections .entry)) ⌝ }
+        ≡ filled (map listRecord (layoutAreas (now (text .entry)) (sectionsIn n (now (rows .entry))) (placedIn n (now (spots .entry))))) (now (sections .entry)) ⌝ }
 {
     let mut i: usize = 0;
     while i < n {
@@ -201,8 +201,8 @@ fn fill<'a, 'b, 'c, 'd>(
 }
 
 // Reads a layout text into the list of sections that the caller lends.
-pub fn list<'a, 'b>(text: &'a [u8], sections: &'b mut [Section]) -> Reading
-    ensures { λ r. ⌜ listed r (now (sections .exit)) ≡ listText (now (text .entry)) (now (sections .entry)) ⌝ }
+pub fn list<'a, 'b>(text: &'a [u8], sections: &'b mut [SectionRecord]) -> LayoutReading
+    ensures { λ r. ⌜ listOf r (now (sections .exit)) ≡ listText (now (text .entry)) (now (sections .entry)) ⌝ }
 {
     let mut rows = [0u32; ROWS];
     let mut spots = [0u32; SPOTS];
@@ -212,7 +212,7 @@ pub fn list<'a, 'b>(text: &'a [u8], sections: &'b mut [Section]) -> Reading
 }
 
 // Reads a layout text into the bytes that the caller lends: 128 records of 42 bytes, each as an area of a map.
-pub fn put_records(text: &[u8], records: &mut [u8]) -> Reading
+pub fn put_records(text: &[u8], records: &mut [u8]) -> LayoutReading
     ensures { λ r. ⌜ recorded r (now (records .exit)) ≡ recordText (now (text .entry)) (now (records .entry)) ⌝ }
 {
     if records.len() != 5376 {
@@ -224,7 +224,7 @@ pub fn put_records(text: &[u8], records: &mut [u8]) -> Reading
         Verdict::Good(i, n, _) => {
             fmd_areas::put_areas(text, &rows, &spots, n, records, 0);
             let image = image_of(text, i, n);
-            Reading {
+            LayoutReading {
                 answer: Answer::Accepted,
                 image: image,
             }

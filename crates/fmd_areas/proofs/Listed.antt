@@ -9,15 +9,15 @@ use lib.Seq.{take-all}
 use Rattle.octets.specs.Bytes.{part, put, zeros}
 use Rattle.octets.proofs.Parts.{length-part, length-zeros, part-zeros}
 use Rattle.octets.proofs.Puts.{put-eq}
-use Rattle.fmap_rules.specs.Map.{blank as blankArea}
+use Rattle.fmap_rules.specs.Map.{blankArea}
 use Rattle.fmap_rules.specs.declared.Area.{Area}
-use Rattle.fmd_table.specs.Table.{blank, sectionAt, sectionsIn, placedAt, placedIn}
+use Rattle.fmd_table.specs.Table.{blankPlaced, sectionAt, sectionsIn, placedAt, placedIn}
 use Rattle.fmd_table.specs.declared.Section.{Section}
 use Rattle.fmd_table.proofs.Table.{length-sections, section-in}
-use Rattle.fmd_parse.specs.Trees.{blank as blankSection}
+use Rattle.fmd_parse.specs.Trees.{blankSection}
 use Rattle.fmd_table.specs.declared.Placed.{Placed}
 use Rattle.fmd_table.proofs.Spots.{length-placed, placed-in}
-use Rattle.fmd_areas.specs.Areas.{positionIn, storedName, areaFrom, areaAt, areasOf}
+use Rattle.fmd_areas.specs.Areas.{positionIn, storedName, areaFrom, areaAt, layoutAreas}
 use Rattle.fmd_areas.specs.Invariants.{Climbs, Laid}
 use Rattle.fmd_areas.proofs.Places.{climbs, ends}
 use Rattle.fmd_areas.proofs.Names.{name-short}
@@ -49,11 +49,11 @@ unfolding positionIn
 at-image zero ps k e = refl
 at-image (suc lv) ps k e = absurd (omega arith)
 
-climb : (lv : ℕ) (ps : List Placed) (k : ℕ) → (lv ≡ 0 → ⊥) → Climbs lv ps k → (k < length ps) × Climbs (lv - 1) ps (getD ps k blank .parent)
+climb : (lv : ℕ) (ps : List Placed) (k : ℕ) → (lv ≡ 0 → ⊥) → Climbs lv ps k → (k < length ps) × Climbs (lv - 1) ps (getD ps k blankPlaced .parent)
 climb zero ps k n c = absurd (n refl)
 climb (suc lv) ps k n c = rw sub-one c
 
-below : (lv : ℕ) (ps : List Placed) (k : ℕ) → (lv ≡ 0 → ⊥) → getD ps k blank .offset .0 + positionIn (lv - 1) ps (getD ps k blank .parent) ≡ positionIn lv ps k
+below : (lv : ℕ) (ps : List Placed) (k : ℕ) → (lv ≡ 0 → ⊥) → getD ps k blankPlaced .offset .0 + positionIn (lv - 1) ps (getD ps k blankPlaced .parent) ≡ positionIn lv ps k
 unfolding positionIn
 below zero ps k n = absurd (n refl)
 below (suc lv) ps k n = rw sub-one
@@ -72,7 +72,7 @@ module _ (n : ℕ) (spots : List ℕ) (lv k : ℕ) (d : lv ≡ 0 → ⊥) (c : C
 -- ---- section k, and the loops over all
 
 module _ {s rows spots : List ℕ} {n : ℕ} (g : Laid s rows spots n) where
-  pub many : length (areasOf s (sectionsIn n rows) (placedIn n spots)) ≡ n
+  pub many : length (layoutAreas s (sectionsIn n rows) (placedIn n spots)) ≡ n
   many = length-areas s (sectionsIn n rows) (placedIn n spots) ∙ length-placed n spots
 
   pub few : n ≤ 128
@@ -82,7 +82,7 @@ module _ {s rows spots : List ℕ} {n : ℕ} (g : Laid s rows spots n) where
     in-plan : k < length (placedIn n spots)
     in-plan = omega (arith, length-placed n spots)
 
-    pub area-in : getD (areasOf s (sectionsIn n rows) (placedIn n spots)) k blankArea ≡ areaAt s (sectionsIn n rows) (placedIn n spots) k
+    pub area-in : getD (layoutAreas s (sectionsIn n rows) (placedIn n spots)) k blankArea ≡ areaAt s (sectionsIn n rows) (placedIn n spots) k
     area-in = area-is-at s (sectionsIn n rows) (placedIn n spots) k in-plan
 
     module _ {q : Placed} (e : q ≡ placedAt spots k) where

@@ -17,7 +17,7 @@ use Rattle.fmap_rules.specs.Map.{stops, nameLength, legalName, fmapName, named}
 use Rattle.fmap_rules.proofs.Names.{below}
 use Rattle.fmd_lex.specs.Chars.{isWord}
 use Rattle.fmd_lex.specs.Names.{goodName}
-use Rattle.fmd_parse.specs.Trees.{Named, Tree, blank as blankSection}
+use Rattle.fmd_parse.specs.Trees.{Named, Tree, blankSection}
 use Rattle.fmd_table.specs.declared.Section.{Section}
 use Rattle.fmd_rows.specs.Rows.{repeats, fmap, isFmap}
 use Rattle.fmd_table.specs.declared.Placed.{Placed}

@@ -11,15 +11,15 @@ use lib.Dec.{leb}
 use lib.ListN.{length, getD}
 use borrow.Author.Tests.{leb-true, leb-false, le-leb}
 use Rattle.octets.proofs.Bools.{and-i, or-il, or-ir, bool-cases}
-use Rattle.fmap_rules.specs.Map.{position, blank as blankArea, endOf, disjoint, inside, disjointOrNested}
+use Rattle.fmap_rules.specs.Map.{position, blankArea, endOf, disjoint, inside, disjointOrNested}
 use Rattle.fmap_rules.specs.declared.Extent.{Extent}
 use Rattle.fmap_rules.specs.declared.Area.{Area}
 use Rattle.fmd_parse.specs.Trees.{Tree}
 use Rattle.fmd_table.specs.declared.Section.{Section}
-use Rattle.fmd_table.specs.Table.{blank}
+use Rattle.fmd_table.specs.Table.{blankPlaced}
 use Rattle.fmd_check.specs.Fitted.{Fitted}
 use Rattle.fmd_table.specs.declared.Placed.{Placed}
-use Rattle.fmd_areas.specs.Areas.{positionIn, areaFrom, areaAt, areasOf}
+use Rattle.fmd_areas.specs.Areas.{positionIn, areaFrom, areaAt, layoutAreas}
 use Rattle.fmd_areas.specs.Nested.{AreasNested}
 use Rattle.fmd_areas.proofs.Places.{Top, Child, above, ends}
 use Rattle.fmd_areas.proofs.Shape.{length-areas, area-at}
@@ -73,20 +73,20 @@ apart-test x y a =
 -- ---- section k of the list
 
 abbrev levelAt : List Placed → ℕ → ℕ
-levelAt ps k = getD ps k blank .level
+levelAt ps k = getD ps k blankPlaced .level
 
 abbrev parentAt : List Placed → ℕ → ℕ
-parentAt ps k = getD ps k blank .parent
+parentAt ps k = getD ps k blankPlaced .parent
 
 -- where it lies in the image
 at : List Placed → ℕ → Extent
-at ps k = record { start = position (positionIn (levelAt ps k) ps k); size = getD ps k blank .size }
+at ps k = record { start = position (positionIn (levelAt ps k) ps k); size = getD ps k blankPlaced .size }
 
-starts : (ps : List Placed) (k n : ℕ) → levelAt ps k ≡ suc n → at ps k .start .0 ≡ getD ps k blank .offset .0 + positionIn n ps (parentAt ps k)
+starts : (ps : List Placed) (k n : ℕ) → levelAt ps k ≡ suc n → at ps k .start .0 ≡ getD ps k blankPlaced .offset .0 + positionIn n ps (parentAt ps k)
 unfolding at positionIn
 starts ps k n e = rw e
 
-child-in : (ps : List Placed) (k : ℕ) → Child ps k (getD ps k blank) → In (at ps k) (at ps (parentAt ps k))
+child-in : (ps : List Placed) (k : ℕ) → Child ps k (getD ps k blankPlaced) → In (at ps k) (at ps (parentAt ps k))
 unfolding at
 child-in ps k a =
     let e = starts ps k (levelAt ps (parentAt ps k)) (sym (a .level) ∙ add-one _) in record { from = omega arith; to = omega (arith, a .within) }
@@ -102,7 +102,7 @@ module _ (s : List ℕ) (z : ℕ) (l : List Section) (ps : List Placed) (t : Tre
   There k = k < length ps
 
   abbrev Above : ℕ → Type 0
-  Above k = Top z (getD ps k blank) ⊎ Child ps k (getD ps k blank)
+  Above k = Top z (getD ps k blankPlaced) ⊎ Child ps k (getD ps k blankPlaced)
 
   low : (k : ℕ) → There k → 1 ≤ levelAt ps k
   low k h = ⊎-elim (λ a. let e = a .level in omega arith) (λ a. let e = a .level in omega arith) (above s z l ps t f k h)
@@ -123,7 +123,7 @@ module _ (s : List ℕ) (z : ℕ) (l : List Section) (ps : List Placed) (t : Tre
   level-apart : (n j k : ℕ) → There j → There k → levelAt ps j ≡ suc n → levelAt ps k ≡ suc n → (j ≡ k) ⊎ Clear (at ps j) (at ps k)
   level-apart zero j k g h v w = go (above s z l ps t f j g) (above s z l ps t f k h)
     where
-      deep : {A : Type 0} (i : ℕ) → There i → levelAt ps i ≡ 1 → Child ps i (getD ps i blank) → A
+      deep : {A : Type 0} (i : ℕ) → There i → levelAt ps i ≡ 1 → Child ps i (getD ps i blankPlaced) → A
       deep i o e a = let p = a .parent in absurd (omega (arith, a .level, low (parentAt ps i) (omega arith)))
 
       go : Above j → Above k → (j ≡ k) ⊎ Clear (at ps j) (at ps k)
@@ -173,7 +173,7 @@ module _ (s : List ℕ) (z : ℕ) (l : List Section) (ps : List Placed) (t : Tre
   -- ---- the areas
 
   abbrev areas : List Area
-  areas = areasOf s l ps
+  areas = layoutAreas s l ps
 
   there : {k : ℕ} → k < length areas → There k
   there h = rw (length-areas s l ps) at h

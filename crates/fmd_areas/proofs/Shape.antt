@@ -4,10 +4,10 @@ use mathlib.Core.List.{List}
 use Prim.Native.Nat.{ℕ, zero, suc, _+_, _<_}
 use native.Mathlib.Nat.{not-suc-le-zero, le-of-suc-le-suc, add-zero, add-suc, suc-add, zero-add}
 use lib.ListN.{length, getD}
-use Rattle.fmap_rules.specs.Map.{blank as blankArea}
+use Rattle.fmap_rules.specs.Map.{blankArea}
 use Rattle.fmd_table.specs.declared.Section.{Section}
 use Rattle.fmd_table.specs.declared.Placed.{Placed}
-use Rattle.fmd_areas.specs.Areas.{areaAt, areasFrom, areasOf}
+use Rattle.fmd_areas.specs.Areas.{areaAt, areasFrom, layoutAreas}
 
 module _ (s : List ℕ) (l : List Section) (ps : List Placed) where
   length-from : (n k : ℕ) → length (areasFrom s l ps n k) ≡ n
@@ -21,10 +21,10 @@ module _ (s : List ℕ) (l : List Section) (ps : List Placed) where
   from-at (suc n) k zero h = rw add-zero
   from-at (suc n) k (suc i) h = from-at n (suc k) i (le-of-suc-le-suc h) ∙ rw (suc-add, add-suc)
 
-  pub length-areas : length (areasOf s l ps) ≡ length ps
-  unfolding areasOf
+  pub length-areas : length (layoutAreas s l ps) ≡ length ps
+  unfolding layoutAreas
   length-areas = length-from (length ps) 0
 
-  pub area-at : (k : ℕ) → k < length ps → getD (areasOf s l ps) k blankArea ≡ areaAt s l ps k
-  unfolding areasOf
+  pub area-at : (k : ℕ) → k < length ps → getD (layoutAreas s l ps) k blankArea ≡ areaAt s l ps k
+  unfolding layoutAreas
   area-at k h = from-at (length ps) 0 k h ∙ rw zero-add

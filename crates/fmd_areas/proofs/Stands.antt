@@ -11,15 +11,15 @@ use lib.ListN.{length, getD, List·getD-append}
 use lib.Seq.{getD-append-add}
 use Rattle.octets.specs.Bytes.{part, zeros}
 use Rattle.octets.proofs.Parts.{length-part, getD-part}
-use Rattle.fmap_rules.specs.Map.{blank as blankArea}
+use Rattle.fmap_rules.specs.Map.{blankArea}
 use Rattle.fmap_rules.specs.declared.Area.{Area}
-use Rattle.fmd_parse.specs.Trees.{Tree, blank as blankSection}
-use Rattle.fmd_table.specs.Table.{blank}
+use Rattle.fmd_parse.specs.Trees.{Tree, blankSection}
+use Rattle.fmd_table.specs.Table.{blankPlaced}
 use Rattle.fmd_table.specs.declared.Section.{Section}
 use Rattle.fmd_table.specs.declared.Placed.{Placed}
 use Rattle.fmd_check.specs.Fitted.{Fitted}
-use Rattle.fmd_areas.specs.Areas.{positionIn, storedName, flagsOf, areaFrom, areaAt, areasOf}
-use Rattle.fmd_areas.specs.Nested.{startAt, Stands, AreasStand}
+use Rattle.fmd_areas.specs.Areas.{positionIn, storedName, flagsOf, areaFrom, areaAt, layoutAreas}
+use Rattle.fmd_areas.specs.Nested.{startAt, AreaStands, AreasStand}
 use Rattle.fmd_areas.proofs.Places.{Top, Child, above}
 use Rattle.fmd_areas.proofs.Shape.{area-at}
 use Rattle.fmd_areas.proofs.Names.{name-short, area-name-length}
@@ -50,11 +50,11 @@ flags-clear : (b : Bool) → b ≡ false → flagsOf b ≡ 0
 flags-clear true e = absurd (true≢false e)
 flags-clear false e = refl
 
-at-top : (ps : List Placed) (k n : ℕ) → n ≡ 1 → positionIn n ps k ≡ getD ps k blank .offset .0
+at-top : (ps : List Placed) (k n : ℕ) → n ≡ 1 → positionIn n ps k ≡ getD ps k blankPlaced .offset .0
 unfolding positionIn
 at-top ps k n e = rw (e, add-zero)
 
-at-child : (ps : List Placed) (k n m : ℕ) → m + 1 ≡ n → positionIn n ps k ≡ getD ps k blank .offset .0 + positionIn m ps (getD ps k blank .parent)
+at-child : (ps : List Placed) (k n m : ℕ) → m + 1 ≡ n → positionIn n ps k ≡ getD ps k blankPlaced .offset .0 + positionIn m ps (getD ps k blankPlaced .parent)
 unfolding positionIn
 at-child ps k n m e = rw (sym e, add-one m)
 
@@ -62,28 +62,28 @@ module _ (s : List ℕ) (z : ℕ) (l : List Section) (ps : List Placed) (t : Tre
   planned : k < length ps
   planned = omega (arith, f .count)
 
-  area-is : getD (areasOf s l ps) k blankArea ≡ areaAt s l ps k
+  area-is : getD (layoutAreas s l ps) k blankArea ≡ areaAt s l ps k
   area-is = area-at s l ps k planned
 
-  start-is : (j : ℕ) → j < length ps → startAt (areasOf s l ps) j ≡ positionIn (getD ps j blank .level) ps j
+  start-is : (j : ℕ) → j < length ps → startAt (layoutAreas s l ps) j ≡ positionIn (getD ps j blankPlaced .level) ps j
   unfolding areaAt areaFrom
   start-is j g = ap (λ (a : Area). a .place .start .0) (area-at s l ps j g)
 
-  below-is : (p : ℕ) → p < k → getD ps k blank .parent ≡ p → Top z (getD ps k blank) ⊎ Child ps k (getD ps k blank)
-      → startAt (areasOf s l ps) k ≡ getD ps k blank .offset .0 + startAt (areasOf s l ps) p
+  below-is : (p : ℕ) → p < k → getD ps k blankPlaced .parent ≡ p → Top z (getD ps k blankPlaced) ⊎ Child ps k (getD ps k blankPlaced)
+      → startAt (layoutAreas s l ps) k ≡ getD ps k blankPlaced .offset .0 + startAt (layoutAreas s l ps) p
   below-is p g e (inl a) = absurd (omega (arith, a .parent, t .room))
   below-is p g e (inr a) =
       start-is k planned
-      ∙ (at-child ps k _ _ (a .level) ∙ rw e (ap (λ (i : ℕ). getD ps k blank .offset .0 + i) (sym (start-is p (omega (arith, planned))))))
+      ∙ (at-child ps k _ _ (a .level) ∙ rw e (ap (λ (i : ℕ). getD ps k blankPlaced .offset .0 + i) (sym (start-is p (omega (arith, planned))))))
 
-  stands : Stands s l ps (areasOf s l ps) k
+  stands : AreaStands s l ps (layoutAreas s l ps) k
   unfolding areaAt areaFrom
   stands =
       let w = name-short (t .each k h .named) in
       record {
         top = λ e. start-is k planned ∙ at-top ps k _ (f .level k planned ∙ e);
         below = λ g. below-is _ g (f .parent k planned) (above s z l ps t f k planned);
-        ends = ap (λ (a : Area). startAt (areasOf s l ps) k + a .place .size) area-is;
+        ends = ap (λ (a : Area). startAt (layoutAreas s l ps) k + a .place .size) area-is;
         preserved = λ e. ap (λ (a : Area). a .flags) area-is ∙ flags-set _ e;
         plain = λ e. ap (λ (a : Area). a .flags) area-is ∙ flags-clear _ e;
         wide = ap (λ (a : Area). length (a .name)) area-is ∙ area-name-length s l ps t k h;

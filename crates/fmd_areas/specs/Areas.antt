@@ -6,15 +6,15 @@ use lib.ListN.{length, getD}
 use Rattle.octets.specs.Bytes.{part, zeros}
 use Rattle.fmap_rules.specs.Map.{position}
 use Rattle.fmap_rules.specs.declared.Area.{Area}
-use Rattle.fmd_table.specs.Table.{blank}
-use Rattle.fmd_parse.specs.Trees.{blank as blankSection}
+use Rattle.fmd_table.specs.Table.{blankPlaced}
+use Rattle.fmd_parse.specs.Trees.{blankSection}
 use Rattle.fmd_table.specs.declared.Section.{Section}
 use Rattle.fmd_table.specs.declared.Placed.{Placed}
 
 -- L15: A section's position in the image is its offset plus its parent's position. Section k, of a level; level 0 is the image.
 unfoldable pub positionIn : ℕ → List Placed → ℕ → ℕ
 positionIn zero ps k = 0
-positionIn (suc lv) ps k = getD ps k blank .offset .0 + positionIn lv ps (getD ps k blank .parent)
+positionIn (suc lv) ps k = getD ps k blankPlaced .offset .0 + positionIn lv ps (getD ps k blankPlaced .parent)
 
 -- (M4) a name of n bytes at a place of the text, then zeros
 unfoldable pub storedName : List ℕ → ℕ → ℕ → List ℕ
@@ -31,12 +31,12 @@ areaFrom s h p at =
 
 -- the area of section k
 unfoldable pub areaAt : List ℕ → List Section → List Placed → ℕ → Area
-areaAt s l ps k = areaFrom s (getD l k blankSection) (getD ps k blank) (positionIn (getD ps k blank .level) ps k)
+areaAt s l ps k = areaFrom s (getD l k blankSection) (getD ps k blankPlaced) (positionIn (getD ps k blankPlaced .level) ps k)
 
 -- L17: The map lists sections in text order. The n areas from section k on.
 unfoldable pub areasFrom : List ℕ → List Section → List Placed → ℕ → ℕ → List Area
 areasFrom s l ps zero k = []
 areasFrom s l ps (suc n) k = areaAt s l ps k ∷ areasFrom s l ps n (suc k)
 
-unfoldable pub areasOf : List ℕ → List Section → List Placed → List Area
-areasOf s l ps = areasFrom s l ps (length ps) 0
+unfoldable pub layoutAreas : List ℕ → List Section → List Placed → List Area
+layoutAreas s l ps = areasFrom s l ps (length ps) 0

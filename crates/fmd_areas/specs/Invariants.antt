@@ -4,13 +4,13 @@ use Prim.Native.Nat.{ℕ, zero, suc, _≤_, _<_}
 use lib.ListN.{length, getD}
 use Rattle.fmd_parse.specs.Trees.{Tree}
 use Rattle.fmd_check.specs.Fitted.{Fitted}
-use Rattle.fmd_table.specs.Table.{blank, sectionsIn, placedIn, HasRows, HasSpots}
+use Rattle.fmd_table.specs.Table.{blankPlaced, sectionsIn, placedIn, HasRows, HasSpots}
 use Rattle.fmd_table.specs.declared.Placed.{Placed}
 
 -- section k and all sections above it stand in the list
 abbrev pub Climbs : ℕ → List Placed → ℕ → Type 0
 Climbs zero ps k = Unit {0}
-Climbs (suc lv) ps k = (k < length ps) × Climbs lv ps (getD ps k blank .parent)
+Climbs (suc lv) ps k = (k < length ps) × Climbs lv ps (getD ps k blankPlaced .parent)
 
 -- n sections of the text s and their places, in an image whose size fits 32 bits
 pub record Laid (s rows spots : List ℕ) (n : ℕ) : Type 0 where

@@ -5,14 +5,14 @@ use mathlib.Core.Bool.{true, false}
 use mathlib.Core.List.{List}
 use Prim.Native.Nat.{ℕ, _+_, _≤_, _<_}
 use lib.ListN.{length, getD}
-use Rattle.fmap_rules.specs.Map.{blank as blankArea}
+use Rattle.fmap_rules.specs.Map.{blankArea}
 use Rattle.fmap_rules.specs.declared.Area.{Area}
-use Rattle.fmd_parse.specs.Trees.{Tree, blank as blankSection}
-use Rattle.fmd_table.specs.Table.{blank}
+use Rattle.fmd_parse.specs.Trees.{Tree, blankSection}
+use Rattle.fmd_table.specs.Table.{blankPlaced}
 use Rattle.fmd_table.specs.declared.Section.{Section}
 use Rattle.fmd_check.specs.Fitted.{Fitted}
 use Rattle.fmd_table.specs.declared.Placed.{Placed}
-use Rattle.fmd_areas.specs.Areas.{areasOf}
+use Rattle.fmd_areas.specs.Areas.{layoutAreas}
 
 -- where area k begins, and the first position behind it
 abbrev pub startAt : List Area → ℕ → ℕ
@@ -39,15 +39,15 @@ pub record Nested (z : ℕ) (l : List Section) (areas : List Area) : Type 0 wher
       → ((endAt areas j ≤ startAt areas k) ⊎ (endAt areas k ≤ startAt areas j)) ⊎ (LiesIn areas j k ⊎ LiesIn areas k j)
 
 abbrev pub AreasNested : Type 0
-AreasNested = (s : List ℕ) (z : ℕ) (l : List Section) (ps : List Placed) → Tree s l → Fitted z l ps → Nested z l (areasOf s l ps)
+AreasNested = (s : List ℕ) (z : ℕ) (l : List Section) (ps : List Placed) → Tree s l → Fitted z l ps → Nested z l (layoutAreas s l ps)
 
 -- what area k says of section k of the list l, whose offset and size are those of ps
-pub record Stands (s : List ℕ) (l : List Section) (ps : List Placed) (areas : List Area) (k : ℕ) : Type 0 where
+pub record AreaStands (s : List ℕ) (l : List Section) (ps : List Placed) (areas : List Area) (k : ℕ) : Type 0 where
   -- L15: A section's position in the image is its offset plus its parent's position.
-  pub top : getD l k blankSection .level ≡ 1 → startAt areas k ≡ getD ps k blank .offset .0
+  pub top : getD l k blankSection .level ≡ 1 → startAt areas k ≡ getD ps k blankPlaced .offset .0
   pub below :
-      getD l k blankSection .parent < k → startAt areas k ≡ getD ps k blank .offset .0 + startAt areas (getD l k blankSection .parent)
-  pub ends : endAt areas k ≡ startAt areas k + getD ps k blank .size
+      getD l k blankSection .parent < k → startAt areas k ≡ getD ps k blankPlaced .offset .0 + startAt areas (getD l k blankSection .parent)
+  pub ends : endAt areas k ≡ startAt areas k + getD ps k blankPlaced .size
   -- L17: .. flags 8 or 0
   pub preserved : getD l k blankSection .preserve ≡ true → getD areas k blankArea .flags ≡ 8
   pub plain : getD l k blankSection .preserve ≡ false → getD areas k blankArea .flags ≡ 0
@@ -61,4 +61,4 @@ pub record Stands (s : List ℕ) (l : List Section) (ps : List Placed) (areas : 
 abbrev pub AreasStand : Type 0
 AreasStand =
     (s : List ℕ) (z : ℕ) (l : List Section) (ps : List Placed) → Tree s l → Fitted z l ps
-    → (k : ℕ) → k < length l → Stands s l ps (areasOf s l ps) k
+    → (k : ℕ) → k < length l → AreaStands s l ps (layoutAreas s l ps) k

@@ -7,7 +7,7 @@ ghost use lib.ListN.{length};
 ghost use Rattle.octets.specs.Bytes.{put, flat};
 ghost use Rattle.fmap_rules.specs.Written.{areaBytes};
 ghost use Rattle.fmd_table.specs.Table.{sectionsIn, placedIn, HasSpots};
-ghost use Rattle.fmd_areas.specs.Areas.{positionIn, storedName, areaFrom, areaAt, areasOf};
+ghost use Rattle.fmd_areas.specs.Areas.{positionIn, storedName, areaFrom, areaAt, layoutAreas};
 ghost use Rattle.fmd_areas.specs.Invariants.{Climbs, Laid};
 use fmap_rules::Area;
 use fmap_rules::Extent;
@@ -75,7 +75,7 @@ pub fn area_at(text: &[u8], rows: &[u32], spots: &[u32], n: usize, k: usize) -> 
 pub fn put_areas(text: &[u8], rows: &[u32], spots: &[u32], n: usize, to: &mut [u8], at: usize)
     requires { ⌜ Laid (now text) (now rows) (now spots) n × (at + 42 * n ≤ length (now to)) ⌝ }
     ensures { λ _. ⌜ now (to .exit)
-        ≡ put at (flat (map areaBytes (areasOf (now (text .entry)) (sectionsIn n (now (rows .entry))) (placedIn n (now (spots .entry))))))
+        ≡ put at (flat (map areaBytes (layoutAreas (now (text .entry)) (sectionsIn n (now (rows .entry))) (placedIn n (now (spots .entry))))))
         (now (to .entry)) ⌝ }
 {
     let mut k: usize = 0;

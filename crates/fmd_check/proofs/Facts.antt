@@ -11,9 +11,9 @@ use borrow.Author.Tests.{ltb-true, ltb-false, leb-true, eqb-true}
 use Rattle.octets.specs.Tests.{_and_, _or_, all, any}
 use Rattle.octets.proofs.Bools.{choice, and-l, and-r, or-cases, or-false-l, or-false-r, clash}
 use Rattle.fmap_rules.specs.Map.{mapSize}
-use Rattle.fmd_parse.specs.Trees.{blank as blankSection, Tree, Imaged, LayoutFacts}
+use Rattle.fmd_parse.specs.Trees.{blankSection, Tree, Imaged, LayoutFacts}
 use Rattle.fmd_parse.specs.Layouts.{Layout, layout, refused, layoutOf}
-use Rattle.fmd_table.specs.Table.{blank}
+use Rattle.fmd_table.specs.Table.{blankPlaced}
 use Rattle.fmd_table.specs.declared.Section.{Section}
 use Rattle.fmd_head.specs.declared.TextImage.{TextImage}
 use Rattle.fmd_parse.proofs.Trees.{layout-facts}
@@ -25,10 +25,10 @@ use Rattle.fmd_check.specs.Plans.{Resolved, unfit, unsized, plan, resolv
 use Rattle.fmd_check.specs.Fitted.{Fitted, ResolvedFacts}
 use Rattle.fmd_table.specs.declared.Placed.{Placed}
 use Rattle.fmd_check.proofs.Fitted.{resolve-facts}
-use Rattle.fmd_check.specs.Check.{Judged, fault, noMap, checkLayout, checkText}
-use Rattle.fmd_check.specs.Invariants.{listFrom}
+use Rattle.fmd_check.specs.Check.{Checked, fault, noMap, checkLayout, checkText}
+use Rattle.fmd_check.specs.Invariants.{checkFrom}
 use Rattle.fmd_check.proofs.Stages.{named, whole, at-54, on-54, at-56, on-56, at-57, at-58, on-58, no-map, bad-map, good-map}
-use Rattle.fmd_check.specs.Facts.{Numbered, CheckedFacts}
+use Rattle.fmd_check.specs.Facts.{LayoutNumber, CheckedFacts}
 
 -- the numbers of a list lie between two
 between : (a b n : ℕ) (xs : List ℕ) → all (λ x. leb a x and leb x b) xs ≡ true → any (eqb n) xs ≡ true → (a ≤ n) × (n ≤ b)
@@ -48,7 +48,7 @@ module _ (s : List ℕ) (i : TextImage) (l : List Section) (short : length s ≤
   here k h = let w = tree .each k h .named .inside in omega arith
 
   -- a row over the whole list, judged as c: its fault, or what comes after it, d, with what was found not to be
-  row-facts : (p : ℕ → Bool) (n : ℕ) (c d : Judged) → Numbered n → ((k : ℕ) → foundFrom p (length l) 0 ≡ At k → fault n (named l k) ≡ c)
+  row-facts : (p : ℕ → Bool) (n : ℕ) (c d : Checked) → LayoutNumber n → ((k : ℕ) → foundFrom p (length l) 0 ≡ At k → fault n (named l k) ≡ c)
       → (foundFrom p (length l) 0 ≡ Nowhere → d ≡ c) → (((k : ℕ) → k < length l → p k ≡ false) → CheckedFacts s d) → CheckedFacts s c
   row-facts p n c d num at on g = by-found (foundFrom p (length l) 0) (first-facts p (length l) 0) refl
     where
@@ -58,10 +58,10 @@ module _ (s : List ℕ) (i : TextImage) (l : List Section) (short : length s ≤
 
   module _ (differ : (k : ℕ) → k < length l → repeats s l k ≡ false) where
     module _ (ps : List Placed) (fitted : Fitted (i .size) l ps) where
-      leaf-facts : (k : ℕ) → k < length l → isFmap s l k ≡ true → fmapIn s l ≡ At k → CheckedFacts s (listFrom 4 s i l (plan ps))
+      leaf-facts : (k : ℕ) → k < length l → isFmap s l k ≡ true → fmapIn s l ≡ At k → CheckedFacts s (checkFrom 4 s i l (plan ps))
       leaf-facts k h e f = by-size (noMap l ps (At k)) refl
         where
-          by-size : (b : Bool) → noMap l ps (At k) ≡ b → CheckedFacts s (listFrom 4 s i l (plan ps))
+          by-size : (b : Bool) → noMap l ps (At k) ≡ b → CheckedFacts s (checkFrom 4 s i l (plan ps))
           by-size true q = subst (CheckedFacts s) (bad-map s i l ps k f q) ((omega arith, omega arith), here k h)
           by-size false q =
               subst (CheckedFacts s) (good-map s i l ps k f q)
@@ -74,29 +74,29 @@ module _ (s : List ℕ) (i : TextImage) (l : List Section) (short : length s ≤
                 differ = differ;
                 there = h;
                 called = e;
-                leaf = or-false-l (hasChild l k) (ltb (getD ps k blank .size) (mapSize (length l))) q;
-                room = ltb-false _ _ (or-false-r (hasChild l k) (ltb (getD ps k blank .size) (mapSize (length l))) q);
+                leaf = or-false-l (hasChild l k) (ltb (getD ps k blankPlaced .size) (mapSize (length l))) q;
+                room = ltb-false _ _ (or-false-r (hasChild l k) (ltb (getD ps k blankPlaced .size) (mapSize (length l))) q);
               })
 
-      map-facts : CheckedFacts s (listFrom 4 s i l (plan ps))
+      map-facts : CheckedFacts s (checkFrom 4 s i l (plan ps))
       unfolding fmapIn
       map-facts = by-found (foundFrom (isFmap s l) (length l) 0) (first-facts (isFmap s l) (length l) 0) refl
         where
-          by-found : (f : Found) → FirstFacts (isFmap s l) (length l) 0 f → foundFrom (isFmap s l) (length l) 0 ≡ f → CheckedFacts s (listFrom 4 s i l (plan ps))
+          by-found : (f : Found) → FirstFacts (isFmap s l) (length l) 0 f → foundFrom (isFmap s l) (length l) 0 ≡ f → CheckedFacts s (checkFrom 4 s i l (plan ps))
           by-found (At k) w e = leaf-facts k (omega (arith, w .0)) (w .1) e
           by-found Nowhere w e = subst (CheckedFacts s) (no-map s i l ps e) ((omega arith, omega arith), tt)
 
-    places-facts : (r : Resolved) → ResolvedFacts (i .size) l r → CheckedFacts s (listFrom 2 s i l r)
+    places-facts : (r : Resolved) → ResolvedFacts (i .size) l r → CheckedFacts s (checkFrom 2 s i l r)
     unfolding firstUndecided
     places-facts (unfit k) w =
         row-facts (undecided l) 57 _ _ (omega arith, omega arith) (at-57 s i l (unfit k)) (at-58 s i l k) (λ _. ((omega arith, omega arith), here k (w .0)))
     places-facts (unsized k) w =
-        row-facts (undecided l) 57 _ (listFrom 2 s i l (unsized k)) (omega arith, omega arith) (at-57 s i l (unsized k)) (λ _. refl)
+        row-facts (undecided l) 57 _ (checkFrom 2 s i l (unsized k)) (omega arith, omega arith) (at-57 s i l (unsized k)) (λ _. refl)
         (λ f. absurd (clash (w .2) (f k (w .0))))
     places-facts (plan ps) w =
         row-facts (undecided l) 57 _ _ (omega arith, omega arith) (at-57 s i l (plan ps)) (on-58 s i l ps) (λ _. map-facts ps (w .0))
 
-  list-facts : CheckedFacts s (listFrom 0 s i l (resolveFrom (i .size) [] l))
+  list-facts : CheckedFacts s (checkFrom 0 s i l (resolveFrom (i .size) [] l))
   unfolding firstRepeat firstCbfs
   list-facts =
       let r = resolveFrom (i .size) [] l in

@@ -13,15 +13,15 @@ use lib.Seq.{getD-append-seam, getD-drop, take-append-le, take-at, drop-cons}
 use borrow.Author.Tests.{ltb-true, ltb-false, leb-true, eqb-true, eq-eqb, ne-eqb}
 use Rattle.octets.specs.Tests.{_and_}
 use Rattle.octets.proofs.Bools.{choice, and-l, and-r}
-use Rattle.fmd_parse.specs.Trees.{blank as blankSection}
-use Rattle.fmd_table.specs.Table.{blank}
+use Rattle.fmd_parse.specs.Trees.{blankSection}
+use Rattle.fmd_table.specs.Table.{blankPlaced}
 use Rattle.fmd_table.specs.declared.Offset.{Offset}
 use Rattle.fmd_table.specs.declared.Offset.the-variants.{Given as GivenOffset, Omitted as OmittedOffset}
 use Rattle.fmd_table.specs.declared.Size.{Size}
 use Rattle.fmd_table.specs.declared.Size.the-variants.{Given as GivenSize, Omitted as OmittedSize}
 use Rattle.fmd_table.specs.declared.Section.{Section}
 use Rattle.fmd_table.specs.declared.Placed.{Placed}
-use Rattle.fmd_check.specs.Plans.{endOf, endWith, endIn, roomOf, startOf, fits, spotOf, spotBy, spotIn, placeOf, Resolved, afterSpot, resolveFrom}
+use Rattle.fmd_check.specs.Plans.{placedEnd, endWith, siblingEnd, roomOf, startOf, fits, spotOf, spotBy, spotIn, spotFor, Resolved, afterSpot, resolveFrom}
 use Rattle.fmd_check.specs.Fitted.{Siblings, Neighbours, BeginsAt, EndsAt, Lies, Sized, ResolvedFacts}
 use Rattle.fmd_rows.specs.Rows.{siblingIn, reachOf, isUndecided, undecided}
 use Rattle.fmd_rows.specs.declared.Reach.{Reach}
@@ -36,8 +36,8 @@ use Rattle.fmd_check.specs.declared.plan.Spot.the-variants.{Fits, Unfit,
 -- a section's end, by its reach in a parent with this room
 abbrev Reaches : Placed → ℕ → Reach → Type 0
 Reaches p room (OfSize n) = p .size ≡ n
-Reaches p room (UpTo o) = endOf p ≡ o .0
-Reaches p room ToParentEnd = endOf p ≡ room
+Reaches p room (UpTo o) = placedEnd p ≡ o .0
+Reaches p room ToParentEnd = placedEnd p ≡ room
 Reaches p room Undecided = ⊥
 
 -- what fits: a section of h's parent and level, at its start, after e and within the room, as far as it reaches
@@ -46,7 +46,7 @@ pub record Spotted (h : Section) (e start room : ℕ) (r : Reach) (p : Placed) :
   pub reach : Reaches p room r
   pub some : 1 ≤ p .size
   pub after : e ≤ p .offset .0
-  pub within : endOf p ≤ room
+  pub within : placedEnd p ≤ room
   pub parent : p .parent ≡ h .parent
   pub level : p .level ≡ h .level
 
@@ -87,9 +87,9 @@ abbrev reachIn : Section → List Section → Reach
 reachIn h hs = reachOf (h .size) (siblingIn (h .parent) hs)
 
 place-facts : (z : ℕ) (ps : List Placed) (h : Section) (hs : List Section)
-    → SpotFacts h (endIn (h .parent) 0 ps) (startOf (h .offset) (endIn (h .parent) 0 ps)) (roomOf z (h .parent) ps) (reachIn h hs) (placeOf z ps h hs)
-unfolding placeOf spotIn
-place-facts z ps h hs = reach-facts h (endIn (h .parent) 0 ps) _ (roomOf z (h .parent) ps) (reachIn h hs)
+    → SpotFacts h (siblingEnd (h .parent) 0 ps) (startOf (h .offset) (siblingEnd (h .parent) 0 ps)) (roomOf z (h .parent) ps) (reachIn h hs) (spotFor z ps h hs)
+unfolding spotFor spotIn
+place-facts z ps h hs = reach-facts h (siblingEnd (h .parent) 0 ps) _ (roomOf z (h .parent) ps) (reachIn h hs)
 
 lacks-at : (l : List Section) (k : ℕ) (h : Section) (hs : List Section) → getD l k blankSection ≡ h → drop (suc k) l ≡ hs
     → isUndecided (reachIn h hs) ≡ undecided l k
@@ -105,23 +105,23 @@ sized-more l k f e j h = cases (eq-or-lt-of-le {n = j} {m = k} (omega arith))
 
 -- ---- the last end with a parent, one section further on
 
-end-push : (par e : ℕ) (ps : List Placed) (p : Placed) → endIn par e (ps ++ (p ∷ [])) ≡ endWith par (endIn par e ps) p
-unfolding endIn
+end-push : (par e : ℕ) (ps : List Placed) (p : Placed) → siblingEnd par e (ps ++ (p ∷ [])) ≡ endWith par (siblingEnd par e ps) p
+unfolding siblingEnd
 end-push par e [] p = refl
 end-push par e (q ∷ ps) p = end-push par (endWith par e q) ps p
 
 -- no section has the parent
-end-none : (par e : ℕ) (ps : List Placed) → ((j : ℕ) → j < length ps → getD ps j blank .parent ≡ par → ⊥) → endIn par e ps ≡ e
-unfolding endIn endWith
+end-none : (par e : ℕ) (ps : List Placed) → ((j : ℕ) → j < length ps → getD ps j blankPlaced .parent ≡ par → ⊥) → siblingEnd par e ps ≡ e
+unfolding siblingEnd endWith
 end-none par e [] f = refl
 end-none par e (p ∷ ps) f = rw (ne-eqb (p .parent) par (f 0 (omega arith))) (end-none par e ps (λ j h. f (suc j) (omega arith)))
 
 -- section j is the last with the parent
-end-last : (par e : ℕ) (ps : List Placed) (j : ℕ) → j < length ps → getD ps j blank .parent ≡ par
-    → ((i : ℕ) → j < i → i < length ps → getD ps i blank .parent ≡ par → ⊥) → endIn par e ps ≡ endOf (getD ps j blank)
-unfolding endIn endWith
+end-last : (par e : ℕ) (ps : List Placed) (j : ℕ) → j < length ps → getD ps j blankPlaced .parent ≡ par
+    → ((i : ℕ) → j < i → i < length ps → getD ps i blankPlaced .parent ≡ par → ⊥) → siblingEnd par e ps ≡ placedEnd (getD ps j blankPlaced)
+unfolding siblingEnd endWith
 end-last par e [] j h q f = absurd (omega arith)
-end-last par e (p ∷ ps) zero h q f = rw (eq-eqb (p .parent) par q) (end-none par (endOf p) ps (λ i g. f (suc i) (omega arith) (omega arith)))
+end-last par e (p ∷ ps) zero h q f = rw (eq-eqb (p .parent) par q) (end-none par (placedEnd p) ps (λ i g. f (suc i) (omega arith) (omega arith)))
 end-last par e (p ∷ ps) (suc j) h q f = end-last par (endWith par e p) ps j (omega arith) q (λ i a b. f (suc i) (omega arith) (omega arith))
 
 -- ---- the next section with a parent
@@ -144,12 +144,12 @@ next-first par (x ∷ xs) (suc i) h q f =
 
 module _ (l : List Section) (k : ℕ) where
   -- by the last end e of its parent
-  begins-at : (ps : List Placed) (o : Offset) (x e : ℕ) → x ≡ startOf o e → ((j : ℕ) → Neighbours l j k → e ≡ endOf (getD ps j blank))
+  begins-at : (ps : List Placed) (o : Offset) (x e : ℕ) → x ≡ startOf o e → ((j : ℕ) → Neighbours l j k → e ≡ placedEnd (getD ps j blankPlaced))
       → (((j : ℕ) → j < k → Siblings l j k → ⊥) → e ≡ 0) → BeginsAt l ps k o x
   begins-at ps (GivenOffset o) x e q f g = q
   begins-at ps OmittedOffset x e q f g = (λ j n. q ∙ f j n, λ n. q ∙ g n)
 
-  up-to : (p : Placed) (room : ℕ) (o : Offset) → Reaches p room (reachOf OmittedSize (Next o)) → o ≡ GivenOffset (record { 0 = endOf p })
+  up-to : (p : Placed) (room : ℕ) (o : Offset) → Reaches p room (reachOf OmittedSize (Next o)) → o ≡ GivenOffset (record { 0 = placedEnd p })
   up-to p room (GivenOffset o) q = ap (λ (n : ℕ). GivenOffset (record { 0 = n })) (sym q)
   up-to p room OmittedOffset q = absurd q
 
@@ -187,7 +187,7 @@ module _ (l : List Section) (k : ℕ) where
 
 -- every section with the parent ends at or before the last end
 abbrev Ends : List Placed → Type 0
-Ends ps = (k : ℕ) → k < length ps → endOf (getD ps k blank) ≤ endIn (getD ps k blank .parent) 0 ps
+Ends ps = (k : ℕ) → k < length ps → placedEnd (getD ps k blankPlaced) ≤ siblingEnd (getD ps k blankPlaced .parent) 0 ps
 
 -- ---- the plan with one section more
 
@@ -195,18 +195,18 @@ module _ (ps : List Placed) (p : Placed) where
   one-more : length (ps ++ (p ∷ [])) ≡ length ps + 1
   one-more = length-append ps (p ∷ [])
 
-  last : getD (ps ++ (p ∷ [])) (length ps) blank ≡ p
-  last = getD-append-seam ps p [] blank
+  last : getD (ps ++ (p ∷ [])) (length ps) blankPlaced ≡ p
+  last = getD-append-seam ps p [] blankPlaced
 
-  before : (k : ℕ) → k < length ps → getD (ps ++ (p ∷ [])) k blank ≡ getD ps k blank
-  before k h = List·getD-append ps (p ∷ []) blank k h
+  before : (k : ℕ) → k < length ps → getD (ps ++ (p ∷ [])) k blankPlaced ≡ getD ps k blankPlaced
+  before k h = List·getD-append ps (p ∷ []) blankPlaced k h
 
   -- what holds at every index before, and at the last, holds at every index
-  every : (P : ℕ → Placed → Type 0) → ((k : ℕ) → k < length ps → P k (getD ps k blank)) → P (length ps) p
-      → (k : ℕ) → k < length (ps ++ (p ∷ [])) → P k (getD (ps ++ (p ∷ [])) k blank)
+  every : (P : ℕ → Placed → Type 0) → ((k : ℕ) → k < length ps → P k (getD ps k blankPlaced)) → P (length ps) p
+      → (k : ℕ) → k < length (ps ++ (p ∷ [])) → P k (getD (ps ++ (p ∷ [])) k blankPlaced)
   every P f g k h = by-place (ltb k (length ps)) refl
     where
-      by-place : (b : Bool) → ltb k (length ps) ≡ b → P k (getD (ps ++ (p ∷ [])) k blank)
+      by-place : (b : Bool) → ltb k (length ps) ≡ b → P k (getD (ps ++ (p ∷ [])) k blankPlaced)
       by-place true e = let x = ltb-true k (length ps) e in rw (before k x) (f k x)
       by-place false e =
           let n = one-more in
@@ -214,33 +214,33 @@ module _ (ps : List Placed) (p : Placed) where
           rw (x, last) g
 
 module _ (z : ℕ) (ps : List Placed) {h : Section} {start : ℕ} {r : Reach} {p : Placed}
-    (s : Spotted h (endIn (h .parent) 0 ps) start (roomOf z (h .parent) ps) r p) (o : Ends ps) where
-  earlier-ends : (j : ℕ) → j < length ps → getD ps j blank .parent ≡ p .parent → endOf (getD ps j blank) ≤ p .offset .0
+    (s : Spotted h (siblingEnd (h .parent) 0 ps) start (roomOf z (h .parent) ps) r p) (o : Ends ps) where
+  earlier-ends : (j : ℕ) → j < length ps → getD ps j blankPlaced .parent ≡ p .parent → placedEnd (getD ps j blankPlaced) ≤ p .offset .0
   earlier-ends j q e =
       let a = o j q in
       let b = s .after in
-      let x : endIn (getD ps j blank .parent) 0 ps ≡ endIn (h .parent) 0 ps = ap (λ (n : ℕ). endIn n 0 ps) (e ∙ s .parent) in
+      let x : siblingEnd (getD ps j blankPlaced .parent) 0 ps ≡ siblingEnd (h .parent) 0 ps = ap (λ (n : ℕ). siblingEnd n 0 ps) (e ∙ s .parent) in
       omega arith
 
   -- the last end with the parent of an earlier section, after p
-  old-end : (k : ℕ) → k < length ps → endOf (getD ps k blank) ≤ endWith (getD ps k blank .parent) (endIn (getD ps k blank .parent) 0 ps) p
+  old-end : (k : ℕ) → k < length ps → placedEnd (getD ps k blankPlaced) ≤ endWith (getD ps k blankPlaced .parent) (siblingEnd (getD ps k blankPlaced .parent) 0 ps) p
   unfolding endWith
   old-end k q =
-      choice (λ (n : ℕ). endOf (getD ps k blank) ≤ n) (eqb (p .parent) (getD ps k blank .parent)) _ _
-      (λ e. let a = earlier-ends k q (sym (eqb-true (p .parent) (getD ps k blank .parent) e)) in omega arith)
+      choice (λ (n : ℕ). placedEnd (getD ps k blankPlaced) ≤ n) (eqb (p .parent) (getD ps k blankPlaced .parent)) _ _
+      (λ e. let a = earlier-ends k q (sym (eqb-true (p .parent) (getD ps k blankPlaced .parent) e)) in omega arith)
       (λ e. o k q)
 
-  new-end : endOf p ≤ endWith (p .parent) (endIn (p .parent) 0 ps) p
+  new-end : placedEnd p ≤ endWith (p .parent) (siblingEnd (p .parent) 0 ps) p
   unfolding endWith
   new-end = rw (eq-eqb (p .parent) (p .parent) refl) (omega arith)
 
   ends-push : Ends (ps ++ (p ∷ []))
   ends-push =
-      every ps p (λ k q. endOf q ≤ endIn (q .parent) 0 (ps ++ (p ∷ [])))
-      (λ k q. rw (end-push (getD ps k blank .parent) 0 ps p) (old-end k q)) (rw (end-push (p .parent) 0 ps p) new-end)
+      every ps p (λ k q. placedEnd q ≤ siblingEnd (q .parent) 0 (ps ++ (p ∷ [])))
+      (λ k q. rw (end-push (getD ps k blankPlaced .parent) 0 ps p) (old-end k q)) (rw (end-push (p .parent) 0 ps p) new-end)
 
-  lies-push : ((k : ℕ) → k < length ps → Lies z ps k (getD ps k blank))
-      → (k : ℕ) → k < length (ps ++ (p ∷ [])) → Lies z (ps ++ (p ∷ [])) k (getD (ps ++ (p ∷ [])) k blank)
+  lies-push : ((k : ℕ) → k < length ps → Lies z ps k (getD ps k blankPlaced))
+      → (k : ℕ) → k < length (ps ++ (p ∷ [])) → Lies z (ps ++ (p ∷ [])) k (getD (ps ++ (p ∷ [])) k blankPlaced)
   lies-push f = every ps p (λ k q. Lies z (ps ++ (p ∷ [])) k q) (λ k q. old k q (f k q)) new
     where
       old : (k : ℕ) → k < length ps → {q : Placed} → Lies z ps k q → Lies z (ps ++ (p ∷ [])) k q
@@ -263,22 +263,22 @@ module _ (z : ℕ) (ps : List Placed) {h : Section} {start : ℕ} {r : Reach} {p
 
 -- as many as ps, and one more, p
 module _ (z : ℕ) (l : List Section) (ps : List Placed) (p : Placed)
-    (parents : (k : ℕ) → k < length ps → getD ps k blank .parent ≡ getD l k blankSection .parent) where
+    (parents : (k : ℕ) → k < length ps → getD ps k blankPlaced .parent ≡ getD l k blankSection .parent) where
   abbrev h : Section
   h = getD l (length ps) blankSection
 
-  last-end : (j : ℕ) → Neighbours l j (length ps) → endIn (h .parent) 0 ps ≡ endOf (getD (ps ++ (p ∷ [])) j blank)
+  last-end : (j : ℕ) → Neighbours l j (length ps) → siblingEnd (h .parent) 0 ps ≡ placedEnd (getD (ps ++ (p ∷ [])) j blankPlaced)
   last-end j n =
       rw (before ps p j (n .before))
       (end-last (h .parent) 0 ps j (n .before) (parents j (n .before) ∙ n .siblings)
       (λ i a b q. n .between i a b (sym (parents i b) ∙ q)))
 
-  no-end : ((j : ℕ) → j < length ps → Siblings l j (length ps) → ⊥) → endIn (h .parent) 0 ps ≡ 0
+  no-end : ((j : ℕ) → j < length ps → Siblings l j (length ps) → ⊥) → siblingEnd (h .parent) 0 ps ≡ 0
   no-end f = end-none (h .parent) 0 ps (λ j a q. f j a (sym (parents j a) ∙ q))
 
-  begins-push : p .offset .0 ≡ startOf (h .offset) (endIn (h .parent) 0 ps)
-      → ((k : ℕ) → k < length ps → BeginsAt l ps k (getD l k blankSection .offset) (getD ps k blank .offset .0))
-      → (k : ℕ) → k < length (ps ++ (p ∷ [])) → BeginsAt l (ps ++ (p ∷ [])) k (getD l k blankSection .offset) (getD (ps ++ (p ∷ [])) k blank .offset .0)
+  begins-push : p .offset .0 ≡ startOf (h .offset) (siblingEnd (h .parent) 0 ps)
+      → ((k : ℕ) → k < length ps → BeginsAt l ps k (getD l k blankSection .offset) (getD ps k blankPlaced .offset .0))
+      → (k : ℕ) → k < length (ps ++ (p ∷ [])) → BeginsAt l (ps ++ (p ∷ [])) k (getD l k blankSection .offset) (getD (ps ++ (p ∷ [])) k blankPlaced .offset .0)
   begins-push e f =
       every ps p (λ k q. BeginsAt l (ps ++ (p ∷ [])) k (getD l k blankSection .offset) (q .offset .0))
       (λ k a. old k a (getD l k blankSection .offset) _ (f k a))
@@ -289,8 +289,8 @@ module _ (z : ℕ) (l : List Section) (ps : List Placed) (p : Placed)
       old k a OmittedOffset x t = (λ j n. let b = n .before in rw (before ps p j (omega arith)) (t .0 j n), t .1)
 
   sizes-push : Reaches p (roomOf z (h .parent) ps) (reachIn h (drop (suc (length ps)) l)) → p .parent ≡ h .parent
-      → ((k : ℕ) → k < length ps → EndsAt z l ps k (getD l k blankSection .size) (getD ps k blank))
-      → (k : ℕ) → k < length (ps ++ (p ∷ [])) → EndsAt z l (ps ++ (p ∷ [])) k (getD l k blankSection .size) (getD (ps ++ (p ∷ [])) k blank)
+      → ((k : ℕ) → k < length ps → EndsAt z l ps k (getD l k blankSection .size) (getD ps k blankPlaced))
+      → (k : ℕ) → k < length (ps ++ (p ∷ [])) → EndsAt z l (ps ++ (p ∷ [])) k (getD l k blankSection .size) (getD (ps ++ (p ∷ [])) k blankPlaced)
   sizes-push r e f =
       every ps p (λ k q. EndsAt z l (ps ++ (p ∷ [])) k (getD l k blankSection .size) q) (λ k a. old k a (getD l k blankSection .size) _ (f k a))
       (ends-at l (length ps) z (ps ++ (p ∷ [])) (h .size) p _ (roomOf z (h .parent) ps) r (next-is l (length ps)) (next-last l (length ps))
@@ -304,11 +304,11 @@ record Done (z : ℕ) (l : List Section) (ps : List Placed) : Type 0 where
   sized : Sized l (length ps)
   short : length ps ≤ length l
   before : Ends ps
-  begins : (k : ℕ) → k < length ps → BeginsAt l ps k (getD l k blankSection .offset) (getD ps k blank .offset .0)
-  ends : (k : ℕ) → k < length ps → EndsAt z l ps k (getD l k blankSection .size) (getD ps k blank)
-  each : (k : ℕ) → k < length ps → Lies z ps k (getD ps k blank)
-  parent : (k : ℕ) → k < length ps → getD ps k blank .parent ≡ getD l k blankSection .parent
-  level : (k : ℕ) → k < length ps → getD ps k blank .level ≡ getD l k blankSection .level
+  begins : (k : ℕ) → k < length ps → BeginsAt l ps k (getD l k blankSection .offset) (getD ps k blankPlaced .offset .0)
+  ends : (k : ℕ) → k < length ps → EndsAt z l ps k (getD l k blankSection .size) (getD ps k blankPlaced)
+  each : (k : ℕ) → k < length ps → Lies z ps k (getD ps k blankPlaced)
+  parent : (k : ℕ) → k < length ps → getD ps k blankPlaced .parent ≡ getD l k blankSection .parent
+  level : (k : ℕ) → k < length ps → getD ps k blankPlaced .level ≡ getD l k blankSection .level
 
 after-spot : (z : ℕ) (l : List Section) (h : Section) (e start room k : ℕ) (r : Reach) (t : Spot) (f : Placed → Resolved) → SpotFacts h e start room r t
     → k < length l → isUndecided r ≡ undecided l k → Sized l k → ((p : Placed) → Spotted h e start room r p → Sized l (k + 1) → ResolvedFacts z l (f p))
@@ -339,7 +339,7 @@ from-rest z l (h ∷ hs) ps e w =
     let c : getD l (length ps) blankSection ∷ drop (suc (length ps)) l ≡ h ∷ hs = sym (drop-cons l (length ps) blankSection q) ∙ e in
     let c0 : getD l (length ps) blankSection ≡ h = ap (λ (xs : List Section). getD xs 0 blankSection) c in
     let c1 : drop (suc (length ps)) l ≡ hs = ap (λ (xs : List Section). drop 1 xs) c in
-    after-spot z l h (endIn (h .parent) 0 ps) _ (roomOf z (h .parent) ps) (length ps) (reachIn h hs) (placeOf z ps h hs) _ (place-facts z ps h hs) q
+    after-spot z l h (siblingEnd (h .parent) 0 ps) _ (roomOf z (h .parent) ps) (length ps) (reachIn h hs) (spotFor z ps h hs) _ (place-facts z ps h hs) q
     (lacks-at l (length ps) h hs c0 c1) (w .sized)
     (λ p s d.
     let n = one-more ps p in

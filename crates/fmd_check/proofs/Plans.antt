@@ -12,33 +12,33 @@ use Rattle.fmd_table.proofs.Listed.{listed-more}
 use Rattle.fmd_table.proofs.Table.{length-sections}
 use Rattle.fmd_table.proofs.Spots.{length-placed, none-placed}
 use Rattle.fmd_table.specs.declared.Placed.{Placed}
-use Rattle.fmd_parse.specs.Trees.{blank as blankSection}
-use Rattle.fmd_check.specs.Plans.{endWith, endIn, placeOf, unfit, unsized, plan, resolveFrom}
+use Rattle.fmd_parse.specs.Trees.{blankSection}
+use Rattle.fmd_check.specs.Plans.{endWith, siblingEnd, spotFor, unfit, unsized, plan, resolveFrom}
 use Rattle.fmd_check.specs.declared.plan.Spot.the-variants.{Fits, Unfit, NoSize}
 
 -- ---- the end of the last section with a parent, sought from the last row back
 
-end-snoc : (par e : ℕ) (ps : List Placed) (p : Placed) → endIn par e (ps ++ (p ∷ [])) ≡ endWith par (endIn par e ps) p
-unfolding endIn
+end-snoc : (par e : ℕ) (ps : List Placed) (p : Placed) → siblingEnd par e (ps ++ (p ∷ [])) ≡ endWith par (siblingEnd par e ps) p
+unfolding siblingEnd
 end-snoc par e [] p = refl
 end-snoc par e (q ∷ ps) p = end-snoc par (endWith par e q) ps p
 
 module _ (spots : List ℕ) (par j : ℕ) {q : Placed} (p : q ≡ placedAt spots j) where
   -- row j, and those below it
-  last : endIn par 0 (placedIn (suc j) spots) ≡ endWith par (endIn par 0 (placedIn j spots)) q
+  last : siblingEnd par 0 (placedIn (suc j) spots) ≡ endWith par (siblingEnd par 0 (placedIn j spots)) q
   unfolding placedIn
   last = rw (listed-more (placedAt spots) j, sym p) (end-snoc par 0 (listed (placedAt spots) j) q)
 
-  pub end-stop : (i : ℕ) → i ≡ suc j → q .parent ≡ par → q .offset .0 + q .size ≡ endIn par 0 (placedIn i spots)
+  pub end-stop : (i : ℕ) → i ≡ suc j → q .parent ≡ par → q .offset .0 + q .size ≡ siblingEnd par 0 (placedIn i spots)
   unfolding endWith
   end-stop i w e = rw (w, last, eq-eqb (q .parent) par e)
 
-  pub end-on : (i : ℕ) → i ≡ suc j → (q .parent ≡ par → ⊥) → endIn par 0 (placedIn j spots) ≡ endIn par 0 (placedIn i spots)
+  pub end-on : (i : ℕ) → i ≡ suc j → (q .parent ≡ par → ⊥) → siblingEnd par 0 (placedIn j spots) ≡ siblingEnd par 0 (placedIn i spots)
   unfolding endWith
   end-on i w e = rw (w, last, ne-eqb (q .parent) par e)
 
-pub end-done : (spots : List ℕ) (par j : ℕ) → j ≡ 0 → 0 ≡ endIn par 0 (placedIn j spots)
-unfolding endIn
+pub end-done : (spots : List ℕ) (par j : ℕ) → j ≡ 0 → 0 ≡ siblingEnd par 0 (placedIn j spots)
+unfolding siblingEnd
 end-done spots par j e = rw (e, none-placed spots)
 
 -- ---- section k of the first n rows, with the plan of those before it
@@ -49,17 +49,17 @@ module _ (n : ℕ) (rows : List ℕ) (k : ℕ) (spots : List ℕ) (z : ℕ) wher
       drop-cons (sectionsIn n rows) k blankSection (omega (arith, length-sections n rows))
       ∙ ap (λ (i : ℕ). getD (sectionsIn n rows) k blankSection ∷ drop i (sectionsIn n rows)) (sym (add-one k))
 
-  pub resolve-stop : k < n → placeOf z (placedIn k spots) (getD (sectionsIn n rows) k blankSection) (drop (k + 1) (sectionsIn n rows)) ≡ Unfit
+  pub resolve-stop : k < n → spotFor z (placedIn k spots) (getD (sectionsIn n rows) k blankSection) (drop (k + 1) (sectionsIn n rows)) ≡ Unfit
       → unfit k ≡ resolveFrom z (placedIn k spots) (drop k (sectionsIn n rows))
   unfolding resolveFrom
   resolve-stop h q = rw (here h, q, length-placed k spots)
 
-  pub resolve-unsized : k < n → placeOf z (placedIn k spots) (getD (sectionsIn n rows) k blankSection) (drop (k + 1) (sectionsIn n rows)) ≡ NoSize
+  pub resolve-unsized : k < n → spotFor z (placedIn k spots) (getD (sectionsIn n rows) k blankSection) (drop (k + 1) (sectionsIn n rows)) ≡ NoSize
       → unsized k ≡ resolveFrom z (placedIn k spots) (drop k (sectionsIn n rows))
   unfolding resolveFrom
   resolve-unsized h q = rw (here h, q, length-placed k spots)
 
-  pub resolve-on : (new : List ℕ) (x : Placed) → k < n → placeOf z (placedIn k spots) (getD (sectionsIn n rows) k blankSection) (drop (k + 1) (sectionsIn n rows)) ≡ Fits x
+  pub resolve-on : (new : List ℕ) (x : Placed) → k < n → spotFor z (placedIn k spots) (getD (sectionsIn n rows) k blankSection) (drop (k + 1) (sectionsIn n rows)) ≡ Fits x
       → placedIn (k + 1) new ≡ placedIn k spots ++ (x ∷ [])
       → resolveFrom z (placedIn (k + 1) new) (drop (k + 1) (sectionsIn n rows)) ≡ resolveFrom z (placedIn k spots) (drop k (sectionsIn n rows))
   unfolding resolveFrom

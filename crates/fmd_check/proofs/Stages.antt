@@ -9,7 +9,7 @@ use lib.ListN.{length, getD}
 use Rattle.octets.specs.Rows.{pickRow}
 use Rattle.fmd_table.specs.declared.Section.{Section}
 use Rattle.fmd_table.specs.declared.Placed.{Placed}
-use Rattle.fmd_parse.specs.Trees.{blank as blankSection}
+use Rattle.fmd_parse.specs.Trees.{blankSection}
 use Rattle.fmd_head.specs.declared.TextImage.{TextImage}
 use Rattle.fmd_rows.specs.Rows.{foundFrom, firstRepeat, firstCbfs, undecided, firstUndecided, fmapIn}
 use Rattle.fmd_rows.specs.declared.Found.{Found}
@@ -17,63 +17,63 @@ use Rattle.fmd_rows.specs.declared.Found.the-variants.{At, Nowhere}
 use Rattle.fmd_rows.proofs.Rows.{first-stop, first-done, first-from}
 use Rattle.fmd_check.specs.Plans.{Resolved, unfit, plan, resolveFrom}
 use Rattle.fmd_check.specs.Fitted.{Sized}
-use Rattle.fmd_check.specs.Check.{fault, good, noMap, placeOf, indexOf, checkList}
-use Rattle.fmd_check.specs.Invariants.{listFrom}
-use Rattle.fmd_check.specs.declared.Place.{Place}
-use Rattle.fmd_check.specs.declared.Place.the-variants.{Byte, NoPlace}
+use Rattle.fmd_check.specs.Check.{fault, good, noMap, faultPlace, indexOf, checkList}
+use Rattle.fmd_check.specs.Invariants.{checkFrom}
+use Rattle.fmd_check.specs.declared.FaultPlace.{FaultPlace}
+use Rattle.fmd_check.specs.declared.FaultPlace.the-variants.{Byte, NoPlace}
 
 -- the place of section k
-abbrev pub named : List Section → ℕ → Place
+abbrev pub named : List Section → ℕ → FaultPlace
 named l k = Byte (getD l k blankSection .place)
 
 module _ (s : List ℕ) (i : TextImage) (l : List Section) where
-  pub whole : listFrom 0 s i l (resolveFrom (i .size) [] l) ≡ checkList s i l
-  unfolding listFrom checkList
+  pub whole : checkFrom 0 s i l (resolveFrom (i .size) [] l) ≡ checkList s i l
+  unfolding checkFrom checkList
   whole = refl
 
-  at-name : (n k : ℕ) {f : Found} → f ≡ At k → fault n (named l k) ≡ fault n (placeOf l f)
+  at-name : (n k : ℕ) {f : Found} → f ≡ At k → fault n (named l k) ≡ fault n (faultPlace l f)
   at-name n k e = rw e
 
   module _ (r : Resolved) where
-    pub at-54 : (k : ℕ) → firstRepeat s l ≡ At k → fault 54 (named l k) ≡ listFrom 0 s i l r
-    unfolding listFrom pickRow
+    pub at-54 : (k : ℕ) → firstRepeat s l ≡ At k → fault 54 (named l k) ≡ checkFrom 0 s i l r
+    unfolding checkFrom pickRow
     at-54 k e = rw e (at-name 54 k e)
 
-    pub on-54 : firstRepeat s l ≡ Nowhere → listFrom 1 s i l r ≡ listFrom 0 s i l r
-    unfolding listFrom pickRow
+    pub on-54 : firstRepeat s l ≡ Nowhere → checkFrom 1 s i l r ≡ checkFrom 0 s i l r
+    unfolding checkFrom pickRow
     on-54 e = rw e
 
-    pub at-56 : (k : ℕ) → firstCbfs l ≡ At k → fault 56 (named l k) ≡ listFrom 1 s i l r
-    unfolding listFrom pickRow
+    pub at-56 : (k : ℕ) → firstCbfs l ≡ At k → fault 56 (named l k) ≡ checkFrom 1 s i l r
+    unfolding checkFrom pickRow
     at-56 k e = rw e (at-name 56 k e)
 
-    pub on-56 : firstCbfs l ≡ Nowhere → listFrom 2 s i l r ≡ listFrom 1 s i l r
-    unfolding listFrom pickRow
+    pub on-56 : firstCbfs l ≡ Nowhere → checkFrom 2 s i l r ≡ checkFrom 1 s i l r
+    unfolding checkFrom pickRow
     on-56 e = rw e
 
-    pub at-57 : (k : ℕ) → firstUndecided l ≡ At k → fault 57 (named l k) ≡ listFrom 2 s i l r
-    unfolding listFrom pickRow
+    pub at-57 : (k : ℕ) → firstUndecided l ≡ At k → fault 57 (named l k) ≡ checkFrom 2 s i l r
+    unfolding checkFrom pickRow
     at-57 k e = rw e (at-name 57 k e)
 
-  pub at-58 : (k : ℕ) → firstUndecided l ≡ Nowhere → fault 58 (named l k) ≡ listFrom 2 s i l (unfit k)
-  unfolding listFrom pickRow
+  pub at-58 : (k : ℕ) → firstUndecided l ≡ Nowhere → fault 58 (named l k) ≡ checkFrom 2 s i l (unfit k)
+  unfolding checkFrom pickRow
   at-58 k e = rw e
 
   module _ (ps : List Placed) where
-    pub on-58 : firstUndecided l ≡ Nowhere → listFrom 4 s i l (plan ps) ≡ listFrom 2 s i l (plan ps)
-    unfolding listFrom pickRow
+    pub on-58 : firstUndecided l ≡ Nowhere → checkFrom 4 s i l (plan ps) ≡ checkFrom 2 s i l (plan ps)
+    unfolding checkFrom pickRow
     on-58 e = rw e
 
-    pub no-map : fmapIn s l ≡ Nowhere → fault 59 NoPlace ≡ listFrom 4 s i l (plan ps)
-    unfolding listFrom pickRow
-    no-map e = rw e (ap (λ (f : Found). fault 59 (placeOf l f)) (sym e))
+    pub no-map : fmapIn s l ≡ Nowhere → fault 59 NoPlace ≡ checkFrom 4 s i l (plan ps)
+    unfolding checkFrom pickRow
+    no-map e = rw e (ap (λ (f : Found). fault 59 (faultPlace l f)) (sym e))
 
-    pub bad-map : (k : ℕ) → fmapIn s l ≡ At k → noMap l ps (At k) ≡ true → fault 59 (named l k) ≡ listFrom 4 s i l (plan ps)
-    unfolding listFrom pickRow
+    pub bad-map : (k : ℕ) → fmapIn s l ≡ At k → noMap l ps (At k) ≡ true → fault 59 (named l k) ≡ checkFrom 4 s i l (plan ps)
+    unfolding checkFrom pickRow
     bad-map k e q = rw (e, q) (at-name 59 k e)
 
-    pub good-map : (k : ℕ) → fmapIn s l ≡ At k → noMap l ps (At k) ≡ false → good i l ps k ≡ listFrom 4 s i l (plan ps)
-    unfolding listFrom pickRow
+    pub good-map : (k : ℕ) → fmapIn s l ≡ At k → noMap l ps (At k) ≡ false → good i l ps k ≡ checkFrom 4 s i l (plan ps)
+    unfolding checkFrom pickRow
     good-map k e q = rw (e, q) (ap (λ (f : Found). good i l ps (indexOf f)) (sym e))
 
 -- ---- the first size undecided, where those below k are decided

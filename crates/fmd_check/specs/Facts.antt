@@ -9,19 +9,19 @@ use Rattle.fmd_parse.specs.Trees.{Tree, Imaged}
 use Rattle.fmd_table.specs.declared.Section.{Section}
 use Rattle.fmd_head.specs.declared.TextImage.{TextImage}
 use Rattle.fmd_rows.specs.Rows.{isFmap, hasChild, repeats}
-use Rattle.fmd_table.specs.Table.{blank}
+use Rattle.fmd_table.specs.Table.{blankPlaced}
 use Rattle.fmd_check.specs.Fitted.{Fitted}
 use Rattle.fmd_table.specs.declared.Placed.{Placed}
-use Rattle.fmd_check.specs.Check.{Judged, fault, good}
-use Rattle.fmd_check.specs.declared.Place.{Place}
-use Rattle.fmd_check.specs.declared.Place.the-variants.{Byte, NoPlace}
+use Rattle.fmd_check.specs.Check.{Checked, fault, good}
+use Rattle.fmd_check.specs.declared.FaultPlace.{FaultPlace}
+use Rattle.fmd_check.specs.declared.FaultPlace.the-variants.{Byte, NoPlace}
 
 -- (R33) a layout text is refused with one of the numbers 50 to 59
-abbrev pub Numbered : ℕ → Type 0
-Numbered n = (50 ≤ n) × (n ≤ 59)
+abbrev pub LayoutNumber : ℕ → Type 0
+LayoutNumber n = (50 ≤ n) × (n ≤ 59)
 
 -- a fault's place is one of the text, or its end
-abbrev pub InText : List ℕ → Place → Type 0
+abbrev pub InText : List ℕ → FaultPlace → Type 0
 InText s (Byte p) = p ≤ length s
 InText s NoPlace = Unit {0}
 
@@ -36,8 +36,8 @@ pub record Accepted (s : List ℕ) (i : TextImage) (l : List Section) (ps : List
   pub there : m < length l
   pub called : isFmap s l m ≡ true
   pub leaf : hasChild l m ≡ false
-  pub room : mapSize (length l) ≤ getD ps m blank .size
+  pub room : mapSize (length l) ≤ getD ps m blankPlaced .size
 
-abbrev pub CheckedFacts : List ℕ → Judged → Type 0
-CheckedFacts s (fault n p) = Numbered n × InText s p
+abbrev pub CheckedFacts : List ℕ → Checked → Type 0
+CheckedFacts s (fault n p) = LayoutNumber n × InText s p
 CheckedFacts s (good i l ps m) = Accepted s i l ps m

@@ -8,11 +8,11 @@ use Rattle.fmd_table.specs.declared.Offset.{Offset}
 use Rattle.fmd_table.specs.declared.Offset.the-variants.{Given as GivenOffset, Omitted as OmittedOffset}
 use Rattle.fmd_table.specs.declared.Size.{Size}
 use Rattle.fmd_table.specs.declared.Size.the-variants.{Given as GivenSize, Omitted as OmittedSize}
-use Rattle.fmd_parse.specs.Trees.{blank as blankSection}
-use Rattle.fmd_table.specs.Table.{blank}
+use Rattle.fmd_parse.specs.Trees.{blankSection}
+use Rattle.fmd_table.specs.Table.{blankPlaced}
 use Rattle.fmd_table.specs.declared.Section.{Section}
 use Rattle.fmd_table.specs.declared.Placed.{Placed}
-use Rattle.fmd_check.specs.Plans.{endOf, roomOf, Resolved, unfit, unsized, plan}
+use Rattle.fmd_check.specs.Plans.{placedEnd, roomOf, Resolved, unfit, unsized, plan}
 use Rattle.fmd_rows.specs.Rows.{undecided}
 
 -- sections j and k of the list l have the same parent
@@ -29,29 +29,29 @@ pub record Neighbours (l : List Section) (j k : ℕ) : Type 0 where
 abbrev pub BeginsAt : List Section → List Placed → ℕ → Offset → ℕ → Type 0
 BeginsAt l ps k (GivenOffset o) x = x ≡ o .0
 BeginsAt l ps k OmittedOffset x =
-    ((j : ℕ) → Neighbours l j k → x ≡ endOf (getD ps j blank)) × (((j : ℕ) → j < k → Siblings l j k → ⊥) → x ≡ 0)
+    ((j : ℕ) → Neighbours l j k → x ≡ placedEnd (getD ps j blankPlaced)) × (((j : ℕ) → j < k → Siblings l j k → ⊥) → x ≡ 0)
 
 -- L13: A missing size reaches to the next sibling's given offset, for the last sibling to the parent's end. Section k is placed as p.
 abbrev pub EndsAt : ℕ → List Section → List Placed → ℕ → Size → Placed → Type 0
 EndsAt z l ps k (GivenSize n) p = p .size ≡ n
 EndsAt z l ps k OmittedSize p =
-    ((i : ℕ) → i < length l → Neighbours l k i → getD l i blankSection .offset ≡ GivenOffset (record { 0 = endOf p }))
-    × (((i : ℕ) → k < i → i < length l → Siblings l i k → ⊥) → endOf p ≡ roomOf z (p .parent) (take k ps))
+    ((i : ℕ) → i < length l → Neighbours l k i → getD l i blankSection .offset ≡ GivenOffset (record { 0 = placedEnd p }))
+    × (((i : ℕ) → k < i → i < length l → Siblings l i k → ⊥) → placedEnd p ≡ roomOf z (p .parent) (take k ps))
 
 -- L14: Sizes are at least 1, siblings ascend without overlap and end within the parent. The section p at the index k.
 pub record Lies (z : ℕ) (ps : List Placed) (k : ℕ) (p : Placed) : Type 0 where
   pub some : 1 ≤ p .size
-  pub within : endOf p ≤ roomOf z (p .parent) (take k ps)
-  pub after : (j : ℕ) → j < k → getD ps j blank .parent ≡ p .parent → endOf (getD ps j blank) ≤ p .offset .0
+  pub within : placedEnd p ≤ roomOf z (p .parent) (take k ps)
+  pub after : (j : ℕ) → j < k → getD ps j blankPlaced .parent ≡ p .parent → placedEnd (getD ps j blankPlaced) ≤ p .offset .0
 
 -- the sections of the list l, in its order, in an image of z bytes
 pub record Fitted (z : ℕ) (l : List Section) (ps : List Placed) : Type 0 where
   pub count : length ps ≡ length l
-  pub begins : (k : ℕ) → k < length ps → BeginsAt l ps k (getD l k blankSection .offset) (getD ps k blank .offset .0)
-  pub ends : (k : ℕ) → k < length ps → EndsAt z l ps k (getD l k blankSection .size) (getD ps k blank)
-  pub each : (k : ℕ) → k < length ps → Lies z ps k (getD ps k blank)
-  pub parent : (k : ℕ) → k < length ps → getD ps k blank .parent ≡ getD l k blankSection .parent
-  pub level : (k : ℕ) → k < length ps → getD ps k blank .level ≡ getD l k blankSection .level
+  pub begins : (k : ℕ) → k < length ps → BeginsAt l ps k (getD l k blankSection .offset) (getD ps k blankPlaced .offset .0)
+  pub ends : (k : ℕ) → k < length ps → EndsAt z l ps k (getD l k blankSection .size) (getD ps k blankPlaced)
+  pub each : (k : ℕ) → k < length ps → Lies z ps k (getD ps k blankPlaced)
+  pub parent : (k : ℕ) → k < length ps → getD ps k blankPlaced .parent ≡ getD l k blankSection .parent
+  pub level : (k : ℕ) → k < length ps → getD ps k blankPlaced .level ≡ getD l k blankSection .level
 
 -- nothing else is open: the image's size and the sections decide the places
 abbrev pub FittedOnce : Type 0

@@ -6,7 +6,7 @@ use Rattle.octets.specs.Rows.{refusal}
 use Rattle.fmd_table.specs.declared.Section.{Section}
 use Rattle.fmd_head.specs.declared.TextImage.{TextImage}
 use Rattle.fmd_check.specs.Plans.{Resolved}
-use Rattle.fmd_check.specs.Check.{Judged, listRows, judged}
+use Rattle.fmd_check.specs.Check.{Checked, listRows, checkedBy}
 
-unfoldable pub listFrom : ℕ → List ℕ → TextImage → List Section → Resolved → Judged
-listFrom k s i l r = judged s i l r (refusal (drop k (listRows s l r)))
+unfoldable pub checkFrom : ℕ → List ℕ → TextImage → List Section → Resolved → Checked
+checkFrom k s i l r = checkedBy s i l r (refusal (drop k (listRows s l r)))

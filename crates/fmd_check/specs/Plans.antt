@@ -5,7 +5,7 @@ use Prim.Native.Nat.{ℕ, _+_, _-_}
 use lib.Dec.{ltb, leb, eqb}
 use lib.ListN.{length, getD}
 use Rattle.octets.specs.Tests.{_and_}
-use Rattle.fmd_table.specs.Table.{blank}
+use Rattle.fmd_table.specs.Table.{blankPlaced}
 use Rattle.fmd_table.specs.declared.Offset.{Offset}
 use Rattle.fmd_table.specs.declared.Offset.the-variants.{Given as GivenOffset, Omitted as OmittedOffset}
 use Rattle.fmd_table.specs.declared.Section.{Section}
@@ -19,21 +19,21 @@ use Rattle.fmd_check.specs.declared.plan.Resolution.{Resolution}
 use Rattle.fmd_check.specs.declared.plan.Resolution.the-variants.{Unfits, Unsized, Whole}
 
 -- the end of a section in its parent
-abbrev pub endOf : Placed → ℕ
-endOf p = p .offset .0 + p .size
+abbrev pub placedEnd : Placed → ℕ
+placedEnd p = p .offset .0 + p .size
 
 -- the end of a section with this parent, e for any other
 unfoldable pub endWith : ℕ → ℕ → Placed → ℕ
-endWith par e p = cond (eqb (p .parent) par) (endOf p) e
+endWith par e p = cond (eqb (p .parent) par) (placedEnd p) e
 
 -- the end of the last section with this parent; e where there is none
-unfoldable pub endIn : ℕ → ℕ → List Placed → ℕ
-endIn par e [] = e
-endIn par e (p ∷ ps) = endIn par (endWith par e p) ps
+unfoldable pub siblingEnd : ℕ → ℕ → List Placed → ℕ
+siblingEnd par e [] = e
+siblingEnd par e (p ∷ ps) = siblingEnd par (endWith par e p) ps
 
 -- the parent's size: that of an earlier section, else the image's
 unfoldable pub roomOf : ℕ → ℕ → List Placed → ℕ
-roomOf z par ps = cond (ltb par (length ps)) (getD ps par blank .size) z
+roomOf z par ps = cond (ltb par (length ps)) (getD ps par blankPlaced .size) z
 
 -- L12: A missing offset is the previous sibling's end, 0 for the first.
 abbrev pub startOf : Offset → ℕ → ℕ
@@ -60,8 +60,8 @@ unfoldable pub spotIn : Section → ℕ → ℕ → Reach → Spot
 spotIn h e room reach = spotBy h e (startOf (h .offset) e) room reach
 
 -- the section h of an image of z bytes, after the sections ps and before the sections hs
-unfoldable pub placeOf : ℕ → List Placed → Section → List Section → Spot
-placeOf z ps h hs = spotIn h (endIn (h .parent) 0 ps) (roomOf z (h .parent) ps) (reachOf (h .size) (siblingIn (h .parent) hs))
+unfoldable pub spotFor : ℕ → List Placed → Section → List Section → Spot
+spotFor z ps h hs = spotIn h (siblingEnd (h .parent) 0 ps) (roomOf z (h .parent) ps) (reachOf (h .size) (siblingIn (h .parent) hs))
 
 -- the sections resolved; or the index of the first that does not fit, or whose size is undecided
 pub data Resolved : Type 0 where
@@ -76,7 +76,7 @@ afterSpot NoSize k f = unsized k
 
 unfoldable pub resolveFrom : ℕ → List Placed → List Section → Resolved
 resolveFrom z ps [] = plan ps
-resolveFrom z ps (h ∷ hs) = afterSpot (placeOf z ps h hs) (length ps) (λ p. resolveFrom z (ps ++ (p ∷ [])) hs)
+resolveFrom z ps (h ∷ hs) = afterSpot (spotFor z ps h hs) (length ps) (λ p. resolveFrom z (ps ++ (p ∷ [])) hs)
 
 -- ---- what the values of the code say, with the table that was lent
 

@@ -7,12 +7,12 @@ ghost use Prim.Native.Nat.{ℕ, _+_, _<_};
 ghost use lib.ListN.{getD};
 ghost use Rattle.fmd_table.specs.Table.{sectionsIn, placedIn, HasRows, HasSpots};
 ghost use Rattle.fmd_table.specs.Invariants.{Linked};
-ghost use Rattle.fmd_parse.specs.Trees.{blank};
+ghost use Rattle.fmd_parse.specs.Trees.{blankSection};
 ghost use Rattle.fmd_rows.specs.Invariants.{Inside};
 ghost use Rattle.fmd_check.specs.Plans.{unfit, plan, resolveFrom};
 ghost use Rattle.fmd_check.specs.Fitted.{Sized};
 ghost use Rattle.fmd_check.specs.Check.{verdictOf, noMap, checkText};
-ghost use Rattle.fmd_check.specs.Invariants.{listFrom};
+ghost use Rattle.fmd_check.specs.Invariants.{checkFrom};
 use crate::plan::Resolution;
 use fmd_head::Refusal;
 use fmd_head::TextImage;
@@ -23,7 +23,7 @@ use fmd_table::row_at;
 mod plan; // plan.rt: offsets and sizes of the sections
 
 // Where a fault stands in the text, if it does.
-pub enum Place {
+pub enum FaultPlace {
     Byte(usize),
     NoPlace,
 }
@@ -31,16 +31,16 @@ pub enum Place {
 // The image, how many sections there are, and the index of section FMAP; or a fault and its place.
 pub enum Verdict {
     Good(TextImage, usize, usize),
-    Fault(Refusal, Place),
+    Fault(Refusal, FaultPlace),
 }
 
 // A fault at the name of section k.
 fn fault_at(refusal: Refusal, rows: &[u32], n: usize, k: usize) -> Verdict
     requires { ⌜ HasRows n (now rows) × (k < n) ⌝ }
-    ensures { λ r. ⌜ r ≡ Verdict.Fault refusal (Place.Byte (getD (sectionsIn n (now (rows .entry))) k blank .place)) ⌝ }
+    ensures { λ r. ⌜ r ≡ Verdict.Fault refusal (FaultPlace.Byte (getD (sectionsIn n (now (rows .entry))) k blankSection .place)) ⌝ }
 {
     let h = row_at(rows, k);
-    Verdict::Fault(refusal, Place::Byte(h.place as usize))
+    Verdict::Fault(refusal, FaultPlace::Byte(h.place as usize))
 }
 
 // Section k has children, or is too small for a map.
@@ -59,10 +59,10 @@ fn no_map(rows: &[u32], spots: &[u32], n: usize, k: usize) -> bool
 fn check_map(text: &[u8], i: TextImage, rows: &[u32], spots: &[u32], n: usize) -> Verdict
     requires { ⌜ HasRows n (now rows) × HasSpots n (now spots) × Linked n (now rows) × Inside (now text) (sectionsIn n (now rows)) ⌝ }
     ensures { λ r. ⌜ verdictOf r (now (rows .entry)) (now (spots .entry))
-        ≡ listFrom 4 (now (text .entry)) i (sectionsIn n (now (rows .entry))) (plan (placedIn n (now (spots .entry)))) ⌝ }
+        ≡ checkFrom 4 (now (text .entry)) i (sectionsIn n (now (rows .entry))) (plan (placedIn n (now (spots .entry)))) ⌝ }
 {
     match fmd_rows::find_fmap(text, rows, n) {
-        Found::Nowhere => Verdict::Fault(Refusal::NoMapSection, Place::NoPlace),
+        Found::Nowhere => Verdict::Fault(Refusal::NoMapSection, FaultPlace::NoPlace),
         Found::At(k) => {
             if no_map(rows, spots, n, k) {
                 return fault_at(Refusal::NoMapSection, rows, n, k);
@@ -76,7 +76,7 @@ fn check_map(text: &[u8], i: TextImage, rows: &[u32], spots: &[u32], n: usize) -
 fn unfit_at(rows: &[u32], n: usize, k: usize) -> Verdict
     requires { ⌜ HasRows n (now rows) × (k < n) × Sized (sectionsIn n (now rows)) (k + 1) × Linked n (now rows) ⌝ }
     ensures { λ r. ⌜ ((s : List ℕ) (i : TextImage) (spots : List ℕ) → verdictOf r (now (rows .entry)) spots
-        ≡ listFrom 2 s i (sectionsIn n (now (rows .entry))) (unfit k)) ⌝ }
+        ≡ checkFrom 2 s i (sectionsIn n (now (rows .entry))) (unfit k)) ⌝ }
 {
     match fmd_rows::first_undecided(rows, n, k + 1) {
         Found::At(j) => fault_at(Refusal::Undecided, rows, n, j),
@@ -88,7 +88,7 @@ fn unfit_at(rows: &[u32], n: usize, k: usize) -> Verdict
 fn check_places(text: &[u8], i: TextImage, rows: &[u32], spots: &mut [u32], n: usize) -> Verdict
     requires { ⌜ HasRows n (now rows) × HasSpots n (now spots) × Linked n (now rows) × Inside (now text) (sectionsIn n (now rows)) ⌝ }
     ensures { λ r. ⌜ verdictOf r (now (rows .entry)) (now (spots .exit))
-        ≡ listFrom 2 (now (text .entry)) i (sectionsIn n (now (rows .entry))) (resolveFrom (i .size) [] (sectionsIn n (now (rows .entry)))) ⌝ }
+        ≡ checkFrom 2 (now (text .entry)) i (sectionsIn n (now (rows .entry))) (resolveFrom (i .size) [] (sectionsIn n (now (rows .entry)))) ⌝ }
 {
     match plan::resolve(rows, n, i.size, spots) {
         Resolution::Unfits(k) => unfit_at(rows, n, k),
@@ -101,7 +101,7 @@ fn check_places(text: &[u8], i: TextImage, rows: &[u32], spots: &mut [u32], n: u
 fn check_marks(text: &[u8], i: TextImage, rows: &[u32], spots: &mut [u32], n: usize) -> Verdict
     requires { ⌜ HasRows n (now rows) × HasSpots n (now spots) × Linked n (now rows) × Inside (now text) (sectionsIn n (now rows)) ⌝ }
     ensures { λ r. ⌜ verdictOf r (now (rows .entry)) (now (spots .exit))
-        ≡ listFrom 1 (now (text .entry)) i (sectionsIn n (now (rows .entry))) (resolveFrom (i .size) [] (sectionsIn n (now (rows .entry)))) ⌝ }
+        ≡ checkFrom 1 (now (text .entry)) i (sectionsIn n (now (rows .entry))) (resolveFrom (i .size) [] (sectionsIn n (now (rows .entry)))) ⌝ }
 {
     match fmd_rows::first_cbfs(rows, n) {
         Found::At(k) => fault_at(Refusal::BadFlag, rows, n, k),
@@ -113,7 +113,7 @@ fn check_marks(text: &[u8], i: TextImage, rows: &[u32], spots: &mut [u32], n: us
 fn check_list(text: &[u8], i: TextImage, rows: &[u32], spots: &mut [u32], n: usize) -> Verdict
     requires { ⌜ HasRows n (now rows) × HasSpots n (now spots) × Linked n (now rows) × Inside (now text) (sectionsIn n (now rows)) ⌝ }
     ensures { λ r. ⌜ verdictOf r (now (rows .entry)) (now (spots .exit))
-        ≡ listFrom 0 (now (text .entry)) i (sectionsIn n (now (rows .entry))) (resolveFrom (i .size) [] (sectionsIn n (now (rows .entry)))) ⌝ }
+        ≡ checkFrom 0 (now (text .entry)) i (sectionsIn n (now (rows .entry))) (resolveFrom (i .size) [] (sectionsIn n (now (rows .entry)))) ⌝ }
 {
     match fmd_rows::first_repeat(text, rows, n) {
         Found::At(k) => fault_at(Refusal::NameTwice, rows, n, k),
@@ -127,10 +127,10 @@ pub fn check(text: &[u8], rows: &mut [u32], spots: &mut [u32]) -> Verdict
     ensures { λ r. ⌜ verdictOf r (now (rows .exit)) (now (spots .exit)) ≡ checkText (now (text .entry)) ⌝ }
 {
     if 32768 < text.len() {
-        return Verdict::Fault(Refusal::TooLong, Place::NoPlace);
+        return Verdict::Fault(Refusal::TooLong, FaultPlace::NoPlace);
     }
     match fmd_parse::read_layout(text, rows) {
         LayoutAnswer::Accepted(i, n) => check_list(text, i, rows, spots, n),
-        LayoutAnswer::Refused(r, p) => Verdict::Fault(r, Place::Byte(p)),
+        LayoutAnswer::Refused(r, p) => Verdict::Fault(r, FaultPlace::Byte(p)),
     }
 }

@@ -5,8 +5,8 @@ ghost use Prim.Native.Nat.{_+_, _-_, _≤_, _<_};
 ghost use lib.ListN.{drop, getD};
 ghost use Rattle.fmd_table.specs.Table.{sectionsIn, placedIn, HasRows, HasSpots};
 ghost use Rattle.fmd_table.specs.Invariants.{Linked};
-ghost use Rattle.fmd_parse.specs.Trees.{blank as blankSection};
-ghost use Rattle.fmd_check.specs.Plans.{endIn, roomOf, startOf, spotOf, spotIn, placeOf, resolveFrom, resolvedBy};
+ghost use Rattle.fmd_parse.specs.Trees.{blankSection};
+ghost use Rattle.fmd_check.specs.Plans.{siblingEnd, roomOf, startOf, spotOf, spotIn, spotFor, resolveFrom, resolvedBy};
 use fmd_rows::Reach;
 use fmd_table::Offset;
 use fmd_table::ParentOffset;
@@ -33,7 +33,7 @@ pub enum Resolution {
 // The end of the last section with the parent, sought from the last row back.
 fn end_in(spots: &[u32], k: usize, parent: u32) -> u64
     requires { ⌜ HasSpots k (now spots) ⌝ }
-    ensures { λ r. ⌜ (r ≡ endIn parent 0 (placedIn k (now (spots .entry)))) × (r ≤ 8589934590) ⌝ }
+    ensures { λ r. ⌜ (r ≡ siblingEnd parent 0 (placedIn k (now (spots .entry)))) × (r ≤ 8589934590) ⌝ }
 {
     let mut j = k;
     while 0 < j {
@@ -117,7 +117,7 @@ fn spot_in(h: Section, e: u64, room: u32, reach: Reach) -> Spot
 // Section k.
 fn place_at(rows: &[u32], n: usize, k: usize, spots: &[u32], size: u32) -> Spot
     requires { ⌜ HasRows n (now rows) × HasSpots n (now spots) × (k < n) × Linked n (now rows) ⌝ }
-    ensures { λ r. ⌜ r ≡ placeOf size (placedIn k (now (spots .entry))) (getD (sectionsIn n (now (rows .entry))) k blankSection)
+    ensures { λ r. ⌜ r ≡ spotFor size (placedIn k (now (spots .entry))) (getD (sectionsIn n (now (rows .entry))) k blankSection)
         (drop (k + 1) (sectionsIn n (now (rows .entry)))) ⌝ }
 {
     let h = row_at(rows, k);

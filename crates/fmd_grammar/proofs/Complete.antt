@@ -15,7 +15,7 @@ use Rattle.text_words.specs.Classes.{isDigit, digitOf}
 use Rattle.text_words.specs.Numerals.{someDigits, numeralOf}
 use Rattle.text_words.specs.declared.Numeral.{Numeral}
 use Rattle.text_words.specs.declared.Numeral.the-variants.{Missing}
-use Rattle.fmd_lex.specs.Numbers.{scaledAfter, numberOf}
+use Rattle.fmd_lex.specs.Numbers.{scaledAfter, numberIn}
 use Rattle.fmd_lex.specs.Names.{goodName, flagOf}
 use Rattle.fmd_lex.specs.declared.Number.{Number}
 use Rattle.fmd_lex.specs.declared.Number.the-variants.{Value, Wrong}
@@ -55,8 +55,8 @@ digit-is b =
     (λ i. choice P (ltb b 103) _ _ (λ j z. absurd (let x = ltb-false b 97 i in let y = ltb-true (b - 87) 10 z in omega arith))
     (λ j z. absurd (clash z refl)))))))
 
-pub number-digit : (w : List ℕ) {n : ℕ} → numberOf w ≡ Value n → isDigit (getD w 0 0) ≡ true
-unfolding numberOf numeralOf someDigits isDigit _and_
+pub number-digit : (w : List ℕ) {n : ℕ} → numberIn w ≡ Value n → isDigit (getD w 0 0) ≡ true
+unfolding numberIn numeralOf someDigits isDigit _and_
 number-digit [] e = absurd (wrong-value e)
 number-digit (x ∷ xs) {n} e = go e
   where
@@ -262,7 +262,7 @@ unfolding addressP
 addresses-complete p n noAddress us e = unsigned 64 _ _ us e
 addresses-complete p n (address m) us e = rw m
 
-image-complete : {os : List Lexeme} {d : Address} (p n q a : ℕ) (w v : List ℕ) → goodName w ≡ true → OptionalAddress os d → numberOf v ≡ Value n → 98 ≤ n →
+image-complete : {os : List Lexeme} {d : Address} (p n q a : ℕ) (w v : List ℕ) → goodName w ≡ true → OptionalAddress os d → numberIn v ≡ Value n → 98 ≤ n →
     n ≤ 16777216
     → (us : List Lexeme) → imageP (word p w ∷ (os ++ (word q v ∷ sign a 123 ∷ us))) ≡ ok (record { address = d; size = n; place = p; length = length w }) us
 unfolding imageP

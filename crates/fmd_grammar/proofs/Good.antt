@@ -8,12 +8,12 @@ use lib.Dec.{eqb}
 use lib.ListN.{getD}
 use borrow.Author.Tests.{eqb-true}
 use Rattle.text_words.specs.Classes.{isDigit}
-use Rattle.fmd_lex.specs.Numbers.{numberOf}
+use Rattle.fmd_lex.specs.Numbers.{numberIn}
 use Rattle.fmd_lex.specs.Names.{goodName}
 use Rattle.fmd_lex.specs.declared.Number.the-variants.{Wrong}
 use Rattle.fmd_grammar.specs.Grammar.{Lexeme, word, sign}
 use Rattle.fmd_grammar.specs.Claims.{Fault, unfitSign, wordBeforeBraces, wordAfterBraces, badNumber, badImageSize, badLength, badSize}
-use Rattle.fmd_grammar.specs.Claims.{badName, tooMany, badFlag, placeOf}
+use Rattle.fmd_grammar.specs.Claims.{badName, tooMany, badFlag, lexemePlace}
 use Rattle.fmd_grammar.proofs.Parsers.{Got, no, ok, Parser, Act, stop, eat, leave, acted, item, ret, after, bind, isIt}
 
 -- ---- equal answers
@@ -66,7 +66,7 @@ digital w = isDigit (getD w 0 0)
 
 -- the word v has this fault wherever a word does that begins with a digit as v does
 pub data Exchange : ℕ → List ℕ → Type 0 where
-  noNumber : {v : List ℕ} → numberOf v ≡ Wrong → Exchange 52 v
+  noNumber : {v : List ℕ} → numberIn v ≡ Wrong → Exchange 52 v
   noName : {v : List ℕ} → goodName v ≡ false → Exchange 53 v
 
 module _ {A : Type 0} where
@@ -88,7 +88,7 @@ module _ {A : Type 0} where
     pub it : Lexeme
     pub rest : List Lexeme
     pub list : ts ≡ own ++ (it ∷ rest)
-    pub place : placeOf it ≡ p
+    pub place : lexemePlace it ≡ p
     pub viable : W own
     pub fault : Fault (λ us. W (own ++ us)) n it
     pub again : (k : ℕ) (xs : List Lexeme) → r k (own ++ (it ∷ xs)) ≡ no n p

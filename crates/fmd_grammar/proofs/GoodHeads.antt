@@ -15,7 +15,7 @@ use Rattle.octets.proofs.Bools.{choice, clash}
 use Rattle.octets.proofs.Equal.{same-true}
 use Rattle.text_words.specs.Classes.{isDigit, digitOf}
 use Rattle.text_words.specs.Numerals.{upTo, digitsFrom, someDigits, numeralOf}
-use Rattle.fmd_lex.specs.Numbers.{capped, scaled, numberOf}
+use Rattle.fmd_lex.specs.Numbers.{capped, scaled, numberIn}
 use Rattle.fmd_lex.specs.Names.{goodName, cbfs, preserve, flagOf}
 use Rattle.fmd_lex.specs.declared.Number.{Number}
 use Rattle.fmd_lex.specs.declared.Number.the-variants.{Value, Wrong}
@@ -37,20 +37,20 @@ use Rattle.fmd_grammar.proofs.Good.{digital, Exchange, noNumber, noName
 
 -- ---- numbers
 
-pub ninety-eight : numberOf (ascii "98") ≡ Value 98
-unfolding numberOf scaled capped numeralOf someDigits digitsFrom upTo digitOf
+pub ninety-eight : numberIn (ascii "98") ≡ Value 98
+unfolding numberIn scaled capped numeralOf someDigits digitsFrom upTo digitOf
 ninety-eight = refl
 
 abbrev pub Numbered : List Lexeme → ℕ → Type 0
-Numbered own n = (b : ℕ) × (w : List ℕ) × (own ≡ word b w ∷ []) × (numberOf w ≡ Value n)
+Numbered own n = (b : ℕ) × (w : List ℕ) × (own ≡ word b w ∷ []) × (numberIn w ≡ Value n)
 
 -- a number after @: a size may come after it
 pub number-fine : (W : List Lexeme → Type 0) → W [] → ((p : ℕ) → W (word p (ascii "98") ∷ word 0 (ascii "98") ∷ []))
     → (x : Lexeme) → Fine Numbered W x (numberAct x)
 number-fine W g i (sign p k) = (unfitSign, g)
-number-fine W g i (word p w) = go (numberOf w) refl
+number-fine W g i (word p w) = go (numberIn w) refl
   where
-    go : (n : Number) → numberOf w ≡ n → Fine Numbered W (word p w) (valued n eat)
+    go : (n : Number) → numberIn w ≡ n → Fine Numbered W (word p w) (valued n eat)
     go (Value n) e = (p, w, refl, e)
     go Wrong e = (badNumber e (i p), g)
 
@@ -60,15 +60,15 @@ no-exchange a b (noNumber e) = absurd (a refl)
 no-exchange a b (noName e) = absurd (b refl)
 
 -- a number that must stand there
-pub wrong-follows : {A : Type 0} (f : ℕ → Act A) (v : List ℕ) → Exchange 52 v → valued (numberOf v) f ≡ stop 52
+pub wrong-follows : {A : Type 0} (f : ℕ → Act A) (v : List ℕ) → Exchange 52 v → valued (numberIn v) f ≡ stop 52
 wrong-follows {A} f v c = go c refl
   where
-    go : {n : ℕ} → Exchange n v → n ≡ 52 → valued (numberOf v) f ≡ stop 52
+    go : {n : ℕ} → Exchange n v → n ≡ 52 → valued (numberIn v) f ≡ stop 52
     go (noNumber e) z = ap (λ (m : Number). valued m f) e
     go (noName e) z = absurd (omega arith)
 
 pub number-steady : Steady numberAct
-number-steady p w v d = go (numberOf w)
+number-steady p w v d = go (numberIn w)
   where
     go : (n : Number) → Follow (valued n eat) v (numberAct (word p v))
     go (Value n) = tt
@@ -193,7 +193,7 @@ SizesOn own = (us : List Lexeme) × (z : Size) × OptionalSize (own ++ us) z
 
 -- L7: .. a word beginning with a digit is its size.
 size-steady : (h : Section) → Steady (sizeAct h)
-size-steady h p w v d = go (digital w) refl (numberOf w)
+size-steady h p w v d = go (digital w) refl (numberIn w)
   where
     go : (b : Bool) → digital w ≡ b → (m : Number) → Follow (cond b (valued m (λ k. eat (setSize k h))) (leave h)) v (sizeAct h (word p v))
     go false e m = rw (sym d ∙ e)
@@ -231,7 +231,7 @@ module _ (p n lv par : ℕ) (c v : Bool) where
       h : Section
       h = built p n lv par c v o OmittedSize
 
-      by-number : (q : ℕ) (w : List ℕ) (b : Bool) → isDigit (getD w 0 0) ≡ b → (m : Number) → numberOf w ≡ m
+      by-number : (q : ℕ) (w : List ℕ) (b : Bool) → isDigit (getD w 0 0) ≡ b → (m : Number) → numberIn w ≡ m
           → Fine (Sized p n lv par c v o) SizesOn (word q w) (cond b (valued m (λ k. eat (setSize k (built p n lv par c v o OmittedSize))))
           (leave (built p n lv par c v o OmittedSize)))
       by-number q w false d m e = (OmittedSize, noSize, refl)
@@ -240,7 +240,7 @@ module _ (p n lv par : ℕ) (c v : Bool) where
 
       fine : (x : Lexeme) → Fine (Sized p n lv par c v o) SizesOn x (sizeAct (built p n lv par c v o OmittedSize) x)
       fine (sign q k) = (OmittedSize, noSize, refl)
-      fine (word q w) = by-number q w (isDigit (getD w 0 0)) refl (numberOf w) refl
+      fine (word q w) = by-number q w (isDigit (getD w 0 0)) refl (numberIn w) refl
 
 -- ---- the whole head
 

@@ -10,7 +10,7 @@ use borrow.Author.Tests.{eqb-true, leb-true, le-leb}
 use Rattle.octets.specs.Tests.{_and_}
 use Rattle.octets.proofs.Bools.{and-l, and-r, clash, and-i, choice}
 use Rattle.octets.specs.Ascii.{ascii}
-use Rattle.fmd_lex.specs.Numbers.{numberOf}
+use Rattle.fmd_lex.specs.Numbers.{numberIn}
 use Rattle.fmd_lex.specs.Names.{goodName}
 use Rattle.fmd_lex.specs.declared.Number.{Number}
 use Rattle.fmd_lex.specs.declared.Number.the-variants.{Value, Wrong}
@@ -59,13 +59,13 @@ module _ {p : ℕ} {w : List ℕ} (g : goodName w ≡ true) where
       (sym (append-nil os)))
       (image 0 0 0 0 (ascii "98") g o ninety-eight (omega arith) (omega arith) lone)
 
-  open-on : {os : List Lexeme} {d : Address} (q n : ℕ) (v : List ℕ) → OptionalAddress os d → numberOf v ≡ Value n → 98 ≤ n → n ≤ 16777216 → Viable
+  open-on : {os : List Lexeme} {d : Address} (q n : ℕ) (v : List ℕ) → OptionalAddress os d → numberIn v ≡ Value n → 98 ≤ n → n ≤ 16777216 → Viable
       (word p w ∷ (os ++ (word q v ∷ [])))
   open-on {os} q n v o m a b =
       moved (os ++ (word q v ∷ [])) (sign 0 123 ∷ tail) (sym (append-assoc os (word q v ∷ []) (sign 0 123 ∷ tail)))
       (image q 0 0 0 v g o m a b lone)
 
-  braces-on : {os : List Lexeme} {d : Address} (q n : ℕ) (v : List ℕ) → OptionalAddress os d → numberOf v ≡ Value n → 98 ≤ n → n ≤ 16777216
+  braces-on : {os : List Lexeme} {d : Address} (q n : ℕ) (v : List ℕ) → OptionalAddress os d → numberIn v ≡ Value n → 98 ≤ n → n ≤ 16777216
       → (c : ℕ) → Viable (word p w ∷ (os ++ (word q v ∷ sign c 123 ∷ tail)))
   braces-on {os} q n v o m a b c =
       moved (os ++ (word q v ∷ sign c 123 ∷ tail)) [] (sym (append-nil (os ++ (word q v ∷ sign c 123 ∷ tail)))) (image q c 0 0 v g o m a b lone)
@@ -84,7 +84,7 @@ pub record Front (own : List Lexeme) (i : TextImage) : Type 0 where
   pub d : Address
   pub good : goodName w ≡ true
   pub addresses : OptionalAddress os d
-  pub number : numberOf v ≡ Value n
+  pub number : numberIn v ≡ Value n
   pub low : 98 ≤ n
   pub high : n ≤ 16777216
   pub list : own ≡ word p w ∷ (os ++ (word q v ∷ sign a 123 ∷ []))
@@ -95,7 +95,7 @@ Titled own i = (p : ℕ) × (w : List ℕ) × (own ≡ word p w ∷ []) × (good
 
 abbrev Long : ℕ → ℕ → Address → List Lexeme → TextImage → Type 0
 Long p m d own i =
-    (q : ℕ) × (v : List ℕ) × (n : ℕ) × (own ≡ word q v ∷ []) × (numberOf v ≡ Value n) × (98 ≤ n) × (n ≤ 16777216) × (i ≡ pictured p m d n)
+    (q : ℕ) × (v : List ℕ) × (n : ℕ) × (own ≡ word q v ∷ []) × (numberIn v ≡ Value n) × (98 ≤ n) × (n ≤ 16777216) × (i ≡ pictured p m d n)
 
 an-image : (p : ℕ) (v : List ℕ) → goodName v ≡ true
     → LayoutText 129 9 (word p v ∷ word 0 (ascii "98") ∷ sign 0 123 ∷ tail) (pictured p (length v) Omitted 98)
@@ -117,7 +117,7 @@ title-steady p w v d = go (goodName w)
     go false = bad refl
 
 length-steady : (i : TextImage) → Steady (lengthAct i)
-length-steady i p w v d = go (numberOf w)
+length-steady i p w v d = go (numberIn w)
   where
     P : Act TextImage → Type 0
     P a = Follow a v (lengthAct i (word p v))
@@ -153,7 +153,7 @@ module _ (p : ℕ) (w : List ℕ) (g : goodName w ≡ true) where
   module _ {os : List Lexeme} {d : Address} (o : OptionalAddress os d) where
     length-fine : (x : Lexeme) → Fine (Long p (length w) d) (λ (us : List Lexeme). Viable (word p w ∷ (os ++ us))) x (lengthAct (pictured p (length w) d 0) x)
     length-fine (sign q k) = (unfitSign, length-on g o)
-    length-fine (word q v) = go (numberOf v) refl
+    length-fine (word q v) = go (numberIn v) refl
       where
         P : Act TextImage → Type 0
         P = Fine (Long p (length w) d) (λ (us : List Lexeme). Viable (word p w ∷ (os ++ us))) (word q v)
@@ -161,11 +161,11 @@ module _ (p : ℕ) (w : List ℕ) (g : goodName w ≡ true) where
         may : Viable (word p w ∷ (os ++ (word q (ascii "98") ∷ sign 0 123 ∷ tail)))
         may = braces-on g q 98 (ascii "98") o ninety-eight (omega arith) (omega arith) 0
 
-        in-range : (n : ℕ) → numberOf v ≡ Value n → (b : Bool) → (leb 98 n and leb n 16777216) ≡ b → P (cond b (eat (pictured p (length w) d n)) (stop 52))
+        in-range : (n : ℕ) → numberIn v ≡ Value n → (b : Bool) → (leb 98 n and leb n 16777216) ≡ b → P (cond b (eat (pictured p (length w) d n)) (stop 52))
         in-range n e true f = (q, v, n, refl, e, leb-true 98 n (and-l _ _ f), leb-true n 16777216 (and-r _ _ f), refl)
         in-range n e false f = (badLength e (λ x y. clash (and-i _ _ (le-leb 98 n x) (le-leb n 16777216 y)) f) may, length-on g o)
 
-        go : (n : Number) → numberOf v ≡ n → P (valued n (λ m. cond (leb 98 m and leb m 16777216) (eat (pictured p (length w) d m)) (stop 52)))
+        go : (n : Number) → numberIn v ≡ n → P (valued n (λ m. cond (leb 98 m and leb m 16777216) (eat (pictured p (length w) d m)) (stop 52)))
         go (Value n) e = in-range n e (leb 98 n and leb n 16777216) refl
         go Wrong e = (badImageSize e may, length-on g o)
 

@@ -6,7 +6,7 @@ use lib.Dec.{eqb, leb, ltb}
 use lib.ListN.{length, getD}
 use Rattle.octets.specs.Tests.{_and_}
 use Rattle.text_words.specs.Classes.{isDigit}
-use Rattle.fmd_lex.specs.Numbers.{numberOf}
+use Rattle.fmd_lex.specs.Numbers.{numberIn}
 use Rattle.fmd_lex.specs.Names.{goodName, flagOf}
 use Rattle.fmd_lex.specs.declared.Number.{Number}
 use Rattle.fmd_lex.specs.declared.Number.the-variants.{Value, Wrong}
@@ -20,7 +20,7 @@ use Rattle.fmd_head.specs.Images.{setAddress, setLength}
 use Rattle.fmd_head.specs.declared.Address.the-variants.{Omitted}
 use Rattle.fmd_head.specs.declared.TextImage.{TextImage}
 use Rattle.fmd_grammar.specs.Grammar.{Lexeme, word, sign}
-use Rattle.fmd_grammar.specs.Claims.{placeOf}
+use Rattle.fmd_grammar.specs.Claims.{lexemePlace}
 
 -- ---- a parser, and the step that looks at one token
 
@@ -40,7 +40,7 @@ pub data Act (A : Type 0) : Type 0 where
 
 module _ {A : Type 0} where
   abbrev pub acted : Act A → Lexeme → List Lexeme → Got A
-  acted (stop n) x xs = no n (placeOf x)
+  acted (stop n) x xs = no n (lexemePlace x)
   acted (eat a) x xs = ok a xs
   acted (leave a) x xs = ok a (x ∷ xs)
 
@@ -70,7 +70,7 @@ valued (Value n) f = f n
 valued Wrong f = stop 52
 
 abbrev pub numberAct : Lexeme → Act ℕ
-numberAct (word p w) = valued (numberOf w) eat
+numberAct (word p w) = valued (numberIn w) eat
 numberAct (sign p k) = stop 51
 
 abbrev pub nameAct : ℕ → ℕ → ℕ → Lexeme → Act Section
@@ -91,7 +91,7 @@ markAct h (word p w) = flagAct h (flagOf w)
 markAct h (sign p k) = stop 51
 
 abbrev pub sizeAct : Section → Lexeme → Act Section
-sizeAct h (word p w) = cond (isDigit (getD w 0 0)) (valued (numberOf w) (λ n. eat (setSize n h))) (leave h)
+sizeAct h (word p w) = cond (isDigit (getD w 0 0)) (valued (numberIn w) (λ n. eat (setSize n h))) (leave h)
 sizeAct h (sign p k) = leave h
 
 abbrev pub titleAct : Lexeme → Act TextImage
@@ -100,7 +100,7 @@ titleAct (word p w) =
 titleAct (sign p k) = stop 51
 
 abbrev pub lengthAct : TextImage → Lexeme → Act TextImage
-lengthAct i (word p w) = valued (numberOf w) (λ n. cond (leb 98 n and leb n 16777216) (eat (setLength n i)) (stop 52))
+lengthAct i (word p w) = valued (numberIn w) (λ n. cond (leb 98 n and leb n 16777216) (eat (setLength n i)) (stop 52))
 lengthAct i (sign p k) = stop 51
 
 abbrev pub mustBe : {A : Type 0} → ℕ → A → Lexeme → Act A

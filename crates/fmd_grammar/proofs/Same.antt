@@ -10,8 +10,8 @@ use lib.Seq.{getD-take, getD-drop}
 use borrow.Author.Tests.{eqb-true, ne-eqb}
 use Rattle.octets.specs.Bytes.{part}
 use Rattle.text_words.specs.Classes.{isDigit}
-use Rattle.fmd_lex.specs.Tokens.{wordKind, bytesOf}
-use Rattle.fmd_lex.specs.Numbers.{numberOf}
+use Rattle.fmd_lex.specs.Tokens.{wordKind, tokenBytes}
+use Rattle.fmd_lex.specs.Numbers.{numberIn}
 use Rattle.fmd_lex.specs.Names.{goodName, flagOf}
 use Rattle.fmd_lex.specs.declared.Token.{Token}
 use Rattle.fmd_lex.specs.declared.Number.{Number}
@@ -62,7 +62,7 @@ pub same-number : {s : List ℕ} {t : Token} (ts : List Lexeme) → View s t ts 
 unfolding amountAt
 same-number [] v = absurd (view-some v)
 same-number {s} {t} (sign p k ∷ xs) v = let a = as-sign v in rw (a .wordless) (refl, a .place)
-same-number {s} {t} (word p w ∷ xs) v = let a = as-word v in rw (a .kind, a .bytes) (by-number a (numberOf w))
+same-number {s} {t} (word p w ∷ xs) v = let a = as-word v in rw (a .kind, a .bytes) (by-number a (numberIn w))
   where
     by-number : Worded s t p w xs → (n : Number) → Numbers s (counted s t n) (acted (valued n eat) (word p w) xs)
     by-number a (Value n) = (refl, a .then)
@@ -84,7 +84,7 @@ same-mark {s} {t} (word p w ∷ xs) v h = let a = as-word v in rw (a .kind, a .b
     by-flag a Preserve = same-flag a (h .preserve) (setPreserve h)
     by-flag a Unknown = (refl, a .place)
 
-first-byte : (s : List ℕ) (t : Token) → t .start < t .end → getD (bytesOf s t) 0 0 ≡ getD s (t .start) 0
+first-byte : (s : List ℕ) (t : Token) → t .start < t .end → getD (tokenBytes s t) 0 0 ≡ getD s (t .start) 0
 unfolding part
 first-byte s t h = getD-take (t .end - t .start) (drop (t .start) s) 0 0 (omega arith) ∙ getD-drop (t .start) s 0 0 ∙ ap (λ (i : ℕ). getD s i 0) (omega arith)
 
@@ -96,7 +96,7 @@ same-size {s} {t} (word p w ∷ xs) v h =
     let a = as-word v in
     let e : getD s (t .start) 0 ≡ getD w 0 0
     = sym (first-byte s t (a .within .filled (eqb-true (t .kind) wordKind (a .kind)))) ∙ ap (λ (r : List ℕ). getD r 0 0) (a .bytes) in
-    rw (a .kind, e, a .bytes) (by-digit a (isDigit (getD w 0 0)) (numberOf w))
+    rw (a .kind, e, a .bytes) (by-digit a (isDigit (getD w 0 0)) (numberIn w))
   where
     by-digit : Worded s t p w xs → (b : Bool) (n : Number)
         → Parts s (cond b (withSize h (counted s t n)) (Read h t)) (acted (cond b (valued n (λ m. eat (setSize m h))) (leave h)) (word p w) xs)

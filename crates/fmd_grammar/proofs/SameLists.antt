@@ -9,7 +9,7 @@ use lib.ListN.{length}
 use borrow.Author.Tests.{eqb-true, ne-eqb}
 use Rattle.octets.specs.Tests.{_and_}
 use Rattle.fmd_lex.specs.Tokens.{wordKind, tokenAt}
-use Rattle.fmd_lex.specs.Numbers.{numberOf}
+use Rattle.fmd_lex.specs.Numbers.{numberIn}
 use Rattle.fmd_lex.specs.Names.{goodName}
 use Rattle.fmd_lex.specs.declared.Token.{Token}
 use Rattle.fmd_lex.specs.declared.Number.{Number}
@@ -123,7 +123,7 @@ module _ {s : List ℕ} where
   unfolding lengthAt amountAt
   same-length [] v i = absurd (view-some v)
   same-length {t} (sign p k ∷ xs) v i = let a = as-sign v in rw (a .wordless) (refl, a .place)
-  same-length {t} (word p w ∷ xs) v i = let a = as-word v in rw (a .kind, a .bytes) (by-number a (numberOf w))
+  same-length {t} (word p w ∷ xs) v i = let a = as-word v in rw (a .kind, a .bytes) (by-number a (numberIn w))
     where
       in-range : Worded s t p w xs → (n : ℕ) (b : Bool)
           → Imaged s (cond b (ReadImage (setLength n i) (next s t)) (FaultImage BadNumber (t .start))) (acted (cond b (eat (setLength n i)) (stop 52)) (word p w) xs)

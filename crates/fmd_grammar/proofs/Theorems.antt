@@ -11,7 +11,7 @@ use Rattle.octets.specs.Tests.{_or_}
 use Rattle.fmd_parse.specs.Trees.{LayoutFacts}
 use Rattle.fmd_parse.proofs.Trees.{layout-facts}
 use Rattle.fmd_lex.specs.Tokens.{endKind, tokenAt}
-use Rattle.fmd_lex.specs.Numbers.{numberOf}
+use Rattle.fmd_lex.specs.Numbers.{numberIn}
 use Rattle.fmd_lex.specs.Names.{goodName}
 use Rattle.fmd_lex.specs.declared.Number.{Number}
 use Rattle.fmd_lex.specs.declared.Number.the-variants.{Value, Wrong}
@@ -140,10 +140,10 @@ digit-unnamed v b = go (goodName v) refl
     go false e = refl
 
 -- and a name is no number
-name-unnumbered : (v : List ℕ) → goodName v ≡ true → numberOf v ≡ Wrong
-name-unnumbered v g = go (numberOf v) refl
+name-unnumbered : (v : List ℕ) → goodName v ≡ true → numberIn v ≡ Wrong
+name-unnumbered v g = go (numberIn v) refl
   where
-    go : (m : Number) → numberOf v ≡ m → m ≡ Wrong
+    go : (m : Number) → numberIn v ≡ m → m ≡ Wrong
     go (Value m) e = absurd (clash (number-digit v e) (name-digit v g))
     go Wrong e = refl
 

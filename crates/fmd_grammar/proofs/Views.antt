@@ -10,7 +10,7 @@ use lib.ListN.{length, getD, drop}
 use borrow.Author.Tests.{eqb-true, eq-eqb}
 use Rattle.octets.proofs.Parts.{length-part}
 use Rattle.octets.proofs.Bools.{choice, clash}
-use Rattle.fmd_lex.specs.Tokens.{endKind, wordKind, skipFrom, tokenHere, tokenAt, bytesOf}
+use Rattle.fmd_lex.specs.Tokens.{endKind, wordKind, skipFrom, tokenHere, tokenAt, tokenBytes}
 use Rattle.fmd_lex.specs.Invariants.{Within}
 use Rattle.fmd_lex.specs.Chars.{isWord, isSign}
 use Rattle.fmd_lex.specs.declared.Token.{Token}
@@ -60,7 +60,7 @@ pub record Worded (s : List ℕ) (t : Token) (p : ℕ) (w : List ℕ) (xs : List
   pub within : Within (length s) 0 t
   pub kind : isKind wordKind t ≡ true
   pub place : t .start ≡ p
-  pub bytes : bytesOf s t ≡ w
+  pub bytes : tokenBytes s t ≡ w
   pub then : View s (next s t) xs
 
 pub record Signed (s : List ℕ) (t : Token) (p k : ℕ) : Type 0 where
@@ -81,12 +81,12 @@ same (sign p k) = (refl, refl)
 same-as : {x y : Lexeme} → x ≡ y → Same x y
 same-as {x} {y} e = subst (Same x) e (same x)
 
-worded : (s : List ℕ) (t : Token) (p : ℕ) (w : List ℕ) → word p w ≡ lexemeOf s t → (isKind wordKind t ≡ true) × (t .start ≡ p) × (bytesOf s t ≡ w)
+worded : (s : List ℕ) (t : Token) (p : ℕ) (w : List ℕ) → word p w ≡ lexemeOf s t → (isKind wordKind t ≡ true) × (t .start ≡ p) × (tokenBytes s t ≡ w)
 unfolding lexemeOf
 worded s t p w e = go (isKind wordKind t) refl (same-as e)
   where
-    go : (b : Bool) → isKind wordKind t ≡ b → Same (word p w) (cond b (word (t .start) (bytesOf s t)) (sign (t .start) (t .kind)))
-        → (isKind wordKind t ≡ true) × (t .start ≡ p) × (bytesOf s t ≡ w)
+    go : (b : Bool) → isKind wordKind t ≡ b → Same (word p w) (cond b (word (t .start) (tokenBytes s t)) (sign (t .start) (t .kind)))
+        → (isKind wordKind t ≡ true) × (t .start ≡ p) × (tokenBytes s t ≡ w)
     go true f h = (f, h .0, h .1)
     go false f h = absurd h
 
@@ -94,14 +94,14 @@ signed : (s : List ℕ) (t : Token) (p k : ℕ) → sign p k ≡ lexemeOf s t �
 unfolding lexemeOf
 signed s t p k e = go (isKind wordKind t) refl (same-as e)
   where
-    go : (b : Bool) → isKind wordKind t ≡ b → Same (sign p k) (cond b (word (t .start) (bytesOf s t)) (sign (t .start) (t .kind))) → Signed s t p k
+    go : (b : Bool) → isKind wordKind t ≡ b → Same (sign p k) (cond b (word (t .start) (tokenBytes s t)) (sign (t .start) (t .kind))) → Signed s t p k
     go true f h = absurd h
     go false f h = record { kind = h .1; place = h .0; wordless = f }
 
 pub as-word : {s : List ℕ} {t : Token} {p : ℕ} {w : List ℕ} {xs : List Lexeme} → View s t (word p w ∷ xs) → Worded s t p w xs
 as-word {s} {t} {p} {w} (last h e k) = absurd (go (worded s t p w e))
   where
-    go : (isKind wordKind t ≡ true) × (t .start ≡ p) × (bytesOf s t ≡ w) → ⊥
+    go : (isKind wordKind t ≡ true) × (t .start ≡ p) × (tokenBytes s t ≡ w) → ⊥
     go q = let a = eqb-true (t .kind) wordKind (q .0) in let b = eqb-true (t .kind) endKind k in omega arith
 as-word {s} {t} {p} {w} (step h e k v) =
     let q = worded s t p w e in record { within = h; kind = q .0; place = q .1; bytes = q .2; then = v }
@@ -122,5 +122,5 @@ pub view-within : {s : List ℕ} {t : Token} {xs : List Lexeme} → View s t xs 
 view-within (last h e k) = h
 view-within (step h e k v) = h
 
-pub name-length : (s : List ℕ) (t : Token) → Within (length s) 0 t → length (bytesOf s t) ≡ t .end - t .start
+pub name-length : (s : List ℕ) (t : Token) → Within (length s) 0 t → length (tokenBytes s t) ≡ t .end - t .start
 name-length s t w = length-part s (t .start) (t .end - t .start) (omega arith)

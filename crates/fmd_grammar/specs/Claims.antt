@@ -9,7 +9,7 @@ use lib.ListN.{getD}
 use Rattle.octets.specs.Ascii.{ascii}
 use Rattle.text_words.specs.Classes.{isDigit}
 use Rattle.fmd_lex.specs.Tokens.{endKind}
-use Rattle.fmd_lex.specs.Numbers.{numberOf}
+use Rattle.fmd_lex.specs.Numbers.{numberIn}
 use Rattle.fmd_lex.specs.Names.{goodName, cbfs}
 use Rattle.fmd_lex.specs.declared.Number.the-variants.{Value, Wrong}
 use Rattle.fmd_table.specs.declared.Section.{Section}
@@ -24,9 +24,9 @@ Exact = (s : List ℕ) (i : TextImage) (l : List Section) → (layoutOf s ≡ la
 -- ---- the first fault
 
 -- R33: a word's fault stands at its first byte, 55 at the name .., an unfit sign or byte at itself, an early end after the last byte
-abbrev pub placeOf : Lexeme → ℕ
-placeOf (word p w) = p
-placeOf (sign p b) = p
+abbrev pub lexemePlace : Lexeme → ℕ
+lexemePlace (word p w) = p
+lexemePlace (sign p b) = p
 
 -- the tokens ts can be continued to a layout text, if one section and one level more than the limits are allowed:
 -- after { on level 8 no text within the limits goes on, yet a } there is 51
@@ -53,13 +53,13 @@ pub data Fault (May : List Lexeme → Type 0) : ℕ → Lexeme → Type 0 where
   wordAfterBraces : {p : ℕ} {w : List ℕ} → May (sign p endKind ∷ []) → Fault May 51 (word p w)
   -- L9: Where a number must stand (after @, the image's size), any other word is 52.
   -- After @ two numbers may stand, the second of them a size; as the image's size one, and behind it { A } and the text's end.
-  badNumber : {p : ℕ} {w : List ℕ} → numberOf w ≡ Wrong → May (word p (ascii "98") ∷ word 0 (ascii "98") ∷ []) → Fault May 52 (word p w)
-  badImageSize : {p : ℕ} {w : List ℕ} → numberOf w ≡ Wrong → MayBeImageSize May p → Fault May 52 (word p w)
+  badNumber : {p : ℕ} {w : List ℕ} → numberIn w ≡ Wrong → May (word p (ascii "98") ∷ word 0 (ascii "98") ∷ []) → Fault May 52 (word p w)
+  badImageSize : {p : ℕ} {w : List ℕ} → numberIn w ≡ Wrong → MayBeImageSize May p → Fault May 52 (word p w)
   -- L1: size (an image length in range, else 52)
-  badLength : {p n : ℕ} {w : List ℕ} → numberOf w ≡ Value n → (98 ≤ n → n ≤ 16777216 → ⊥) → MayBeImageSize May p → Fault May 52 (word p w)
+  badLength : {p n : ℕ} {w : List ℕ} → numberIn w ≡ Value n → (98 ≤ n → n ≤ 16777216 → ⊥) → MayBeImageSize May p → Fault May 52 (word p w)
   -- L7: After a section's name, flags or offset, a word beginning with a digit is its size.
   -- So it is 52 where it is no number.
-  badSize : {p : ℕ} {w : List ℕ} → isDigit (getD w 0 0) ≡ true → numberOf w ≡ Wrong → May (word p (ascii "98") ∷ []) → Fault May 52 (word p w)
+  badSize : {p : ℕ} {w : List ℕ} → isDigit (getD w 0 0) ≡ true → numberIn w ≡ Wrong → May (word p (ascii "98") ∷ []) → Fault May 52 (word p w)
   -- L6: .. (else 53).
   -- Every name may stand there.
   badName : {p : ℕ} {w : List ℕ} → goodName w ≡ false → ((v : List ℕ) → goodName v ≡ true → May (word p v ∷ [])) → Fault May 53 (word p w)
@@ -78,7 +78,7 @@ pub record FirstFault (s : List ℕ) (n p : ℕ) : Type 0 where
   pub token : Lexeme
   pub after : List Lexeme
   pub tokens : lexemesOf s ≡ before ++ (token ∷ after)
-  pub place : placeOf token ≡ p
+  pub place : lexemePlace token ≡ p
   -- up to it nothing is at fault
   pub viable : Viable before
   pub fault : Fault (λ us. Viable (before ++ us)) n token

@@ -7,8 +7,8 @@ use Prim.Native.Char.{code}
 use Prim.Native.Nat.{ℕ, zero, suc, _+_, _≤_, _<_}
 use lib.Dec.{eqb}
 use lib.ListN.{length}
-use Rattle.fmd_lex.specs.Tokens.{endKind, wordKind, tokenAt, bytesOf}
-use Rattle.fmd_lex.specs.Numbers.{numberOf}
+use Rattle.fmd_lex.specs.Tokens.{endKind, wordKind, tokenAt, tokenBytes}
+use Rattle.fmd_lex.specs.Numbers.{numberIn}
 use Rattle.fmd_lex.specs.Names.{goodName, cbfs, preserve}
 use Rattle.fmd_lex.specs.declared.Token.{Token}
 use Rattle.fmd_lex.specs.declared.Number.the-variants.{Value}
@@ -31,7 +31,7 @@ pub data Lexeme : Type 0 where
 
 -- the token t of the text s; `tokenAt` of fmd_lex finds it (L4, L5): past blanks and comments, as many bytes of a word as there are
 unfoldable pub lexemeOf : List ℕ → Token → Lexeme
-lexemeOf s t = cond (eqb (t .kind) wordKind) (word (t .start) (bytesOf s t)) (sign (t .start) (t .kind))
+lexemeOf s t = cond (eqb (t .kind) wordKind) (word (t .start) (tokenBytes s t)) (sign (t .start) (t .kind))
 
 -- the token t and those after it up to the text's end, f at most
 unfoldable pub lexemesFrom : ℕ → List ℕ → Token → List Lexeme
@@ -54,17 +54,17 @@ pub data OptionalFlags : List Lexeme → Bool → Bool → Type 0 where
   preserveCbfs : {a b c d : ℕ} → OptionalFlags (sign a (code "(") ∷ word b preserve ∷ word c cbfs ∷ sign d (code ")") ∷ []) true true
 
 -- L2: optional @offset from its parent
--- `numberOf` of fmd_lex is the number that a word is (L8).
+-- `numberIn` of fmd_lex is the number that a word is (L8).
 pub data OptionalOffset : List Lexeme → Offset → Type 0 where
   noOffset : OptionalOffset [] OmittedOffset
-  offset : {a b n : ℕ} {w : List ℕ} → numberOf w ≡ Value n → OptionalOffset (sign a (code "@") ∷ word b w ∷ []) (GivenOffset (record { 0 = n }))
+  offset : {a b n : ℕ} {w : List ℕ} → numberIn w ≡ Value n → OptionalOffset (sign a (code "@") ∷ word b w ∷ []) (GivenOffset (record { 0 = n }))
 
 -- L2: optional size
 -- L7: .. a word beginning with a digit is its size.
 -- (Every number begins with a digit, and no name does.)
 pub data OptionalSize : List Lexeme → Size → Type 0 where
   noSize : OptionalSize [] OmittedSize
-  size : {a n : ℕ} {w : List ℕ} → numberOf w ≡ Value n → OptionalSize (word a w ∷ []) (GivenSize n)
+  size : {a n : ℕ} {w : List ℕ} → numberIn w ≡ Value n → OptionalSize (word a w ∷ []) (GivenSize n)
 
 -- ---- sections
 
@@ -99,7 +99,7 @@ mutual
 -- L1: optional @address
 pub data OptionalAddress : List Lexeme → Address → Type 0 where
   noAddress : OptionalAddress [] Omitted
-  address : {a b n : ℕ} {w : List ℕ} → numberOf w ≡ Value n → OptionalAddress (sign a (code "@") ∷ word b w ∷ []) (Given n)
+  address : {a b n : ℕ} {w : List ℕ} → numberIn w ≡ Value n → OptionalAddress (sign a (code "@") ∷ word b w ∷ []) (Given n)
 
 -- L1: An image: name, optional @address, size (an image length in range ..), braces.
 -- Q4: A flash image is 98 to 16,777,216 bytes.
@@ -107,7 +107,7 @@ pub data OptionalAddress : List Lexeme → Address → Type 0 where
 -- So the text's end is the next token.
 pub data LayoutText (most deepest : ℕ) : List Lexeme → TextImage → List Section → Type 0 where
   image : {place n : ℕ} (a b c d : ℕ) {name : List ℕ} (w : List ℕ) {os ts : List Lexeme} {at : Address} {l : List Section}
-      → goodName name ≡ true → OptionalAddress os at → numberOf w ≡ Value n → 98 ≤ n → n ≤ 16777216 → SectionList most deepest 1 128 0 ts l
+      → goodName name ≡ true → OptionalAddress os at → numberIn w ≡ Value n → 98 ≤ n → n ≤ 16777216 → SectionList most deepest 1 128 0 ts l
       → LayoutText most deepest
       (word place name ∷ (os ++ (word a w ∷ sign b (code "{") ∷ (ts ++ (sign c (code "}") ∷ sign d endKind ∷ [])))))
       (record { address = at; size = n; place = place; length = length name }) l

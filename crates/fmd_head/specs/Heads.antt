@@ -7,8 +7,8 @@ use Prim.Native.Nat.{ℕ, _-_}
 use lib.Dec.{ltb, leb, eqb}
 use lib.ListN.{getD}
 use Rattle.text_words.specs.Classes.{isDigit}
-use Rattle.fmd_lex.specs.Tokens.{wordKind, tokenAt, bytesOf}
-use Rattle.fmd_lex.specs.Numbers.{numberOf}
+use Rattle.fmd_lex.specs.Tokens.{wordKind, tokenAt, tokenBytes}
+use Rattle.fmd_lex.specs.Numbers.{numberIn}
 use Rattle.fmd_lex.specs.Names.{goodName, flagOf}
 use Rattle.fmd_lex.specs.declared.Token.{Token}
 use Rattle.fmd_lex.specs.declared.Number.{Number}
@@ -42,7 +42,7 @@ counted s t (Value n) = Counted n (next s t)
 counted s t Wrong = Uncounted BadNumber (t .start)
 
 unfoldable pub amountAt : List ℕ → Token → Amount
-amountAt s t = cond (isKind wordKind t) (counted s t (numberOf (bytesOf s t))) (Uncounted OutOfGrammar (t .start))
+amountAt s t = cond (isKind wordKind t) (counted s t (numberIn (tokenBytes s t))) (Uncounted OutOfGrammar (t .start))
 
 -- ---- the parts of a section, in their order; a section with what is read of it so far
 
@@ -71,7 +71,7 @@ bare t lv par =
 unfoldable pub namedAt : List ℕ → Token → ℕ → ℕ → ℕ → HeadPart
 namedAt s t lv par n =
     cond (not (isKind wordKind t)) (Fault OutOfGrammar (t .start))
-    (cond (not (goodName (bytesOf s t))) (Fault BadName (t .start))
+    (cond (not (goodName (tokenBytes s t))) (Fault BadName (t .start))
     (cond (leb 128 n) (Fault TooMany (t .start))
     (cond (ltb 8 lv) (Fault TooMany (t .start))
     (Read (bare t lv par) (next s t)))))
@@ -139,7 +139,7 @@ marked s t h Unknown = Fault BadFlag (t .start)
 
 -- one flag, marked in the section
 unfoldable pub markAt : List ℕ → Token → Section → HeadPart
-markAt s t h = cond (isKind wordKind t) (marked s t h (flagOf (bytesOf s t))) (Fault OutOfGrammar (t .start))
+markAt s t h = cond (isKind wordKind t) (marked s t h (flagOf (tokenBytes s t))) (Fault OutOfGrammar (t .start))
 
 -- after both flags: the end, for a third word is unknown or repeats
 unfoldable pub lastAt : List ℕ → Token → Section → HeadPart

@@ -4,7 +4,7 @@ use mathlib.Core.List.{List}
 use Prim.Native.Nat.{ℕ, _-_}
 use lib.Dec.{leb}
 use Rattle.octets.specs.Tests.{_and_}
-use Rattle.fmd_lex.specs.Tokens.{wordKind, bytesOf}
+use Rattle.fmd_lex.specs.Tokens.{wordKind, tokenBytes}
 use Rattle.fmd_lex.specs.Names.{goodName}
 use Rattle.fmd_lex.specs.declared.Token.{Token}
 use Rattle.fmd_head.specs.Heads.{next, isKind, amountAt}
@@ -26,7 +26,7 @@ onward (Fault r p) k = Fault r p
 unfoldable pub titleAt : List ℕ → Token → Heading
 titleAt s t =
     cond (not (isKind wordKind t)) (Fault OutOfGrammar (t .start))
-    (cond (not (goodName (bytesOf s t))) (Fault BadName (t .start))
+    (cond (not (goodName (tokenBytes s t))) (Fault BadName (t .start))
     (Read (record { address = Omitted; size = 0; place = t .start; length = t .end - t .start }) (next s t)))
 
 -- the optional @address

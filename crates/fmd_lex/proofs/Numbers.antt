@@ -12,7 +12,7 @@ use Rattle.octets.proofs.Bools.{choice}
 use Rattle.text_words.specs.Numerals.{numeralOf}
 use Rattle.text_words.specs.declared.Numeral.{Numeral}
 use Rattle.text_words.specs.declared.Numeral.the-variants.{Value as Begun, Over, Missing}
-use Rattle.fmd_lex.specs.Numbers.{unitOf, capped, scaled, scaledAfter, numberOf}
+use Rattle.fmd_lex.specs.Numbers.{unitOf, capped, scaled, scaledAfter, numberIn}
 use Rattle.fmd_lex.specs.declared.Number.{Number}
 use Rattle.fmd_lex.specs.declared.Number.the-variants.{Value, Wrong}
 
@@ -58,6 +58,6 @@ after-fits w (Begun n e) = scaled-fits n (drop e w)
 after-fits w Over = tt
 after-fits w Missing = tt
 
-pub number-fits : (w : List ℕ) → NumberFits (numberOf w)
-unfolding numberOf
+pub number-fits : (w : List ℕ) → NumberFits (numberIn w)
+unfolding numberIn
 number-fits w = after-fits w (numeralOf 4294967295 w)

@@ -13,7 +13,7 @@ use Rattle.octets.specs.Bytes.{part}
 use Rattle.octets.proofs.Bools.{and-i, choice}
 use Rattle.text_words.specs.Classes.{isBlank}
 use Rattle.fmd_lex.specs.Chars.{isSign, isWord}
-use Rattle.fmd_lex.specs.Tokens.{wordKind, skipFrom, wordFrom, tokenHere, tokenAt, bytesOf}
+use Rattle.fmd_lex.specs.Tokens.{wordKind, skipFrom, wordFrom, tokenHere, tokenAt, tokenBytes}
 use Rattle.fmd_lex.specs.Invariants.{Within}
 use Rattle.fmd_lex.specs.declared.Token.{Token}
 use Rattle.fmd_lex.proofs.Tokens.{word-in}
@@ -80,7 +80,7 @@ unfolding isSign _or_
 sign-no-word b g z = false≢true (rw z at g)
 
 -- (L5) a word has bytes of 21 to 7E hex, no sign and no #
-pub word-bytes : (s : List ℕ) (at : ℕ) → tokenAt s at .kind ≡ wordKind → all isWord (bytesOf s (tokenAt s at)) ≡ true
+pub word-bytes : (s : List ℕ) (at : ℕ) → tokenAt s at .kind ≡ wordKind → all isWord (tokenBytes s (tokenAt s at)) ≡ true
 unfolding tokenAt tokenHere part
 word-bytes s at =
     let p = skipFrom false (drop at s) at in

@@ -35,5 +35,5 @@ scaledAfter w Over = Wrong
 scaledAfter w Missing = Wrong
 
 -- the number that a word is
-unfoldable pub numberOf : List ℕ → Number
-numberOf w = scaledAfter w (numeralOf 4294967295 w)
+unfoldable pub numberIn : List ℕ → Number
+numberIn w = scaledAfter w (numeralOf 4294967295 w)

@@ -51,5 +51,5 @@ unfoldable pub tokenAt : List ℕ → ℕ → Token
 tokenAt s at = tokenHere s (skipFrom false (drop at s) at)
 
 -- the bytes of a token
-abbrev pub bytesOf : List ℕ → Token → List ℕ
-bytesOf s t = part (t .start) (t .end - t .start) s
+abbrev pub tokenBytes : List ℕ → Token → List ℕ
+tokenBytes s t = part (t .start) (t .end - t .start) s

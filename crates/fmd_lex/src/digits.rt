@@ -2,7 +2,7 @@
 ghost use mathlib.Core.Path.{_≡_};
 ghost use Prim.Native.Nat.{_≤_};
 ghost use lib.ListN.{length, drop};
-ghost use Rattle.fmd_lex.specs.Numbers.{unitOf, scaled, numberOf};
+ghost use Rattle.fmd_lex.specs.Numbers.{unitOf, scaled, numberIn};
 use super::Number;
 use text_words::Numeral;
 
@@ -45,7 +45,7 @@ fn with_unit(w: &[u8], at: usize, n: u64) -> Number
 
 // The number that the word w is.
 pub fn number_of(w: &[u8]) -> Number
-    ensures { λ r. ⌜ r ≡ numberOf (now (w .entry)) ⌝ }
+    ensures { λ r. ⌜ r ≡ numberIn (now (w .entry)) ⌝ }
 {
     match text_words::digits::numeral_of(w, 4294967295) {
         Numeral::Value(n, end) => with_unit(w, end, n),

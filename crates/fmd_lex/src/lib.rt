@@ -6,9 +6,9 @@ ghost use Prim.Native.Nat.{_≤_, _<_};
 ghost use lib.ListN.{length, drop, getD};
 ghost use Rattle.text_words.specs.Classes.{isDigit};
 ghost use Rattle.fmd_lex.specs.Chars.{isSign, isWord};
-ghost use Rattle.fmd_lex.specs.Tokens.{skipFrom, wordFrom, tokenAt, bytesOf};
+ghost use Rattle.fmd_lex.specs.Tokens.{skipFrom, wordFrom, tokenAt, tokenBytes};
 ghost use Rattle.fmd_lex.specs.Invariants.{Within};
-ghost use Rattle.fmd_lex.specs.Numbers.{numberOf};
+ghost use Rattle.fmd_lex.specs.Numbers.{numberIn};
 ghost use Rattle.fmd_lex.specs.Names.{goodName, flagOf};
 use text_words::is_blank;
 use text_words::is_digit;
@@ -192,7 +192,7 @@ fn flag_of(w: &[u8]) -> Flag
 
 pub fn number_at(text: &[u8], t: Token) -> Number
     requires { ⌜ (t .start ≤ t .end) × (t .end ≤ length (now text)) ⌝ }
-    ensures { λ r. ⌜ r ≡ numberOf (bytesOf (now (text .entry)) t) ⌝ }
+    ensures { λ r. ⌜ r ≡ numberIn (tokenBytes (now (text .entry)) t) ⌝ }
 {
     let a = t.start;
     let e = t.end;
@@ -201,7 +201,7 @@ pub fn number_at(text: &[u8], t: Token) -> Number
 
 pub fn name_at(text: &[u8], t: Token) -> bool
     requires { ⌜ (t .start ≤ t .end) × (t .end ≤ length (now text)) ⌝ }
-    ensures { λ r. ⌜ r ≡ goodName (bytesOf (now (text .entry)) t) ⌝ }
+    ensures { λ r. ⌜ r ≡ goodName (tokenBytes (now (text .entry)) t) ⌝ }
 {
     let a = t.start;
     let e = t.end;
@@ -210,7 +210,7 @@ pub fn name_at(text: &[u8], t: Token) -> bool
 
 pub fn flag_at(text: &[u8], t: Token) -> Flag
     requires { ⌜ (t .start ≤ t .end) × (t .end ≤ length (now text)) ⌝ }
-    ensures { λ r. ⌜ r ≡ flagOf (bytesOf (now (text .entry)) t) ⌝ }
+    ensures { λ r. ⌜ r ≡ flagOf (tokenBytes (now (text .entry)) t) ⌝ }
 {
     let a = t.start;
     let e = t.end;

@@ -11,7 +11,7 @@ use Rattle.text_out.proofs.Digits.{length-hex, length-decimal}
 use Rattle.text_out.proofs.Puts.{puts-then, puts-as}
 use Rattle.fmap_rules.specs.Map.{nameLength}
 use Rattle.fmd.specs.declared.Image.{Image}
-use Rattle.fmd.specs.declared.Section.{Section}
+use Rattle.fmd.specs.declared.SectionRecord.{SectionRecord}
 use Rattle.fmd_lines.specs.Lines.{hexField, nameText, numbersText, sectionLine, imageLine, numberedLine}
 
 pub hex-field-put : (width n at a r : ℕ) (xs ys zs : List ℕ) → Puts at (hexDigits width n) a xs ys → Puts a (ascii " ") r ys zs
@@ -19,7 +19,7 @@ pub hex-field-put : (width n at a r : ℕ) (xs ys zs : List ℕ) → Puts at (he
 unfolding hexField
 hex-field-put width n at a r xs ys zs p q = (omega (arith, p .0, q .0, length-hex width n), puts-then _ _ _ _ _ _ _ _ p q)
 
-pub numbers-put : (s : Section) (at a b r : ℕ) (xs ys zs us : List ℕ) → (a ≡ at + 8 + 1) × Puts at (hexField 8 (s .position .0)) a xs ys
+pub numbers-put : (s : SectionRecord) (at a b r : ℕ) (xs ys zs us : List ℕ) → (a ≡ at + 8 + 1) × Puts at (hexField 8 (s .position .0)) a xs ys
     → (b ≡ a + 8 + 1) × Puts a (hexField 8 (s .size)) b ys zs → (r ≡ b + 4 + 1) × Puts b (hexField 4 (s .flags)) r zs us
     → (r ≡ at + 23) × Puts at (numbersText s) r xs us
 unfolding numbersText
@@ -33,7 +33,7 @@ name-put stored k at r xs ys l h p =
     let m = length-take-le k stored (h .1) in
     (omega (arith, p .0, h .1), puts-as _ _ _ _ _ _ (ap (λ (i : ℕ). take i stored) (h .0)) p)
 
-pub section-put : (s : Section) (at a b r : ℕ) (xs ys zs us : List ℕ) → (a ≡ at + 23) × Puts at (numbersText s) a xs ys
+pub section-put : (s : SectionRecord) (at a b r : ℕ) (xs ys zs us : List ℕ) → (a ≡ at + 23) × Puts at (numbersText s) a xs ys
     → (b ≤ a + 32) × Puts a (nameText (s .name)) b ys zs → Puts b (10 ∷ []) r zs us → (r ≤ at + 56) × Puts at (sectionLine s) r xs us
 unfolding sectionLine
 section-put s at a b r xs ys zs us p q t =

@@ -8,19 +8,19 @@ use lib.Seq.{take-at}
 use Rattle.octets.specs.Ascii.{ascii}
 use Rattle.octets.specs.Bytes.{flat}
 use Rattle.octets.specs.Rows.{codeOf}
-use Rattle.fmd_check.specs.Check.{Judged, fault, good, checkText}
+use Rattle.fmd_check.specs.Check.{Checked, fault, good, checkText}
 use Rattle.fmd_check.specs.Facts.{CheckedFacts}
 use Rattle.fmd_check.proofs.Facts.{check-facts}
 use Rattle.fmd_areas.proofs.Shape.{length-areas}
-use Rattle.fmd.specs.Calls.{Listed, numberOf, imageOf, saidBy, layoutIn, sectionOf, listBy, layoutFor, listText, listed}
-use Rattle.fmd.specs.declared.Reading.{Reading}
-use Rattle.fmd.specs.declared.Section.{Section}
+use Rattle.fmd.specs.Calls.{Listed, numberOf, imageOf, saidBy, layoutIn, listRecord, listBy, layoutFor, listText, listOf}
+use Rattle.fmd.specs.declared.LayoutReading.{LayoutReading}
+use Rattle.fmd.specs.declared.SectionRecord.{SectionRecord}
 use Rattle.fmd.proofs.Answers.{refused-by, accepted-by}
 use Rattle.fmd_lines.specs.Lines.{sectionLine, imageLine, numberedLine, linesOf, listingOf}
 
 -- ---- an image has as many sections as it says, and at most 128
 
-count-by : (s : List ℕ) (j : Judged) → CheckedFacts s j → (saidBy s j .image .count ≡ length (saidBy s j .areas)) × (saidBy s j .image .count ≤ 128)
+count-by : (s : List ℕ) (j : Checked) → CheckedFacts s j → (saidBy s j .image .count ≡ length (saidBy s j .areas)) × (saidBy s j .image .count ≤ 128)
 unfolding imageOf
 count-by s (fault n p) f = (refl, omega arith)
 count-by s (good i l ps m) a = (sym (length-areas s l ps ∙ a .fitted .count), a .tree .room)
@@ -31,8 +31,8 @@ count-is s = count-by s (checkText s) (check-facts s)
 
 -- ---- a list of 128 sections that was lent
 
-module _ (s : List ℕ) (r : Reading) (ys zs : List Section) (n : length ys ≡ 128) (e : listed r zs ≡ listText s ys) where
-  lent-is : listed r zs ≡ listBy (layoutIn s) ys
+module _ (s : List ℕ) (r : LayoutReading) (ys zs : List SectionRecord) (n : length ys ≡ 128) (e : listOf r zs ≡ listText s ys) where
+  lent-is : listOf r zs ≡ listBy (layoutIn s) ys
   unfolding listText layoutFor
   lent-is = e ∙ ap (λ (k : ℕ). listBy (layoutFor s k) ys) n
 
@@ -45,11 +45,11 @@ module _ (s : List ℕ) (r : Reading) (ys zs : List Section) (n : length ys ≡ 
   pub count-small : r .image .count ≤ 128
   count-small = omega (arith, ap (λ (x : Listed). x .image .count) lent-is, count-is s .1)
 
-  sections-are : take (r .image .count) zs ≡ map sectionOf (layoutIn s .areas)
+  sections-are : take (r .image .count) zs ≡ map listRecord (layoutIn s .areas)
   sections-are =
-      let xs = map sectionOf (layoutIn s .areas) in
+      let xs = map listRecord (layoutIn s .areas) in
       rw (ap (λ (x : Listed). x .image .count) lent-is, ap (λ (x : Listed). x .sections) lent-is)
-      (take-at xs (drop (length xs) ys) (layoutIn s .image .count) (length-map (layoutIn s .areas) sectionOf ∙ sym (count-is s .0)))
+      (take-at xs (drop (length xs) ys) (layoutIn s .image .count) (length-map (layoutIn s .areas) listRecord ∙ sym (count-is s .0)))
 
   -- the number k that the answer has, or 0
   module _ (k : ℕ) (f : k ≡ codeOf (numberOf (r .answer))) where
@@ -60,5 +60,5 @@ module _ (s : List ℕ) (r : Reading) (ys zs : List Section) (n : length ys ≡ 
     pub accepted-lines : k ≤ 0 → imageLine (r .image) ++ flat (map sectionLine (take (r .image .count) zs)) ≡ listingOf s
     unfolding listingOf
     accepted-lines h =
-        ap₂ _++_ (ap imageLine image-is) (ap (λ (xs : List Section). flat (map sectionLine xs)) sections-are)
+        ap₂ _++_ (ap imageLine image-is) (ap (λ (xs : List SectionRecord). flat (map sectionLine xs)) sections-are)
         ∙ ap (linesOf (layoutIn s)) (sym (accepted-by (r .answer) k f h) ∙ answer-is)

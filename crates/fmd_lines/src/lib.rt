@@ -7,22 +7,22 @@ ghost use lib.ListN.{length, take};
 ghost use Rattle.io.specs.Counts.{Counts};
 ghost use Rattle.octets.specs.Bytes.{flat};
 ghost use Rattle.text_out.specs.Text.{Puts};
-ghost use Rattle.fmd.specs.Calls.{listed, listText};
+ghost use Rattle.fmd.specs.Calls.{listOf, listText};
 ghost use Rattle.fmd_lines.specs.Lines.{hexField, nameText, numbersText, sectionLine, imageLine, numberedLine, listingOf};
 use fmap_rules::ImagePosition;
 use fmd::Image;
-use fmd::Reading;
-use fmd::Section;
+use fmd::LayoutReading;
+use fmd::SectionRecord;
 
 // A section list after it was lent, with the answer.
 pub struct Lent {
-    pub reading: Reading,
-    pub sections: [Section; 128],
+    pub reading: LayoutReading,
+    pub sections: [SectionRecord; 128],
 }
 
 // Lends the section list to the layout reader.
-pub fn lend(text: &[u8], sections: [Section; 128]) -> Lent
-    ensures { λ r. ⌜ listed (r .reading) (r .sections) ≡ listText (now (text .entry)) sections ⌝ }
+pub fn lend(text: &[u8], sections: [SectionRecord; 128]) -> Lent
+    ensures { λ r. ⌜ listOf (r .reading) (r .sections) ≡ listText (now (text .entry)) sections ⌝ }
 {
     let mut lent = sections;
     let reading = fmd::list(text, &mut lent);
@@ -54,7 +54,7 @@ fn hex_field(out: &mut [u8], at: usize, n: u64, width: usize) -> usize
 }
 
 // Position, size and flags of a section, a space after each.
-pub fn numbers(out: &mut [u8], at: usize, s: Section) -> usize
+pub fn numbers(out: &mut [u8], at: usize, s: SectionRecord) -> usize
     requires { ⌜ at + 23 ≤ length (now out) ⌝ }
     ensures { λ r. ⌜ (r ≡ at + 23) × Puts at (numbersText s) r (now (out .entry)) (now (out .exit)) ⌝ }
 {
@@ -71,7 +71,7 @@ fn name(out: &mut [u8], at: usize, stored: [u8; 32]) -> usize
     text_out::bytes(out, at, &stored[..k])
 }
 
-fn section_line(out: &mut [u8], at: usize, s: Section) -> usize
+fn section_line(out: &mut [u8], at: usize, s: SectionRecord) -> usize
     requires { ⌜ at + 56 ≤ length (now out) ⌝ }
     ensures { λ r. ⌜ (r ≤ at + 56) × Puts at (sectionLine s) r (now (out .entry)) (now (out .exit)) ⌝ }
 {
@@ -94,7 +94,7 @@ fn image_line(out: &mut [u8], at: usize, i: Image) -> usize
 }
 
 // A line for each of the first sections.
-fn section_lines(out: &mut [u8], at: usize, sections: [Section; 128], count: usize) -> usize
+fn section_lines(out: &mut [u8], at: usize, sections: [SectionRecord; 128], count: usize) -> usize
     requires { ⌜ (count ≤ 128) × (at + 56 * count ≤ length (now out)) ⌝ }
     ensures { λ r. ⌜ (r ≤ at + 56 * count)
         × Puts at (flat (map sectionLine (take count sections))) r (now (out .entry)) (now (out .exit)) ⌝ }
@@ -108,8 +108,8 @@ fn section_lines(out: &mut [u8], at: usize, sections: [Section; 128], count: usi
     end
 }
 
-fn blank() -> Section {
-    Section {
+fn blank() -> SectionRecord {
+    SectionRecord {
         position: ImagePosition(0),
         size: 0,
         flags: 0,

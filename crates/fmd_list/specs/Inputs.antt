@@ -6,6 +6,6 @@ use Rattle.fmd_list.specs.declared.Input.{Input}
 use Rattle.fmd_list.specs.declared.Input.the-variants.{Bytes, Failed}
 
 -- so many bytes at the start of the buffer
-abbrev pub Within : Input → List ℕ → Type 0
-Within (Bytes n) xs = Counts n xs
-Within Failed xs = Unit {0}
+abbrev pub InputWithin : Input → List ℕ → Type 0
+InputWithin (Bytes n) xs = Counts n xs
+InputWithin Failed xs = Unit {0}

@@ -1,5 +1,5 @@
 // Lists a layout text from standard input: the image, then each section, a line each; or the refusal (S10 to S13).
-ghost use Rattle.fmd_list.specs.Inputs.{Within};
+ghost use Rattle.fmd_list.specs.Inputs.{InputWithin};
 use libc::STDIN_FILENO;
 use libc::STDOUT_FILENO;
 
@@ -14,7 +14,7 @@ enum Input {
 
 // Reads until the buffer is full or the input ends.
 fn read_all(buf: &mut [u8]) -> Input
-    ensures { λ r. ⌜ Within r (now (buf .exit)) ⌝ }
+    ensures { λ r. ⌜ InputWithin r (now (buf .exit)) ⌝ }
 {
     let mut done = 0;
     while done < buf.len() {

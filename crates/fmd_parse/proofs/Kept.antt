@@ -11,9 +11,9 @@ use Rattle.octets.specs.Tests.{_or_, all}
 use Rattle.octets.proofs.Bools.{choice, not-f}
 use Rattle.text_words.specs.Classes.{isDigit}
 use Rattle.fmd_lex.specs.Chars.{isWord}
-use Rattle.fmd_lex.specs.Tokens.{wordKind, tokenAt, bytesOf}
+use Rattle.fmd_lex.specs.Tokens.{wordKind, tokenAt, tokenBytes}
 use Rattle.fmd_lex.specs.Invariants.{Within}
-use Rattle.fmd_lex.specs.Numbers.{numberOf}
+use Rattle.fmd_lex.specs.Numbers.{numberIn}
 use Rattle.fmd_lex.specs.Names.{goodName, flagOf}
 use Rattle.fmd_lex.specs.declared.Token.{Token}
 use Rattle.fmd_lex.specs.declared.Number.{Number}
@@ -26,7 +26,7 @@ use Rattle.fmd_lex.proofs.Places.{token-within, word-bytes}
 use Rattle.fmd_head.specs.Refusals.{numberOf as refusalNumber}
 use Rattle.fmd_head.specs.Heads.{next, isKind, counted, amountAt, onward, namedAt, marked, markAt, lastAt, otherAt, flagsAt, withOffset}
 use Rattle.fmd_head.specs.Heads.{offsetAt, withSize, sizeAt, headAt}
-use Rattle.fmd_parse.specs.Trees.{Numbered, Named}
+use Rattle.fmd_parse.specs.Trees.{FaultNumber, Named}
 use Rattle.fmd_table.specs.declared.Section.{Section}
 use Rattle.fmd_head.specs.declared.Amount.{Amount}
 use Rattle.fmd_head.specs.declared.Amount.the-variants.{Counted, Uncounted}
@@ -37,7 +37,7 @@ use Rattle.fmd_head.specs.declared.HeadPart.the-variants.{Read, Fault}
 
 pub record From (s : List ℕ) (at : ℕ) (u : Token) : Type 0 where
   pub within : Within (length s) at u
-  pub word : u .kind ≡ wordKind → all isWord (bytesOf s u) ≡ true
+  pub word : u .kind ≡ wordKind → all isWord (tokenBytes s u) ≡ true
 
 pub token-from : (s : List ℕ) (at : ℕ) → at ≤ length s → From s at (tokenAt s at)
 token-from s at h = record { within = token-within s at h; word = word-bytes s at }
@@ -55,16 +55,16 @@ own-from w =
 -- ---- faults
 
 abbrev pub Faulty : List ℕ → ℕ → ℕ → Type 0
-Faulty s n p = Numbered n × (p ≤ length s)
+Faulty s n p = FaultNumber n × (p ≤ length s)
 
 module _ {s : List ℕ} {a : ℕ} {t : Token} (w : From s a t) where
   pub next-from : From s (t .end) (next s t)
   next-from = token-from s (t .end) (w .within .inside)
 
-  pub fault-here : (n : ℕ) → Numbered n → Faulty s n (t .start)
+  pub fault-here : (n : ℕ) → FaultNumber n → Faulty s n (t .start)
   fault-here n e = (e, omega arith)
 
-  pub name-here : t .kind ≡ wordKind → goodName (bytesOf s t) ≡ true → Named s (t .start) (t .end - t .start)
+  pub name-here : t .kind ≡ wordKind → goodName (tokenBytes s t) ≡ true → Named s (t .start) (t .end - t .start)
   name-here k e = record { inside = omega arith; word = w .word k; good = e }
 
 -- ---- numbers
@@ -76,7 +76,7 @@ AmountFrom s a (Uncounted r p) = Faulty s (refusalNumber r) p
 pub amount-from : {s : List ℕ} {a : ℕ} {t : Token} → From s a t → AmountFrom s (t .end) (amountAt s t)
 unfolding amountAt _or_
 amount-from {s} {a} {t} w =
-    choice (AmountFrom s (t .end)) (isKind wordKind t) _ _ (λ e. by-number (numberOf (bytesOf s t)) (number-fits (bytesOf s t))) (λ e. fault-here w 51 refl)
+    choice (AmountFrom s (t .end)) (isKind wordKind t) _ _ (λ e. by-number (numberIn (tokenBytes s t)) (number-fits (tokenBytes s t))) (λ e. fault-here w 51 refl)
   where
     by-number : (n : Number) → NumberFits n → AmountFrom s (t .end) (counted s t n)
     by-number (Value n) h = (next-from w, h)
@@ -113,7 +113,7 @@ onward-keeps s a b h (Fault r p) f w o g = w
 module _ {s : List ℕ} {a : ℕ} {t : Token} (w : From s a t) (h : Section) where
   flag-keeps : Keeps s (t .end) h (markAt s t h)
   unfolding markAt _or_
-  flag-keeps = choice (Keeps s (t .end) h) (isKind wordKind t) _ _ (λ e. by-flag (flagOf (bytesOf s t))) (λ e. fault-here w 51 refl)
+  flag-keeps = choice (Keeps s (t .end) h) (isKind wordKind t) _ _ (λ e. by-flag (flagOf (tokenBytes s t))) (λ e. fault-here w 51 refl)
     where
       by-flag : (f : Flag) → Keeps s (t .end) h (marked s t h f)
       by-flag Cbfs = choice (Keeps s (t .end) h) (h .cbfs) _ _ (λ e. fault-here w 56 refl)
@@ -185,7 +185,7 @@ unfolding namedAt _or_
 named-heads {s} {a} {t} w lv par n =
     let P = Heads s (t .start + 1) lv par n in
     choice P (not (isKind wordKind t)) _ _ (λ e. fault-here w 51 refl)
-    (λ e. choice P (not (goodName (bytesOf s t))) _ _ (λ f. fault-here w 53 refl)
+    (λ e. choice P (not (goodName (tokenBytes s t))) _ _ (λ f. fault-here w 53 refl)
     (λ f. choice P (leb 128 n) _ _ (λ g. fault-here w 55 refl)
     (λ g. choice P (ltb 8 lv) _ _ (λ d. fault-here w 55 refl)
     (λ d.

@@ -7,7 +7,7 @@ use lib.Dec.{ltb, leb}
 use lib.ListN.{getD}
 use Rattle.octets.proofs.Bools.{choice}
 use Rattle.text_words.specs.Classes.{isDigit}
-use Rattle.fmd_lex.specs.Tokens.{wordKind, bytesOf}
+use Rattle.fmd_lex.specs.Tokens.{wordKind, tokenBytes}
 use Rattle.fmd_lex.specs.Names.{goodName, flagOf}
 use Rattle.fmd_lex.specs.declared.Token.{Token}
 use Rattle.fmd_lex.specs.declared.Flag.{Flag}
@@ -43,7 +43,7 @@ module _ (par : ℕ) (s : List ℕ) (t : Token) where
 
   mark-of : (h : Section) → h .parent ≡ par → Of par (markAt s t h)
   unfolding markAt
-  mark-of h e = choice (Of par) (isKind wordKind t) _ _ (λ q. mark-by h e (flagOf (bytesOf s t))) (λ q. tt)
+  mark-of h e = choice (Of par) (isKind wordKind t) _ _ (λ q. mark-by h e (flagOf (tokenBytes s t))) (λ q. tt)
 
   last-of : (h : Section) → h .parent ≡ par → Of par (lastAt s t h)
   unfolding lastAt
@@ -63,7 +63,7 @@ module _ (par : ℕ) (s : List ℕ) (t : Token) where
   unfolding namedAt
   named-of lv n =
       choice (Of par) (not (isKind wordKind t)) _ _ (λ e. tt)
-      (λ e. choice (Of par) (not (goodName (bytesOf s t))) _ _ (λ f. tt)
+      (λ e. choice (Of par) (not (goodName (tokenBytes s t))) _ _ (λ f. tt)
       (λ f. choice (Of par) (leb 128 n) _ _ (λ g. tt)
       (λ g. choice (Of par) (ltb 8 lv) _ _ (λ d. tt) (λ d. refl))))
 

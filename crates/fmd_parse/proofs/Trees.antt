@@ -12,14 +12,14 @@ use lib.Seq.{getD-append-seam}
 use borrow.Author.Tests.{ltb-true, ltb-false, leb-true, eqb-true}
 use Rattle.octets.specs.Tests.{_and_, _or_}
 use Rattle.octets.proofs.Bools.{choice, not-f, and-l, and-r}
-use Rattle.fmd_lex.specs.Tokens.{endKind, wordKind, tokenAt, bytesOf}
+use Rattle.fmd_lex.specs.Tokens.{endKind, wordKind, tokenAt, tokenBytes}
 use Rattle.fmd_lex.specs.Names.{goodName}
 use Rattle.fmd_lex.specs.declared.Token.{Token}
 use Rattle.fmd_head.specs.Refusals.{numberOf}
 use Rattle.fmd_head.specs.Heads.{next, isKind, amountAt, headAt}
 use Rattle.fmd_head.specs.Images.{onward, titleAt, withAddress, addressAt, withLength, lengthAt, openAt, imageAt}
 use Rattle.fmd_parse.specs.Layouts.{Parsed, fault, parsed, afterHead, afterSection, sectionFrom, listFrom, afterImage, afterList, endedBy, layoutOf}
-use Rattle.fmd_parse.specs.Trees.{Named, blank, Under, Standing, Tree, AddressFits, Imaged, LayoutFacts}
+use Rattle.fmd_parse.specs.Trees.{Named, blankSection, Under, Standing, Tree, AddressFits, Imaged, LayoutFacts}
 use Rattle.fmd_table.specs.declared.Section.{Section}
 use Rattle.fmd_head.specs.declared.Refusal.{Refusal}
 use Rattle.fmd_head.specs.declared.HeadPart.{HeadPart}
@@ -36,7 +36,7 @@ use Rattle.fmd_parse.proofs.Kept.{Headed, Heads, head-heads}
 
 pub record Grown (l m : List Section) : Type 0 where
   pub longer : length l < length m
-  pub same : (k : ℕ) → k < length l → getD m k blank ≡ getD l k blank
+  pub same : (k : ℕ) → k < length l → getD m k blankSection ≡ getD l k blankSection
 
 grown-on : {l m n : List Section} → Grown l m → Grown m n → Grown l n
 grown-on p q = record {
@@ -57,19 +57,19 @@ module _ {s : List ℕ} {lv par : ℕ} {l : List Section} {h : Section} (r : Tre
   unfolding m
   one-more = length-append l (h ∷ [])
 
-  last : getD m (length l) blank ≡ h
+  last : getD m (length l) blankSection ≡ h
   unfolding m
-  last = getD-append-seam l h [] blank
+  last = getD-append-seam l h [] blankSection
 
-  before : (k : ℕ) → k < length l → getD m k blank ≡ getD l k blank
+  before : (k : ℕ) → k < length l → getD m k blankSection ≡ getD l k blankSection
   unfolding m
-  before k q = List·getD-append l (h ∷ []) blank k q
+  before k q = List·getD-append l (h ∷ []) blankSection k q
 
   pub push-grown : Grown l (l ++ (h ∷ []))
   unfolding m
   push-grown = record { longer = let e = one-more in omega arith; same = before }
 
-  older : (k : ℕ) → k < length l → Standing s l k (getD l k blank) → Standing s (l ++ (h ∷ [])) k (getD (l ++ (h ∷ [])) k blank)
+  older : (k : ℕ) → k < length l → Standing s l k (getD l k blankSection) → Standing s (l ++ (h ∷ [])) k (getD (l ++ (h ∷ [])) k blankSection)
   unfolding m
   older k q t =
       rw (before k q) (record { named = t .named; low = t .low; high = t .high; under = up (t .under) })
@@ -87,11 +87,11 @@ module _ {s : List ℕ} {lv par : ℕ} {l : List Section} {h : Section} (r : Tre
       up (inr x) =
           inr (
             rw (d .parent) (x .0),
-            ap (λ (p : ℕ). getD (l ++ (h ∷ [])) p blank .level + 1) (d .parent) ∙ ap (λ (g : Section). g .level + 1) (before par (x .0)) ∙ x .1 ∙ sym
+            ap (λ (p : ℕ). getD (l ++ (h ∷ [])) p blankSection .level + 1) (d .parent) ∙ ap (λ (g : Section). g .level + 1) (before par (x .0)) ∙ x .1 ∙ sym
                 (d .level),
           )
 
-      by-place : (k : ℕ) → k < length (l ++ (h ∷ [])) → (b : Bool) → ltb k (length l) ≡ b → Standing s (l ++ (h ∷ [])) k (getD (l ++ (h ∷ [])) k blank)
+      by-place : (k : ℕ) → k < length (l ++ (h ∷ [])) → (b : Bool) → ltb k (length l) ≡ b → Standing s (l ++ (h ∷ [])) k (getD (l ++ (h ∷ [])) k blankSection)
       by-place k q true e = let x = ltb-true k (length l) e in older k x (r .each k x)
       by-place k q false e =
           let n = one-more in
@@ -102,7 +102,7 @@ module _ {s : List ℕ} {lv par : ℕ} {l : List Section} {h : Section} (r : Tre
 under-push : {s : List ℕ} {lv par : ℕ} (l : List Section) {h : Section} → Headed s lv par (length l) h
     → Under (l ++ (h ∷ [])) (length (l ++ (h ∷ []))) (lv + 1) (length l)
 under-push {s} {lv} {par} l {h} d =
-    inr (omega (arith, length-append l (h ∷ [])), rw (getD-append-seam l h [] blank, d .level))
+    inr (omega (arith, length-append l (h ∷ [])), rw (getD-append-seam l h [] blankSection, d .level))
 
 -- ---- the two readers
 
@@ -168,7 +168,7 @@ module _ {s : List ℕ} {a : ℕ} {t : Token} (w : From s a t) where
   unfolding titleAt _or_
   title-facts =
       choice (Titled s) (not (isKind wordKind t)) _ _ (λ e. fault-here w 51 refl)
-      (λ e. choice (Titled s) (not (goodName (bytesOf s t))) _ _ (λ f. fault-here w 53 refl)
+      (λ e. choice (Titled s) (not (goodName (tokenBytes s t))) _ _ (λ f. fault-here w 53 refl)
       (λ f. (from-earlier (next-from w) (omega arith), name-here w (eqb-true (t .kind) wordKind (not-f (isKind wordKind t) e)) (not-f _ f), tt)))
 
   module _ (i : TextImage) (d : Named s (i .place) (i .length)) (f : AddressFits (i .address)) where

@@ -19,8 +19,8 @@ use Rattle.fmd_table.specs.declared.Section.{Section}
 use Rattle.fmd_head.specs.declared.TextImage.{TextImage}
 
 -- R33: the first fault in the text (51, 52, 53, 55, unknown or repeated flag 56)
-abbrev pub Numbered : ℕ → Type 0
-Numbered n = any (eqb n) (51 ∷ 52 ∷ 53 ∷ 55 ∷ 56 ∷ []) ≡ true
+abbrev pub FaultNumber : ℕ → Type 0
+FaultNumber n = any (eqb n) (51 ∷ 52 ∷ 53 ∷ 55 ∷ 56 ∷ []) ≡ true
 
 -- a name of n bytes at the place p: in the text, of bytes of a word, as L6 says
 pub record Named (s : List ℕ) (p n : ℕ) : Type 0 where
@@ -29,12 +29,12 @@ pub record Named (s : List ℕ) (p n : ℕ) : Type 0 where
   pub good : goodName (part p n s) ≡ true
 
 -- what getD answers past the end of a list: the value that an index of the code has there
-abbrev pub blank : Section
-blank = record { offset = GivenOffset (record { 0 = 0 }); size = GivenSize 0; place = 0; length = 0; cbfs = false; preserve = false; parent = 0; level = 0 }
+abbrev pub blankSection : Section
+blankSection = record { offset = GivenOffset (record { 0 = 0 }); size = GivenSize 0; place = 0; length = 0; cbfs = false; preserve = false; parent = 0; level = 0 }
 
 -- the parent of a section of the level lv at the index k: the image at level 1, else an earlier section, one level above
 abbrev pub Under : List Section → ℕ → ℕ → ℕ → Type 0
-Under l k lv par = ((lv ≡ 1) × (par ≡ 128)) ⊎ ((par < k) × (getD l par blank .level + 1 ≡ lv))
+Under l k lv par = ((lv ≡ 1) × (par ≡ 128)) ⊎ ((par < k) × (getD l par blankSection .level + 1 ≡ lv))
 
 pub record Standing (s : List ℕ) (l : List Section) (k : ℕ) (h : Section) : Type 0 where
   pub named : Named s (h .place) (h .length)
@@ -45,7 +45,7 @@ pub record Standing (s : List ℕ) (l : List Section) (k : ℕ) (h : Section) : 
 -- (Q5) at most 128 sections, 8 levels; children after parents
 pub record Tree (s : List ℕ) (l : List Section) : Type 0 where
   pub room : length l ≤ 128
-  pub each : (k : ℕ) → k < length l → Standing s l k (getD l k blank)
+  pub each : (k : ℕ) → k < length l → Standing s l k (getD l k blankSection)
 
 -- (L8) at most 4,294,967,295
 abbrev pub AddressFits : Address → Type 0
@@ -61,5 +61,5 @@ pub record Imaged (s : List ℕ) (i : TextImage) : Type 0 where
 
 -- L3: Braces hold at least one section.
 abbrev pub LayoutFacts : List ℕ → Layout → Type 0
-LayoutFacts s (refused n p) = Numbered n × (p ≤ length s)
+LayoutFacts s (refused n p) = FaultNumber n × (p ≤ length s)
 LayoutFacts s (layout i l) = Imaged s i × Tree s l × (0 < length l)

@@ -11,13 +11,13 @@ use Rattle.octets.specs.Rows.{codeOf}
 use Rattle.text_out.specs.Text.{hexDigits, Puts}
 use Rattle.text_out.proofs.Digits.{length-hex}
 use Rattle.text_out.proofs.Puts.{puts-then, puts-as}
-use Rattle.fmd.specs.Calls.{numberOf, listed, listText}
+use Rattle.fmd.specs.Calls.{numberOf, listOf, listText}
 use Rattle.fmd.specs.declared.Answer.{Answer}
-use Rattle.fmd.specs.declared.Reading.{Reading}
-use Rattle.fmd.specs.declared.Section.{Section}
+use Rattle.fmd.specs.declared.LayoutReading.{LayoutReading}
+use Rattle.fmd.specs.declared.SectionRecord.{SectionRecord}
 use Rattle.fmd.proofs.Answers.{refused-by, accepted-by}
 use Rattle.fmd_lines.specs.Lines.{numbersText, numberedLine}
-use Rattle.fmd_records.specs.Records.{pattern, hexBytes, recordLine, answerLine, linesOf, recordsOf}
+use Rattle.fmd_records.specs.Records.{pattern, hexBytes, recordLine, answerLine, recordLines, recordsOf}
 
 pub byte-put : (n at r : ℕ) (xs ys : List ℕ) → Puts at (hexDigits 2 n) r xs ys → (r ≤ at + 2) × Puts at (hexDigits 2 n) r xs ys
 byte-put n at r xs ys p = (omega (arith, p .0, length-hex 2 n), p)
@@ -32,7 +32,7 @@ pub name-put : (stored : List ℕ) (at r : ℕ) (xs ys : List ℕ) → length st
 unfolding hexBytes
 name-put stored at r xs ys l p = (omega (arith, p .0), all-put (hexDigits 2) stored 32 at r xs ys l (p .1))
 
-pub record-put : (s : Section) (at a b r : ℕ) (xs ys zs us : List ℕ) → (a ≡ at + 23) × Puts at (numbersText s) a xs ys
+pub record-put : (s : SectionRecord) (at a b r : ℕ) (xs ys zs us : List ℕ) → (a ≡ at + 23) × Puts at (numbersText s) a xs ys
     → (b ≤ a + 64) × Puts a (hexBytes (s .name)) b ys zs → Puts b (10 ∷ []) r zs us → (r ≤ at + 88) × Puts at (recordLine s) r xs us
 unfolding recordLine
 record-put s at a b r xs ys zs us p q t =
@@ -47,7 +47,7 @@ module _ (a : Answer) (k count : ℕ) (f : k ≡ codeOf (numberOf a)) where
   accepted-is h = ap (answerLine count) (sym (accepted-by a k f h))
 
 -- what is shown of a list of the pattern that was lent
-pub records-are : (s : List ℕ) (r : Reading) (p : Section) (zs : List Section) → p ≡ pattern → listed r zs ≡ listText s (replicate 128 p)
+pub records-are : (s : List ℕ) (r : LayoutReading) (p : SectionRecord) (zs : List SectionRecord) → p ≡ pattern → listOf r zs ≡ listText s (replicate 128 p)
     → answerLine (r .image .count) (numberOf (r .answer)) ++ flat (map recordLine zs) ≡ recordsOf s
 unfolding recordsOf
-records-are s r p zs h e = ap linesOf (e ∙ ap (λ (q : Section). listText s (replicate 128 q)) h)
+records-are s r p zs h e = ap recordLines (e ∙ ap (λ (q : SectionRecord). listText s (replicate 128 q)) h)

@@ -14,15 +14,15 @@ ghost use Rattle.text_out.specs.Text.{hexDigits, Puts};
 ghost use Rattle.fmd.specs.Calls.{numberOf};
 ghost use Rattle.fmd_records.specs.Records.{pattern as patternOf, hexBytes, recordLine, answerLine, recordsOf};
 use fmap_rules::ImagePosition;
-use fmd::Reading;
-use fmd::Section;
+use fmd::LayoutReading;
+use fmd::SectionRecord;
 use libc::STDOUT_FILENO;
 
 // What a record holds before it is lent, so that it shows whether it was filled.
-fn pattern() -> Section
+fn pattern() -> SectionRecord
     ensures { λ r. ⌜ r ≡ patternOf ⌝ }
 {
-    Section {
+    SectionRecord {
         position: ImagePosition(0xa5a5a5a5),
         size: 0x5a5a5a5a,
         flags: 0xc3c3,
@@ -50,7 +50,7 @@ fn name(out: &mut [u8], at: usize, stored: [u8; 32]) -> usize
     end
 }
 
-fn record_line(out: &mut [u8], at: usize, s: Section) -> usize
+fn record_line(out: &mut [u8], at: usize, s: SectionRecord) -> usize
     requires { ⌜ at + 88 ≤ length (now out) ⌝ }
     ensures { λ r. ⌜ (r ≤ at + 88) × Puts at (recordLine s) r (now (out .entry)) (now (out .exit)) ⌝ }
 {
@@ -60,7 +60,7 @@ fn record_line(out: &mut [u8], at: usize, s: Section) -> usize
     text_out::bytes(out, b, b"\n")
 }
 
-fn record_lines(out: &mut [u8], at: usize, sections: [Section; 128]) -> usize
+fn record_lines(out: &mut [u8], at: usize, sections: [SectionRecord; 128]) -> usize
     requires { ⌜ at + 11264 ≤ length (now out) ⌝ }
     ensures { λ r. ⌜ (r ≤ at + 11264) × Puts at (flat (map recordLine sections)) r (now (out .entry)) (now (out .exit)) ⌝ }
 {
@@ -73,7 +73,7 @@ fn record_lines(out: &mut [u8], at: usize, sections: [Section; 128]) -> usize
     end
 }
 
-fn answer_line(out: &mut [u8], r: Reading) -> usize
+fn answer_line(out: &mut [u8], r: LayoutReading) -> usize
     requires { ⌜ (r .image .count ≤ 128) × (13 ≤ length (now out)) ⌝ }
     ensures { λ k. ⌜ (k ≤ 13) × Puts 0 (answerLine (r .image .count) (numberOf (r .answer))) k (now (out .entry)) (now (out .exit)) ⌝ }
 {

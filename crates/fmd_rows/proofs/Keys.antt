@@ -15,9 +15,9 @@ use Rattle.octets.specs.Bytes.{same}
 use Rattle.octets.proofs.Bools.{bool-cases}
 use Rattle.octets.proofs.Equal.{same-false}
 use Rattle.octets.proofs.Tests.{any-false}
-use Rattle.fmd_parse.specs.Trees.{blank}
+use Rattle.fmd_parse.specs.Trees.{blankSection}
 use Rattle.fmd_table.specs.declared.Section.{Section}
-use Rattle.fmd_rows.specs.Rows.{nameOf, repeats}
+use Rattle.fmd_rows.specs.Rows.{sectionName, repeats}
 use Rattle.fmd_rows.specs.Invariants.{keyFrom, keyAt, Seen}
 
 module _ (x : ℕ) (s : List ℕ) (i : ℕ) where
@@ -38,11 +38,11 @@ module _ (s : List ℕ) (l : List Section) where
     pub unseen : k ≤ length l → getD marks (keyAt s l k) 0 ≡ 0 → false ≡ repeats s l k
     unfolding repeats
     unseen h z =
-        sym (any-false (λ e. same (nameOf s e) (nameOf s (getD l k blank))) (take k l) blank
+        sym (any-false (λ e. same (sectionName s e) (sectionName s (getD l k blankSection))) (take k l) blankSection
         (λ j a.
         let q : j < k = omega (arith, a, length-take-le k l h) in
-        rw (getD-take k l j blank q)
-        (same-false (nameOf s (getD l j blank)) (nameOf s (getD l k blank))
+        rw (getD-take k l j blankSection q)
+        (same-false (sectionName s (getD l j blankSection)) (sectionName s (getD l k blankSection))
         (λ e. let m = rw e at (seen .marked j q) in omega (arith, m, z)))))
 
     -- section k's key marked

@@ -15,12 +15,12 @@ use Rattle.octets.specs.Tests.{any}
 use Rattle.octets.specs.Bytes.{part, same}
 use Rattle.octets.proofs.Bools.{choice, bool-cases}
 use Rattle.octets.proofs.Tests.{any-make, any-false, any-on, any-stop, any-done}
-use Rattle.fmd_parse.specs.Trees.{blank, Tree}
+use Rattle.fmd_parse.specs.Trees.{blankSection, Tree}
 use Rattle.fmd_table.specs.declared.Section.{Section}
 use Rattle.fmd_table.specs.Table.{sectionAt, sectionsIn}
-use Rattle.fmd_table.specs.Invariants.{nextAt, lastAt, parentAt, NextIn, LastIn, Linked}
+use Rattle.fmd_table.specs.Invariants.{nextSiblingAt, lastChildAt, parentAt, NextIn, LastIn, Linked}
 use Rattle.fmd_table.proofs.Table.{length-sections, section-in}
-use Rattle.fmd_rows.specs.Rows.{foundFrom, nameOf, repeats, hasChild, siblingIn}
+use Rattle.fmd_rows.specs.Rows.{foundFrom, sectionName, repeats, hasChild, siblingIn}
 use Rattle.fmd_rows.specs.Invariants.{Inside}
 use Rattle.fmd_rows.specs.declared.Found.{Found}
 use Rattle.fmd_rows.specs.declared.Found.the-variants.{At, Nowhere}
@@ -28,7 +28,7 @@ use Rattle.fmd_rows.specs.declared.Sibling.the-variants.{Next, Last}
 
 -- one of the sections from j on, before the index k, has the name of the section h
 abbrev pub among : List ℕ → Section → ℕ → List Section → ℕ → Bool
-among s h k l j = any (λ e. same (nameOf s e) (nameOf s h)) (drop j (take k l))
+among s h k l j = any (λ e. same (sectionName s e) (sectionName s h)) (drop j (take k l))
 
 -- ---- the first index that passes
 
@@ -76,13 +76,13 @@ module _ (n : ℕ) (rows : List ℕ) where
   pub first-start : (p : ℕ → Bool) → foundFrom p (n - 0) 0 ≡ foundFrom p (length (sectionsIn n rows)) 0
   first-start p = rw (length-sections n rows, sub-zero)
 
-  pub item : (i : ℕ) → i < n → getD (sectionsIn n rows) i blank ≡ sectionAt rows i
-  item i h = section-in n rows i blank h
+  pub item : (i : ℕ) → i < n → getD (sectionsIn n rows) i blankSection ≡ sectionAt rows i
+  item i h = section-in n rows i blankSection h
 
   module _ (j : ℕ) {e : Section} (q : e ≡ sectionAt rows j) where
     here : j < n → drop j (sectionsIn n rows) ≡ e ∷ drop (j + 1) (sectionsIn n rows)
     here h =
-        rw (add-one, drop-cons (sectionsIn n rows) j blank (omega (arith, length-sections n rows)), item j h, sym q)
+        rw (add-one, drop-cons (sectionsIn n rows) j blankSection (omega (arith, length-sections n rows)), item j h, sym q)
 
     -- ---- the next sibling with the parent k
 
@@ -110,7 +110,7 @@ module _ (n : ℕ) (rows : List ℕ) where
   -- ---- the links tell the next sibling of section k, and whether it has a child
 
   module _ (w : Linked n rows) (k : ℕ) (b : k < n) where
-    pub next-is : {j : ℕ} {e : Section} → j ≡ nextAt rows k → j < n → e ≡ sectionAt rows j
+    pub next-is : {j : ℕ} {e : Section} → j ≡ nextSiblingAt rows k → j < n → e ≡ sectionAt rows j
         → Next (e .offset) ≡ siblingIn (parentAt rows k) (drop (k + 1) (sectionsIn n rows))
     next-is {j} {e} q h p = cases (w .after k b)
       where
@@ -122,24 +122,24 @@ module _ (n : ℕ) (rows : List ℕ) where
             ∙ rw d at (siblings-on (parentAt rows k) (j - (k + 1)) (k + 1) (omega arith)
             (λ i y z f. let m = w .between k i (omega arith) (omega arith) f in omega arith))
 
-    pub next-none : {j : ℕ} → j ≡ nextAt rows k → n ≤ j → Last ≡ siblingIn (parentAt rows k) (drop (k + 1) (sectionsIn n rows))
+    pub next-none : {j : ℕ} → j ≡ nextSiblingAt rows k → n ≤ j → Last ≡ siblingIn (parentAt rows k) (drop (k + 1) (sectionsIn n rows))
     next-none {j} q h =
         let d : k + 1 + (n - (k + 1)) ≡ n = omega arith in
         sibling-done (parentAt rows k) n (omega arith)
         ∙ rw d at (siblings-on (parentAt rows k) (n - (k + 1)) (k + 1) (omega arith)
         (λ i y z f. let m = w .between k i (omega arith) (omega arith) f in omega arith))
 
-    pub child-is : {j : ℕ} → j ≡ lastAt rows k → ltb j n ≡ hasChild (sectionsIn n rows) k
+    pub child-is : {j : ℕ} → j ≡ lastChildAt rows k → ltb j n ≡ hasChild (sectionsIn n rows) k
     unfolding hasChild
     child-is {j} q = cases (bool-cases (ltb j n)) (w .last k (inr b))
       where
         cases : (ltb j n ≡ true) ⊎ (ltb j n ≡ false) → LastIn n rows k → ltb j n ≡ any (λ x. eqb (x .parent) k) (sectionsIn n rows)
         cases (inl x) (inl y) = absurd (omega (arith, ltb-true j n x, w .room))
         cases (inl x) (inr y) =
-            x ∙ sym (any-make (λ x. eqb (x .parent) k) (sectionsIn n rows) blank (lastAt rows k) (omega (arith, y .0, length-sections n rows))
-            (rw (item (lastAt rows k) (y .0)) (eq-eqb (parentAt rows (lastAt rows k)) k (y .1))))
+            x ∙ sym (any-make (λ x. eqb (x .parent) k) (sectionsIn n rows) blankSection (lastChildAt rows k) (omega (arith, y .0, length-sections n rows))
+            (rw (item (lastChildAt rows k) (y .0)) (eq-eqb (parentAt rows (lastChildAt rows k)) k (y .1))))
         cases (inr x) y =
-            x ∙ sym (any-false (λ x. eqb (x .parent) k) (sectionsIn n rows) blank
+            x ∙ sym (any-false (λ x. eqb (x .parent) k) (sectionsIn n rows) blankSection
             (λ i h.
             let a : i < n = omega (arith, h, length-sections n rows) in
             rw (item i a) (ne-eqb (parentAt rows i) k
@@ -156,19 +156,19 @@ module _ (n : ℕ) (rows : List ℕ) where
     length-before = length-take-le k (sectionsIn n rows) (omega (arith, length-sections n rows))
 
     module _ (j : ℕ) {e : Section} (p : e ≡ sectionAt rows j) (a : j < k) where
-      before : getD (take k (sectionsIn n rows)) j blank ≡ e
-      before = getD-take k (sectionsIn n rows) j blank a ∙ item j (omega arith) ∙ sym p
+      before : getD (take k (sectionsIn n rows)) j blankSection ≡ e
+      before = getD-take k (sectionsIn n rows) j blankSection a ∙ item j (omega arith) ∙ sym p
 
-      pub among-on : same (nameOf s e) (nameOf s h) ≡ false → among s h k (sectionsIn n rows) (j + 1) ≡ among s h k (sectionsIn n rows) j
+      pub among-on : same (sectionName s e) (sectionName s h) ≡ false → among s h k (sectionsIn n rows) (j + 1) ≡ among s h k (sectionsIn n rows) j
       among-on d =
-          sym (any-on (λ x. same (nameOf s x) (nameOf s h)) (take k (sectionsIn n rows)) blank j (omega (arith, length-before)) (rw before d))
+          sym (any-on (λ x. same (sectionName s x) (sectionName s h)) (take k (sectionsIn n rows)) blankSection j (omega (arith, length-before)) (rw before d))
 
-      pub among-stop : same (nameOf s e) (nameOf s h) ≡ true → true ≡ among s h k (sectionsIn n rows) j
+      pub among-stop : same (sectionName s e) (sectionName s h) ≡ true → true ≡ among s h k (sectionsIn n rows) j
       among-stop d =
-          sym (any-stop (λ x. same (nameOf s x) (nameOf s h)) (take k (sectionsIn n rows)) blank j (omega (arith, length-before)) (rw before d))
+          sym (any-stop (λ x. same (sectionName s x) (sectionName s h)) (take k (sectionsIn n rows)) blankSection j (omega (arith, length-before)) (rw before d))
 
     pub among-done : (j : ℕ) → k ≤ j → false ≡ among s h k (sectionsIn n rows) j
-    among-done j c = sym (any-done (λ x. same (nameOf s x) (nameOf s h)) (take k (sectionsIn n rows)) j (omega (arith, length-before)))
+    among-done j c = sym (any-done (λ x. same (sectionName s x) (sectionName s h)) (take k (sectionsIn n rows)) j (omega (arith, length-before)))
 
   -- where all names lie in the text, that of row k does
   pub name-inside : (s : List ℕ) → Inside s (sectionsIn n rows) → (k : ℕ) {h : Section} → h ≡ sectionAt rows k → k < n → h .place + h .length ≤ length s

@@ -7,7 +7,7 @@ use lib.ListN.{length, getD, take, drop}
 use Rattle.octets.specs.Ascii.{ascii}
 use Rattle.octets.specs.Tests.{_and_, any}
 use Rattle.octets.specs.Bytes.{part, same}
-use Rattle.fmd_parse.specs.Trees.{blank}
+use Rattle.fmd_parse.specs.Trees.{blankSection}
 use Rattle.fmd_table.specs.declared.Offset.the-variants.{Given as GivenOffset, Omitted as OmittedOffset}
 use Rattle.fmd_table.specs.declared.Size.{Size}
 use Rattle.fmd_table.specs.declared.Size.the-variants.{Given as GivenSize, Omitted as OmittedSize}
@@ -30,12 +30,12 @@ isFound (At k) = true
 isFound Nowhere = false
 
 -- the bytes of a section's name
-abbrev pub nameOf : List ℕ → Section → List ℕ
-nameOf s h = part (h .place) (h .length) s
+abbrev pub sectionName : List ℕ → Section → List ℕ
+sectionName s h = part (h .place) (h .length) s
 
 -- (R19) 54: section name used twice. Section k has the name of an earlier one.
 unfoldable pub repeats : List ℕ → List Section → ℕ → Bool
-repeats s l k = any (λ e. same (nameOf s e) (nameOf s (getD l k blank))) (take k l)
+repeats s l k = any (λ e. same (sectionName s e) (sectionName s (getD l k blankSection))) (take k l)
 
 unfoldable pub firstRepeat : List ℕ → List Section → Found
 firstRepeat s l = foundFrom (repeats s l) (length l) 0
@@ -44,7 +44,7 @@ abbrev pub fmap : List ℕ
 fmap = ascii "FMAP"
 
 unfoldable pub isFmap : List ℕ → List Section → ℕ → Bool
-isFmap s l k = same (nameOf s (getD l k blank)) fmap
+isFmap s l k = same (sectionName s (getD l k blankSection)) fmap
 
 -- (R22) section FMAP; nested ones count too
 unfoldable pub fmapIn : List ℕ → List Section → Found
@@ -56,7 +56,7 @@ hasChild l k = any (λ e. eqb (e .parent) k) l
 
 -- R20: 56: .. CBFS on a section with children
 unfoldable pub holdsCbfs : List Section → ℕ → Bool
-holdsCbfs l k = getD l k blank .cbfs and hasChild l k
+holdsCbfs l k = getD l k blankSection .cbfs and hasChild l k
 
 unfoldable pub firstCbfs : List Section → Found
 firstCbfs l = foundFrom (holdsCbfs l) (length l) 0
@@ -82,7 +82,7 @@ isUndecided Undecided = true
 
 -- section k, with the sections after it
 unfoldable pub undecided : List Section → ℕ → Bool
-undecided l k = isUndecided (reachOf (getD l k blank .size) (siblingIn (getD l k blank .parent) (drop (k + 1) l)))
+undecided l k = isUndecided (reachOf (getD l k blankSection .size) (siblingIn (getD l k blankSection .parent) (drop (k + 1) l)))
 
 unfoldable pub firstUndecided : List Section → Found
 firstUndecided l = foundFrom (undecided l) (length l) 0

@@ -7,7 +7,7 @@ ghost use lib.ListN.{length, drop};
 ghost use Rattle.octets.specs.Bytes.{same as sameBytes};
 ghost use Rattle.fmd_table.specs.Table.{sectionAt, sectionsIn, HasRows};
 ghost use Rattle.fmd_table.specs.Invariants.{parentAt, Linked};
-ghost use Rattle.fmd_rows.specs.Rows.{nameOf, repeats, firstRepeat, isFmap, fmapIn, hasChild, holdsCbfs, firstCbfs, foundFrom, siblingIn};
+ghost use Rattle.fmd_rows.specs.Rows.{sectionName, repeats, firstRepeat, isFmap, fmapIn, hasChild, holdsCbfs, firstCbfs, foundFrom, siblingIn};
 ghost use Rattle.fmd_rows.specs.Rows.{reachOf, isUndecided, undecided};
 ghost use Rattle.fmd_rows.specs.Invariants.{Inside, keyFrom, keyAt, Seen};
 use fmd_table::Offset;
@@ -40,7 +40,7 @@ pub enum Reach {
 
 fn same_name(text: &[u8], a: Section, b: Section) -> bool
     requires { ⌜ (a .place + a .length ≤ length (now text)) × (b .place + b .length ≤ length (now text)) ⌝ }
-    ensures { λ r. ⌜ r ≡ sameBytes (nameOf (now (text .entry)) a) (nameOf (now (text .entry)) b) ⌝ }
+    ensures { λ r. ⌜ r ≡ sameBytes (sectionName (now (text .entry)) a) (sectionName (now (text .entry)) b) ⌝ }
 {
     let p = a.place as usize;
     let e = p + a.length as usize;

@@ -14,8 +14,8 @@ use Rattle.octets.specs.Bytes.{put}
 use Rattle.octets.proofs.Bools.{bool-cases}
 use Rattle.octets.proofs.Parts.{getD-part}
 use Rattle.octets.proofs.Puts.{getD-put-out, part-put-same}
-use Rattle.fmd_table.specs.Table.{image, wordsOf, sectionAt, sectionsIn, HasRows}
-use Rattle.fmd_table.specs.Invariants.{nextAt, lastAt, parentAt, IsParent, NextIn, LastIn, Linked, linkedTo}
+use Rattle.fmd_table.specs.Table.{imageRow, wordsOf, sectionAt, sectionsIn, HasRows}
+use Rattle.fmd_table.specs.Invariants.{nextSiblingAt, lastChildAt, parentAt, IsParent, NextIn, LastIn, Linked, linkedTo}
 use Rattle.fmd_table.specs.declared.Section.{Section}
 use Rattle.fmd_table.proofs.Listed.{listed-same}
 use Rattle.fmd_table.proofs.Table.{row-put, row-read, length-sections, section-in}
@@ -54,7 +54,7 @@ link-section rows a w v k p q = same-section (set rows (12 * a + w) v) rows k (�
 module _ (n p : ℕ) (rows : List ℕ) where
   linked-section : (k : ℕ) → sectionAt (linkedTo n p rows) k ≡ sectionAt rows k
   unfolding linkedTo
-  linked-section k = link-section _ p 11 n k (omega arith) (omega arith) ∙ link-section rows (lastAt rows p) 10 n k (omega arith) (omega arith)
+  linked-section k = link-section _ p 11 n k (omega arith) (omega arith) ∙ link-section rows (lastChildAt rows p) 10 n k (omega arith) (omega arith)
 
   linked-sections : (k : ℕ) → sectionsIn k (linkedTo n p rows) ≡ sectionsIn k rows
   unfolding sectionsIn
@@ -62,29 +62,29 @@ module _ (n p : ℕ) (rows : List ℕ) where
 
   length-linked : length (linkedTo n p rows) ≡ length rows
   unfolding linkedTo
-  length-linked = length-set (set rows (12 * lastAt rows p + 10) n) (12 * p + 11) n ∙ length-set rows (12 * lastAt rows p + 10) n
+  length-linked = length-set (set rows (12 * lastChildAt rows p + 10) n) (12 * p + 11) n ∙ length-set rows (12 * lastChildAt rows p + 10) n
 
-  linked-next : HasRows 129 rows → lastAt rows p ≤ image → nextAt (linkedTo n p rows) (lastAt rows p) ≡ n
-  unfolding linkedTo nextAt
+  linked-next : HasRows 129 rows → lastChildAt rows p ≤ imageRow → nextSiblingAt (linkedTo n p rows) (lastChildAt rows p) ≡ n
+  unfolding linkedTo nextSiblingAt
   linked-next room b =
-      getD-set-other (set rows (12 * lastAt rows p + 10) n) (12 * p + 11) (12 * lastAt rows p + 10) n 0 (λ e. omega arith)
-      ∙ getD-set-same rows (12 * lastAt rows p + 10) n 0 (omega (arith, room))
+      getD-set-other (set rows (12 * lastChildAt rows p + 10) n) (12 * p + 11) (12 * lastChildAt rows p + 10) n 0 (λ e. omega arith)
+      ∙ getD-set-same rows (12 * lastChildAt rows p + 10) n 0 (omega (arith, room))
 
-  linked-next-other : (j : ℕ) → (j ≡ lastAt rows p → ⊥) → nextAt (linkedTo n p rows) j ≡ nextAt rows j
-  unfolding linkedTo nextAt
+  linked-next-other : (j : ℕ) → (j ≡ lastChildAt rows p → ⊥) → nextSiblingAt (linkedTo n p rows) j ≡ nextSiblingAt rows j
+  unfolding linkedTo nextSiblingAt
   linked-next-other j d =
-      getD-set-other (set rows (12 * lastAt rows p + 10) n) (12 * p + 11) (12 * j + 10) n 0 (λ e. omega arith)
-      ∙ getD-set-other rows (12 * lastAt rows p + 10) (12 * j + 10) n 0 (λ e. d (omega arith))
+      getD-set-other (set rows (12 * lastChildAt rows p + 10) n) (12 * p + 11) (12 * j + 10) n 0 (λ e. omega arith)
+      ∙ getD-set-other rows (12 * lastChildAt rows p + 10) (12 * j + 10) n 0 (λ e. d (omega arith))
 
-  linked-last : HasRows 129 rows → p ≤ image → lastAt (linkedTo n p rows) p ≡ n
-  unfolding linkedTo lastAt
-  linked-last room b = getD-set-same (set rows (12 * lastAt rows p + 10) n) (12 * p + 11) n 0 (omega (arith, room, length-set rows (12 * lastAt rows p + 10) n))
+  linked-last : HasRows 129 rows → p ≤ imageRow → lastChildAt (linkedTo n p rows) p ≡ n
+  unfolding linkedTo lastChildAt
+  linked-last room b = getD-set-same (set rows (12 * lastChildAt rows p + 10) n) (12 * p + 11) n 0 (omega (arith, room, length-set rows (12 * lastChildAt rows p + 10) n))
 
-  linked-last-other : (j : ℕ) → (j ≡ p → ⊥) → lastAt (linkedTo n p rows) j ≡ lastAt rows j
-  unfolding linkedTo lastAt
+  linked-last-other : (j : ℕ) → (j ≡ p → ⊥) → lastChildAt (linkedTo n p rows) j ≡ lastChildAt rows j
+  unfolding linkedTo lastChildAt
   linked-last-other j d =
-      getD-set-other (set rows (12 * lastAt rows p + 10) n) (12 * p + 11) (12 * j + 11) n 0 (λ e. d (omega arith))
-      ∙ getD-set-other rows (12 * lastAt rows p + 10) (12 * j + 11) n 0 (λ e. omega arith)
+      getD-set-other (set rows (12 * lastChildAt rows p + 10) n) (12 * p + 11) (12 * j + 11) n 0 (λ e. d (omega arith))
+      ∙ getD-set-other rows (12 * lastChildAt rows p + 10) (12 * j + 11) n 0 (λ e. omega arith)
 
 -- ---- row n written
 
@@ -96,12 +96,12 @@ module _ (n : ℕ) (h : Section) (rows : List ℕ) where
       side (inl q) = inl (omega (arith, ltb-true j n q))
       side (inr q) = inr (omega (arith, ltb-false j n q))
 
-  put-next-other : (j : ℕ) → (j ≡ n → ⊥) → nextAt (put (12 * n) (wordsOf h) rows) j ≡ nextAt rows j
-  unfolding nextAt
+  put-next-other : (j : ℕ) → (j ≡ n → ⊥) → nextSiblingAt (put (12 * n) (wordsOf h) rows) j ≡ nextSiblingAt rows j
+  unfolding nextSiblingAt
   put-next-other j d = outside j 10 (omega arith) d
 
-  put-last-other : (j : ℕ) → (j ≡ n → ⊥) → lastAt (put (12 * n) (wordsOf h) rows) j ≡ lastAt rows j
-  unfolding lastAt
+  put-last-other : (j : ℕ) → (j ≡ n → ⊥) → lastChildAt (put (12 * n) (wordsOf h) rows) j ≡ lastChildAt rows j
+  unfolding lastChildAt
   put-last-other j d = outside j 11 (omega arith) d
 
   inside : (w : ℕ) → w < 12 → HasRows (n + 1) rows → getD (put (12 * n) (wordsOf h) rows) (12 * n + w) 0 ≡ getD (wordsOf h) w 0
@@ -109,12 +109,12 @@ module _ (n : ℕ) (h : Section) (rows : List ℕ) where
       sym (getD-part (put (12 * n) (wordsOf h) rows) (12 * n) 12 w b)
       ∙ ap (λ (l : List ℕ). getD l w 0) (part-put-same (wordsOf h) rows (12 * n) (omega (arith, room)))
 
-  put-next : HasRows (n + 1) rows → nextAt (put (12 * n) (wordsOf h) rows) n ≡ image
-  unfolding nextAt
+  put-next : HasRows (n + 1) rows → nextSiblingAt (put (12 * n) (wordsOf h) rows) n ≡ imageRow
+  unfolding nextSiblingAt
   put-next room = inside 10 (omega arith) room
 
-  put-last : HasRows (n + 1) rows → lastAt (put (12 * n) (wordsOf h) rows) n ≡ image
-  unfolding lastAt
+  put-last : HasRows (n + 1) rows → lastChildAt (put (12 * n) (wordsOf h) rows) n ≡ imageRow
+  unfolding lastChildAt
   put-last room = inside 11 (omega arith) room
 
 -- ---- what is known of the table with h in row n, linked
@@ -123,26 +123,26 @@ record Pushed (n : ℕ) (h : Section) (rows new : List ℕ) : Type 0 where
   pub sections : sectionsIn (n + 1) new ≡ sectionsIn n rows ++ (h ∷ [])
   pub old : (j : ℕ) → j < n → parentAt new j ≡ parentAt rows j
   pub own : parentAt new n ≡ h .parent
-  pub no-next : nextAt new n ≡ image
-  pub no-child : lastAt new n ≡ image
-  pub next : (j : ℕ) → j < n → j ≡ lastAt rows (h .parent) → nextAt new j ≡ n
-  pub next-other : (j : ℕ) → j < n → (j ≡ lastAt rows (h .parent) → ⊥) → nextAt new j ≡ nextAt rows j
-  pub child : lastAt new (h .parent) ≡ n
-  pub child-other : (p : ℕ) → IsParent n p → (p ≡ h .parent → ⊥) → lastAt new p ≡ lastAt rows p
+  pub no-next : nextSiblingAt new n ≡ imageRow
+  pub no-child : lastChildAt new n ≡ imageRow
+  pub next : (j : ℕ) → j < n → j ≡ lastChildAt rows (h .parent) → nextSiblingAt new j ≡ n
+  pub next-other : (j : ℕ) → j < n → (j ≡ lastChildAt rows (h .parent) → ⊥) → nextSiblingAt new j ≡ nextSiblingAt rows j
+  pub child : lastChildAt new (h .parent) ≡ n
+  pub child-other : (p : ℕ) → IsParent n p → (p ≡ h .parent → ⊥) → lastChildAt new p ≡ lastChildAt rows p
 
-module _ (n : ℕ) (h : Section) (rows : List ℕ) (room : HasRows 129 rows) (few : n < image) (p : IsParent n (h .parent)) (l : Linked n rows) where
-  parent-in : (q : ℕ) → IsParent n q → (q ≡ n → ⊥) × (q ≤ image)
+module _ (n : ℕ) (h : Section) (rows : List ℕ) (room : HasRows 129 rows) (few : n < imageRow) (p : IsParent n (h .parent)) (l : Linked n rows) where
+  parent-in : (q : ℕ) → IsParent n q → (q ≡ n → ⊥) × (q ≤ imageRow)
   parent-in q (inl e) = ((λ d. omega arith), omega arith)
   parent-in q (inr e) = ((λ d. omega arith), omega arith)
 
-  last-in : lastAt rows (h .parent) ≤ image
+  last-in : lastChildAt rows (h .parent) ≤ imageRow
   last-in = cases (l .last (h .parent) p)
     where
-      cases : LastIn n rows (h .parent) → lastAt rows (h .parent) ≤ image
+      cases : LastIn n rows (h .parent) → lastChildAt rows (h .parent) ≤ imageRow
       cases (inl e) = omega arith
       cases (inr e) = omega (arith, e .0)
 
-  pub linkable : (h .parent ≤ image) × (lastAt rows (h .parent) ≤ image)
+  pub linkable : (h .parent ≤ imageRow) × (lastChildAt rows (h .parent) ≤ imageRow)
   linkable = (parent-in (h .parent) p .1, last-in)
 
   room-left : HasRows (n + 1) (linkedTo n (h .parent) rows)
@@ -173,7 +173,7 @@ module _ (n : ℕ) (h : Section) (rows : List ℕ) (room : HasRows 129 rows) (fe
 
 -- ---- it is linked
 
-module _ (n : ℕ) (h : Section) (rows new : List ℕ) (few : n < image) (p : IsParent n (h .parent)) (l : Linked n rows) (u : Pushed n h rows new) where
+module _ (n : ℕ) (h : Section) (rows new : List ℕ) (few : n < imageRow) (p : IsParent n (h .parent)) (l : Linked n rows) (u : Pushed n h rows new) where
   split : (j : ℕ) → j < n + 1 → (j ≡ n) ⊎ (j < n)
   split j b = eq-or-lt-of-le {n = j} {m = n} (omega arith)
 
@@ -182,7 +182,7 @@ module _ (n : ℕ) (h : Section) (rows new : List ℕ) (few : n < image) (p : Is
   widen w (inr e) = inr (omega arith)
 
   -- a section that is the last child of h's parent
-  of-parent : (j : ℕ) → j < n → j ≡ lastAt rows (h .parent) → parentAt rows j ≡ h .parent
+  of-parent : (j : ℕ) → j < n → j ≡ lastChildAt rows (h .parent) → parentAt rows j ≡ h .parent
   of-parent j b e = cases (l .last (h .parent) p)
     where
       cases : LastIn n rows (h .parent) → parentAt rows j ≡ h .parent
@@ -195,19 +195,19 @@ module _ (n : ℕ) (h : Section) (rows new : List ℕ) (few : n < image) (p : Is
 
   after : (j : ℕ) → (j ≡ n) ⊎ (j < n) → NextIn (n + 1) new j
   after j (inl e) = inl (rw e (u .no-next))
-  after j (inr b) = cases (either j (lastAt rows (h .parent)))
+  after j (inr b) = cases (either j (lastChildAt rows (h .parent)))
     where
       older : NextIn n rows j
-          → (nextAt rows j ≡ image) ⊎ ((j < nextAt rows j) × (nextAt rows j < n + 1) × (parentAt new (nextAt rows j) ≡ parentAt new j))
+          → (nextSiblingAt rows j ≡ imageRow) ⊎ ((j < nextSiblingAt rows j) × (nextSiblingAt rows j < n + 1) × (parentAt new (nextSiblingAt rows j) ≡ parentAt new j))
       older (inl e) = inl e
-      older (inr e) = inr (e .0, omega (arith, e .1), u .old (nextAt rows j) (e .1) ∙ e .2 ∙ sym (u .old j b))
+      older (inr e) = inr (e .0, omega (arith, e .1), u .old (nextSiblingAt rows j) (e .1) ∙ e .2 ∙ sym (u .old j b))
 
-      cases : (j ≡ lastAt rows (h .parent)) ⊎ (j ≡ lastAt rows (h .parent) → ⊥) → NextIn (n + 1) new j
+      cases : (j ≡ lastChildAt rows (h .parent)) ⊎ (j ≡ lastChildAt rows (h .parent) → ⊥) → NextIn (n + 1) new j
       cases (inl e) = inr (rw (u .next j b e) (b, omega arith, u .own ∙ sym (u .old j b ∙ of-parent j b e)))
       cases (inr d) = rw (u .next-other j b d) (older (l .after j b))
 
-  between : (j i : ℕ) → j < i → (i ≡ n) ⊎ (i < n) → parentAt new i ≡ parentAt new j → nextAt new j ≤ i
-  between j i o (inl e) q = cases (either j (lastAt rows (h .parent)))
+  between : (j i : ℕ) → j < i → (i ≡ n) ⊎ (i < n) → parentAt new i ≡ parentAt new j → nextSiblingAt new j ≤ i
+  between j i o (inl e) q = cases (either j (lastChildAt rows (h .parent)))
     where
       b : j < n
       b = omega arith
@@ -215,16 +215,16 @@ module _ (n : ℕ) (h : Section) (rows new : List ℕ) (few : n < image) (p : Is
       own : parentAt rows j ≡ h .parent
       own = sym (u .old j b) ∙ sym q ∙ rw e (u .own)
 
-      most : (j ≤ lastAt rows (h .parent)) × (lastAt rows (h .parent) < n)
+      most : (j ≤ lastChildAt rows (h .parent)) × (lastChildAt rows (h .parent) < n)
       most = rw (sym own) (l .greatest j b)
 
-      cases : (j ≡ lastAt rows (h .parent)) ⊎ (j ≡ lastAt rows (h .parent) → ⊥) → nextAt new j ≤ i
+      cases : (j ≡ lastChildAt rows (h .parent)) ⊎ (j ≡ lastChildAt rows (h .parent) → ⊥) → nextSiblingAt new j ≤ i
       cases (inl d) = rw (u .next j b d) (omega arith)
       cases (inr d) =
           let m = most in
-          let k = l .between j (lastAt rows (h .parent)) (omega arith) (m .1) (of-parent (lastAt rows (h .parent)) (m .1) refl ∙ sym own) in
+          let k = l .between j (lastChildAt rows (h .parent)) (omega arith) (m .1) (of-parent (lastChildAt rows (h .parent)) (m .1) refl ∙ sym own) in
           rw (u .next-other j b d) (omega arith)
-  between j i o (inr c) q = cases (either j (lastAt rows (h .parent)))
+  between j i o (inr c) q = cases (either j (lastChildAt rows (h .parent)))
     where
       b : j < n
       b = omega arith
@@ -232,8 +232,8 @@ module _ (n : ℕ) (h : Section) (rows new : List ℕ) (few : n < image) (p : Is
       same : parentAt rows i ≡ parentAt rows j
       same = sym (u .old i c) ∙ q ∙ u .old j b
 
-      cases : (j ≡ lastAt rows (h .parent)) ⊎ (j ≡ lastAt rows (h .parent) → ⊥) → nextAt new j ≤ i
-      cases (inl d) = absurd (omega (arith, d, ap (lastAt rows) (same ∙ of-parent j b d), l .greatest i c .0))
+      cases : (j ≡ lastChildAt rows (h .parent)) ⊎ (j ≡ lastChildAt rows (h .parent) → ⊥) → nextSiblingAt new j ≤ i
+      cases (inl d) = absurd (omega (arith, d, ap (lastChildAt rows) (same ∙ of-parent j b d), l .greatest i c .0))
       cases (inr d) = rw (u .next-other j b d) (l .between j i o c same)
 
   last : (q : ℕ) → IsParent (n + 1) q → (q ≡ h .parent) ⊎ (q ≡ h .parent → ⊥) → LastIn (n + 1) new q
@@ -241,9 +241,9 @@ module _ (n : ℕ) (h : Section) (rows new : List ℕ) (few : n < image) (p : Is
   last q i (inr d) = place i
     where
       older : LastIn n rows q
-          → (lastAt rows q ≡ image) ⊎ ((lastAt rows q < n + 1) × (parentAt new (lastAt rows q) ≡ q))
+          → (lastChildAt rows q ≡ imageRow) ⊎ ((lastChildAt rows q < n + 1) × (parentAt new (lastChildAt rows q) ≡ q))
       older (inl e) = inl e
-      older (inr e) = inr (omega (arith, e .0), u .old (lastAt rows q) (e .0) ∙ e .1)
+      older (inr e) = inr (omega (arith, e .0), u .old (lastChildAt rows q) (e .0) ∙ e .1)
 
       known : IsParent n q → LastIn (n + 1) new q
       known k = rw (u .child-other q k d) (older (l .last q k))
@@ -256,11 +256,11 @@ module _ (n : ℕ) (h : Section) (rows new : List ℕ) (few : n < image) (p : Is
       place (inl e) = known (inl e)
       place (inr e) = row (split q e)
 
-  greatest : (j : ℕ) → (j ≡ n) ⊎ (j < n) → (j ≤ lastAt new (parentAt new j)) × (lastAt new (parentAt new j) < n + 1)
+  greatest : (j : ℕ) → (j ≡ n) ⊎ (j < n) → (j ≤ lastChildAt new (parentAt new j)) × (lastChildAt new (parentAt new j) < n + 1)
   greatest j (inl e) = rw (e, u .own, u .child) (omega arith, omega arith)
   greatest j (inr b) = rw (u .old j b) (cases (either (parentAt rows j) (h .parent)))
     where
-      cases : (parentAt rows j ≡ h .parent) ⊎ (parentAt rows j ≡ h .parent → ⊥) → (j ≤ lastAt new (parentAt rows j)) × (lastAt new (parentAt rows j) < n + 1)
+      cases : (parentAt rows j ≡ h .parent) ⊎ (parentAt rows j ≡ h .parent → ⊥) → (j ≤ lastChildAt new (parentAt rows j)) × (lastChildAt new (parentAt rows j) < n + 1)
       cases (inl e) = rw (e, u .child) (omega arith, omega arith)
       cases (inr d) =
           let m = l .greatest j b in
@@ -276,15 +276,15 @@ module _ (n : ℕ) (h : Section) (rows new : List ℕ) (few : n < image) (p : Is
     greatest = λ j b. greatest j (split j b);
   }
 
-pub push-linked : (n : ℕ) (h : Section) (rows : List ℕ) → HasRows 129 rows → n < image → IsParent n (h .parent) → Linked n rows
+pub push-linked : (n : ℕ) (h : Section) (rows : List ℕ) → HasRows 129 rows → n < imageRow → IsParent n (h .parent) → Linked n rows
     → (sectionsIn (n + 1) (put (12 * n) (wordsOf h) (linkedTo n (h .parent) rows)) ≡ sectionsIn n rows ++ (h ∷ []))
     × Linked (n + 1) (put (12 * n) (wordsOf h) (linkedTo n (h .parent) rows))
 push-linked n h rows room few p l = let u = pushed n h rows room few p l in (u .sections, linked-on n h rows _ few p l u)
 
 -- ---- no section
 
-pub none-linked : (rows : List ℕ) → HasRows 129 rows → Linked 0 (set rows 1547 image)
-unfolding lastAt
+pub none-linked : (rows : List ℕ) → HasRows 129 rows → Linked 0 (set rows 1547 imageRow)
+unfolding lastChildAt
 none-linked rows room = record {
   room = omega arith;
   under = λ j b. absurd (not-suc-le-zero b);
@@ -294,6 +294,6 @@ none-linked rows room = record {
   greatest = λ j b. absurd (not-suc-le-zero b);
 }
   where
-    image-only : (q : ℕ) → IsParent 0 q → getD (set rows 1547 image) (12 * q + 11) 0 ≡ image
-    image-only q (inl e) = let k : 12 * q + 11 ≡ 1547 = omega arith in rw k (getD-set-same rows 1547 image 0 (omega (arith, room)))
+    image-only : (q : ℕ) → IsParent 0 q → getD (set rows 1547 imageRow) (12 * q + 11) 0 ≡ imageRow
+    image-only q (inl e) = let k : 12 * q + 11 ≡ 1547 = omega arith in rw k (getD-set-same rows 1547 imageRow 0 (omega (arith, room)))
     image-only q (inr e) = absurd (not-suc-le-zero e)

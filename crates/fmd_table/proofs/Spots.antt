@@ -7,7 +7,7 @@ use native.Mathlib.Omega.{arith}
 use lib.ListN.{length, getD, set}
 use Rattle.octets.specs.Bytes.{put}
 use Rattle.octets.proofs.Parts.{getD-part}
-use Rattle.fmd_table.specs.Table.{blank, placedWords, placedOf, placedAt, placedIn, HasSpots}
+use Rattle.fmd_table.specs.Table.{blankPlaced, placedWords, placedOf, placedAt, placedIn, HasSpots}
 use Rattle.fmd_table.specs.declared.Placed.{Placed}
 use Rattle.fmd_table.proofs.Listed.{length-listed, nothing-listed, getD-listed, rows-put}
 
@@ -42,9 +42,9 @@ pub length-placed : (n : ℕ) (spots : List ℕ) → length (placedIn n spots) �
 unfolding placedIn
 length-placed n spots = length-listed (placedAt spots) n
 
-pub placed-in : (n : ℕ) (spots : List ℕ) (k : ℕ) → k < n → getD (placedIn n spots) k blank ≡ placedAt spots k
+pub placed-in : (n : ℕ) (spots : List ℕ) (k : ℕ) → k < n → getD (placedIn n spots) k blankPlaced ≡ placedAt spots k
 unfolding placedIn
-placed-in n spots k h = getD-listed (placedAt spots) n k blank h
+placed-in n spots k h = getD-listed (placedAt spots) n k blankPlaced h
 
 pub none-placed : (spots : List ℕ) → placedIn 0 spots ≡ []
 unfolding placedIn

@@ -9,7 +9,7 @@ use lib.Dec.{eqb}
 use lib.ListN.{length, getD, set}
 use Rattle.octets.specs.Bytes.{part, put}
 use Rattle.octets.proofs.Parts.{getD-part}
-use Rattle.fmd_table.specs.Table.{listed, image, wordsOf, markWord, offsetTag, offsetWord, sizeTag, sizeWord, offsetFrom, sizeFrom}
+use Rattle.fmd_table.specs.Table.{listed, imageRow, wordsOf, markWord, offsetTag, offsetWord, sizeTag, sizeWord, offsetFrom, sizeFrom}
 use Rattle.fmd_table.specs.Table.{sectionOf, sectionAt, sectionsIn, HasRows}
 use Rattle.fmd_table.specs.declared.Offset.{Offset}
 use Rattle.fmd_table.specs.declared.Offset.the-variants.{Given as GivenOffset, Omitted as OmittedOffset}
@@ -71,9 +71,9 @@ pub row-stored : (rows : List ℕ) (k : ℕ) (s : Section) (a b c d g h : ℕ) �
     → c ≡ sizeTag (s .size) → d ≡ sizeWord (s .size) → g ≡ markWord (s .cbfs) → h ≡ markWord (s .preserve)
     → set (set (set (set (set (set
     (set (set (set (set (set (set rows (12 * k) a) (12 * k + 1) b) (12 * k + 2) c) (12 * k + 3) d) (12 * k + 4) (s .place)) (12 * k + 5) (s .length))
-    (12 * k + 6) g) (12 * k + 7) h) (12 * k + 8) (s .parent)) (12 * k + 9) (s .level)) (12 * k + 10) image) (12 * k + 11) image
+    (12 * k + 6) g) (12 * k + 7) h) (12 * k + 8) (s .parent)) (12 * k + 9) (s .level)) (12 * k + 10) imageRow) (12 * k + 11) imageRow
     ≡ put (12 * k) (wordsOf s) rows
-row-stored rows k s a b c d g h p q r t u v = rw (stored rows (12 * k) a b c d (s .place) (s .length) g h (s .parent) (s .level) image image, p, q, r, t, u, v)
+row-stored rows k s a b c d g h p q r t u v = rw (stored rows (12 * k) a b c d (s .place) (s .length) g h (s .parent) (s .level) imageRow imageRow, p, q, r, t, u, v)
 
 -- word i of row k
 word : (rows : List ℕ) (at i : ℕ) → i < 12 → getD (part at 12 rows) i 0 ≡ getD rows (at + i) 0

@@ -20,8 +20,8 @@ abbrev pub spotWords : ℕ
 spotWords = 4
 
 -- the row of the image, the parent of the outermost sections; as a link to a row: none
-abbrev pub image : ℕ
-image = 128
+abbrev pub imageRow : ℕ
+imageRow = 128
 
 -- a table has n rows
 abbrev pub HasRows : ℕ → List ℕ → Type 0
@@ -60,7 +60,7 @@ markWord b = cond b 1 0
 abbrev pub wordsOf : Section → List ℕ
 wordsOf h =
     offsetTag (h .offset) ∷ offsetWord (h .offset) ∷ sizeTag (h .size) ∷ sizeWord (h .size) ∷ h .place ∷ h .length
-    ∷ markWord (h .cbfs) ∷ markWord (h .preserve) ∷ h .parent ∷ h .level ∷ image ∷ image ∷ []
+    ∷ markWord (h .cbfs) ∷ markWord (h .preserve) ∷ h .parent ∷ h .level ∷ imageRow ∷ imageRow ∷ []
 
 -- ---- the section of a row's words; the last two are links (Invariants)
 
@@ -94,8 +94,8 @@ sectionsIn n rows = listed (sectionAt rows) n
 -- ---- sections with their offsets and sizes
 
 -- what getD answers past the end of a list
-abbrev pub blank : Placed
-blank = record { offset = record { 0 = 0 }; size = 0; parent = 0; level = 0 }
+abbrev pub blankPlaced : Placed
+blankPlaced = record { offset = record { 0 = 0 }; size = 0; parent = 0; level = 0 }
 
 abbrev pub placedWords : Placed → List ℕ
 placedWords p = p .offset .0 ∷ p .size ∷ p .parent ∷ p .level ∷ []

@@ -7,7 +7,7 @@ ghost use Prim.Native.Nat.{_+_, _*_, _≤_, _<_};
 ghost use Rattle.octets.specs.Bytes.{put};
 ghost use Rattle.fmd_table.specs.Table.{offsetTag, offsetWord, sizeTag, sizeWord, markWord, offsetFrom, sizeFrom, sectionAt, sectionsIn};
 ghost use Rattle.fmd_table.specs.Table.{rowWords, wordsOf, placedAt, placedIn, HasRows, HasSpots};
-ghost use Rattle.fmd_table.specs.Invariants.{nextAt, lastAt, IsParent, Linked, linkedTo};
+ghost use Rattle.fmd_table.specs.Invariants.{nextSiblingAt, lastChildAt, IsParent, Linked, linkedTo};
 
 // The words of a section, and of a section with its offset and size.
 const ROW: usize = 12;
@@ -139,7 +139,7 @@ fn put_row(rows: &mut [u32], k: usize, h: Section)
 
 // Links row k, behind the parent's last child.
 fn link(rows: &mut [u32], k: usize, parent: usize)
-    requires { ⌜ HasRows 129 (now rows) × (k < 128) × (parent ≤ 128) × (lastAt (now rows) parent ≤ 128) ⌝ }
+    requires { ⌜ HasRows 129 (now rows) × (k < 128) × (parent ≤ 128) × (lastChildAt (now rows) parent ≤ 128) ⌝ }
     ensures { λ _. ⌜ now (rows .exit) ≡ linkedTo k parent (now (rows .entry)) ⌝ }
 {
     let last = last_at(rows, parent) as usize;
@@ -167,7 +167,7 @@ pub fn push(rows: &mut [u32], n: usize, h: Section)
 // The row of the next section with section k's parent.
 pub fn next_at(rows: &[u32], k: usize) -> u32
     requires { ⌜ HasRows (k + 1) (now rows) ⌝ }
-    ensures { λ r. ⌜ r ≡ nextAt (now (rows .entry)) k ⌝ }
+    ensures { λ r. ⌜ r ≡ nextSiblingAt (now (rows .entry)) k ⌝ }
 {
     rows[ROW * k + 10]
 }
@@ -175,7 +175,7 @@ pub fn next_at(rows: &[u32], k: usize) -> u32
 // The row of the last section with the parent k.
 pub fn last_at(rows: &[u32], k: usize) -> u32
     requires { ⌜ HasRows (k + 1) (now rows) ⌝ }
-    ensures { λ r. ⌜ r ≡ lastAt (now (rows .entry)) k ⌝ }
+    ensures { λ r. ⌜ r ≡ lastChildAt (now (rows .entry)) k ⌝ }
 {
     rows[ROW * k + 11]
 }

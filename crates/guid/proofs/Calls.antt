@@ -16,7 +16,7 @@ use Rattle.octets.proofs.Equal.{same-true}
 use Rattle.octets.proofs.Puts.{put-all}
 use Rattle.guid.specs.Hex.{isHexDigit, bytesOf, digitsOf}
 use Rattle.guid.specs.Text.{digitsIn, dashesIn, isGuidText, reordered, storedOf, textOf}
-use Rattle.guid.specs.Calls.{outcome, readOf, writeOf}
+use Rattle.guid.specs.Calls.{unlessRefused, readOf, writeOf}
 use Rattle.guid.proofs.Hex.{length-bytes, length-digits}
 use Rattle.guid.proofs.Text.{length-digitsIn, length-reordered, length-grouped}
 
@@ -61,28 +61,28 @@ length-text g l =
 
 module _ (t g : List ℕ) where
   pub read-length : (length g ≡ 16 → ⊥) → record { number = some 1; buffer = g } ≡ readOf t g
-  unfolding readOf outcome pickRow
+  unfolding readOf unlessRefused pickRow
   read-length h = rw (ne-eqb (length g) 16 h)
 
   pub read-text : length g ≡ 16 → isGuidText t ≡ false → record { number = some 30; buffer = g } ≡ readOf t g
-  unfolding readOf outcome pickRow
+  unfolding readOf unlessRefused pickRow
   read-text l e = rw (eq-eqb (length g) 16 l, e)
 
   pub read-done : (r : List ℕ) → length g ≡ 16 → isGuidText t ≡ true → r ≡ put 0 (storedOf t) g → record { number = none; buffer = r } ≡ readOf t g
-  unfolding readOf outcome pickRow
+  unfolding readOf unlessRefused pickRow
   read-done r l e p = rw (eq-eqb (length g) 16 l, e, p, put-all (storedOf t) g (length-stored t e ∙ sym l))
 
 -- ---- writing g into t
 
 module _ (g t : List ℕ) where
   pub write-guid : (length g ≡ 16 → ⊥) → record { number = some 1; buffer = t } ≡ writeOf g t
-  unfolding writeOf outcome pickRow _or_
+  unfolding writeOf unlessRefused pickRow _or_
   write-guid h = rw (ne-eqb (length g) 16 h)
 
   pub write-text : length g ≡ 16 → (length t ≡ 36 → ⊥) → record { number = some 1; buffer = t } ≡ writeOf g t
-  unfolding writeOf outcome pickRow _or_
+  unfolding writeOf unlessRefused pickRow _or_
   write-text l h = rw (eq-eqb (length g) 16 l, ne-eqb (length t) 36 h)
 
   pub write-done : (r : List ℕ) → length g ≡ 16 → length t ≡ 36 → r ≡ put 0 (textOf g) t → record { number = none; buffer = r } ≡ writeOf g t
-  unfolding writeOf outcome pickRow _or_
+  unfolding writeOf unlessRefused pickRow _or_
   write-done r l n p = rw (eq-eqb (length g) 16 l, eq-eqb (length t) 36 n, p, put-all (textOf g) t (length-text g l ∙ sym n))

@@ -18,7 +18,7 @@ use Rattle.octets.proofs.Rows.{passes}
 use Rattle.octets.proofs.Tests.{all-append, all-take, all-drop, all-reverse}
 use Rattle.guid.specs.Hex.{isHexDigit, bytesOf, digitsOf, upper}
 use Rattle.guid.specs.Text.{digitsIn, isGuidText, grouped, reordered, storedOf, textOf}
-use Rattle.guid.specs.Calls.{outcome, readTextRows, readOf, writeRows, writeOf}
+use Rattle.guid.specs.Calls.{unlessRefused, readTextRows, readOf, writeRows, writeOf}
 use Rattle.guid.specs.Promises.{areBytes, WrittenReadsBack, ReadWritesUpper, RefusedStays}
 use Rattle.guid.proofs.Hex.{length-digits, digits-are, bytes-digits, length-bytes, digits-bytes}
 use Rattle.guid.proofs.Text.{length-reordered, reordered-twice, digits-grouped, dashes-grouped, length-grouped, upper-grouped, length-digitsIn, grouped-digits}
@@ -73,13 +73,13 @@ text-stored t e =
 
 -- ---- an accepted call
 
-number-is : (r : Option ℕ) (new old : List ℕ) → outcome r new old .number ≡ r
-unfolding outcome
+number-is : (r : Option ℕ) (new old : List ℕ) → unlessRefused r new old .number ≡ r
+unfolding unlessRefused
 number-is none new old = refl
 number-is (some k) new old = refl
 
-buffer-is : (r : Option ℕ) (new old : List ℕ) → r ≡ none → outcome r new old .buffer ≡ new
-unfolding outcome
+buffer-is : (r : Option ℕ) (new old : List ℕ) → r ≡ none → unlessRefused r new old .buffer ≡ new
+unfolding unlessRefused
 buffer-is none new old e = refl
 buffer-is (some k) new old e = absurd (some-none e)
 
@@ -109,8 +109,8 @@ module _ (g t : List ℕ) (e : writeOf g t .number ≡ none) where
 
 -- ---- the promises
 
-stays : (r : Option ℕ) (new old : List ℕ) (k : ℕ) → outcome r new old .number ≡ some k → outcome r new old .buffer ≡ old
-unfolding outcome
+stays : (r : Option ℕ) (new old : List ℕ) (k : ℕ) → unlessRefused r new old .number ≡ some k → unlessRefused r new old .buffer ≡ old
+unfolding unlessRefused
 stays none new old k e = absurd (some-none (sym e))
 stays (some j) new old k e = refl
 

@@ -24,9 +24,9 @@ pub record Outcome : Type 0 where
   pub buffer : List ℕ
 
 -- R1: A refusal returns its number alone and changes no lent byte.
-unfoldable pub outcome : Option ℕ → List ℕ → List ℕ → Outcome
-outcome none new old = record { number = none; buffer = new }
-outcome (some k) new old = record { number = some k; buffer = old }
+unfoldable pub unlessRefused : Option ℕ → List ℕ → List ℕ → Outcome
+unlessRefused none new old = record { number = none; buffer = new }
+unlessRefused (some k) new old = record { number = some k; buffer = old }
 
 abbrev pub isNot : ℕ → List ℕ → Bool
 isNot k xs = not (eqb (length xs) k)
@@ -38,7 +38,7 @@ abbrev pub readTextRows : List ℕ → List ℕ → List Row
 readTextRows text guid = row (isNot 16 guid) 1 ∷ row (not (isGuidText text)) 30 ∷ []
 
 unfoldable pub readOf : List ℕ → List ℕ → Outcome
-readOf text guid = outcome (refusal (readTextRows text guid)) (storedOf text) guid
+readOf text guid = unlessRefused (refusal (readTextRows text guid)) (storedOf text) guid
 
 -- G1: a type may also be a short name
 abbrev pub readTypeOf : List ℕ → List ℕ → Outcome
@@ -51,4 +51,4 @@ abbrev pub writeRows : List ℕ → List ℕ → List Row
 writeRows guid text = row (isNot 16 guid or isNot 36 text) 1 ∷ []
 
 unfoldable pub writeOf : List ℕ → List ℕ → Outcome
-writeOf guid text = outcome (refusal (writeRows guid text)) (textOf guid) text
+writeOf guid text = unlessRefused (refusal (writeRows guid text)) (textOf guid) text

@@ -1,9 +1,9 @@
 // The disk calls of the samples: each prints its line and tells what it changed.
-use crate::ledger::Change;
+use crate::ledger::SumChange;
 use gpt::Added;
 use gpt::Done;
 
-pub fn format(head: &mut [u8], tail: &mut [u8], n: u64) -> Change {
+pub fn format(head: &mut [u8], tail: &mut [u8], n: u64) -> SumChange {
     sample_lines::begin(n, b"format");
     sample_lines::done(gpt::format(
         head,
@@ -11,7 +11,7 @@ pub fn format(head: &mut [u8], tail: &mut [u8], n: u64) -> Change {
         n,
         *b"\x00\x01\x02\x03\x04\x05\x06\x07\x08\x09\x0a\x0b\x0c\x0d\x0e\x0f",
     ));
-    Change::Nothing
+    SumChange::Nothing
 }
 
 // Type linux (G4), as stored.
@@ -27,7 +27,7 @@ fn name(letter: u16) -> [u16; 36] {
 }
 
 // The k-th add: each has another unique GUID and another name.
-pub fn add(head: &mut [u8], tail: &mut [u8], n: u64, k: u8, size: u64) -> Change {
+pub fn add(head: &mut [u8], tail: &mut [u8], n: u64, k: u8, size: u64) -> SumChange {
     sample_lines::begin(n, b"add ");
     print_out::decimal(size);
     let answer = gpt::add(
@@ -42,27 +42,27 @@ pub fn add(head: &mut [u8], tail: &mut [u8], n: u64, k: u8, size: u64) -> Change
     );
     sample_lines::added(answer);
     match answer {
-        Added::At { slot, .. } => Change::Size { slot, size },
-        Added::Refused(_) => Change::Nothing,
+        Added::At { slot, .. } => SumChange::Size { slot, size },
+        Added::Refused(_) => SumChange::Nothing,
     }
 }
 
 // After an accepted call the slot has this size.
-fn done(answer: Done, slot: u64, size: u64) -> Change {
+fn done(answer: Done, slot: u64, size: u64) -> SumChange {
     sample_lines::done(answer);
     match answer {
-        Done::Accepted => Change::Size { slot, size },
-        Done::Refused(_) => Change::Nothing,
+        Done::Accepted => SumChange::Size { slot, size },
+        Done::Refused(_) => SumChange::Nothing,
     }
 }
 
-pub fn delete(head: &mut [u8], tail: &mut [u8], n: u64, slot: u64) -> Change {
+pub fn delete(head: &mut [u8], tail: &mut [u8], n: u64, slot: u64) -> SumChange {
     sample_lines::begin(n, b"delete ");
     print_out::decimal(slot);
     done(gpt::delete(head, tail, n, slot), slot, 0)
 }
 
-pub fn resize(head: &mut [u8], tail: &mut [u8], n: u64, slot: u64, size: u64) -> Change {
+pub fn resize(head: &mut [u8], tail: &mut [u8], n: u64, slot: u64, size: u64) -> SumChange {
     sample_lines::begin(n, b"resize ");
     print_out::decimal(slot);
     print_out::bytes(b" ");

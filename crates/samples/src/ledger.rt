@@ -8,7 +8,7 @@ pub struct Sums {
 }
 
 // What a step changed: the slot has this size now, 0 where it was deleted.
-pub enum Change {
+pub enum SumChange {
     Size { slot: u64, size: u64 },
     Nothing,
 }
@@ -35,9 +35,9 @@ fn set(before: Sums, slot: u64, size: u64) -> Sums {
     after
 }
 
-pub fn booked(before: Sums, change: Change) -> Sums {
+pub fn booked(before: Sums, change: SumChange) -> Sums {
     match change {
-        Change::Size { slot, size } => set(before, slot, size),
-        Change::Nothing => before,
+        SumChange::Size { slot, size } => set(before, slot, size),
+        SumChange::Nothing => before,
     }
 }

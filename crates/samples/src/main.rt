@@ -12,7 +12,7 @@
 mod calls;
 mod ledger;
 
-use ledger::Change;
+use ledger::SumChange;
 use ledger::Sums;
 ghost use mathlib.Core.Path.{_≡_};
 ghost use lib.ListN.{length};
@@ -41,13 +41,13 @@ fn show(head: &[u8], tail: &[u8], n: u64, sums: Sums, letter: u8)
     }
 }
 
-fn call(head: &mut [u8], tail: &mut [u8], n: u64, letter: u8, k: u8, size: u64) -> Change {
+fn call(head: &mut [u8], tail: &mut [u8], n: u64, letter: u8, k: u8, size: u64) -> SumChange {
     match letter {
         b'f' => calls::format(head, tail, n),
         b'd' => calls::delete(head, tail, n, k as u64),
         b'r' => calls::resize(head, tail, n, k as u64, size),
         b'a' | b'm' | b'w' => calls::add(head, tail, n, k, asked(n, letter, size)),
-        _ => Change::Nothing,
+        _ => SumChange::Nothing,
     }
 }
 

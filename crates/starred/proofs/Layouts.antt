@@ -6,7 +6,7 @@ use Rattle.text_words.specs.Classes.{isBlank, isDigit, digitOf}
 use Rattle.text_words.specs.Numerals.{upTo, digitsFrom, someDigits, afterZero, numeralOf}
 use Rattle.fmd_lex.specs.Chars.{isSign, isWord}
 use Rattle.fmd_lex.specs.Tokens.{skipFrom, wordFrom, tokenHere, tokenAt}
-use Rattle.fmd_lex.specs.Numbers.{capped, scaled, numberOf}
+use Rattle.fmd_lex.specs.Numbers.{capped, scaled, numberIn}
 use Rattle.fmd_lex.specs.Names.{goodName}
 use Rattle.fmd_head.specs.Heads.{amountAt, namedAt, flagsAt, offsetAt, sizeAt, headAt}
 use Rattle.fmd_head.specs.Images.{titleAt, addressAt, lengthAt, openAt, imageAt}
@@ -14,9 +14,9 @@ use Rattle.fmd_parse.specs.Layouts.{sectionFrom, listFrom, layoutOf}
 use Rattle.starred.specs.Starred.{Sample7, Sample8}
 
 pub sample7 : Sample7
-unfolding layoutOf imageAt titleAt addressAt lengthAt openAt listFrom sectionFrom headAt namedAt flagsAt offsetAt sizeAt amountAt numberOf scaled capped numeralOf someDigits digitsFrom upTo digitOf goodName isDigit tokenAt tokenHere skipFrom wordFrom isBlank isSign isWord part _and_ _or_
+unfolding layoutOf imageAt titleAt addressAt lengthAt openAt listFrom sectionFrom headAt namedAt flagsAt offsetAt sizeAt amountAt numberIn scaled capped numeralOf someDigits digitsFrom upTo digitOf goodName isDigit tokenAt tokenHere skipFrom wordFrom isBlank isSign isWord part _and_ _or_
 sample7 = refl
 
 pub sample8 : Sample8
-unfolding layoutOf imageAt titleAt addressAt lengthAt openAt listFrom sectionFrom headAt namedAt flagsAt offsetAt sizeAt amountAt numberOf scaled capped numeralOf afterZero someDigits digitsFrom upTo digitOf goodName isDigit tokenAt tokenHere skipFrom wordFrom isBlank isSign isWord part _and_ _or_
+unfolding layoutOf imageAt titleAt addressAt lengthAt openAt listFrom sectionFrom headAt namedAt flagsAt offsetAt sizeAt amountAt numberIn scaled capped numeralOf afterZero someDigits digitsFrom upTo digitOf goodName isDigit tokenAt tokenHere skipFrom wordFrom isBlank isSign isWord part _and_ _or_
 sample8 = (refl, refl)

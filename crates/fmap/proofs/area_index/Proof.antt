@@ -3,7 +3,7 @@ use borrow.Author.Needs.{needs}
 use Rattle.fmap.proofs.Finding.{found-good}
 use Rattle.fmap.proofs.Reading.{index-by, index-found}
 use Rattle.fmap.specs.Find.{foundReply}
-use Rattle.fmap.specs.declared.Found.the-variants.{WrongLength, NoSignature, NoGoodMap}
+use Rattle.fmap.specs.declared.MapFound.the-variants.{WrongLength, NoSignature, NoGoodMap}
 use Rattle.fmap.proofs.area_index.Statement.{statement}
 use Rattle.fmap.proofs.area_index.Tie as tie
 

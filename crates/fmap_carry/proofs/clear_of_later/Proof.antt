@@ -7,7 +7,7 @@ use borrow.Author.Tests.{not-true, not-false}
 use denote.Ref.{now}
 use Rattle.octets.specs.Tests.{all}
 use Rattle.fmap_rules.proofs.Areas.{all-next, all-fails, all-over}
-use Rattle.fmap_rules.specs.Map.{areasIn, blank}
+use Rattle.fmap_rules.specs.Map.{areasIn, blankArea}
 use Rattle.fmap_carry.proofs.Match.{matched-long, clear-at}
 use Rattle.fmap_carry.specs.Carry.{clear}
 use Rattle.fmap_carry.proofs.clear_of_later.Statement.{statement}
@@ -15,7 +15,7 @@ use Rattle.fmap_carry.proofs.clear_of_later.Tie as tie
 
 abbrev Inv-loop : tie.InvT-loop
 Inv-loop olds news matches i x n j₀ j =
-    (j ≤ n) × (all (clear (areasIn news) (getD (areasIn olds) i blank)) (drop j (areasIn olds)) ≡ all (clear (areasIn news) (getD (areasIn olds) i blank))
+    (j ≤ n) × (all (clear (areasIn news) (getD (areasIn olds) i blankArea)) (drop j (areasIn olds)) ≡ all (clear (areasIn news) (getD (areasIn olds) i blankArea))
     (drop (i + 1) (areasIn olds)))
 
 abbrev μ-loop : tie.MeasureT-loop
@@ -66,7 +66,7 @@ returns c =
     let s5 = s4 .before in
     let s6 = s5 .before .before .before .before .before in
     all-fails _ (s4 .loop .j) (omega arith) (now (s1 .area-at2 .result)) (s1 .area-at2 .ensures .0) (clear (areasIn (now (s6 .args .news)))
-    (getD (areasIn (now (s6 .args .olds))) (s6 .args .i) blank)) (clear-at _ _ _ (s6 .pre .0) (s6 .args .i) (s4 .loop .j)
+    (getD (areasIn (now (s6 .args .olds))) (s6 .args .i) blankArea)) (clear-at _ _ _ (s6 .pre .0) (s6 .args .i) (s4 .loop .j)
     (s6 .pre .1) (omega arith) _ _ _ _ (s2 .area-at .ensures .0) (s1 .area-at2 .ensures .0) (s5 .place-of .ensures) (s3 .place-of2 .ensures)
     ∙ sym (c .before .is-clear .ensures) ∙ not-true _ (c .if1 .taken)) (s4 .loop .inv .1)
 
@@ -86,7 +86,7 @@ loop-again c =
     let s6 = s5 .before .before .before .before .before in (
       omega arith,
       all-next _ (s4 .loop .j) (omega arith) (now (s1 .area-at2 .result)) (s1 .area-at2 .ensures .0) (clear (areasIn (now (s6 .args .news)))
-          (getD (areasIn (now (s6 .args .olds))) (s6 .args .i) blank)) (clear-at _ _ _ (s6 .pre .0) (s6 .args .i) (s4 .loop .j)
+          (getD (areasIn (now (s6 .args .olds))) (s6 .args .i) blankArea)) (clear-at _ _ _ (s6 .pre .0) (s6 .args .i) (s4 .loop .j)
           (s6 .pre .1) (omega arith) _ _ _ _ (s2 .area-at .ensures .0) (s1 .area-at2 .ensures .0) (s5 .place-of .ensures) (s3 .place-of2 .ensures)
           ∙ sym (c .before .is-clear .ensures) ∙ not-false _ (c .if1 .left)) (s4 .loop .inv .1),
     )

@@ -4,7 +4,7 @@ use lib.ListN.{getD}
 use borrow.Author.Needs.{needs}
 use denote.Ref.{now}
 use Rattle.octets.specs.Bytes.{zeros}
-use Rattle.fmap_rules.specs.Map.{areasIn, blank}
+use Rattle.fmap_rules.specs.Map.{areasIn, blankArea}
 use Rattle.fmap_carry.specs.Carry.{withName}
 use Rattle.fmap_carry.proofs.map_place.Statement.{statement}
 use Rattle.fmap_carry.proofs.map_place.Tie as tie
@@ -20,7 +20,7 @@ place-of-requires c κs = search needs
 
 returns : tie.Need-returns
 unfolding withName zeros
-returns c = (c .place-of .ensures) ∙ ap (λ (k : ℕ). getD (areasIn (now (c .before .before .before .before .args .news))) k blank .place)
+returns c = (c .place-of .ensures) ∙ ap (λ (k : ℕ). getD (areasIn (now (c .before .before .before .before .args .news))) k blankArea .place)
     (c .before .find-named .ensures .0)
 
 pub map-place-spec : {M : Type 1} → statement M

@@ -6,14 +6,14 @@ use borrow.Author.Needs.{needs}
 use borrow.Author.Tests.{not-true, not-false}
 use Rattle.octets.specs.Tests.{all}
 use Rattle.fmap_rules.proofs.Areas.{all-next, all-fails, all-over}
-use Rattle.fmap_rules.specs.Map.{areasIn, blank}
+use Rattle.fmap_rules.specs.Map.{areasIn, blankArea}
 use Rattle.fmap_rules.specs.Invariants.{goodPair}
 use Rattle.fmap_rules.proofs.good_with_later.Statement.{statement}
 use Rattle.fmap_rules.proofs.good_with_later.Tie as tie
 
 abbrev Inv-loop : tie.InvT-loop
 Inv-loop areas i rule n j₀ j = (j ≤ n) ×
-    (all (goodPair rule (getD (areasIn areas) i blank)) (drop j (areasIn areas)) ≡ all (goodPair rule (getD (areasIn areas) i blank)) (drop (i + 1) (areasIn areas)))
+    (all (goodPair rule (getD (areasIn areas) i blankArea)) (drop j (areasIn areas)) ≡ all (goodPair rule (getD (areasIn areas) i blankArea)) (drop (i + 1) (areasIn areas)))
 
 abbrev μ-loop : tie.MeasureT-loop
 μ-loop areas i rule n j₀ j = n - j

@@ -54,18 +54,18 @@ use denote.Triple.Table.{entered, cited}
 use denote.Triple.Walked.{says, needs, Stays, stay-slice, stay-none, stay-none-slice, walkOf, goes-slice, goes-none, goes-none-slice, Walks, ends-at, walked}
 use denote.Triple.Walked.{walk-meets}
 use denote.Exit.{yes}
-use Rattle.fmap_rules.specs.Map.{blank, position}
+use Rattle.fmap_rules.specs.Map.{blankArea, position}
 use Rattle.fmap_rules.specs.declared.Area.{Area}
 use Rattle.fmd_table.specs.Table.{sectionsIn, placedIn}
 use Rattle.fmd_table.proofs.Spots.{length-placed}
-use Rattle.fmd_areas.specs.Areas.{areaAt, areasOf}
+use Rattle.fmd_areas.specs.Areas.{areaAt, layoutAreas}
 use Rattle.fmd_areas.specs.Invariants.{Laid}
 use Rattle.fmd_areas.proofs.Shape.{length-areas}
 use Rattle.fmd_areas.proofs.Listed.{area-in}
-use Rattle.fmd.specs.Calls.{sectionOf, filled}
-use Rattle.fmd.specs.declared.Section.{Section}
-use Rattle.fmd.proofs.Section as T
-use Rattle.fmd.proofs.Section.Laws as T′
+use Rattle.fmd.specs.Calls.{listRecord, filled}
+use Rattle.fmd.specs.declared.SectionRecord.{SectionRecord}
+use Rattle.fmd.proofs.SectionRecord as T
+use Rattle.fmd.proofs.SectionRecord.Laws as T′
 use Rattle.fmd.proofs.Filled.{filled-length, filled-on}
 use Rattle.fmd.proofs.Tables.{Words, word, bytesBy, wordsBy, val}
 use Rattle.fmd.proofs.section_at as section-at
@@ -79,7 +79,7 @@ use Rattle.fmd.proofs.fill.Code as code
 use Rattle.fmd.proofs.fill.Code.Mir as body
 
 abbrev Arg : Type 0
-Arg = RefT (List Section) × (Words × (Words × (Words × (ℕ × Unit {0}))))
+Arg = RefT (List SectionRecord) × (Words × (Words × (Words × (ℕ × Unit {0}))))
 
 abbrev stayed : Stays (fill.ended .signature .params) (fill.ended .kept)
 stayed = (
@@ -116,7 +116,7 @@ abbrev SectionAt : {M : Type 1} (𝓤 : URA M) (H : Heap 𝓤) (A : Atoms 𝓤) 
 SectionAt 𝓤 H A mem run = tripleOf 𝓤 H A section-at.signature (section-at.spec 𝓤 H A mem run)
 
 module _ {M : Type 1} (𝓤 : URA M) (H : Heap 𝓤) (A : Atoms 𝓤) (W : Given 𝓤 H A) (mem : Memory → SProp 𝓤) (run : Routine → Fun 𝓤)
-    (κ κ₁ κ₂ κ₃ : Lft) (q q₁ q₂ q₃ : Share) (b o : ℕ) (γ : GName) (ys : List Section) (s u v : Words) (n : ℕ) where
+    (κ κ₁ κ₂ κ₃ : Lft) (q q₁ q₂ q₃ : Share) (b o : ℕ) (γ : GName) (ys : List SectionRecord) (s u v : Words) (n : ℕ) where
   -- the machine values
   abbrev xv : Val
   xv = sliceVal (b, o) (length ys)
@@ -150,19 +150,19 @@ module _ {M : Type 1} (𝓤 : URA M) (H : Heap 𝓤) (A : Atoms 𝓤) (W : Given
   Params = MutSlice (named 0) κ T.the-row ∷ ShrSlice (named 1) κ₁ u8 ∷ ShrSlice (named 2) κ₂ u32 ∷ ShrSlice (named 3) κ₃ u32 ∷ usize ∷ []
 
   abbrev areas : List Area
-  areas = areasOf (s .now) (sectionsIn n (u .now)) (placedIn n (v .now))
+  areas = layoutAreas (s .now) (sectionsIn n (u .now)) (placedIn n (v .now))
 
   count : length areas ≡ n
   count = length-areas (s .now) (sectionsIn n (u .now)) (placedIn n (v .now)) ∙ length-placed n (v .now)
 
   -- the list where i records are stored, and at the end
-  abbrev L : ℕ → List Section
-  L i = filled (map sectionOf (take i areas)) ys
+  abbrev L : ℕ → List SectionRecord
+  L i = filled (map listRecord (take i areas)) ys
 
   len : (i : ℕ) → i ≤ length ys → length (L i) ≡ length ys
-  len i h = filled-length sectionOf areas ys i h
+  len i h = filled-length listRecord areas ys i h
 
-  abbrev zs : List Section
+  abbrev zs : List SectionRecord
   zs = L n
 
   abbrev Exit : List (Item 𝓤)
@@ -172,7 +172,7 @@ module _ {M : Type 1} (𝓤 : URA M) (H : Heap 𝓤) (A : Atoms 𝓤) (W : Given
   exits : Room T.the-row (length ys) → n ≤ length ys → ent 𝓤 (⋆ 𝓤 H A Exit) (Post vunit)
   exits gn fit =
       qed W Exit ∵ suffices ! _ (ends-at 𝓤 H A fill.ended stayed (fill.clauses 𝓤 H A mem run) W here vunit tt (zs, (tt, (tt, (tt, (tt, tt)))))
-      (len n fit, (tt, (tt, (tt, (tt, tt)))))) $ says ! (ap (λ (l : List Area). filled (map sectionOf l) ys) (take-all n areas (omega (arith, count)))) $
+      (len n fit, (tt, (tt, (tt, (tt, tt)))))) $ says ! (ap (λ (l : List Area). filled (map listRecord l) ys) (take-all n areas (omega (arith, count)))) $
       nothing ! $ move ! (6 ∷ 0 ∷ []) $ join ! $ move ! (5 ∷ 0 ∷ []) $ join ! $ move ! (4 ∷ 0 ∷ []) $ join ! $ move ! (3 ∷ 0 ∷ []) $ join ! $ frame ! $
       move ! (4 ∷ 5 ∷ []) $ fjoin ! $ move ! (4 ∷ 0 ∷ []) $ fjoin ! $ move ! (3 ∷ 0 ∷ []) $ fjoin ! $ move ! (1 ∷ 2 ∷ []) $ fjoin ! $
       pureI ! (at-slice T.the-row (record { ptr = (b, o); name = γ; now = zs }) (xv ∷ [])) (tt, (tt, tt))
@@ -195,10 +195,10 @@ module _ {M : Type 1} (𝓤 : URA M) (H : Heap 𝓤) (A : Atoms 𝓤) (W : Given
   goes-section-at : (i : ℕ) → Laid (s .now) (u .now) (v .now) n × (i < n) → ent 𝓤 (⋆ 𝓤 H A (Toks ∷ ‵ (Passes i) ∷ [])) (SectionAt 𝓤 H A mem run .pre (to i))
   goes-section-at i within = qed W (Toks ∷ ‵ (Passes i) ∷ []) ∵ says ! within $ frame ! $ done !
 
-  section-is : (i : ℕ) (r : Section) → ent 𝓤 (ensured 𝓤 H A section-at.ended (section-at.clauses 𝓤 H A mem run) κs (args i) tt r)
-      (fact 𝓤 (r ≡ sectionOf (areaAt (s .now) (sectionsIn n (u .now)) (placedIn n (v .now)) i)))
+  section-is : (i : ℕ) (r : SectionRecord) → ent 𝓤 (ensured 𝓤 H A section-at.ended (section-at.clauses 𝓤 H A mem run) κs (args i) tt r)
+      (fact 𝓤 (r ≡ listRecord (areaAt (s .now) (sectionsIn n (u .now)) (placedIn n (v .now)) i)))
   section-is i r = exE 𝓤 _ (λ ws. snd∗ 𝓤 (sem 𝓤 H A (lasts section-at.ended κs (args i) ws))
-      (fact 𝓤 (r ≡ sectionOf (areaAt (s .now) (sectionsIn n (u .now)) (placedIn n (v .now)) i))))
+      (fact 𝓤 (r ≡ listRecord (areaAt (s .now) (sectionsIn n (u .now)) (placedIn n (v .now)) i))))
 
   module _ (𝓣 : Tables 𝓤 H) (known : Triple 𝓤 (𝓣 .C #fmd·section-at) (SectionAt 𝓤 H A mem run)) (gn : Room T.the-row (length ys)) (gi : n < 2 ^ 64)
       (laid : 0 < n → Laid (s .now) (u .now) (v .now) n) (fit : n ≤ length ys) (l₀ l₁ l₂ l₃ l₄ l₅ l₆ l₇ l₈ l₉ l₁₀ : ℕ) where
@@ -257,10 +257,10 @@ module _ {M : Type 1} (𝓤 : URA M) (H : Heap 𝓤) (A : Atoms 𝓤) (W : Given
         (and-then ! (load ! (from ! (stop !)) (look ! 12 refl))
         (and-then ! (load ! (from ! (stop !)) (look ! 13 refl))
         (and-then ! (load ! (from ! (stop !)) (look ! 14 refl)) (and-then ! (load ! (from ! (stop !)) (look ! 5 refl)) (no-more !))))))
-        (λ w. use1 W (later (some (λ (r : Section). (Toks ⊛ ‵ (T.the-row .own r (w ∷ []))) ⊛ raw
+        (λ w. use1 W (later (some (λ (r : SectionRecord). (Toks ⊛ ‵ (T.the-row .own r (w ∷ []))) ⊛ raw
         (ensured 𝓤 H A section-at.ended (section-at.clauses 𝓤 H A mem run) κs (args i) tt r)))) (id⊢ 𝓤 _) $ await ! tt $ pick ! (λ r. split ! $
-        move ! (1 ∷ []) $ use1 W (raw (fact 𝓤 (r ≡ sectionOf (areaAt (s .now) (sectionsIn n (u .now)) (placedIn n (v .now)) i)))) (section-is i r) $
-        heard ! (r ≡ sectionOf (areaAt (s .now) (sectionsIn n (u .now)) (placedIn n (v .now)) i)) (λ e. split ! $ split ! $ move ! (1 ∷ []) $ split ! $
+        move ! (1 ∷ []) $ use1 W (raw (fact 𝓤 (r ≡ listRecord (areaAt (s .now) (sectionsIn n (u .now)) (placedIn n (v .now)) i)))) (section-is i r) $
+        heard ! (r ≡ listRecord (areaAt (s .now) (sectionsIn n (u .now)) (placedIn n (v .now)) i)) (λ e. split ! $ split ! $ move ! (1 ∷ []) $ split ! $
         move ! (1 ∷ []) $ split ! $ move ! (1 ∷ []) $ drop ! $ move ! (3 ∷ []) $
         peeks ! T.the-row (Is T.the-row) (shows 𝓤 H A T.the-row) r (w ∷ [])
         (λ is. land ! (from ! (stop !)) (init ! 10 refl (LL.lawful T.the-type T′.the-laws 𝓤 H A W .typed r _ is .0)) $
@@ -272,8 +272,8 @@ module _ {M : Type 1} (𝓤 : URA M) (H : Heap 𝓤) (A : Atoms 𝓤) (W : Given
         (λ _. assigns ! (of-opd ! (load ! (from ! (stop !)) (look ! 12 refl))) (from ! (hop ! (look ! 14 refl) (stop !)))
         (store-raw ! 0 refl (LL.lawful T.the-type T′.the-laws 𝓤 H A W .typed r _ is .0)) $ move ! (1 ∷ []) $ drop ! $ move ! (0 ∷ 2 ∷ 1 ∷ []) $
         elem-put ! T.the-row fullShare (L i) i r (w ∷ []) b o within $
-        rewrite ! 0 (λ (l : List Section). ‵ (row T.the-row fullShare l b o))
-        (ap (λ (z : Section). set (L i) i z) (e ∙ ap sectionOf (sym (area-in (laid (omega arith)) i small))) ∙ filled-on sectionOf areas ys i blank there
+        rewrite ! 0 (λ (l : List SectionRecord). ‵ (row T.the-row fullShare l b o))
+        (ap (λ (z : SectionRecord). set (L i) i z) (e ∙ ap listRecord (sym (area-in (laid (omega arith)) i small))) ∙ filled-on listRecord areas ys i blankArea there
         room) refl $ assigns-last ! (bin ! (load ! (from ! (stop !)) (look ! 7 refl)) (lit ! tt) (record { fits = omega arith })) (from ! (stop !))
         (store ! 7 refl (tt, record { fits = omega arith })) $ forget ! 8 refl $ forget ! 9 refl $ forget ! 10 refl $ forget ! 11 refl $
         rewrite ! 7 (λ (j : ℕ). ‵ (fat fullShare word l₆ 0 (vint w64 j))) (add-one i) refl $

@@ -48,16 +48,16 @@ use denote.Triple.Call.{calls-at}
 use denote.Triple.Table.{entered, cited}
 use denote.Triple.Walked.{says, Stays, stay-none-slice, gave-slice, walkOf, goes-none-slice, goes-gave-slice, Walks, ends-at, walked, walk-meets}
 use denote.Exit.{yes}
-use Rattle.fmd.specs.Calls.{sectionOf, filled, listed, listText}
+use Rattle.fmd.specs.Calls.{listRecord, filled, listOf, listText}
 use Rattle.fmd.specs.Invariants.{ReadFor}
 use Rattle.fmd_table.specs.Table.{sectionsIn, placedIn, HasRows, HasSpots}
-use Rattle.fmd_areas.specs.Areas.{areasOf}
+use Rattle.fmd_areas.specs.Areas.{layoutAreas}
 use Rattle.fmd_areas.specs.Invariants.{Laid}
-use Rattle.fmd.specs.declared.Section.{Section}
+use Rattle.fmd.specs.declared.SectionRecord.{SectionRecord}
 use Rattle.fmd.specs.declared.Counted.{Counted}
-use Rattle.fmd.proofs.Section as T
-use Rattle.fmd.proofs.Reading as N
-use Rattle.fmd.proofs.Reading.Laws as N′
+use Rattle.fmd.proofs.SectionRecord as T
+use Rattle.fmd.proofs.LayoutReading as N
+use Rattle.fmd.proofs.LayoutReading.Laws as N′
 use Rattle.fmd.proofs.Counted as O
 use Rattle.fmd.proofs.Counted.Laws as O′
 use Rattle.fmd.proofs.read_for as read-for
@@ -103,9 +103,9 @@ is-plainly : plainly ≡ code.function
 is-plainly = refl
 
 -- what is answered and left
-list-is : (r : Counted) (text rows spots : List ℕ) (ys zs : List Section) → ReadFor text (length ys) rows spots r
-    → zs ≡ filled (map sectionOf (areasOf text (sectionsIn (r .count) rows) (placedIn (r .count) spots))) ys
-    → listed (r .reading) zs ≡ listText text ys
+list-is : (r : Counted) (text rows spots : List ℕ) (ys zs : List SectionRecord) → ReadFor text (length ys) rows spots r
+    → zs ≡ filled (map listRecord (layoutAreas text (sectionsIn (r .count) rows) (placedIn (r .count) spots))) ys
+    → listOf (r .reading) zs ≡ listText text ys
 unfolding listText
 list-is r text rows spots ys zs e f = rw (e .answer, e .image, f, e .areas)
 
@@ -122,8 +122,8 @@ abbrev at : ℕ → GName → List ℕ → Words
 at l γ xs = record { ptr = (l, 0); name = γ; now = xs }
 
 module _ {M : Type 1} (𝓤 : URA M) (H : Heap 𝓤) (A : Atoms 𝓤) (W : Given 𝓤 H A) (mem : Memory → SProp 𝓤) (run : Routine → Fun 𝓤) (κ₁ κ₂ : Lft)
-    (q₁ q₂ : Share) (s : Words) (b o : ℕ) (γ : GName) (ys : List Section) where
-  abbrev x : RefT (List Section)
+    (q₁ q₂ : Share) (s : Words) (b o : ℕ) (γ : GName) (ys : List SectionRecord) where
+  abbrev x : RefT (List SectionRecord)
   x = record { ptr = (b, o); name = γ; now = ys }
 
   -- the machine values
@@ -171,7 +171,7 @@ module _ {M : Type 1} (𝓤 : URA M) (H : Heap 𝓤) (A : Atoms 𝓤) (W : Given
     goes-read full = qed W (ReadToks ∷ ‵ ReadPasses ∷ []) ∵ says ! full $ frame ! $ done !
 
     module _ (n : ℕ) where
-      abbrev fill-args : RefT (List Section) × (Words × (Words × (Words × (ℕ × Unit {0}))))
+      abbrev fill-args : RefT (List SectionRecord) × (Words × (Words × (Words × (ℕ × Unit {0}))))
       fill-args = (x, (s, (at l γ₁ r, (at k γ₂ p, (n, tt)))))
 
       abbrev to-fill : Fill 𝓤 H A mem run .Ghost
@@ -197,9 +197,9 @@ module _ {M : Type 1} (𝓤 : URA M) (H : Heap 𝓤) (A : Atoms 𝓤) (W : Given
       goes-fill : (0 < n → Laid (s .now) r p n) × (n ≤ length ys) → ent 𝓤 (⋆ 𝓤 H A (FillToks ∷ ‵ FillPasses ∷ [])) (Fill 𝓤 H A mem run .pre to-fill)
       goes-fill within = qed W (FillToks ∷ ‵ FillPasses ∷ []) ∵ says ! within $ frame ! $ done !
 
-  exits : (r : Counted) (rows spots : List ℕ) (zs : List Section) → Is N.the-row (r .reading) (LL.val N.the-type N′.the-laws (r .reading) ∷ [])
+  exits : (r : Counted) (rows spots : List ℕ) (zs : List SectionRecord) → Is N.the-row (r .reading) (LL.val N.the-type N′.the-laws (r .reading) ∷ [])
       → ReadFor (s .now) (length ys) rows spots r
-      → zs ≡ filled (map sectionOf (areasOf (s .now) (sectionsIn (r .count) rows) (placedIn (r .count) spots))) ys → length zs ≡ length ys
+      → zs ≡ filled (map listRecord (layoutAreas (s .now) (sectionsIn (r .count) rows) (placedIn (r .count) spots))) ys → length zs ≡ length ys
       → ent 𝓤 (⋆ 𝓤 H A (Toks ∷ ‵ Own ∷ ‵ (finally T.the-row γ zs) ∷ [])) (Post (LL.val N.the-type N′.the-laws (r .reading)))
   exits r rows spots zs ga e f l =
       qed W (Toks ∷ ‵ Own ∷ ‵ (finally T.the-row γ zs) ∷ []) ∵ suffices ! _
@@ -322,11 +322,11 @@ module _ {M : Type 1} (𝓤 : URA M) (H : Heap 𝓤) (A : Atoms 𝓤) (W : Given
             (λ w′. use1 W (later (some (λ (r′ : Unit {0}). (FillToks l₃ l₄ r₁ p₁ α′ β′ γ₃ γ₄ (r .count) ⊛ ‵ (unit .own r′ (w′ ∷ []))) ⊛ raw
             (ensured 𝓤 H A fill.ended (fill.clauses 𝓤 H A mem run) (κ₂, (κ₁, (α′ ∷ [], (β′ ∷ [], tt)))) (fill-args l₃ l₄ r₁ p₁ α′ β′ γ₃ γ₄ (r .count)) tt
             r′)))) (id⊢ 𝓤 _) $ await ! tt $ pick ! (λ r′. split ! $ move ! (1 ∷ []) $
-            use1 W (some (λ (ws : List Section × (Unit {0} × (Unit {0} × (Unit {0} × (Unit {0} × Unit {0}))))). ‵
+            use1 W (some (λ (ws : List SectionRecord × (Unit {0} × (Unit {0} × (Unit {0} × (Unit {0} × Unit {0}))))). ‵
             (lasts fill.ended (κ₂, (κ₁, (α′ ∷ [], (β′ ∷ [], tt)))) (fill-args l₃ l₄ r₁ p₁ α′ β′ γ₃ γ₄ (r .count)) ws) ⊛ raw
-            (fact 𝓤 (ws .0 ≡ filled (map sectionOf (areasOf (s .now) (sectionsIn (r .count) r₁) (placedIn (r .count) p₁))) ys)))) (id⊢ 𝓤 _) $
+            (fact 𝓤 (ws .0 ≡ filled (map listRecord (layoutAreas (s .now) (sectionsIn (r .count) r₁) (placedIn (r .count) p₁))) ys)))) (id⊢ 𝓤 _) $
             pick ! (λ ws. split ! $ move ! (1 ∷ []) $
-            heard ! (ws .0 ≡ filled (map sectionOf (areasOf (s .now) (sectionsIn (r .count) r₁) (placedIn (r .count) p₁))) ys) (λ f. fsplit ! $ fsplit ! $
+            heard ! (ws .0 ≡ filled (map listRecord (layoutAreas (s .now) (sectionsIn (r .count) r₁) (placedIn (r .count) p₁))) ys) (λ f. fsplit ! $ fsplit ! $
             move ! (1 ∷ []) $ feqL ! (λ len₃. move ! (1 ∷ []) $ drop ! $ move ! (1 ∷ []) $ split ! $ split ! $ move ! (1 ∷ []) $ split ! $ move ! (1 ∷ []) $
             split ! $ move ! (1 ∷ []) $ split ! $ move ! (1 ∷ []) $ drop ! $ move ! (1 ∷ []) $ lft-end ! tt $ move ! (0 ∷ 7 ∷ []) $ lent-back ! tt $
             rewrite ! 0 (λ (m : ℕ). ‵ (arr-parts (shares u32) m .part fullShare r₁ l₃ 0)) (len₁ ∙ is₁ .1 .0 .1) refl $

@@ -1,9 +1,9 @@
 use borrow.Author.Needs.{needs}
 use Rattle.fmd_areas.proofs.Listed.{many, area-in}
-use Rattle.fmd_areas.specs.Areas.{areasOf}
+use Rattle.fmd_areas.specs.Areas.{layoutAreas}
 use Rattle.fmd_table.specs.Table.{placedIn, sectionsIn}
 use Rattle.fmap_write.proofs.Fields.{WrittenTo, written-none, written-on, written-all}
-use Rattle.fmap_rules.specs.Map.{blank}
+use Rattle.fmap_rules.specs.Map.{blankArea}
 use lib.ListN.{length}
 use native.Mathlib.Omega.{arith}
 use Prim.Native.Nat.{_≤_, _<_, _-_}
@@ -12,7 +12,7 @@ use Rattle.fmd_areas.proofs.put_areas.Statement.{statement}
 use Rattle.fmd_areas.proofs.put_areas.Tie as tie
 
 abbrev Inv-loop : tie.InvT-loop
-Inv-loop text rows spots n to₀ at k₀ to k = (k ≤ n) × (length to ≡ length to₀) × WrittenTo (areasOf text (sectionsIn n rows) (placedIn n spots)) at to₀ to k
+Inv-loop text rows spots n to₀ at k₀ to k = (k ≤ n) × (length to ≡ length to₀) × WrittenTo (layoutAreas text (sectionsIn n rows) (placedIn n spots)) at to₀ to k
 
 abbrev μ-loop : tie.MeasureT-loop
 μ-loop text rows spots n to₀ at k₀ to k = n - k
@@ -40,7 +40,7 @@ loop-less c = search needs
 
 loop-again : tie.Need-loop-again Inv-loop μ-loop
 loop-again c =
-    let w = written-on blank _ (omega (arith, many (c .before .before .before .before .before .before .before .before .before .before .before .pre .0))) (c .before .before .before .before .area-at .ensures ∙ sym (area-in (c .before .before .before .before .before .before .before .before .before .before .before .pre .0) _ (c .before .before .before .before .before .loop-test .taken))) (c .before .before .put-area .ensures .0) (c .before .before .put-area .ensures .1) (c .before .before .before .before .before .before .loop .inv .2) in
+    let w = written-on blankArea _ (omega (arith, many (c .before .before .before .before .before .before .before .before .before .before .before .pre .0))) (c .before .before .before .before .area-at .ensures ∙ sym (area-in (c .before .before .before .before .before .before .before .before .before .before .before .pre .0) _ (c .before .before .before .before .before .loop-test .taken))) (c .before .before .put-area .ensures .0) (c .before .before .put-area .ensures .1) (c .before .before .before .before .before .before .loop .inv .2) in
     (search needs, w .same-length, w)
 
 same-length : tie.Need-same-length Inv-loop μ-loop

@@ -49,14 +49,14 @@ use denote.Triple.Call.{calls-at}
 use denote.Triple.Table.{entered, cited}
 use denote.Triple.Walked.{says, Stays, stay-none-slice, stay-dropped, walkOf, goes-none-slice, goes-dropped, Walks, ends-at, walked, walk-meets}
 use denote.Exit.{yes}
-use Rattle.fmd.specs.Calls.{listed, listText}
-use Rattle.fmd.specs.declared.Section.{Section}
-use Rattle.fmd.specs.declared.Reading.{Reading}
+use Rattle.fmd.specs.Calls.{listOf, listText}
+use Rattle.fmd.specs.declared.SectionRecord.{SectionRecord}
+use Rattle.fmd.specs.declared.LayoutReading.{LayoutReading}
 use Rattle.fmd_lines.specs.declared.Lent.{Lent}
-use Rattle.fmd.proofs.Section as T
-use Rattle.fmd.proofs.Section.Laws as T′
-use Rattle.fmd.proofs.Reading as N
-use Rattle.fmd.proofs.Reading.Laws as N′
+use Rattle.fmd.proofs.SectionRecord as T
+use Rattle.fmd.proofs.SectionRecord.Laws as T′
+use Rattle.fmd.proofs.LayoutReading as N
+use Rattle.fmd.proofs.LayoutReading.Laws as N′
 use Rattle.fmd_lines.proofs.Lent as L
 use Rattle.fmd_lines.proofs.Lent.Laws as L′
 use Rattle.fmd.proofs.list as list
@@ -73,10 +73,10 @@ use Rattle.fmd_lines.proofs.lend.Code.Mir as body
 abbrev ArrT : RattleType
 ArrT = Array T.the-row 128
 
-abbrev vals : Section → List Val
+abbrev vals : SectionRecord → List Val
 vals = LL.vals T.the-type T′.the-laws
 
-abbrev val : List Section → Val
+abbrev val : List SectionRecord → Val
 val ys = only (array-vals vals ys)
 
 abbrev stayed : Stays (lend.ended .signature .params) (lend.ended .kept)
@@ -113,14 +113,14 @@ room : Room T.the-row 128
 room = (lit< tt, lit< tt)
 
 -- sections by value are sections of the struct that holds them
-each-of : (zs : List Section) (us : List Val) → shadow (each Section (T.the-row .own) zs us)
+each-of : (zs : List SectionRecord) (us : List Val) → shadow (each SectionRecord (T.the-row .own) zs us)
     → shadow (each (T.the-field .row .Denot) (T.the-field .row .own) (map (T.the-type .to) zs) us)
 each-of [] [] p = tt
 each-of [] (u ∷ us) p = absurd p
 each-of (z ∷ zs) [] p = absurd p
 each-of (z ∷ zs) (u ∷ us) p = (p .0, each-of zs us (p .1))
 
-in-struct : (zs : List Section) (vs : List Val) → Is ArrT zs vs → Is (array-field T.the-field 128 .row) (map (T.the-type .to) zs) vs
+in-struct : (zs : List SectionRecord) (vs : List Val) → Is ArrT zs vs → Is (array-field T.the-field 128 .row) (map (T.the-type .to) zs) vs
 in-struct zs vs p = (p .0, ((p .1 .0 .0, length-map zs (T.the-type .to) ∙ p .1 .0 .1), each-of zs (p .0) (p .1 .1)))
 
 -- the contract that the proof cites
@@ -137,7 +137,7 @@ module _ {M : Type 1} (𝓤 : URA M) (H : Heap 𝓤) (A : Atoms 𝓤) (W : Given
   abbrev lawful : Lawful 𝓤 H A ArrT
   lawful = array-lawful 𝓤 H A W T.the-row (LL.lawful T.the-type T′.the-laws 𝓤 H A W) 128
 
-  side-by-side : (ys : List Section) (l : ℕ) → Is ArrT ys (val ys ∷ [])
+  side-by-side : (ys : List SectionRecord) (l : ℕ) → Is ArrT ys (val ys ∷ [])
       → ent 𝓤 (sem 𝓤 H A (fat fullShare arr l 0 (val ys))) (sem 𝓤 H A (cells (memOf T.the-row) ys l 0))
   unfolding partOf
   side-by-side ys l is =
@@ -148,7 +148,7 @@ module _ {M : Type 1} (𝓤 : URA M) (H : Heap 𝓤) (A : Atoms 𝓤) (W : Given
       use1 W (‵ (arr-parts (shares T.the-row) 128 .part fullShare ys l 0)) (array-apart 𝓤 H A W T.the-row fullShare tt 128 ys l 0) $
       use1 W (‵ (Arr (memOf T.the-row) 128 .lies ys l 0)) (laws .whole-in ys l 0) $ fsplit ! $ drop ! $ done !
 
-  whole-again : (zs : List Section) (l : ℕ) → ent 𝓤 (sem 𝓤 H A (Arr (memOf T.the-row) 128 .lies zs l 0))
+  whole-again : (zs : List SectionRecord) (l : ℕ) → ent 𝓤 (sem 𝓤 H A (Arr (memOf T.the-row) 128 .lies zs l 0))
       (guard 𝓤 (Is ArrT zs (val zs ∷ [])) (sem 𝓤 H A (fat fullShare arr l 0 (val zs))))
   unfolding partOf
   whole-again zs l =
@@ -161,7 +161,7 @@ module _ {M : Type 1} (𝓤 : URA M) (H : Heap 𝓤) (A : Atoms 𝓤) (W : Given
       use1 W (‵ (fat fullShare arr l 0 (val zs))) (W .laws .raw-at fullShare arr l 0 (val zs)) $ check ! (subst (Is ArrT zs) e is) $ done !))
 
 module _ {M : Type 1} (𝓤 : URA M) (H : Heap 𝓤) (A : Atoms 𝓤) (W : Given 𝓤 H A) (mem : Memory → SProp 𝓤) (run : Routine → Fun 𝓤) (κ : Lft) (q : Share)
-    (s : RefT (List ℕ)) (ys : List Section) where
+    (s : RefT (List ℕ)) (ys : List SectionRecord) where
   -- the machine value of the text
   abbrev sv : Val
   sv = sliceVal (s .ptr) (length (s .now))
@@ -175,7 +175,7 @@ module _ {M : Type 1} (𝓤 : URA M) (H : Heap 𝓤) (A : Atoms 𝓤) (W : Given
   abbrev Tok : Item 𝓤
   Tok = ‵ (flft κ q) ⊛ ‵ ftrue
 
-  exits : (r : Lent) (v : Val) → Is L.the-row r (v ∷ []) → listed (r .reading) (r .sections) ≡ listText (s .now) ys
+  exits : (r : Lent) (v : Val) → Is L.the-row r (v ∷ []) → listOf (r .reading) (r .sections) ≡ listText (s .now) ys
       → ent 𝓤 (⋆ 𝓤 H A (Tok ∷ ‵ Own ∷ [])) (Post v)
   exits r v is f =
       qed W (Tok ∷ ‵ Own ∷ []) ∵
@@ -186,7 +186,7 @@ module _ {M : Type 1} (𝓤 : URA M) (H : Heap 𝓤) (A : Atoms 𝓤) (W : Given
 
   -- the call of `list`, for the lifetime α, with the array at l under the name γ
   module _ (α l : ℕ) (γ : GName) where
-    abbrev x : RefT (List Section)
+    abbrev x : RefT (List SectionRecord)
     x = record { ptr = (l, 0); name = γ; now = ys }
 
     abbrev xv : Val
@@ -241,13 +241,13 @@ module _ {M : Type 1} (𝓤 : URA M) (H : Heap 𝓤) (A : Atoms 𝓤) (W : Given
           -- [the call's; the lender's part; what text owns; _7; …; _6; …; _5; …; _4; …; that _3 dies; _2; …; _1; …; _0; …]
           calls-at ! fm (Listing 𝓤 H A mem run) known (to-list α l₃ γ)
           (and-then ! (load ! (from ! (stop !)) (look ! 14 refl)) (and-then ! (load ! (from ! (stop !)) (look ! 5 refl)) (no-more !))) (λ w.
-          use1 W (later (some (λ (r : Reading). (Toks α l₃ γ ⊛ ‵ (N.the-row .own r (w ∷ []))) ⊛ raw
+          use1 W (later (some (λ (r : LayoutReading). (Toks α l₃ γ ⊛ ‵ (N.the-row .own r (w ∷ []))) ⊛ raw
           (ensured 𝓤 H A list.ended (list.clauses 𝓤 H A mem run) (κ, (α ∷ [], tt)) (s, (x α l₃ γ, tt)) tt r)))) (id⊢ 𝓤 _) $ await ! tt $ pick ! (λ r.
-          split ! $ move ! (1 ∷ []) $ use1 W (some (λ (zs : Unit {0} × (List Section × Unit {0})). ‵
-          (lasts list.ended (κ, (α ∷ [], tt)) (s, (x α l₃ γ, tt)) zs) ⊛ raw (fact 𝓤 (listed r (zs .1 .0) ≡ listText (s .now) ys)))) (id⊢ 𝓤 _) $
+          split ! $ move ! (1 ∷ []) $ use1 W (some (λ (zs : Unit {0} × (List SectionRecord × Unit {0})). ‵
+          (lasts list.ended (κ, (α ∷ [], tt)) (s, (x α l₃ γ, tt)) zs) ⊛ raw (fact 𝓤 (listOf r (zs .1 .0) ≡ listText (s .now) ys)))) (id⊢ 𝓤 _) $
           pick ! (λ zs.
           let lent : Lent = record { reading = r; sections = zs .1 .0 } in
-          split ! $ move ! (1 ∷ []) $ heard ! (listed r (zs .1 .0) ≡ listText (s .now) ys) (λ f. fsplit ! $ drop ! $ fsplit ! $ fsplit ! $ move ! (1 ∷ []) $
+          split ! $ move ! (1 ∷ []) $ heard ! (listOf r (zs .1 .0) ≡ listText (s .now) ys) (λ f. fsplit ! $ drop ! $ fsplit ! $ fsplit ! $ move ! (1 ∷ []) $
           feqL ! (λ _.
           move ! (1 ∷ []) $ drop ! $ move ! (1 ∷ []) $ split ! $ split ! $ move ! (1 ∷ []) $ split ! $ lft-end ! tt $ move ! (0 ∷ 5 ∷ 4 ∷ []) $
           use3 W (later (‵ (Arr (memOf T.the-row) (length ys) .lies (zs .1 .0) l₃ 0)))

@@ -1,7 +1,7 @@
 use mathlib.Core.Path.{subst}
 use borrow.Author.Needs.{needs}
 use Rattle.fmd_list.specs.declared.Input.{Input}
-use Rattle.fmd_list.specs.Inputs.{Within}
+use Rattle.fmd_list.specs.Inputs.{InputWithin}
 use Rattle.fmd_list.proofs.main.Statement.{statement}
 use Rattle.fmd_list.proofs.main.Tie as tie
 
@@ -18,13 +18,13 @@ array-share-prefix-text : tie.Need-array-share-prefix-text
 array-share-prefix-text c =
     let s1 = c .before in
     let s2 = s1 .before .before .before in
-    subst (λ (i : Input). Within i (s2 .read-all .last .0)) (s1 .n .given .1) (s2 .read-all .ensures) .0
+    subst (λ (i : Input). InputWithin i (s2 .read-all .last .0)) (s1 .n .given .1) (s2 .read-all .ensures) .0
 
 slice-aggregate-show : tie.Need-slice-aggregate-show
 slice-aggregate-show c =
     let s1 = c .before .before in
     let s2 = s1 .before .before .before in
-    subst (λ (i : Input). Within i (s2 .read-all .last .0)) (s1 .n .given .1) (s2 .read-all .ensures) .1
+    subst (λ (i : Input). InputWithin i (s2 .read-all .last .0)) (s1 .n .given .1) (s2 .read-all .ensures) .1
 
 show-requires : tie.Need-show-requires
 show-requires c κs = search needs

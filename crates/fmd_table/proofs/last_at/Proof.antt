@@ -1,4 +1,4 @@
-use Rattle.fmd_table.specs.Invariants.{lastAt}
+use Rattle.fmd_table.specs.Invariants.{lastChildAt}
 use borrow.Author.Needs.{needs}
 use Rattle.fmd_table.proofs.last_at.Statement.{statement}
 use Rattle.fmd_table.proofs.last_at.Tie as tie
@@ -16,7 +16,7 @@ shared-slice-read-result : tie.Need-shared-slice-read-result
 shared-slice-read-result c = search needs
 
 returns : tie.Need-returns
-unfolding lastAt
+unfolding lastChildAt
 returns c = search needs
 
 pub last-at-spec : {M : Type 1} → statement M

@@ -1,4 +1,4 @@
-use Rattle.fmd_table.specs.Invariants.{nextAt}
+use Rattle.fmd_table.specs.Invariants.{nextSiblingAt}
 use borrow.Author.Needs.{needs}
 use Rattle.fmd_table.proofs.next_at.Statement.{statement}
 use Rattle.fmd_table.proofs.next_at.Tie as tie
@@ -16,7 +16,7 @@ shared-slice-read-result : tie.Need-shared-slice-read-result
 shared-slice-read-result c = search needs
 
 returns : tie.Need-returns
-unfolding nextAt
+unfolding nextSiblingAt
 returns c = search needs
 
 pub next-at-spec : {M : Type 1} → statement M

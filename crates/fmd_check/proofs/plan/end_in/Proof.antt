@@ -1,6 +1,6 @@
 use borrow.Author.Needs.{needs}
 use Rattle.fmd_check.proofs.Plans.{end-on, end-stop, end-done}
-use Rattle.fmd_check.specs.Plans.{endIn}
+use Rattle.fmd_check.specs.Plans.{siblingEnd}
 use Rattle.fmd_table.specs.Table.{placedIn}
 use native.Mathlib.Omega.{arith}
 use Prim.Native.Nat.{_≤_}
@@ -9,7 +9,7 @@ use Rattle.fmd_check.proofs.plan.end_in.Statement.{statement}
 use Rattle.fmd_check.proofs.plan.end_in.Tie as tie
 
 abbrev Inv-loop : tie.InvT-loop
-Inv-loop spots k parent j₀ j = (j ≤ k) × (endIn parent 0 (placedIn j spots) ≡ endIn parent 0 (placedIn k spots))
+Inv-loop spots k parent j₀ j = (j ≤ k) × (siblingEnd parent 0 (placedIn j spots) ≡ siblingEnd parent 0 (placedIn k spots))
 
 abbrev μ-loop : tie.MeasureT-loop
 μ-loop spots k parent j₀ j = j

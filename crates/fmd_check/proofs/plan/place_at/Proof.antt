@@ -1,5 +1,5 @@
 use Rattle.fmd_rows.proofs.Rows.{item}
-use Rattle.fmd_check.specs.Plans.{placeOf}
+use Rattle.fmd_check.specs.Plans.{spotFor}
 use mathlib.Core.Path.{sym}
 use borrow.Author.Needs.{needs}
 use Rattle.fmd_check.proofs.plan.place_at.Statement.{statement}
@@ -21,7 +21,7 @@ spot-in-requires : tie.Need-spot-in-requires
 spot-in-requires c κs = search needs
 
 returns : tie.Need-returns
-unfolding placeOf
+unfolding spotFor
 returns c = let a = c .before .before .before .before .before .before .before in
     rw (item (a .args .n) (a .args .rows .now) (a .args .k) (a .pre .2), sym (c .before .before .before .before .row-at .ensures), sym (c .before .before .before .end-in .ensures .0), sym (c .before .before .room-of .ensures), sym (c .before .reach-of .ensures)) (c .spot-in .ensures)
 

@@ -1,7 +1,7 @@
 use mathlib.Core.Path.{sym, _∙_}
 use borrow.Author.Needs.{needs}
 use Rattle.text_words.proofs.Numerals.{value-in}
-use Rattle.fmd_lex.specs.Numbers.{numberOf}
+use Rattle.fmd_lex.specs.Numbers.{numberIn}
 use Rattle.fmd_lex.proofs.digits.number_of.Statement.{statement}
 use Rattle.fmd_lex.proofs.digits.number_of.Tie as tie
 
@@ -24,15 +24,15 @@ enum-told-2 : tie.Need-enum-told-2
 enum-told-2 c = search needs
 
 returns : tie.Need-returns
-unfolding numberOf
+unfolding numberIn
 returns c = rw (sym (c .before .before .before .before .numeral-of .ensures) ∙ c .before .before .n .given .1) (c .with-unit .ensures)
 
 returns-2 : tie.Need-returns-2
-unfolding numberOf
+unfolding numberIn
 returns-2 c = rw (sym (c .before .before .numeral-of .ensures) ∙ c .enum-told .given .1)
 
 returns-3 : tie.Need-returns-3
-unfolding numberOf
+unfolding numberIn
 returns-3 c = rw (sym (c .before .before .numeral-of .ensures) ∙ c .enum-told2 .given .1)
 
 pub number-of-spec : {M : Type 1} → statement M
