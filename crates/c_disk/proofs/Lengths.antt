@@ -11,51 +11,51 @@ use Rattle.octets.specs.Tests.{_and_}
 use Rattle.octets.proofs.Bools.{and-false-l}
 use Rattle.octets.proofs.Rows.{pick-true}
 use Rattle.gpt_model.specs.Disk.{disk512}
-use Rattle.gpt_model.specs.Calls.{Edit, add, rename, edit, Out, out, refused, format, lengthsOf, step}
-use Rattle.gpt_model.proofs.Ways.{step-refused}
+use Rattle.gpt_model.specs.Calls.{Edit, add, newPartition, rename, edit, Outcome, outcome, refused, format, lengthsOf, step}
+use Rattle.gpt_model.proofs.Outcomes.{step-refused}
 use Rattle.gpt_model.proofs.Demand3.{format-refused}
-use Rattle.c_disk.specs.Told.{GptTold, gptTold}
+use Rattle.c_disk.specs.Effects.{GptEffect, gptEffect}
 
 and-false-r : (a b : Bool) → b ≡ false → (a and b) ≡ false
 unfolding _and_
 and-false-r true b e = e
 and-false-r false b e = refl
 
--- what C is told where a length is wrong
-abbrev pub unmade : List ℕ → List ℕ → List ℕ → GptTold
+-- what C gets where a length is wrong
+abbrev pub unmade : List ℕ → List ℕ → List ℕ → GptEffect
 unmade old h t = record { result = 1; head = h; tail = t; values = old }
 
 module _ (n : ℕ) (h t : List ℕ) where
-  pub format-wrong : (guid : List ℕ) → length guid ≢ 16 → unmade [] h t ≡ gptTold [] (format disk512 n guid h t)
+  pub format-wrong : (guid : List ℕ) → length guid ≢ 16 → unmade [] h t ≡ gptEffect [] (format disk512 n guid h t)
   format-wrong guid q =
-      ap (gptTold []) (sym (format-refused disk512 n guid h t 1 (pick-true _ 1 _ (ap not (and-false-r _ _ (ne-eqb _ _ q))))))
+      ap (gptEffect []) (sym (format-refused disk512 n guid h t 1 (pick-true _ 1 _ (ap not (and-false-r _ _ (ne-eqb _ _ q))))))
 
-  edit-wrong : (old : List ℕ) (d : Edit) → lengthsOf d ≡ false → unmade old h t ≡ gptTold old (step disk512 n h t (edit d))
+  edit-wrong : (old : List ℕ) (d : Edit) → lengthsOf d ≡ false → unmade old h t ≡ gptEffect old (step disk512 n h t (edit d))
   edit-wrong old d q =
-      ap (gptTold old) (sym (step-refused disk512 n h t (edit d) 1 (pick-true _ 1 _ (ap not (and-false-r _ _ q)))))
+      ap (gptEffect old) (sym (step-refused disk512 n h t (edit d) 1 (pick-true _ 1 _ (ap not (and-false-r _ _ q)))))
 
-  pub rename-wrong : (slot : ℕ) (name : List ℕ) → length name ≢ 36 → unmade [] h t ≡ gptTold [] (step disk512 n h t (edit (rename slot name)))
+  pub rename-wrong : (slot : ℕ) (name : List ℕ) → length name ≢ 36 → unmade [] h t ≡ gptEffect [] (step disk512 n h t (edit (rename slot name)))
   rename-wrong slot name q = edit-wrong [] (rename slot name) (ne-eqb _ _ q)
 
   module _ (old kind unique : List ℕ) (size attributes : ℕ) (name : List ℕ) where
     abbrev adding : Edit
-    adding = add kind unique size attributes name
+    adding = add (newPartition kind unique size attributes name)
 
-    pub kind-wrong : length kind ≢ 16 → unmade old h t ≡ gptTold old (step disk512 n h t (edit adding))
+    pub kind-wrong : length kind ≢ 16 → unmade old h t ≡ gptEffect old (step disk512 n h t (edit adding))
     kind-wrong q = edit-wrong old adding (and-false-l _ _ (and-false-l _ _ (ne-eqb _ _ q)))
 
-    pub unique-wrong : length unique ≢ 16 → unmade old h t ≡ gptTold old (step disk512 n h t (edit adding))
+    pub unique-wrong : length unique ≢ 16 → unmade old h t ≡ gptEffect old (step disk512 n h t (edit adding))
     unique-wrong q = edit-wrong old adding (and-false-l _ _ (and-false-r _ _ (ne-eqb _ _ q)))
 
-    pub name-wrong : length name ≢ 36 → unmade old h t ≡ gptTold old (step disk512 n h t (edit adding))
+    pub name-wrong : length name ≢ 36 → unmade old h t ≡ gptEffect old (step disk512 n h t (edit adding))
     name-wrong q = edit-wrong old adding (and-false-r _ _ (ne-eqb _ _ q))
 
-  pub format-on : (g guid : List ℕ) {o : Out} → g ≡ guid → o ≡ format disk512 n g h t → o ≡ format disk512 n guid h t
+  pub format-on : (g guid : List ℕ) {o : Outcome} → g ≡ guid → o ≡ format disk512 n g h t → o ≡ format disk512 n guid h t
   format-on g guid p e = e ∙ ap (λ (x : List ℕ). format disk512 n x h t) p
 
-  pub rename-on : (slot : ℕ) (m name : List ℕ) {o : Out} → m ≡ name → o ≡ step disk512 n h t (edit (rename slot m)) → o ≡ step disk512 n h t (edit (rename slot name))
+  pub rename-on : (slot : ℕ) (m name : List ℕ) {o : Outcome} → m ≡ name → o ≡ step disk512 n h t (edit (rename slot m)) → o ≡ step disk512 n h t (edit (rename slot name))
   rename-on slot m name p e = e ∙ ap (λ (x : List ℕ). step disk512 n h t (edit (rename slot x))) p
 
-  pub add-on : (size attributes : ℕ) (k kind u unique m name : List ℕ) {o : Out} → k ≡ kind → u ≡ unique → m ≡ name
-      → o ≡ step disk512 n h t (edit (add k u size attributes m)) → o ≡ step disk512 n h t (edit (add kind unique size attributes name))
+  pub add-on : (size attributes : ℕ) (k kind u unique m name : List ℕ) {o : Outcome} → k ≡ kind → u ≡ unique → m ≡ name
+      → o ≡ step disk512 n h t (edit (add (newPartition k u size attributes m))) → o ≡ step disk512 n h t (edit (add (newPartition kind unique size attributes name)))
   add-on size attributes k kind u unique m name p q r e = rw (← p, ← q, ← r) e

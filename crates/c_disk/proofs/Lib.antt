@@ -1,3 +1,3 @@
-pub mod Told
+pub mod Effects
 pub mod Copied
 pub mod Lengths

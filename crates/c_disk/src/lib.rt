@@ -8,9 +8,9 @@ ghost use mathlib.Core.List.{[], _∷_};
 ghost use lib.ListN.{length};
 ghost use Rattle.gpt_model.specs.Disk.{disk512};
 ghost use Rattle.gpt_model.specs.Calls.{step, format as formatOn, read as readCall, freeCounts, repair as repairCall, edit, delete as deleteCall};
-ghost use Rattle.gpt_model.specs.Calls.{resize as resizeCall, rename as renameCall, add as addCall};
+ghost use Rattle.gpt_model.specs.Calls.{resize as resizeCall, rename as renameCall, add as addCall, newPartition};
 ghost use Rattle.gpt.specs.Answers.{doneOf, readingOf, countedOf, addedOf};
-ghost use Rattle.c_disk.specs.Told.{resultOf, valuesOf, gptTold, placeOf, placed};
+ghost use Rattle.c_disk.specs.Effects.{resultOf, valuesOf, gptEffect, tablePlace, withTablePlace};
 
 fn done(a: Done) -> u32
     ensures { λ r. ⌜ r ≡ resultOf (doneOf a) ⌝ }
@@ -77,8 +77,8 @@ fn added(a: Added, slot: &mut u64, first: &mut u64) -> u32
 }
 
 fn place(a: Reading, in_tail: &mut u64, offset: &mut u64) -> u32
-    ensures { λ r. ⌜ (r ≡ resultOf (placeOf (readingOf a)))
-        × ((now (in_tail .exit) ∷ now (offset .exit) ∷ []) ≡ valuesOf (now (in_tail .entry) ∷ now (offset .entry) ∷ []) (placeOf (readingOf a))) ⌝ }
+    ensures { λ r. ⌜ (r ≡ resultOf (tablePlace (readingOf a)))
+        × ((now (in_tail .exit) ∷ now (offset .exit) ∷ []) ≡ valuesOf (now (in_tail .entry) ∷ now (offset .entry) ∷ []) (tablePlace (readingOf a))) ⌝ }
 {
     match a {
         Reading::Same => {
@@ -136,7 +136,7 @@ fn name_of(s: &[u16]) -> [u16; 36]
 #[no_mangle]
 pub extern "C" fn usi_gpt_format(head: &mut [u8], tail: &mut [u8], n: u64, guid: &[u8]) -> u32
     ensures { λ r. ⌜ record { result = r; head = now (head .exit); tail = now (tail .exit); values = [] }
-        ≡ gptTold [] (formatOn disk512 n (now (guid .entry)) (now (head .entry)) (now (tail .entry))) ⌝ }
+        ≡ gptEffect [] (formatOn disk512 n (now (guid .entry)) (now (head .entry)) (now (tail .entry))) ⌝ }
 {
     if guid.len() != 16 {
         return 1;
@@ -147,7 +147,7 @@ pub extern "C" fn usi_gpt_format(head: &mut [u8], tail: &mut [u8], n: u64, guid:
 #[no_mangle]
 pub extern "C" fn usi_gpt_read(head: &[u8], tail: &[u8], n: u64, state: &mut u64) -> u32
     ensures { λ r. ⌜ record { result = r; head = now (head .entry); tail = now (tail .entry); values = now (state .exit) ∷ [] }
-        ≡ gptTold (now (state .entry) ∷ []) (step disk512 n (now (head .entry)) (now (tail .entry)) readCall) ⌝ }
+        ≡ gptEffect (now (state .entry) ∷ []) (step disk512 n (now (head .entry)) (now (tail .entry)) readCall) ⌝ }
 {
     reading(gpt::read(head, tail, n), state)
 }
@@ -155,7 +155,7 @@ pub extern "C" fn usi_gpt_read(head: &[u8], tail: &[u8], n: u64, state: &mut u64
 #[no_mangle]
 pub extern "C" fn usi_gpt_delete(head: &mut [u8], tail: &mut [u8], n: u64, slot: u64) -> u32
     ensures { λ r. ⌜ record { result = r; head = now (head .exit); tail = now (tail .exit); values = [] }
-        ≡ gptTold [] (step disk512 n (now (head .entry)) (now (tail .entry)) (edit (deleteCall slot))) ⌝ }
+        ≡ gptEffect [] (step disk512 n (now (head .entry)) (now (tail .entry)) (edit (deleteCall slot))) ⌝ }
 {
     done(gpt::delete(head, tail, n, slot))
 }
@@ -169,7 +169,7 @@ pub extern "C" fn usi_gpt_resize(
     size: u64,
 ) -> u32
     ensures { λ r. ⌜ record { result = r; head = now (head .exit); tail = now (tail .exit); values = [] }
-        ≡ gptTold [] (step disk512 n (now (head .entry)) (now (tail .entry)) (edit (resizeCall slot size))) ⌝ }
+        ≡ gptEffect [] (step disk512 n (now (head .entry)) (now (tail .entry)) (edit (resizeCall slot size))) ⌝ }
 {
     done(gpt::resize(head, tail, n, slot, size))
 }
@@ -183,7 +183,7 @@ pub extern "C" fn usi_gpt_free(
     longest: &mut u64,
 ) -> u32
     ensures { λ r. ⌜ record { result = r; head = now (head .entry); tail = now (tail .entry); values = now (free .exit) ∷ now (longest .exit) ∷ [] }
-        ≡ gptTold (now (free .entry) ∷ now (longest .entry) ∷ []) (step disk512 n (now (head .entry)) (now (tail .entry)) freeCounts) ⌝ }
+        ≡ gptEffect (now (free .entry) ∷ now (longest .entry) ∷ []) (step disk512 n (now (head .entry)) (now (tail .entry)) freeCounts) ⌝ }
 {
     counted(gpt::free_counts(head, tail, n), free, longest)
 }
@@ -191,7 +191,7 @@ pub extern "C" fn usi_gpt_free(
 #[no_mangle]
 pub extern "C" fn usi_gpt_repair(head: &mut [u8], tail: &mut [u8], n: u64, state: &mut u64) -> u32
     ensures { λ r. ⌜ record { result = r; head = now (head .exit); tail = now (tail .exit); values = now (state .exit) ∷ [] }
-        ≡ gptTold (now (state .entry) ∷ []) (step disk512 n (now (head .entry)) (now (tail .entry)) repairCall) ⌝ }
+        ≡ gptEffect (now (state .entry) ∷ []) (step disk512 n (now (head .entry)) (now (tail .entry)) repairCall) ⌝ }
 {
     reading(gpt::repair(head, tail, n), state)
 }
@@ -205,7 +205,7 @@ pub extern "C" fn usi_gpt_rename(
     name: &[u16],
 ) -> u32
     ensures { λ r. ⌜ record { result = r; head = now (head .exit); tail = now (tail .exit); values = [] }
-        ≡ gptTold [] (step disk512 n (now (head .entry)) (now (tail .entry)) (edit (renameCall slot (now (name .entry))))) ⌝ }
+        ≡ gptEffect [] (step disk512 n (now (head .entry)) (now (tail .entry)) (edit (renameCall slot (now (name .entry))))) ⌝ }
 {
     if name.len() != 36 {
         return 1;
@@ -227,9 +227,9 @@ pub extern "C" fn usi_gpt_add(
     first: &mut u64,
 ) -> u32
     ensures { λ r. ⌜ record { result = r; head = now (head .exit); tail = now (tail .exit); values = now (slot .exit) ∷ now (first .exit) ∷ [] }
-        ≡ gptTold (now (slot .entry) ∷ now (first .entry) ∷ [])
+        ≡ gptEffect (now (slot .entry) ∷ now (first .entry) ∷ [])
         (step disk512 n (now (head .entry)) (now (tail .entry))
-        (edit (addCall (now (kind .entry)) (now (unique .entry)) size attributes (now (name .entry))))) ⌝ }
+        (edit (addCall (newPartition (now (kind .entry)) (now (unique .entry)) size attributes (now (name .entry)))))) ⌝ }
 {
     if kind.len() != 16 {
         return 1;
@@ -265,7 +265,7 @@ pub extern "C" fn usi_gpt_table(
     offset: &mut u64,
 ) -> u32
     ensures { λ r. ⌜ record { result = r; head = now (head .entry); tail = now (tail .entry); values = now (in_tail .exit) ∷ now (offset .exit) ∷ [] }
-        ≡ gptTold (now (in_tail .entry) ∷ now (offset .entry) ∷ []) (placed (step disk512 n (now (head .entry)) (now (tail .entry)) readCall)) ⌝ }
+        ≡ gptEffect (now (in_tail .entry) ∷ now (offset .entry) ∷ []) (withTablePlace (step disk512 n (now (head .entry)) (now (tail .entry)) readCall)) ⌝ }
 {
     place(gpt::read(head, tail, n), in_tail, offset)
 }

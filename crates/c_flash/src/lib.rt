@@ -6,7 +6,7 @@ ghost use Rattle.fmap.specs.Find.{findMap};
 ghost use Rattle.fmap.specs.Faults.{faultAt};
 ghost use Rattle.fmap.specs.Areas.{looked, areaNumbered, indexNamed};
 ghost use Rattle.fmap.specs.Carry.{carriedNumber, carryImages};
-ghost use Rattle.c_flash.specs.Told.{findTold, positionOf, faultTold, areaTold, lookedTold, namedTold, carryTold};
+ghost use Rattle.c_flash.specs.Effects.{findEffect, positionOf, faultEffect, areaEffect, lookedEffect, namedEffect, carryEffect};
 use fmap::AreaFound;
 use fmap::AreaIndex;
 use fmap::Carried;
@@ -17,7 +17,7 @@ use fmap_rules::ImagePosition;
 
 #[no_mangle]
 pub extern "C" fn usi_fmap_find(image: &[u8], position: &mut u64) -> u32
-    ensures { λ r. ⌜ record { result = r; value = now (position .exit) } ≡ findTold (now (position .entry)) (findMap (now (image .entry))) ⌝ }
+    ensures { λ r. ⌜ record { result = r; value = now (position .exit) } ≡ findEffect (now (position .entry)) (findMap (now (image .entry))) ⌝ }
 {
     match fmap::find(image) {
         Found::At(p) => {
@@ -42,7 +42,7 @@ fn position_of(n: u64) -> ImagePosition
 
 #[no_mangle]
 pub extern "C" fn usi_fmap_fault(image: &[u8], position: u64, rule: &mut u64) -> u32
-    ensures { λ r. ⌜ record { result = r; value = now (rule .exit) } ≡ faultTold (now (rule .entry)) (faultAt (now (image .entry)) position) ⌝ }
+    ensures { λ r. ⌜ record { result = r; value = now (rule .exit) } ≡ faultEffect (now (rule .entry)) (faultAt (now (image .entry)) position) ⌝ }
 {
     match fmap::fault_at(image, position_of(position)) {
         Fault::Good => {
@@ -60,7 +60,7 @@ pub extern "C" fn usi_fmap_fault(image: &[u8], position: u64, rule: &mut u64) ->
 // Writes the area that was found.
 fn area_found(a: AreaFound, area: &mut [u8]) -> u32
     requires { ⌜ length (now area) ≡ 42 ⌝ }
-    ensures { λ r. ⌜ record { result = r; buffer = now (area .exit) } ≡ lookedTold (now (area .entry)) (looked a) ⌝ }
+    ensures { λ r. ⌜ record { result = r; buffer = now (area .exit) } ≡ lookedEffect (now (area .entry)) (looked a) ⌝ }
 {
     let answer = a.answer;
     match answer {
@@ -78,7 +78,7 @@ fn area_found(a: AreaFound, area: &mut [u8]) -> u32
 
 #[no_mangle]
 pub extern "C" fn usi_fmap_area(image: &[u8], k: u64, area: &mut [u8]) -> u32
-    ensures { λ r. ⌜ record { result = r; buffer = now (area .exit) } ≡ areaTold (now (area .entry)) (areaNumbered (now (image .entry)) k) ⌝ }
+    ensures { λ r. ⌜ record { result = r; buffer = now (area .exit) } ≡ areaEffect (now (area .entry)) (areaNumbered (now (image .entry)) k) ⌝ }
 {
     if area.len() != 42 {
         return 1;
@@ -88,7 +88,7 @@ pub extern "C" fn usi_fmap_area(image: &[u8], k: u64, area: &mut [u8]) -> u32
 
 #[no_mangle]
 pub extern "C" fn usi_fmap_named(image: &[u8], name: &[u8], k: &mut u64) -> u32
-    ensures { λ r. ⌜ record { result = r; value = now (k .exit) } ≡ namedTold (now (k .entry)) (indexNamed (now (image .entry)) (now (name .entry))) ⌝ }
+    ensures { λ r. ⌜ record { result = r; value = now (k .exit) } ≡ namedEffect (now (k .entry)) (indexNamed (now (image .entry)) (now (name .entry))) ⌝ }
 {
     match fmap::area_index(image, name) {
         AreaIndex::At(i) => {
@@ -119,7 +119,7 @@ fn carried(c: Carried) -> u32
 
 #[no_mangle]
 pub extern "C" fn usi_fmap_carry(old: &[u8], image: &mut [u8]) -> u32
-    ensures { λ r. ⌜ record { result = r; buffer = now (image .exit) } ≡ carryTold (carryImages (now (old .entry)) (now (image .entry))) ⌝ }
+    ensures { λ r. ⌜ record { result = r; buffer = now (image .exit) } ≡ carryEffect (carryImages (now (old .entry)) (now (image .entry))) ⌝ }
 {
     carried(fmap::carry(old, image))
 }

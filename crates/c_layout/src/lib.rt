@@ -4,14 +4,14 @@ ghost use mathlib.Core.List.{[], _∷_};
 ghost use lib.ListN.{length};
 ghost use Rattle.octets.specs.Rows.{codeOf};
 ghost use Rattle.fmd.specs.Calls.{numberOf, reading, readText, recordText, writeText};
-ghost use Rattle.c_layout.specs.Told.{imageTold, readTold, countOf, recordsTold, writeTold};
+ghost use Rattle.c_layout.specs.Effects.{imageEffect, readEffect, countFor, recordsEffect, writeEffect};
 use fmd::Reading;
 
 // Hands an accepted image out.
 fn image(a: Reading, name: &mut [u8], size: &mut u64, address: &mut u64, count: &mut u64) -> u32
     requires { ⌜ length (now name) ≡ 32 ⌝ }
     ensures { λ r. ⌜ record { result = r; name = now (name .exit); values = now (size .exit) ∷ now (address .exit) ∷ now (count .exit) ∷ [] }
-        ≡ imageTold (now (name .entry)) (now (size .entry) ∷ now (address .entry) ∷ now (count .entry) ∷ []) (reading a) ⌝ }
+        ≡ imageEffect (now (name .entry)) (now (size .entry) ∷ now (address .entry) ∷ now (count .entry) ∷ []) (reading a) ⌝ }
 {
     let answer = a.answer;
     let k = fmd::number(answer);
@@ -36,7 +36,7 @@ pub extern "C" fn usi_fmd_read(
     count: &mut u64,
 ) -> u32
     ensures { λ r. ⌜ record { result = r; name = now (name .exit); values = now (size .exit) ∷ now (address .exit) ∷ now (count .exit) ∷ [] }
-        ≡ readTold (now (name .entry)) (now (size .entry) ∷ now (address .entry) ∷ now (count .entry) ∷ []) (readText (now (text .entry))) ⌝ }
+        ≡ readEffect (now (name .entry)) (now (size .entry) ∷ now (address .entry) ∷ now (count .entry) ∷ []) (readText (now (text .entry))) ⌝ }
 {
     if name.len() != 32 {
         return 1;
@@ -46,7 +46,7 @@ pub extern "C" fn usi_fmd_read(
 
 // Hands the number of an accepted image's sections out.
 fn counted(a: Reading, count: &mut u64) -> u32
-    ensures { λ r. ⌜ (r ≡ codeOf (numberOf (a .answer))) × (now (count .exit) ≡ countOf (now (count .entry)) (a .image) (numberOf (a .answer))) ⌝ }
+    ensures { λ r. ⌜ (r ≡ codeOf (numberOf (a .answer))) × (now (count .exit) ≡ countFor (now (count .entry)) (a .image) (numberOf (a .answer))) ⌝ }
 {
     let answer = a.answer;
     let k = fmd::number(answer);
@@ -61,14 +61,14 @@ fn counted(a: Reading, count: &mut u64) -> u32
 #[no_mangle]
 pub extern "C" fn usi_fmd_records(text: &[u8], records: &mut [u8], count: &mut u64) -> u32
     ensures { λ r. ⌜ record { result = r; records = now (records .exit); count = now (count .exit) }
-        ≡ recordsTold (now (count .entry)) (recordText (now (text .entry)) (now (records .entry))) ⌝ }
+        ≡ recordsEffect (now (count .entry)) (recordText (now (text .entry)) (now (records .entry))) ⌝ }
 {
     counted(fmd::put_records(text, records), count)
 }
 
 #[no_mangle]
 pub extern "C" fn usi_fmd_write(text: &[u8], image: &mut [u8]) -> u32
-    ensures { λ r. ⌜ record { result = r; image = now (image .exit) } ≡ writeTold (writeText (now (text .entry)) (now (image .entry))) ⌝ }
+    ensures { λ r. ⌜ record { result = r; image = now (image .exit) } ≡ writeEffect (writeText (now (text .entry)) (now (image .entry))) ⌝ }
 {
     let w = fmd::write_map(text, image);
     let answer = w.answer;

@@ -24,7 +24,7 @@ use Rattle.fmap_carry.specs.Carry.{preserved, withName, target, missing, otherS
 use Rattle.fmap_carry.proofs.Passed.{size-same, all-apart, judge-free}
 use Rattle.fmap.specs.Find.{Reply, accepted, refused, findMap}
 use Rattle.fmap.specs.Carry.{placeRows, carryAt, carryTo, carryFrom, carryImages}
-use Rattle.fmap.specs.InBytes.{recordOf, countIn, startIn, sizeIn, nameIn, endIn, Goes, ShareNone, MapAt, MayCarry, AcceptedByBytes, ImagesAcceptedByBytes}
+use Rattle.fmap.specs.InBytes.{recordOf, countIn, startIn, sizeIn, nameIn, Goes, MayCarry, AcceptedByBytes, ImagesAcceptedByBytes}
 use Rattle.fmap.proofs.Finding.{in-range, within}
 use Rattle.fmap.proofs.Places.{place-good, old-stands, new-stands, old-good, new-good, rows-pass, both-stand}
 use Rattle.fmap.proofs.Promises.{is-signed}
@@ -59,6 +59,14 @@ module _ (x y : Extent) (sx zx sy zy : ℕ) (a : x .start .0 ≡ sx) (b : x .siz
           let j : x .start .0 < endOf y = leb-false _ _ v in
           let k : sy < sx = leb-false _ _ u in
           absurd (f sx (omega arith, omega arith) (omega arith, omega arith))
+
+-- a row that asks t of the preserved areas alone
+unasked : (t : Area → Bool) (a : Area) → (preserved a ≡ true → t a ≡ true) → (preserved a and not (t a)) ≡ false
+unasked t a f = go (bool-cases (preserved a))
+  where
+    go : (preserved a ≡ true) ⊎ (preserved a ≡ false) → (preserved a and not (t a)) ≡ false
+    go (inl p) = sym (and-t p (sym (ap not (f p))))
+    go (inr p) = sym (and-f _ p)
 
 -- ---- the areas of two good maps
 
@@ -113,19 +121,11 @@ module _ (old : List ℕ) (at : ℕ) (new : List ℕ) (bt : ℕ) (g : goodMap ol
     goes : (i : ℕ) → i < length olds → preserved (getD olds i blank) ≡ true → (j : ℕ) × Goes old at new bt i j
     goes i l p = m .none-missing i (back old at g i l) (unmarked old at new bt g h i (back old at g i l) p)
 
-    -- a test of the preserved areas alone
-    untouched : (t : Area → Bool) (i : ℕ) → (preserved (getD olds i blank) ≡ true → t (getD olds i blank) ≡ true) → (preserved (getD olds i blank) and not (t (getD olds i blank))) ≡ false
-    untouched t i f = go (bool-cases (preserved (getD olds i blank)))
-      where
-        go : (preserved (getD olds i blank) ≡ true) ⊎ (preserved (getD olds i blank) ≡ false) → (preserved (getD olds i blank) and not (t (getD olds i blank))) ≡ false
-        go (inl p) = sym (and-t p (sym (ap not (f p))))
-        go (inr p) = sym (and-f _ p)
-
     none-missing : any (missing news) olds ≡ false
     unfolding missing named
     none-missing =
         any-false (missing news) olds blank
-        (λ i l. untouched (λ a. any (named (a .name)) news) i
+        (λ i l. unasked (λ a. any (named (a .name)) news) (getD olds i blank)
         (λ p.
         let n = goes i l p in
         let w = n .1 in
@@ -138,7 +138,7 @@ module _ (old : List ℕ) (at : ℕ) (new : List ℕ) (bt : ℕ) (g : goodMap ol
     unfolding otherSize
     none-other =
         any-false (otherSize news) olds blank
-        (λ i l. untouched (λ a. eqb (a .place .size) (target news a .size)) i
+        (λ i l. unasked (λ a. eqb (a .place .size) (target news a .size)) (getD olds i blank)
         (λ p.
         let n = goes i l p in
         let w = n .1 in
@@ -146,7 +146,9 @@ module _ (old : List ℕ) (at : ℕ) (new : List ℕ) (bt : ℕ) (g : goodMap ol
 
     all-clear : pairs (clear news) olds ≡ true
     unfolding clear clearBy
-    all-clear = pairs-make (clear news) olds blank (λ i k o l. go i k o l (bool-cases (preserved (getD olds i blank))) (bool-cases (preserved (getD olds k blank))))
+    all-clear =
+        pairs-make (clear news) olds blank
+        (λ i k o l. go i k o l (bool-cases (preserved (getD olds i blank))) (bool-cases (preserved (getD olds k blank))))
       where
         go : (i k : ℕ) → i < k → k < length olds → (preserved (getD olds i blank) ≡ true) ⊎ (preserved (getD olds i blank) ≡ false)
             → (preserved (getD olds k blank) ≡ true) ⊎ (preserved (getD olds k blank) ≡ false) → clear news (getD olds i blank) (getD olds k blank) ≡ true
@@ -171,7 +173,7 @@ module _ (old : List ℕ) (at : ℕ) (new : List ℕ) (bt : ℕ) (g : goodMap ol
         let t = m .new-map .own-there in
         let place = fmap-at f t (m .new-map .own-name) in
         any-false (onMap news) olds blank
-        (λ i l. untouched (λ a. disjoint (target news a) (withName news fmapName .place)) i
+        (λ i l. unasked (λ a. disjoint (target news a) (withName news fmapName .place)) (getD olds i blank)
         (λ p.
         let n = goes i l p in
         let w = n .1 in

@@ -91,7 +91,8 @@ place-facts : (z : ℕ) (ps : List Placed) (h : Section) (hs : List Section)
 unfolding placeOf spotIn
 place-facts z ps h hs = reach-facts h (endIn (h .parent) 0 ps) _ (roomOf z (h .parent) ps) (reachIn h hs)
 
-lacks-at : (l : List Section) (k : ℕ) (h : Section) (hs : List Section) → getD l k blankSection ≡ h → drop (suc k) l ≡ hs → isUndecided (reachIn h hs) ≡ undecided l k
+lacks-at : (l : List Section) (k : ℕ) (h : Section) (hs : List Section) → getD l k blankSection ≡ h → drop (suc k) l ≡ hs
+    → isUndecided (reachIn h hs) ≡ undecided l k
 unfolding undecided
 lacks-at l k h hs a b = rw (add-one k, a, b)
 
@@ -174,7 +175,8 @@ module _ (l : List Section) (k : ℕ) where
       let a = n .before in
       let m : suc k + (i - suc k) ≡ i = omega arith in
       let x : getD (drop (suc k) l) (i - suc k) blankSection ≡ getD l i blankSection = after-k (i - suc k) ∙ ap (λ (j : ℕ). getD l j blankSection) m in
-      next-first (getD l k blankSection .parent) (drop (suc k) l) (i - suc k) (omega (arith, length-after)) (ap (λ (y : Section). y .parent) x ∙ sym (n .siblings))
+      next-first (getD l k blankSection .parent) (drop (suc k) l) (i - suc k) (omega (arith, length-after))
+      (ap (λ (y : Section). y .parent) x ∙ sym (n .siblings))
       (λ j g q. n .between (suc k + j) (omega arith) (omega arith) (sym (ap (λ (y : Section). y .parent) (after-k j)) ∙ (q ∙ n .siblings)))
       ∙ ap (λ (y : Section). Next (y .offset)) x
 
@@ -278,7 +280,8 @@ module _ (z : ℕ) (l : List Section) (ps : List Placed) (p : Placed)
       → ((k : ℕ) → k < length ps → BeginsAt l ps k (getD l k blankSection .offset) (getD ps k blank .offset .0))
       → (k : ℕ) → k < length (ps ++ (p ∷ [])) → BeginsAt l (ps ++ (p ∷ [])) k (getD l k blankSection .offset) (getD (ps ++ (p ∷ [])) k blank .offset .0)
   begins-push e f =
-      every ps p (λ k q. BeginsAt l (ps ++ (p ∷ [])) k (getD l k blankSection .offset) (q .offset .0)) (λ k a. old k a (getD l k blankSection .offset) _ (f k a))
+      every ps p (λ k q. BeginsAt l (ps ++ (p ∷ [])) k (getD l k blankSection .offset) (q .offset .0))
+      (λ k a. old k a (getD l k blankSection .offset) _ (f k a))
       (begins-at l (length ps) (ps ++ (p ∷ [])) (h .offset) (p .offset .0) _ e last-end no-end)
     where
       old : (k : ℕ) → k < length ps → (o : Offset) (x : ℕ) → BeginsAt l ps k o x → BeginsAt l (ps ++ (p ∷ [])) k o x

@@ -43,28 +43,33 @@ module _ (l : List Section) (k : ℕ) where
       by (inl e) = rw e g
       by (inr e) = f j x e
 
+  sibling-or-not : (j : ℕ) → Siblings l j k ⊎ (Siblings l j k → ⊥)
+  sibling-or-not j = by (bool-cases (eqb (getD l j blankSection .parent) (getD l k blankSection .parent)))
+    where
+      t : Bool
+      t = eqb (getD l j blankSection .parent) (getD l k blankSection .parent)
+
+      by : (t ≡ true) ⊎ (t ≡ false) → Siblings l j k ⊎ (Siblings l j k → ⊥)
+      by (inl q) = inl (eqb-true _ _ q)
+      by (inr q) = inr (eqb-false _ _ q)
+
   previous : (m : ℕ) → m ≤ k → None m k → ((j : ℕ) × Neighbours l j k) ⊎ None 0 k
   previous zero h f = inr f
-  previous (suc m) h f = by (previous m (omega arith)) (bool-cases (eqb (getD l m blankSection .parent) (getD l k blankSection .parent)))
+  previous (suc m) h f = by (previous m (omega arith)) (sibling-or-not m)
     where
-      by : (None m k → ((j : ℕ) × Neighbours l j k) ⊎ None 0 k)
-          → (eqb (getD l m blankSection .parent) (getD l k blankSection .parent) ≡ true) ⊎ (eqb (getD l m blankSection .parent) (getD l k blankSection .parent) ≡ false)
-          → ((j : ℕ) × Neighbours l j k) ⊎ None 0 k
-      by below (inl q) = inl (m, record { before = h; siblings = eqb-true _ _ q; between = f })
-      by below (inr q) = below (none-front m k f (eqb-false _ _ q))
+      by : (None m k → ((j : ℕ) × Neighbours l j k) ⊎ None 0 k) → Siblings l m k ⊎ (Siblings l m k → ⊥) → ((j : ℕ) × Neighbours l j k) ⊎ None 0 k
+      by below (inl s) = inl (m, record { before = h; siblings = s; between = f })
+      by below (inr s) = below (none-front m k f s)
 
   -- the n sections from i on are looked at
   next : (n i : ℕ) → k < i → i + n ≡ length l → None (suc k) i → ((i : ℕ) × (i < length l) × Neighbours l k i) ⊎ None (suc k) (length l)
   next zero i h e f = let w : i ≡ length l = omega arith in inr (rw (sym w) f)
-  next (suc n) i h e f = by (next n (suc i) (omega arith) (omega arith)) (bool-cases (eqb (getD l i blankSection .parent) (getD l k blankSection .parent)))
+  next (suc n) i h e f = by (next n (suc i) (omega arith) (omega arith)) (sibling-or-not i)
     where
       by : (None (suc k) (suc i) → ((i : ℕ) × (i < length l) × Neighbours l k i) ⊎ None (suc k) (length l))
-          → (eqb (getD l i blankSection .parent) (getD l k blankSection .parent) ≡ true) ⊎ (eqb (getD l i blankSection .parent) (getD l k blankSection .parent) ≡ false)
-          → ((i : ℕ) × (i < length l) × Neighbours l k i) ⊎ None (suc k) (length l)
-      by above (inl q) =
-          let s : Siblings l i k = eqb-true _ _ q in
-          inl (i, omega arith, record { before = h; siblings = sym s; between = λ j x y t. f j x y (t ∙ s) })
-      by above (inr q) = above (none-behind (suc k) i f (eqb-false _ _ q))
+          → Siblings l i k ⊎ (Siblings l i k → ⊥) → ((i : ℕ) × (i < length l) × Neighbours l k i) ⊎ None (suc k) (length l)
+      by above (inl s) = inl (i, omega arith, record { before = h; siblings = sym s; between = λ j x y t. f j x y (t ∙ s) })
+      by above (inr s) = above (none-behind (suc k) i f s)
 
 -- ---- section k of two resolutions that agree below k
 
@@ -107,8 +112,9 @@ module _ (z : ℕ) (l : List Section) (ps qs : List Placed) (f : Fitted z l ps) 
       let o = begins-once z l ps qs n h s (getD l n blankSection .offset) _ _ (f .begins n u) (g .begins n v) in
       let par = f .parent n u ∙ sym (g .parent n v) in
       placed-same _ _ o
-      (ends-once z l ps qs n h s (omega arith) (omega arith) (getD l n blankSection .size) (getD ps n blank) (getD qs n blank) o par (f .ends n u) (g .ends n v)) par
-      (f .level n u ∙ sym (g .level n v))
+      (ends-once z l ps qs n h s (omega arith) (omega arith) (getD l n blankSection .size) (getD ps n blank) (getD qs n blank) o par (f .ends n u)
+      (g .ends n v))
+      par (f .level n u ∙ sym (g .level n v))
 
   -- the places below n agree
   below : (n : ℕ) → n ≤ length l → (k : ℕ) → k < n → getD ps k blank ≡ getD qs k blank

@@ -12,7 +12,8 @@ use Rattle.fmd_lex.specs.Numbers.{numberOf}
 use Rattle.fmd_lex.specs.Names.{goodName}
 use Rattle.fmd_lex.specs.declared.Number.the-variants.{Wrong}
 use Rattle.fmd_grammar.specs.Grammar.{Lexeme, word, sign}
-use Rattle.fmd_grammar.specs.Claims.{Fault, unfitSign, wordBeforeBraces, wordAfterBraces, badNumber, badImageSize, badLength, badSize, badName, tooMany, badFlag, placeOf}
+use Rattle.fmd_grammar.specs.Claims.{Fault, unfitSign, wordBeforeBraces, wordAfterBraces, badNumber, badImageSize, badLength, badSize}
+use Rattle.fmd_grammar.specs.Claims.{badName, tooMany, badFlag, placeOf}
 use Rattle.fmd_grammar.proofs.Parsers.{Got, no, ok, Parser, Act, stop, eat, leave, acted, item, ret, after, bind, isIt}
 
 -- ---- equal answers

@@ -45,7 +45,8 @@ abbrev pub Numbered : List Lexeme → ℕ → Type 0
 Numbered own n = (b : ℕ) × (w : List ℕ) × (own ≡ word b w ∷ []) × (numberOf w ≡ Value n)
 
 -- a number after @: a size may come after it
-pub number-fine : (W : List Lexeme → Type 0) → W [] → ((p : ℕ) → W (word p (ascii "98") ∷ word 0 (ascii "98") ∷ [])) → (x : Lexeme) → Fine Numbered W x (numberAct x)
+pub number-fine : (W : List Lexeme → Type 0) → W [] → ((p : ℕ) → W (word p (ascii "98") ∷ word 0 (ascii "98") ∷ []))
+    → (x : Lexeme) → Fine Numbered W x (numberAct x)
 number-fine W g i (sign p k) = (unfitSign, g)
 number-fine W g i (word p w) = go (numberOf w) refl
   where

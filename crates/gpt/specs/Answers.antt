@@ -1,18 +1,12 @@
 -- W15: When an answer is an enum, a definition states this paper's number and values for each enum case. Definitions only.
-use mathlib.Core.Path.{_≡_}
-use mathlib.Core.Bool.{true}
 use mathlib.Core.List.{List, [], _∷_}
 use mathlib.Core.Option.{Option, none, some}
 use Prim.Native.Nat.{ℕ}
-use lib.Dec.{eqb}
-use Rattle.octets.specs.Tests.{any}
 use Rattle.octets.specs.Rows.{refusal}
 use Rattle.gpt_model.specs.Disk.{disk512, usedSide, state, tableOf}
 use Rattle.gpt_model.specs.Calls.{Answer, refused, accepted, read, rowsOf}
 use Rattle.gpt_places.specs.Sides.{behind, entriesPlace}
-use Rattle.gpt.specs.declared.Refusal.{Refusal}
-use Rattle.gpt.specs.declared.Refusal.the-variants.{WrongLength, BlockCount, NoDiskGuid, NeitherGood, NotTheSame, NoSuchSlot, SlotUnused}
-use Rattle.gpt.specs.declared.Refusal.the-variants.{NoSize, NoType, NoUniqueGuid, BadName, NoUnusedSlot, NoRoom}
+use Rattle.gpt_checks.specs.Refusals.{numberOf}
 use Rattle.gpt.specs.declared.Done.{Done}
 use Rattle.gpt.specs.declared.Done.the-variants as done
 use Rattle.gpt.specs.declared.Reading.{Reading}
@@ -21,29 +15,6 @@ use Rattle.gpt.specs.declared.Added.{Added}
 use Rattle.gpt.specs.declared.Added.the-variants as adding
 use Rattle.gpt.specs.declared.Counted.{Counted}
 use Rattle.gpt.specs.declared.Counted.the-variants as counting
-
--- R4 to R13, in the order there
-abbrev pub numberOf : Refusal → ℕ
-numberOf WrongLength = 1
-numberOf BlockCount = 2
-numberOf NoDiskGuid = 3
-numberOf NeitherGood = 10
-numberOf NotTheSame = 11
-numberOf NoSuchSlot = 12
-numberOf SlotUnused = 13
-numberOf NoSize = 20
-numberOf NoType = 21
-numberOf NoUniqueGuid = 22
-numberOf BadName = 23
-numberOf NoUnusedSlot = 24
-numberOf NoRoom = 25
-
--- one of these numbers
-abbrev pub numbers : List ℕ
-numbers = 1 ∷ 2 ∷ 3 ∷ 10 ∷ 11 ∷ 12 ∷ 13 ∷ 20 ∷ 21 ∷ 22 ∷ 23 ∷ 24 ∷ 25 ∷ []
-
-abbrev pub Numbered : ℕ → Type 0
-Numbered k = any (eqb k) numbers ≡ true
 
 -- R3: other writers only that they accepted
 abbrev pub doneOf : Done → Answer
@@ -70,19 +41,19 @@ countedOf (counting.Free blocks longest) = accepted (blocks ∷ longest ∷ [])
 countedOf (counting.Refused r) = refused (numberOf r)
 
 -- (W9) the part of head or tail that reading hands back: its bytes, and where it begins
-pub record Part : Type 0 where
+pub record Handed : Type 0 where
   pub bytes : List ℕ
   pub place : ℕ × ℕ
 
-abbrev pub part : List ℕ → ℕ × ℕ → Part
-part bs p = record { bytes = bs; place = p }
+abbrev pub handed : List ℕ → ℕ × ℕ → Handed
+handed bs p = record { bytes = bs; place = p }
 
 -- D11: It hands back the 16,384 entry bytes inside whichever of the two lent buffers was used, by where head and tail begin.
 -- R1: an empty part where a part is returned; it lies at the head's start.
 module _ (n : ℕ) (h t : List ℕ) (head tail : ℕ × ℕ) where
-  abbrev pub handedBy : Option ℕ → Part
-  handedBy none = part (tableOf disk512 n h t) (entriesPlace (usedSide (state disk512 n h t)) head tail)
-  handedBy (some k) = part [] (behind 0 head)
+  abbrev pub handedBy : Option ℕ → Handed
+  handedBy none = handed (tableOf disk512 n h t) (entriesPlace (usedSide (state disk512 n h t)) head tail)
+  handedBy (some k) = handed [] (behind 0 head)
 
-  abbrev pub handedPart : Part
+  abbrev pub handedPart : Handed
   handedPart = handedBy (refusal (rowsOf disk512 n h t read))

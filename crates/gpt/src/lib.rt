@@ -2,6 +2,7 @@
 // Every call takes any buffers and any numbers; its contract is one equation with `format` or `step` of gpt_model for its answer and both buffers afterwards.
 // A call asks its judge of gpt_checks first, and writes after, by gpt_edits or gpt_copies.
 use gpt_checks::Check;
+use gpt_checks::Refusal;
 use gpt_checks::Start;
 use gpt_copies::State;
 use gpt_model::Block;
@@ -11,28 +12,12 @@ ghost use mathlib.Core.List.{[], _∷_};
 ghost use Prim.Native.Nat.{_*_, _≤_};
 ghost use lib.ListN.{length};
 ghost use Rattle.gpt_model.specs.Ranges.{freeCount, longestFree};
-ghost use Rattle.gpt_model.specs.Table.{tableBytes, slots};
+ghost use Rattle.gpt_model.specs.Table.{tableBytes, rangesOf};
 ghost use Rattle.gpt_model.specs.Disk.{disk512, lastUsable};
-ghost use Rattle.gpt_model.specs.Calls.{accepted, out, step, format as formatOn, read as readCall, freeCounts, repair as repairCall, edit};
-ghost use Rattle.gpt_model.specs.Calls.{add as addCall, delete as deleteCall, resize as resizeCall, rename as renameCall};
-ghost use Rattle.gpt.specs.Answers.{numberOf, Numbered, doneOf, readingOf, addedOf, countedOf, part, handedPart};
-
-// Why a call is refused; specs/Answers gives each its number.
-pub enum Refusal {
-    WrongLength,
-    BlockCount,
-    NoDiskGuid,
-    NeitherGood,
-    NotTheSame,
-    NoSuchSlot,
-    SlotUnused,
-    NoSize,
-    NoType,
-    NoUniqueGuid,
-    BadName,
-    NoUnusedSlot,
-    NoRoom,
-}
+ghost use Rattle.gpt_model.specs.Calls.{accepted, outcome, step, format as formatOn, read as readCall, freeCounts, repair as repairCall, edit};
+ghost use Rattle.gpt_model.specs.Calls.{add as addCall, newPartition, delete as deleteCall, resize as resizeCall, rename as renameCall};
+ghost use Rattle.gpt_checks.specs.Refusals.{numberOf};
+ghost use Rattle.gpt.specs.Answers.{doneOf, readingOf, addedOf, countedOf, handed, handedPart};
 
 pub enum Done {
     Accepted,
@@ -79,34 +64,12 @@ pub fn number(a: Refusal) -> u32
     }
 }
 
-// The refusal of that number.
-fn refusal_of(k: u64) -> Refusal
-    requires { ⌜ Numbered k ⌝ }
-    ensures { λ r. ⌜ numberOf r ≡ k ⌝ }
-{
-    match k {
-        1 => Refusal::WrongLength,
-        2 => Refusal::BlockCount,
-        3 => Refusal::NoDiskGuid,
-        10 => Refusal::NeitherGood,
-        11 => Refusal::NotTheSame,
-        12 => Refusal::NoSuchSlot,
-        13 => Refusal::SlotUnused,
-        20 => Refusal::NoSize,
-        21 => Refusal::NoType,
-        22 => Refusal::NoUniqueGuid,
-        23 => Refusal::BadName,
-        24 => Refusal::NoUnusedSlot,
-        _ => Refusal::NoRoom,
-    }
-}
-
 // Writes both copies with no entries, and block 0.
 pub fn format(head: &mut [u8], tail: &mut [u8], n: u64, guid: [u8; 16]) -> Done
-    ensures { λ r. ⌜ out (doneOf r) (now (head .exit)) (now (tail .exit)) ≡ formatOn disk512 n guid (now (head .entry)) (now (tail .entry)) ⌝ }
+    ensures { λ r. ⌜ outcome (doneOf r) (now (head .exit)) (now (tail .exit)) ≡ formatOn disk512 n guid (now (head .entry)) (now (tail .entry)) ⌝ }
 {
     match gpt_checks::format(&head[..], &tail[..], n, &guid) {
-        Check::Stop(k) => Done::Refused(refusal_of(k)),
+        Check::Stop(r) => Done::Refused(r),
         Check::Pass => {
             gpt_copies::writing::fresh_head(head, n, &guid);
             gpt_copies::writing::fresh_tail(tail, n, &guid);
@@ -117,10 +80,10 @@ pub fn format(head: &mut [u8], tail: &mut [u8], n: u64, guid: [u8; 16]) -> Done
 
 // The state of the two copies.
 pub fn read(head: &[u8], tail: &[u8], n: u64) -> Reading
-    ensures { λ r. ⌜ out (readingOf r) (now (head .entry)) (now (tail .entry)) ≡ step disk512 n (now (head .entry)) (now (tail .entry)) readCall ⌝ }
+    ensures { λ r. ⌜ outcome (readingOf r) (now (head .entry)) (now (tail .entry)) ≡ step disk512 n (now (head .entry)) (now (tail .entry)) readCall ⌝ }
 {
     match gpt_checks::lent(head, tail, n) {
-        Check::Stop(k) => Reading::Refused(refusal_of(k)),
+        Check::Stop(r) => Reading::Refused(r),
         Check::Pass => match gpt_copies::reading::state(head, tail, n) {
             State::Both => Reading::Same,
             State::Differ => Reading::Different,
@@ -133,11 +96,11 @@ pub fn read(head: &[u8], tail: &[u8], n: u64) -> Reading
 
 // Gives a partition's slot back.
 pub fn delete(head: &mut [u8], tail: &mut [u8], n: u64, slot: u64) -> Done
-    ensures { λ r. ⌜ out (doneOf r) (now (head .exit)) (now (tail .exit))
+    ensures { λ r. ⌜ outcome (doneOf r) (now (head .exit)) (now (tail .exit))
         ≡ step disk512 n (now (head .entry)) (now (tail .entry)) (edit (deleteCall slot)) ⌝ }
 {
     match gpt_checks::delete(&head[..], &tail[..], n, slot) {
-        Check::Stop(k) => Done::Refused(refusal_of(k)),
+        Check::Stop(r) => Done::Refused(r),
         Check::Pass => {
             gpt_edits::delete(head, tail, n, slot);
             Done::Accepted
@@ -156,11 +119,20 @@ pub fn add(
     attributes: u64,
     name: [u16; 36],
 ) -> Added
-    ensures { λ r. ⌜ out (addedOf r) (now (head .exit)) (now (tail .exit))
-        ≡ step disk512 n (now (head .entry)) (now (tail .entry)) (edit (addCall kind unique size attributes name)) ⌝ }
+    ensures { λ r. ⌜ outcome (addedOf r) (now (head .exit)) (now (tail .exit))
+        ≡ step disk512 n (now (head .entry)) (now (tail .entry)) (edit (addCall (newPartition kind unique size attributes name))) ⌝ }
 {
-    match gpt_checks::add(&head[..], &tail[..], n, &kind, &unique, size, &name) {
-        Start::Stop(k) => Added::Refused(refusal_of(k)),
+    match gpt_checks::add(
+        &head[..],
+        &tail[..],
+        n,
+        &kind,
+        &unique,
+        size,
+        attributes,
+        &name,
+    ) {
+        Start::Stop(r) => Added::Refused(r),
         Start::At(first) => {
             let slot = gpt_edits::add(
                 head,
@@ -180,11 +152,11 @@ pub fn add(
 
 // Sets a partition's last block, for the size asked.
 pub fn resize(head: &mut [u8], tail: &mut [u8], n: u64, slot: u64, size: u64) -> Done
-    ensures { λ r. ⌜ out (doneOf r) (now (head .exit)) (now (tail .exit))
+    ensures { λ r. ⌜ outcome (doneOf r) (now (head .exit)) (now (tail .exit))
         ≡ step disk512 n (now (head .entry)) (now (tail .entry)) (edit (resizeCall slot size)) ⌝ }
 {
     match gpt_checks::resize(&head[..], &tail[..], n, slot, size) {
-        Check::Stop(k) => Done::Refused(refusal_of(k)),
+        Check::Stop(r) => Done::Refused(r),
         Check::Pass => {
             gpt_edits::resize(head, tail, n, slot, size);
             Done::Accepted
@@ -194,11 +166,11 @@ pub fn resize(head: &mut [u8], tail: &mut [u8], n: u64, slot: u64, size: u64) ->
 
 // Sets a partition's name.
 pub fn rename(head: &mut [u8], tail: &mut [u8], n: u64, slot: u64, name: [u16; 36]) -> Done
-    ensures { λ r. ⌜ out (doneOf r) (now (head .exit)) (now (tail .exit))
+    ensures { λ r. ⌜ outcome (doneOf r) (now (head .exit)) (now (tail .exit))
         ≡ step disk512 n (now (head .entry)) (now (tail .entry)) (edit (renameCall slot name)) ⌝ }
 {
     match gpt_checks::rename(&head[..], &tail[..], n, slot, &name) {
-        Check::Stop(k) => Done::Refused(refusal_of(k)),
+        Check::Stop(r) => Done::Refused(r),
         Check::Pass => {
             gpt_edits::rename(head, tail, n, slot, &name);
             Done::Accepted
@@ -208,7 +180,7 @@ pub fn rename(head: &mut [u8], tail: &mut [u8], n: u64, slot: u64, name: [u16; 3
 
 // Writes the other copy from the good one, and answers the state found.
 pub fn repair(head: &mut [u8], tail: &mut [u8], n: u64) -> Reading
-    ensures { λ r. ⌜ out (readingOf r) (now (head .exit)) (now (tail .exit)) ≡ step disk512 n (now (head .entry)) (now (tail .entry)) repairCall ⌝ }
+    ensures { λ r. ⌜ outcome (readingOf r) (now (head .exit)) (now (tail .exit)) ≡ step disk512 n (now (head .entry)) (now (tail .entry)) repairCall ⌝ }
 {
     match read(&head[..], &tail[..], n) {
         Reading::Same => Reading::Same,
@@ -230,7 +202,7 @@ pub fn repair(head: &mut [u8], tail: &mut [u8], n: u64) -> Reading
 
 // The 16,384 entry bytes inside the buffer whose copy is used; empty on a refusal.
 pub fn table<'a>(head: &'a [u8], tail: &'a [u8], n: u64) -> &'a [u8]
-    ensures { λ r. ⌜ part (now r) (r .ptr) ≡ handedPart n (now (head .entry)) (now (tail .entry)) (head .entry .ptr) (tail .entry .ptr) ⌝ }
+    ensures { λ r. ⌜ handed (now r) (r .ptr) ≡ handedPart n (now (head .entry)) (now (tail .entry)) (head .entry .ptr) (tail .entry .ptr) ⌝ }
 {
     match read(head, tail, n) {
         Reading::Same => gpt_places::entries_in(head, Side::Primary),
@@ -243,8 +215,8 @@ pub fn table<'a>(head: &'a [u8], tail: &'a [u8], n: u64) -> &'a [u8]
 
 fn count_in(table: &[u8], n: u64) -> Counted
     requires { ⌜ (length (now table) ≡ tableBytes) × (2 * disk512 .first ≤ n) × (n ≤ 4294967296) ⌝ }
-    ensures { λ r. ⌜ countedOf r ≡ accepted (freeCount (slots (now (table .entry))) (disk512 .first) (lastUsable disk512 n)
-        ∷ longestFree (slots (now (table .entry))) (disk512 .first) (lastUsable disk512 n) ∷ []) ⌝ }
+    ensures { λ r. ⌜ countedOf r ≡ accepted (freeCount (rangesOf (now (table .entry))) (disk512 .first) (lastUsable disk512 n)
+        ∷ longestFree (rangesOf (now (table .entry))) (disk512 .first) (lastUsable disk512 n) ∷ []) ⌝ }
 {
     let free = gpt_room::free_counts(
         table,
@@ -259,7 +231,7 @@ fn count_in(table: &[u8], n: u64) -> Counted
 
 // Usable blocks in no partition, and the longest run of such.
 pub fn free_counts(head: &[u8], tail: &[u8], n: u64) -> Counted
-    ensures { λ r. ⌜ out (countedOf r) (now (head .entry)) (now (tail .entry)) ≡ step disk512 n (now (head .entry)) (now (tail .entry)) freeCounts ⌝ }
+    ensures { λ r. ⌜ outcome (countedOf r) (now (head .entry)) (now (tail .entry)) ≡ step disk512 n (now (head .entry)) (now (tail .entry)) freeCounts ⌝ }
 {
     match read(head, tail, n) {
         Reading::Same => count_in(gpt_places::entries_in(head, Side::Primary), n),

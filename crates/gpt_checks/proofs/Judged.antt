@@ -13,11 +13,11 @@ use Rattle.octets.specs.Tests.{_and_}
 use Rattle.octets.specs.Rows.{Row, row, pickRow, refusal}
 use Rattle.octets.proofs.Bools.{and-l, and-r, and-i, not-f, some-none}
 use Rattle.octets.proofs.Rows.{passes, pick-true, pick-false, refusal-append, refusal-first, refusal-before}
-use Rattle.gpt_model.specs.Ranges.{place}
-use Rattle.gpt_model.specs.Table.{slots}
+use Rattle.gpt_model.specs.Ranges.{lowestStart}
+use Rattle.gpt_model.specs.Table.{rangesOf}
 use Rattle.gpt_model.specs.Disk.{disk512, lastUsable, inRange, primary, entriesIn, state, tableOf}
-use Rattle.gpt_model.specs.Calls.{Edit, add, delete, resize, rename, edit, badName, slotRows, addRows, fitsAt, tableRows, isNone, lengthsOf, lengthsOk, readRows, openRows, rowsOf, formatRows}
-use Rattle.gpt_model.proofs.Ways.{edit-decides, edit-stops}
+use Rattle.gpt_model.specs.Calls.{NewPartition, Edit, add, delete, resize, rename, edit, badName, slotRows, addRows, fitsAt, startFor, tableRows, isNone, lengthsOf, lengthsOk, commonRows, openRows, rowsOf, formatRows}
+use Rattle.gpt_model.proofs.Outcomes.{edit-decides, edit-stops}
 use Rattle.gpt_model.proofs.States.{one-primary}
 use Rattle.gpt_room.specs.Answers.{placed}
 use Rattle.gpt_model.specs.declared.Block.{Block}
@@ -27,15 +27,17 @@ use Rattle.gpt_copies.specs.States.{stateNumber}
 use Rattle.gpt_copies.specs.declared.State.{State}
 use Rattle.gpt_checks.proofs.Rows.{slot-number}
 use Rattle.gpt_checks.specs.Checks.{stopOf, lentRows, openFor}
+use Rattle.gpt_checks.specs.Refusals.{numberOf}
+use Rattle.gpt_checks.specs.declared.Refusal.{Refusal}
 use Rattle.gpt_checks.specs.declared.Check.{Check}
 use Rattle.gpt_checks.specs.declared.Check.the-variants.{Pass, Stop}
 
--- a check that is passed: no row holds. One that stops a call: the row of its number
+-- a check that is passed: no row holds. One that stops a call: the row of its refusal
 pub passed : {q : Option ℕ} (c : Check) → c ≡ Pass → stopOf c ≡ q → q ≡ none
 passed c p q = sym q ∙ ap stopOf p
 
-pub stopped : {q : Option ℕ} (c : Check) (k : ℕ) → c ≡ Stop k → stopOf c ≡ q → q ≡ some k
-stopped c k p q = sym q ∙ ap stopOf p
+pub stopped : {q : Option ℕ} (c : Check) (r : Refusal) → c ≡ Stop r → stopOf c ≡ q → q ≡ some (numberOf r)
+stopped c r p q = sym q ∙ ap stopOf p
 
 module _ (n : ℕ) (h t : List ℕ) where
   -- ---- rows 1 and 2
@@ -76,7 +78,7 @@ module _ (n : ℕ) (h t : List ℕ) where
 
   -- the rows before an edit's own, where GUIDs and name have the lengths of their types
   open-is : (d : Edit) → lengthsOf d ≡ true → refusal (openRows disk512 n h t d) ≡ refusal (openFor n h t)
-  open-is d l = ap (λ (b : Bool). refusal (readRows disk512 n h t b ++ (row (not (eqb (state disk512 n h t) 1)) 11 ∷ []))) l
+  open-is d l = ap (λ (b : Bool). refusal (commonRows disk512 n h t b ++ (row (not (eqb (state disk512 n h t) 1)) 11 ∷ []))) l
 
   module _ (e : refusal (openFor n h t) ≡ none) where
     pub open-facts : Lent
@@ -92,9 +94,9 @@ module _ (n : ℕ) (h t : List ℕ) where
     own-rows d l tb is =
         ap (λ (es : List ℕ). refusal (tableRows 34 (lastUsable disk512 n) es d)) (is ∙ table-is) ∙ sym (edit-decides disk512 n h t d (open-is d l ∙ e))
 
-    pub placed-in : (tb : List ℕ) → tb ≡ entriesIn disk512 primary h → (size s : ℕ) → place (slots tb) 34 (lastUsable disk512 n) size ≡ some s
-        → place (slots (tableOf disk512 n h t)) 34 (lastUsable disk512 n) size ≡ some s
-    placed-in tb is size s p = sym (ap (λ (es : List ℕ). place (slots es) 34 (lastUsable disk512 n) size) (is ∙ table-is)) ∙ p
+    pub placed-in : (tb : List ℕ) → tb ≡ entriesIn disk512 primary h → (p : NewPartition) (s : ℕ) → startFor 34 (lastUsable disk512 n) tb p ≡ some s
+        → startFor 34 (lastUsable disk512 n) (tableOf disk512 n h t) p ≡ some s
+    placed-in tb is p s q = sym (ap (λ (es : List ℕ). startFor 34 (lastUsable disk512 n) es p) (is ∙ table-is)) ∙ q
 
   pub open-stops : (d : Edit) → lengthsOf d ≡ true → (k : ℕ) → refusal (openFor n h t) ≡ some k → some k ≡ refusal (rowsOf disk512 n h t (edit d))
   open-stops d l k e = sym (edit-stops disk512 n h t d k (open-is d l ∙ e))
@@ -106,7 +108,7 @@ module _ (n : ℕ) (h t : List ℕ) where
     slotted = rowsOf disk512 n h t (edit (delete k))
 
     pub delete-open : refusal slotted ≡ none → refusal (openFor n h t) ≡ none
-    delete-open e = refusal-before (openFor n h t) (slotRows 0 0 (tableOf disk512 n h t) k) e .0
+    delete-open e = refusal-before (openFor n h t) (slotRows (tableOf disk512 n h t) k) e .0
 
     pub delete-slot : refusal slotted ≡ none → (1 ≤ k) × (k ≤ 128)
     delete-slot e = slot-number k (passes 12 slotted e)
@@ -114,7 +116,7 @@ module _ (n : ℕ) (h t : List ℕ) where
     module _ (name : List ℕ) (l : length name ≡ 36) where
       rename-is : refusal (rowsOf disk512 n h t (edit (rename k name))) ≡ refusal (slotted ++ (row (badName name) 23 ∷ []))
       rename-is =
-          ap (λ (b : Bool). refusal (readRows disk512 n h t b ++ (row (not (eqb (state disk512 n h t) 1)) 11 ∷ slotRows 0 0 (tableOf disk512 n h t) k ++ (row (badName name) 23 ∷ []))))
+          ap (λ (b : Bool). refusal (commonRows disk512 n h t b ++ (row (not (eqb (state disk512 n h t) 1)) 11 ∷ slotRows (tableOf disk512 n h t) k ++ (row (badName name) 23 ∷ []))))
           (eq-eqb (length name) 36 l)
 
       pub rename-stops : (j : ℕ) → refusal slotted ≡ some j → some j ≡ refusal (rowsOf disk512 n h t (edit (rename k name)))
@@ -128,7 +130,7 @@ module _ (n : ℕ) (h t : List ℕ) where
 
     module _ (size : ℕ) where
       abbrev own : List Row
-      own = row (eqb size 0) 20 ∷ row (not (fitsAt 34 (lastUsable disk512 n) (tableOf disk512 n h t) k size)) 25 ∷ []
+      own = row (eqb size 0) 20 ∷ row (not (fitsAt (lastUsable disk512 n) (tableOf disk512 n h t) k size)) 25 ∷ []
 
       pub resize-stops : (j : ℕ) → refusal slotted ≡ some j → some j ≡ refusal (rowsOf disk512 n h t (edit (resize k size)))
       resize-stops j e = sym (refusal-first slotted own j e)
@@ -139,8 +141,8 @@ module _ (n : ℕ) (h t : List ℕ) where
 
         -- the room is asked of a part tb of the head that holds the table, up to block last
         module _ (a : size ≢ 0) (tb : List ℕ) (last : ℕ) (is : tb ≡ entriesIn disk512 primary h) (l : last ≡ lastUsable disk512 n) (b : Bool)
-            (f : b ≡ fitsAt 34 last tb k size) where
-          fits-is : fitsAt 34 (lastUsable disk512 n) (tableOf disk512 n h t) k size ≡ b
+            (f : b ≡ fitsAt last tb k size) where
+          fits-is : fitsAt (lastUsable disk512 n) (tableOf disk512 n h t) k size ≡ b
           fits-is = sym (f ∙ rw (l, is ∙ table-is (delete-open e)))
 
           pub resize-full : b ≡ false → some 25 ≡ refusal (rowsOf disk512 n h t (edit (resize k size)))
@@ -151,36 +153,36 @@ module _ (n : ℕ) (h t : List ℕ) where
 
 -- ---- adding, from row 20 on, over the table es
 
-pub add-lengths : (type unique : List ℕ) (size attributes : ℕ) (name : List ℕ) → length type ≡ 16 → length unique ≡ 16 → length name ≡ 36
-    → lengthsOf (add type unique size attributes name) ≡ true
-add-lengths type unique size attributes name a b c = and-i _ _ (and-i _ _ (eq-eqb _ _ a) (eq-eqb _ _ b)) (eq-eqb _ _ c)
+pub add-lengths : (p : NewPartition) → length (p .type) ≡ 16 → length (p .unique) ≡ 16 → length (p .name) ≡ 36 → lengthsOf (add p) ≡ true
+add-lengths p a b c = and-i _ _ (and-i _ _ (eq-eqb _ _ a) (eq-eqb _ _ b)) (eq-eqb _ _ c)
 
-module _ (n : ℕ) (es type unique : List ℕ) (size : ℕ) (name : List ℕ) where
+module _ (n : ℕ) (es : List ℕ) (p : NewPartition) where
   abbrev before25 : List Row
-  before25 = addRows 0 0 es type unique size name
+  before25 = addRows es p
 
   abbrev start : Option ℕ
-  start = place (slots es) 34 (lastUsable disk512 n) size
+  start = startFor 34 (lastUsable disk512 n) es p
 
-  abbrev rows : ℕ → Option ℕ
-  rows attributes = refusal (tableRows 34 (lastUsable disk512 n) es (add type unique size attributes name))
+  abbrev rows : Option ℕ
+  rows = refusal (tableRows 34 (lastUsable disk512 n) es (add p))
 
-  pub add-size : refusal before25 ≡ none → 0 < size
-  add-size e = let w : size ≢ 0 = eqb-false size 0 (passes 20 before25 e) in omega arith
+  pub add-size : refusal before25 ≡ none → 0 < p .size
+  add-size e = let w : p .size ≢ 0 = eqb-false (p .size) 0 (passes 20 before25 e) in omega arith
 
-  pub start-stops : (k : ℕ) → refusal before25 ≡ some k → ((attributes : ℕ) → some k ≡ rows attributes) × ((b : ℕ) → none ≡ some b → start ≡ some b)
-  start-stops k e = (λ attributes. sym (refusal-first before25 (row (isNone start) 25 ∷ []) k e), λ b q. absurd (some-none (sym q)))
+  pub start-stops : (k : ℕ) → refusal before25 ≡ some k → (some k ≡ rows) × ((b : ℕ) → none ≡ some b → start ≡ some b)
+  start-stops k e = (sym (refusal-first before25 (row (isNone start) 25 ∷ []) k e), λ b q. absurd (some-none (sym q)))
 
   -- what the search for a start answers, between the usable blocks f and l
-  module _ (e : refusal before25 ≡ none) (p : Place) (f l : ℕ) (ef : f ≡ 34) (el : l ≡ lastUsable disk512 n) (r : placed p ≡ place (slots es) f l size) where
-    placed-is : placed p ≡ start
+  module _ (e : refusal before25 ≡ none) (q : Place) (f l : ℕ) (ef : f ≡ 34) (el : l ≡ lastUsable disk512 n)
+      (r : placed q ≡ lowestStart (rangesOf es) f l (p .size)) where
+    placed-is : placed q ≡ start
     placed-is = r ∙ rw (ef, el)
 
-    pub start-full : p ≡ found.None → ((attributes : ℕ) → some 25 ≡ rows attributes) × ((b : ℕ) → none ≡ some b → start ≡ some b)
-    start-full q =
-        (λ attributes. sym (refusal-append before25 (row (isNone start) 25 ∷ []) e ∙ pick-true _ 25 _ (ap isNone (sym placed-is ∙ ap placed q))), λ b z. absurd (some-none (sym z)))
+    pub start-full : q ≡ found.None → (some 25 ≡ rows) × ((b : ℕ) → none ≡ some b → start ≡ some b)
+    start-full x =
+        (sym (refusal-append before25 (row (isNone start) 25 ∷ []) e ∙ pick-true _ 25 _ (ap isNone (sym placed-is ∙ ap placed x))), λ b z. absurd (some-none (sym z)))
 
-    pub start-at : (b : Block) → p ≡ found.At b → ((attributes : ℕ) → none ≡ rows attributes) × ((c : ℕ) → some (b .0) ≡ some c → start ≡ some c)
-    start-at b q =
-        let w : start ≡ some (b .0) = sym placed-is ∙ ap placed q in
-        (λ attributes. sym (refusal-append before25 (row (isNone start) 25 ∷ []) e ∙ pick-false _ 25 _ (ap isNone w)), λ c z. w ∙ z)
+    pub start-at : (b : Block) → q ≡ found.At b → (none ≡ rows) × ((c : ℕ) → some (b .0) ≡ some c → start ≡ some c)
+    start-at b x =
+        let w : start ≡ some (b .0) = sym placed-is ∙ ap placed x in
+        (sym (refusal-append before25 (row (isNone start) 25 ∷ []) e ∙ pick-false _ 25 _ (ap isNone w)), λ c z. w ∙ z)

@@ -1,22 +1,22 @@
 -- The rows that come before a call's work, from the tests of the code.
 use mathlib.Core.Path.{_≡_, refl, sym, ap, _∙_}
-use mathlib.Core.Bool.{Bool, true, false, not}
+use mathlib.Core.Bool.{Bool, true, false, not, cond}
 use mathlib.Core.List.{List, [], _∷_, _++_}
 use mathlib.Core.Option.{Option, none, some}
 use Prim.Native.Nat.{ℕ, _≤_, _<_}
 use native.Mathlib.Omega.{arith}
-use lib.Dec.{leb}
+use lib.Dec.{leb, eqb}
 use lib.ListN.{length}
 use borrow.Author.Tests.{eq-eqb, ne-eqb, le-leb, lt-leb, leb-true, le-ltb, lt-ltb}
 use mathlib.Core.Logic.{_≢_}
 use Rattle.octets.specs.Tests.{_and_, _or_, any, findIx}
 use Rattle.octets.specs.Bytes.{isZero}
-use Rattle.octets.specs.Rows.{row, pickRow, refusal}
+use Rattle.octets.specs.Rows.{Row, row, refusal}
 use Rattle.octets.proofs.Bools.{and-l, and-r, and-i, or-il, or-ir, or-false-i, not-f}
 use Rattle.octets.proofs.Rows.{pick-true, pick-false, refusal-append, refusal-first}
 use Rattle.gpt_model.specs.Disk.{disk512, inRange}
 use Rattle.gpt_model.specs.Table.{unused, entries}
-use Rattle.gpt_model.specs.Calls.{lengthsOk, formatRows, entryOf, carries, badName, slotRows, addRows}
+use Rattle.gpt_model.specs.Calls.{NewPartition, lengthsOk, formatRows, entryOf, carries, badName, slotRows, addRows}
 use Rattle.gpt_table.proofs.Entries.{some-unused}
 use Rattle.gpt_checks.specs.Checks.{lentRows}
 
@@ -68,12 +68,12 @@ module _ (n : ℕ) (guid h t : List ℕ) (l : length guid ≡ 16) where
 pub slot-number : (k : ℕ) → not (leb 1 k and leb k 128) ≡ false → (1 ≤ k) × (k ≤ 128)
 slot-number k e = let w = not-f _ e in (leb-true _ _ (and-l _ _ w), leb-true _ _ (and-r _ _ w))
 
-module _ (first last : ℕ) (es : List ℕ) (k : ℕ) where
-  pub slot-low : k < 1 → some 12 ≡ refusal (slotRows first last es k)
+module _ (es : List ℕ) (k : ℕ) where
+  pub slot-low : k < 1 → some 12 ≡ refusal (slotRows es k)
   unfolding _and_
   slot-low h = sym (pick-true _ 12 _ (rw (lt-leb 1 k h)))
 
-  pub slot-high : 1 ≤ k → 128 < k → some 12 ≡ refusal (slotRows first last es k)
+  pub slot-high : 1 ≤ k → 128 < k → some 12 ≡ refusal (slotRows es k)
   unfolding _and_
   slot-high l h = sym (pick-true _ 12 _ (rw (le-leb 1 k l, lt-leb k 128 h)))
 
@@ -81,47 +81,62 @@ module _ (first last : ℕ) (es : List ℕ) (k : ℕ) where
     numbered : not (leb 1 k and leb k 128) ≡ false
     numbered = ap not (and-i _ _ (le-leb 1 k l) (le-leb k 128 h))
 
-    pub slot-unused : unused (entryOf es k) ≡ true → some 13 ≡ refusal (slotRows first last es k)
+    pub slot-unused : unused (entryOf es k) ≡ true → some 13 ≡ refusal (slotRows es k)
     slot-unused e = sym (pick-false _ 12 _ numbered ∙ pick-true _ 13 _ e)
 
-    pub slot-used : unused (entryOf es k) ≡ false → none ≡ refusal (slotRows first last es k)
+    pub slot-used : unused (entryOf es k) ≡ false → none ≡ refusal (slotRows es k)
     slot-used e = sym (pick-false _ 12 _ numbered ∙ pick-false _ 13 _ e)
 
--- ---- rows 20 to 24 of adding
+-- ---- rows 20 to 24 of adding; each is reached where the one before does not hold
 
-module _ (first last : ℕ) (es type unique : List ℕ) (size : ℕ) (name : List ℕ) where
+-- the rows from that of the number k on
+abbrev rowsFrom : ℕ → List Row → List Row
+rowsFrom k [] = []
+rowsFrom k (r ∷ rs) = cond (eqb k (r .number)) (r ∷ rs) (rowsFrom k rs)
+
+module _ (es : List ℕ) (p : NewPartition) where
   abbrev rows : Option ℕ
-  rows = refusal (addRows first last es type unique size name)
+  rows = refusal (addRows es p)
 
-  pub size-zero : size ≡ 0 → some 20 ≡ rows
+  abbrev to : ℕ → Option ℕ
+  to k = refusal (rowsFrom k (addRows es p))
+
+  pub size-zero : p .size ≡ 0 → some 20 ≡ rows
   size-zero e = sym (pick-true _ 20 _ (eq-eqb _ _ e))
 
-  module _ (a : size ≢ 0) where
-    pub type-zero : isZero type ≡ true → some 21 ≡ rows
-    type-zero e = sym (pick-false _ 20 _ (ne-eqb _ _ a) ∙ pick-true _ 21 _ e)
+  module _ (a : p .size ≢ 0) where
+    to21 : rows ≡ to 21
+    to21 = pick-false _ 20 _ (ne-eqb _ _ a)
 
-    module _ (b : isZero type ≡ false) where
-      to22 : (q : Option ℕ) → q ≡ pickRow (isZero unique or any (carries unique) (entries es)) 22 (pickRow (badName name) 23 (pickRow (not (any unused (entries es))) 24 none)) → q ≡ rows
-      to22 q e = e ∙ sym (pick-false _ 20 _ (ne-eqb _ _ a) ∙ pick-false _ 21 _ b)
+    pub type-zero : isZero (p .type) ≡ true → some 21 ≡ rows
+    type-zero e = sym (to21 ∙ pick-true _ 21 _ e)
 
-      pub unique-zero : isZero unique ≡ true → some 22 ≡ rows
-      unique-zero e = to22 _ (sym (pick-true _ 22 _ (or-il _ _ e)))
+    module _ (b : isZero (p .type) ≡ false) where
+      to22 : rows ≡ to 22
+      to22 = to21 ∙ pick-false _ 21 _ b
 
-      pub unique-carried : any (carries unique) (entries es) ≡ true → some 22 ≡ rows
-      unique-carried e = to22 _ (sym (pick-true _ 22 _ (or-ir _ _ e)))
+      pub unique-zero : isZero (p .unique) ≡ true → some 22 ≡ rows
+      unique-zero e = sym (to22 ∙ pick-true _ 22 _ (or-il _ _ e))
 
-      module _ (c : isZero unique ≡ false) (d : any (carries unique) (entries es) ≡ false) where
-        to23 : (q : Option ℕ) → q ≡ pickRow (badName name) 23 (pickRow (not (any unused (entries es))) 24 none) → q ≡ rows
-        to23 q e = to22 q (e ∙ sym (pick-false _ 22 _ (or-false-i _ _ c d)))
+      pub unique-carried : any (carries (p .unique)) (entries es) ≡ true → some 22 ≡ rows
+      unique-carried e = sym (to22 ∙ pick-true _ 22 _ (or-ir _ _ e))
 
-        pub name-bad : badName name ≡ true → some 23 ≡ rows
-        name-bad e = to23 _ (sym (pick-true _ 23 _ e))
+      module _ (c : isZero (p .unique) ≡ false) (d : any (carries (p .unique)) (entries es) ≡ false) where
+        to23 : rows ≡ to 23
+        to23 = to22 ∙ pick-false _ 22 _ (or-false-i _ _ c d)
 
-        pub slots-full : badName name ≡ false → any unused (entries es) ≡ false → some 24 ≡ rows
-        slots-full e f = to23 _ (sym (pick-false _ 23 _ e ∙ pick-true _ 24 _ (ap not f)))
+        pub name-bad : badName (p .name) ≡ true → some 23 ≡ rows
+        name-bad e = sym (to23 ∙ pick-true _ 23 _ e)
 
-        pub add-passes : badName name ≡ false → any unused (entries es) ≡ true → none ≡ rows
-        add-passes e f = to23 _ (sym (pick-false _ 23 _ e ∙ pick-false _ 24 _ (ap not f)))
+        module _ (e : badName (p .name) ≡ false) where
+          to24 : rows ≡ to 24
+          to24 = to23 ∙ pick-false _ 23 _ e
+
+          pub slots-full : any unused (entries es) ≡ false → some 24 ≡ rows
+          slots-full f = sym (to24 ∙ pick-true _ 24 _ (ap not f))
+
+          pub add-passes : any unused (entries es) ≡ true → none ≡ rows
+          add-passes f = sym (to24 ∙ pick-false _ 24 _ (ap not f))
 
 -- the lowest unused slot, 128 where there is none
 pub none-unused : (es : List ℕ) (i : ℕ) → i ≡ findIx unused (entries es) → i ≡ 128 → any unused (entries es) ≡ false

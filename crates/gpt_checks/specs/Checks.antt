@@ -7,7 +7,8 @@ use lib.Dec.{eqb}
 use Rattle.octets.specs.Tests.{_and_}
 use Rattle.octets.specs.Rows.{Row, row}
 use Rattle.gpt_model.specs.Disk.{disk512, inRange, state}
-use Rattle.gpt_model.specs.Calls.{lengthsOk, readRows}
+use Rattle.gpt_model.specs.Calls.{lengthsOk, commonRows}
+use Rattle.gpt_checks.specs.Refusals.{numberOf}
 use Rattle.gpt_checks.specs.declared.Check.{Check}
 use Rattle.gpt_checks.specs.declared.Check.the-variants.{Pass, Stop}
 use Rattle.gpt_checks.specs.declared.Start.{Start}
@@ -16,16 +17,16 @@ use Rattle.gpt_checks.specs.declared.Start.the-variants as start
 -- the number of the first row that holds, if one does
 abbrev pub stopOf : Check → Option ℕ
 stopOf Pass = none
-stopOf (Stop k) = some k
+stopOf (Stop r) = some (numberOf r)
 
 abbrev pub stopBy : Start → Option ℕ
 stopBy (start.At b) = none
-stopBy (start.Stop k) = some k
+stopBy (start.Stop r) = some (numberOf r)
 
 -- D15: the lowest start with enough free blocks, where no row holds
 abbrev pub startBy : Start → Option ℕ
 startBy (start.At b) = some (b .0)
-startBy (start.Stop k) = none
+startBy (start.Stop r) = none
 
 -- 1, 2
 abbrev pub lentRows : ℕ → List ℕ → List ℕ → List Row
@@ -33,4 +34,4 @@ lentRows n h t = row (not (lengthsOk disk512 h t and true)) 1 ∷ row (not (inRa
 
 -- 1, 2, 10, 11
 abbrev pub openFor : ℕ → List ℕ → List ℕ → List Row
-openFor n h t = readRows disk512 n h t true ++ (row (not (eqb (state disk512 n h t) 1)) 11 ∷ [])
+openFor n h t = commonRows disk512 n h t true ++ (row (not (eqb (state disk512 n h t) 1)) 11 ∷ [])

@@ -1,2 +1,3 @@
 -- What the judges answer.
+pub mod Refusals
 pub mod Checks

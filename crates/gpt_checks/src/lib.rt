@@ -12,23 +12,39 @@ ghost use mathlib.Core.Option.{some};
 ghost use Prim.Native.Nat.{ℕ, _*_, _≤_};
 ghost use lib.ListN.{length};
 ghost use Rattle.octets.specs.Rows.{refusal};
-ghost use Rattle.gpt_model.specs.Ranges.{place};
-ghost use Rattle.gpt_model.specs.Table.{tableBytes, slots};
+ghost use Rattle.gpt_model.specs.Table.{tableBytes};
 ghost use Rattle.gpt_model.specs.Disk.{disk512, lastUsable, tableOf};
-ghost use Rattle.gpt_model.specs.Calls.{formatRows, slotRows, addRows, tableRows, rowsOf, edit, add as addCall, delete as deleteCall};
+ghost use Rattle.gpt_model.specs.Calls.{formatRows, slotRows, addRows, startFor, tableRows, rowsOf, edit, add as addCall, newPartition, delete as deleteCall};
 ghost use Rattle.gpt_model.specs.Calls.{resize as resizeCall, rename as renameCall};
 ghost use Rattle.gpt_checks.specs.Checks.{stopOf, stopBy, startBy, lentRows, openFor};
 
-// No row holds, or the number of the first that does.
+// Why a call is refused; specs/Refusals gives each its number.
+pub enum Refusal {
+    WrongLength,
+    BlockCount,
+    NoDiskGuid,
+    NeitherGood,
+    NotTheSame,
+    NoSuchSlot,
+    SlotUnused,
+    NoSize,
+    NoType,
+    NoUniqueGuid,
+    BadName,
+    NoUnusedSlot,
+    NoRoom,
+}
+
+// No row holds, or the first that does.
 pub enum Check {
     Pass,
-    Stop(u64),
+    Stop(Refusal),
 }
 
 // The same of adding, with the start that it takes.
 pub enum Start {
     At(Block),
-    Stop(u64),
+    Stop(Refusal),
 }
 
 // Q2: N, its block count, is 68 to 4,294,967,296.
@@ -46,16 +62,16 @@ pub fn lent(head: &[u8], tail: &[u8], n: u64) -> Check
     ensures { λ r. ⌜ stopOf r ≡ refusal (lentRows n (now (head .entry)) (now (tail .entry))) ⌝ }
 {
     if head.len() != HEAD {
-        return Check::Stop(1);
+        return Check::Stop(Refusal::WrongLength);
     }
     if tail.len() != TAIL {
-        return Check::Stop(1);
+        return Check::Stop(Refusal::WrongLength);
     }
     if n < LEAST_BLOCKS {
-        return Check::Stop(2);
+        return Check::Stop(Refusal::BlockCount);
     }
     if MOST_BLOCKS < n {
-        return Check::Stop(2);
+        return Check::Stop(Refusal::BlockCount);
     }
     Check::Pass
 }
@@ -66,10 +82,10 @@ pub fn format(head: &[u8], tail: &[u8], n: u64, guid: &[u8]) -> Check
     ensures { λ r. ⌜ stopOf r ≡ refusal (formatRows disk512 n (now (guid .entry)) (now (head .entry)) (now (tail .entry))) ⌝ }
 {
     match lent(head, tail, n) {
-        Check::Stop(k) => Check::Stop(k),
+        Check::Stop(r) => Check::Stop(r),
         Check::Pass => {
             if octets::is_zero(guid) {
-                return Check::Stop(3);
+                return Check::Stop(Refusal::NoDiskGuid);
             }
             Check::Pass
         }
@@ -81,13 +97,13 @@ fn opened(head: &[u8], tail: &[u8], n: u64) -> Check
     ensures { λ r. ⌜ stopOf r ≡ refusal (openFor n (now (head .entry)) (now (tail .entry))) ⌝ }
 {
     match lent(head, tail, n) {
-        Check::Stop(k) => Check::Stop(k),
+        Check::Stop(r) => Check::Stop(r),
         Check::Pass => match gpt_copies::reading::state(head, tail, n) {
             State::Both => Check::Pass,
-            State::Differ => Check::Stop(11),
-            State::PrimaryOnly => Check::Stop(11),
-            State::BackupOnly => Check::Stop(11),
-            State::Neither => Check::Stop(10),
+            State::Differ => Check::Stop(Refusal::NotTheSame),
+            State::PrimaryOnly => Check::Stop(Refusal::NotTheSame),
+            State::BackupOnly => Check::Stop(Refusal::NotTheSame),
+            State::Neither => Check::Stop(Refusal::NeitherGood),
         },
     }
 }
@@ -95,16 +111,16 @@ fn opened(head: &[u8], tail: &[u8], n: u64) -> Check
 // 12, 13: the slot's number is one of 1 to 128, and the slot is used.
 fn slot(table: &[u8], slot: u64) -> Check
     requires { ⌜ length (now table) ≡ tableBytes ⌝ }
-    ensures { λ r. ⌜ stopOf r ≡ refusal (slotRows 0 0 (now (table .entry)) slot) ⌝ }
+    ensures { λ r. ⌜ stopOf r ≡ refusal (slotRows (now (table .entry)) slot) ⌝ }
 {
     if slot < 1 {
-        return Check::Stop(12);
+        return Check::Stop(Refusal::NoSuchSlot);
     }
     if (SLOTS as u64) < slot {
-        return Check::Stop(12);
+        return Check::Stop(Refusal::NoSuchSlot);
     }
     if gpt_table::is_unused(table, (slot - 1) as usize) {
-        return Check::Stop(13);
+        return Check::Stop(Refusal::SlotUnused);
     }
     Check::Pass
 }
@@ -114,7 +130,7 @@ pub fn delete(head: &[u8], tail: &[u8], n: u64, number: u64) -> Check
     ensures { λ r. ⌜ stopOf r ≡ refusal (rowsOf disk512 n (now (head .entry)) (now (tail .entry)) (edit (deleteCall number))) ⌝ }
 {
     match opened(head, tail, n) {
-        Check::Stop(k) => Check::Stop(k),
+        Check::Stop(r) => Check::Stop(r),
         Check::Pass => slot(gpt_places::entries_in(head, Side::Primary), number),
     }
 }
@@ -125,10 +141,10 @@ pub fn rename(head: &[u8], tail: &[u8], n: u64, number: u64, name: &[u16]) -> Ch
     ensures { λ r. ⌜ stopOf r ≡ refusal (rowsOf disk512 n (now (head .entry)) (now (tail .entry)) (edit (renameCall number (now (name .entry))))) ⌝ }
 {
     match delete(head, tail, n, number) {
-        Check::Stop(k) => Check::Stop(k),
+        Check::Stop(r) => Check::Stop(r),
         Check::Pass => {
             if gpt_table::bad_name(name) {
-                return Check::Stop(23);
+                return Check::Stop(Refusal::BadName);
             }
             Check::Pass
         }
@@ -140,10 +156,10 @@ pub fn resize(head: &[u8], tail: &[u8], n: u64, number: u64, size: u64) -> Check
     ensures { λ r. ⌜ stopOf r ≡ refusal (rowsOf disk512 n (now (head .entry)) (now (tail .entry)) (edit (resizeCall number size))) ⌝ }
 {
     match delete(head, tail, n, number) {
-        Check::Stop(k) => Check::Stop(k),
+        Check::Stop(r) => Check::Stop(r),
         Check::Pass => {
             if size == 0 {
-                return Check::Stop(20);
+                return Check::Stop(Refusal::NoSize);
             }
             if gpt_room::fits_at(
                 gpt_places::entries_in(head, Side::Primary),
@@ -153,53 +169,63 @@ pub fn resize(head: &[u8], tail: &[u8], n: u64, number: u64, size: u64) -> Check
             ) {
                 return Check::Pass;
             }
-            Check::Stop(25)
+            Check::Stop(Refusal::NoRoom)
         }
     }
 }
 
 // 20 to 24.
-fn new(table: &[u8], kind: &[u8], unique: &[u8], size: u64, name: &[u16]) -> Check
+fn new(table: &[u8], kind: &[u8], unique: &[u8], size: u64, attributes: u64, name: &[u16]) -> Check
     requires { ⌜ length (now table) ≡ tableBytes ⌝ }
-    ensures { λ r. ⌜ stopOf r ≡ refusal (addRows 0 0 (now (table .entry)) (now (kind .entry)) (now (unique .entry)) size (now (name .entry))) ⌝ }
+    ensures { λ r. ⌜ stopOf r
+        ≡ refusal (addRows (now (table .entry)) (newPartition (now (kind .entry)) (now (unique .entry)) size attributes (now (name .entry)))) ⌝ }
 {
     if size == 0 {
-        return Check::Stop(20);
+        return Check::Stop(Refusal::NoSize);
     }
     if octets::is_zero(kind) {
-        return Check::Stop(21);
+        return Check::Stop(Refusal::NoType);
     }
     if octets::is_zero(unique) {
-        return Check::Stop(22);
+        return Check::Stop(Refusal::NoUniqueGuid);
     }
     if gpt_table::carried(table, unique) {
-        return Check::Stop(22);
+        return Check::Stop(Refusal::NoUniqueGuid);
     }
     if gpt_table::bad_name(name) {
-        return Check::Stop(23);
+        return Check::Stop(Refusal::BadName);
     }
     if gpt_table::first_unused(table) == SLOTS {
-        return Check::Stop(24);
+        return Check::Stop(Refusal::NoUnusedSlot);
     }
     Check::Pass
 }
 
 // 20 to 25.
-fn place(table: &[u8], n: u64, kind: &[u8], unique: &[u8], size: u64, name: &[u16]) -> Start
+fn place(
+    table: &[u8],
+    n: u64,
+    kind: &[u8],
+    unique: &[u8],
+    size: u64,
+    attributes: u64,
+    name: &[u16],
+) -> Start
     requires { ⌜ (length (now table) ≡ tableBytes) × (2 * disk512 .first ≤ n) × (n ≤ 4294967296) ⌝ }
-    ensures { λ r. ⌜ ((attributes : ℕ) → stopBy r ≡ refusal (tableRows (disk512 .first) (lastUsable disk512 n) (now (table .entry))
-        (addCall (now (kind .entry)) (now (unique .entry)) size attributes (now (name .entry)))))
-        × ((b : ℕ) → startBy r ≡ some b → place (slots (now (table .entry))) (disk512 .first) (lastUsable disk512 n) size ≡ some b) ⌝ }
+    ensures { λ r. ⌜ (stopBy r ≡ refusal (tableRows (disk512 .first) (lastUsable disk512 n) (now (table .entry))
+        (addCall (newPartition (now (kind .entry)) (now (unique .entry)) size attributes (now (name .entry))))))
+        × ((b : ℕ) → startBy r ≡ some b → startFor (disk512 .first) (lastUsable disk512 n) (now (table .entry))
+        (newPartition (now (kind .entry)) (now (unique .entry)) size attributes (now (name .entry))) ≡ some b) ⌝ }
 {
-    match new(table, kind, unique, size, name) {
-        Check::Stop(k) => Start::Stop(k),
+    match new(table, kind, unique, size, attributes, name) {
+        Check::Stop(r) => Start::Stop(r),
         Check::Pass => match gpt_room::lowest(
             table,
             gpt_places::first_usable(),
             gpt_places::last_usable(n),
             size,
         ) {
-            Place::None => Start::Stop(25),
+            Place::None => Start::Stop(Refusal::NoRoom),
             Place::At(first) => Start::At(first),
         },
     }
@@ -213,22 +239,24 @@ pub fn add(
     kind: &[u8],
     unique: &[u8],
     size: u64,
+    attributes: u64,
     name: &[u16],
 ) -> Start
     requires { ⌜ (length (now kind) ≡ 16) × (length (now unique) ≡ 16) × (length (now name) ≡ 36) ⌝ }
-    ensures { λ r. ⌜ ((attributes : ℕ) → stopBy r ≡ refusal (rowsOf disk512 n (now (head .entry)) (now (tail .entry)) (edit
-        (addCall (now (kind .entry)) (now (unique .entry)) size attributes (now (name .entry))))))
-        × ((b : ℕ) → startBy r ≡ some b → place (slots (tableOf disk512 n (now (head .entry)) (now (tail .entry))))
-        (disk512 .first) (lastUsable disk512 n) size ≡ some b) ⌝ }
+    ensures { λ r. ⌜ (stopBy r ≡ refusal (rowsOf disk512 n (now (head .entry)) (now (tail .entry)) (edit (addCall
+        (newPartition (now (kind .entry)) (now (unique .entry)) size attributes (now (name .entry)))))))
+        × ((b : ℕ) → startBy r ≡ some b → startFor (disk512 .first) (lastUsable disk512 n) (tableOf disk512 n (now (head .entry)) (now (tail .entry)))
+        (newPartition (now (kind .entry)) (now (unique .entry)) size attributes (now (name .entry))) ≡ some b) ⌝ }
 {
     match opened(head, tail, n) {
-        Check::Stop(k) => Start::Stop(k),
+        Check::Stop(r) => Start::Stop(r),
         Check::Pass => place(
             gpt_places::entries_in(head, Side::Primary),
             n,
             kind,
             unique,
             size,
+            attributes,
             name,
         ),
     }

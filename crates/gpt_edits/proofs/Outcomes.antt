@@ -16,13 +16,12 @@ use Rattle.octets.proofs.Bools.{and-l, and-r, not-f}
 use Rattle.octets.proofs.Chunks.{length-chunks}
 use Rattle.octets.proofs.Rows.{passes}
 use Rattle.octets.proofs.Tests.{findIx-get}
-use Rattle.gpt_model.specs.Ranges.{place}
-use Rattle.gpt_model.specs.Table.{firstOf, nameBytes, entryWith, unused, entries, slots}
+use Rattle.gpt_model.specs.Table.{firstOf, nameBytes, unused, entries, rangesOf}
 use Rattle.gpt_model.specs.Disk.{disk512, lastUsable, primary, backup, guidIn, entriesIn, tableOf, withTable}
-use Rattle.gpt_model.specs.Calls.{Edit, add, delete, resize, rename, edit, tableRows, valueOf, Change, change, edited, lengthsOf, rowsOf, accepted, out, step}
-use Rattle.gpt_model.proofs.Room.{room-get, place-some}
+use Rattle.gpt_model.specs.Calls.{NewPartition, Edit, add, delete, resize, rename, edit, newEntry, startFor, tableRows, orZero, Change, change, edited, lengthsOf, rowsOf, accepted, outcome, step}
+use Rattle.gpt_model.proofs.Room.{room-get, start-some}
 use Rattle.gpt_model.proofs.States.{one-primary, one-backup}
-use Rattle.gpt_model.proofs.Ways.{step-made, edit-open, edit-table, open-read, row1, row11}
+use Rattle.gpt_model.proofs.Outcomes.{step-accepted, edit-open, edit-table, open-common, row1, row11}
 use Rattle.gpt_checks.proofs.Rows.{slot-number}
 use Rattle.gpt_checks.proofs.Judged.{edit-facts}
 
@@ -44,17 +43,17 @@ module _ (n : ℕ) (h t : List ℕ) (d : Edit) (e : refusal (rowsOf disk512 n h 
   same-tables = sym table-is ∙ one-backup disk512 n h t (row11 disk512 n h t d (edit-open disk512 n h t d e))
 
   pub right-lengths : lengthsOf d ≡ true
-  right-lengths = row1 disk512 n h t (lengthsOf d) (open-read disk512 n h t d (edit-open disk512 n h t d e)) .2
+  right-lengths = row1 disk512 n h t (lengthsOf d) (open-common disk512 n h t d (edit-open disk512 n h t d e)) .2
 
   -- the entry that the code writes is the edit's, at its index, and the answer its values
   pub edit-made : (c : Change) (h′ t′ : List ℕ) → c ≡ change 34 last tab d
       → h′ ≡ withTable disk512 n primary (guidIn disk512 primary h) (putChunk 128 (c .index) (c .entry) tab) h
       → t′ ≡ withTable disk512 n backup (guidIn disk512 backup t) (putChunk 128 (c .index) (c .entry) tab) t
-      → out (accepted (c .values)) h′ t′ ≡ step disk512 n h t (edit d)
+      → outcome (accepted (c .values)) h′ t′ ≡ step disk512 n h t (edit d)
   edit-made c h′ t′ q a b =
       rw (a, b, q)
-      (ap (λ (es : List ℕ). out (accepted (change 34 last es d .values)) (withTable disk512 n primary (guidIn disk512 primary h) (edited 34 last es d) h) (withTable disk512 n backup (guidIn disk512 backup t) (edited 34 last es d) t)) (sym table-is)
-      ∙ sym (step-made disk512 n h t (edit d) e))
+      (ap (λ (es : List ℕ). outcome (accepted (change 34 last es d .values)) (withTable disk512 n primary (guidIn disk512 primary h) (edited 34 last es d) h) (withTable disk512 n backup (guidIn disk512 backup t) (edited 34 last es d) t)) (sym table-is)
+      ∙ sym (step-accepted disk512 n h t (edit d) e))
 
 -- ---- the edits of a slot
 
@@ -98,24 +97,23 @@ module _ (n : ℕ) (h t : List ℕ) (k : ℕ) where
 
 -- ---- adding
 
-module _ (n : ℕ) (h t type unique : List ℕ) (size attributes : ℕ) (name : List ℕ)
-    (e : refusal (rowsOf disk512 n h t (edit (add type unique size attributes name))) ≡ none) where
+module _ (n : ℕ) (h t : List ℕ) (p : NewPartition) (e : refusal (rowsOf disk512 n h t (edit (add p))) ≡ none) where
   abbrev d : Edit
-  d = add type unique size attributes name
+  d = add p
 
   abbrev es : List ℕ
   es = entriesIn disk512 primary h
 
   pub record Fields : Type 0 where
-    pub type16 : length type ≡ 16
-    pub unique16 : length unique ≡ 16
-    pub name36 : length name ≡ 36
-    pub some : 0 < size
+    pub type16 : length (p .type) ≡ 16
+    pub unique16 : length (p .unique) ≡ 16
+    pub name36 : length (p .name) ≡ 36
+    pub some : 0 < p .size
 
   pub add-fields : Fields
   add-fields =
       let l = right-lengths n h t d e in
-      let z : size ≢ 0 = eqb-false size 0 (passes 20 (rowsOf disk512 n h t (edit d)) e) in
+      let z : p .size ≢ 0 = eqb-false (p .size) 0 (passes 20 (rowsOf disk512 n h t (edit d)) e) in
       record {
         type16 = eqb-true _ _ (and-l _ _ (and-l _ _ l));
         unique16 = eqb-true _ _ (and-r _ _ (and-l _ _ l));
@@ -123,28 +121,28 @@ module _ (n : ℕ) (h t type unique : List ℕ) (size attributes : ℕ) (name : 
         some = omega arith;
       }
 
-  placed-in : (s : ℕ) → place (slots (tableOf disk512 n h t)) 34 (lastUsable disk512 n) size ≡ some s → place (slots es) 34 (lastUsable disk512 n) size ≡ some s
-  placed-in s r = sym (ap (λ (x : List ℕ). place (slots x) 34 (lastUsable disk512 n) size) (table-is n h t d e)) ∙ r
+  placed-in : (s : ℕ) → startFor 34 (lastUsable disk512 n) (tableOf disk512 n h t) p ≡ some s → startFor 34 (lastUsable disk512 n) es p ≡ some s
+  placed-in s r = sym (ap (λ (x : List ℕ). startFor 34 (lastUsable disk512 n) x p) (table-is n h t d e)) ∙ r
 
   -- the slot that is taken, by a part tb of the head that holds the table
-  module _ (tb : List ℕ) (i : ℕ) (p : tb ≡ es) (q : i ≡ findIx unused (entries tb)) where
+  module _ (tb : List ℕ) (i : ℕ) (is : tb ≡ es) (q : i ≡ findIx unused (entries tb)) where
     lowest-is : i ≡ findIx unused (entries es)
-    lowest-is = q ∙ ap (λ (x : List ℕ). findIx unused (entries x)) p
+    lowest-is = q ∙ ap (λ (x : List ℕ). findIx unused (entries x)) is
 
     pub add-index : i < 128
     add-index =
         let w = findIx-get unused (entries es) [] (not-f _ (passes 24 (tableRows 34 (lastUsable disk512 n) es d) (own-rows n h t d e))) .0 in
         omega (arith, length-chunks 128 128 es, lowest-is)
 
-    pub add-is : (new : List ℕ) (s : ℕ) → place (slots (tableOf disk512 n h t)) 34 (lastUsable disk512 n) size ≡ some s
-        → new ≡ entryWith type unique s (s + size - 1) attributes name → record { values = (i + 1) ∷ s ∷ []; index = i; entry = new } ≡ change 34 (lastUsable disk512 n) es d
+    pub add-is : (new : List ℕ) (s : ℕ) → startFor 34 (lastUsable disk512 n) (tableOf disk512 n h t) p ≡ some s → new ≡ newEntry p s
+        → record { values = (i + 1) ∷ s ∷ []; index = i; entry = new } ≡ change 34 (lastUsable disk512 n) es d
     add-is new s r w =
-        let z : s ≡ valueOf (place (slots es) 34 (lastUsable disk512 n) size) = sym (ap valueOf (placed-in s r)) in
+        let z : s ≡ orZero (startFor 34 (lastUsable disk512 n) es p) = sym (ap orZero (placed-in s r)) in
         rw (w, add-one, lowest-is, z)
 
   -- the last block is a number of 64 bits
-  pub add-bound : (s : ℕ) → place (slots (tableOf disk512 n h t)) 34 (lastUsable disk512 n) size ≡ some s → s + size < 18446744073709551616
+  pub add-bound : (s : ℕ) → startFor 34 (lastUsable disk512 n) (tableOf disk512 n h t) p ≡ some s → s + p .size < 18446744073709551616
   add-bound s r =
-      let w = place-some (slots (tableOf disk512 n h t)) 34 (lastUsable disk512 n) size s r .1 .0 in
+      let w = start-some (rangesOf (tableOf disk512 n h t)) 34 (lastUsable disk512 n) (p .size) s r .1 .0 in
       let m = edit-facts n h t d e .most in
       omega arith

@@ -9,14 +9,12 @@ ghost use mathlib.Core.Option.{none, some};
 ghost use Prim.Native.Nat.{_*_, _≤_};
 ghost use lib.ListN.{length};
 ghost use Rattle.octets.specs.Rows.{refusal};
-ghost use Rattle.gpt_model.specs.Ranges.{place};
-ghost use Rattle.gpt_model.specs.Table.{slots};
 ghost use Rattle.gpt_model.specs.Disk.{disk512, lastUsable, primary, backup, lentBytes, guidIn, entriesIn, tableOf, withCopy};
-ghost use Rattle.gpt_model.specs.Calls.{accepted, out, step, rowsOf, edit, add as addCall, delete as deleteCall, resize as resizeCall, rename as renameCall};
+ghost use Rattle.gpt_model.specs.Calls.{accepted, outcome, startFor, step, rowsOf, edit, add as addCall, newPartition, delete as deleteCall, resize as resizeCall, rename as renameCall};
 
 pub fn delete(head: &mut [u8], tail: &mut [u8], n: u64, slot: u64)
     requires { ⌜ refusal (rowsOf disk512 n (now head) (now tail) (edit (deleteCall slot))) ≡ none ⌝ }
-    ensures { λ _. ⌜ out (accepted []) (now (head .exit)) (now (tail .exit))
+    ensures { λ _. ⌜ outcome (accepted []) (now (head .exit)) (now (tail .exit))
         ≡ step disk512 n (now (head .entry)) (now (tail .entry)) (edit (deleteCall slot)) ⌝ }
 {
     let none = [0u8; ENTRY];
@@ -25,7 +23,7 @@ pub fn delete(head: &mut [u8], tail: &mut [u8], n: u64, slot: u64)
 
 pub fn rename(head: &mut [u8], tail: &mut [u8], n: u64, slot: u64, name: &[u16])
     requires { ⌜ refusal (rowsOf disk512 n (now head) (now tail) (edit (renameCall slot (now name)))) ≡ none ⌝ }
-    ensures { λ _. ⌜ out (accepted []) (now (head .exit)) (now (tail .exit))
+    ensures { λ _. ⌜ outcome (accepted []) (now (head .exit)) (now (tail .exit))
         ≡ step disk512 n (now (head .entry)) (now (tail .entry)) (edit (renameCall slot (now (name .entry)))) ⌝ }
 {
     let i = (slot - 1) as usize;
@@ -38,7 +36,7 @@ pub fn rename(head: &mut [u8], tail: &mut [u8], n: u64, slot: u64, name: &[u16])
 
 pub fn resize(head: &mut [u8], tail: &mut [u8], n: u64, slot: u64, size: u64)
     requires { ⌜ refusal (rowsOf disk512 n (now head) (now tail) (edit (resizeCall slot size))) ≡ none ⌝ }
-    ensures { λ _. ⌜ out (accepted []) (now (head .exit)) (now (tail .exit))
+    ensures { λ _. ⌜ outcome (accepted []) (now (head .exit)) (now (tail .exit))
         ≡ step disk512 n (now (head .entry)) (now (tail .entry)) (edit (resizeCall slot size)) ⌝ }
 {
     let i = (slot - 1) as usize;
@@ -61,11 +59,12 @@ pub fn add(
     name: &[u16],
     first: Block,
 ) -> u64
-    requires { ⌜ (refusal (rowsOf disk512 n (now head) (now tail) (edit (addCall (now kind) (now unique) size attributes (now name)))) ≡ none)
-        × (place (slots (tableOf disk512 n (now head) (now tail))) (disk512 .first) (lastUsable disk512 n) size ≡ some (first .0)) ⌝ }
-    ensures { λ r. ⌜ out (accepted (r ∷ first .0 ∷ [])) (now (head .exit)) (now (tail .exit))
+    requires { ⌜ (refusal (rowsOf disk512 n (now head) (now tail) (edit (addCall (newPartition (now kind) (now unique) size attributes (now name))))) ≡ none)
+        × (startFor (disk512 .first) (lastUsable disk512 n) (tableOf disk512 n (now head) (now tail))
+        (newPartition (now kind) (now unique) size attributes (now name)) ≡ some (first .0)) ⌝ }
+    ensures { λ r. ⌜ outcome (accepted (r ∷ first .0 ∷ [])) (now (head .exit)) (now (tail .exit))
         ≡ step disk512 n (now (head .entry)) (now (tail .entry))
-        (edit (addCall (now (kind .entry)) (now (unique .entry)) size attributes (now (name .entry)))) ⌝ }
+        (edit (addCall (newPartition (now (kind .entry)) (now (unique .entry)) size attributes (now (name .entry))))) ⌝ }
 {
     let i = gpt_table::first_unused(gpt_places::entries_in(&head[..], Side::Primary));
     let new = gpt_entry::added(kind, unique, first.0, size, attributes, name);

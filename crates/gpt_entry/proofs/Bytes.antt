@@ -8,7 +8,8 @@ use lib.ListN.{length, getD, take, replicate, length-replicate}
 use lib.Seq.{take-suc, take-all, length-take-le}
 use Rattle.octets.specs.Bytes.{le, put, zeros}
 use Rattle.octets.proofs.Puts.{length-put, put-all, then}
-use Rattle.gpt_model.specs.Table.{firstOf, nameBytes, entryWith}
+use Rattle.gpt_model.specs.Table.{firstOf, nameBytes}
+use Rattle.gpt_model.specs.Calls.{NewPartition, newEntry}
 use Rattle.gpt_model.proofs.Fields.{length-name, length-new}
 
 name-snoc : (us : List ℕ) (u : ℕ) → nameBytes (us ++ (u ∷ [])) ≡ nameBytes us ++ le 2 u
@@ -57,10 +58,10 @@ pub resized-is : (xs : List ℕ) (size : ℕ) (a b : List ℕ) (f : ℕ) → len
     → b ≡ put 40 (le 8 (f + (size - 1))) a → (b ≡ put 40 (le 8 (firstOf xs + size - 1)) xs) × (length b ≡ 128)
 resized-is xs size a b f l h p e q = one-write 40 xs (le 8 (firstOf xs + size - 1)) a b l p (q ∙ rw (last-of, e))
 
-pub six-writes : (type unique : List ℕ) (f size attributes : ℕ) (name a b c d e r : List ℕ) → 0 < size → a ≡ put 0 type (replicate 128 0) → b ≡ put 16 unique a
-    → c ≡ put 32 (le 8 f) b → d ≡ put 40 (le 8 (f + (size - 1))) c → e ≡ put 48 (le 8 attributes) d → r ≡ put 56 (nameBytes name) e
-    → (r ≡ entryWith type unique f (f + size - 1) attributes name) × (length r ≡ 128)
+pub six-writes : (p : NewPartition) (f : ℕ) (a b c d e r : List ℕ) → 0 < p .size → a ≡ put 0 (p .type) (replicate 128 0) → b ≡ put 16 (p .unique) a
+    → c ≡ put 32 (le 8 f) b → d ≡ put 40 (le 8 (f + (p .size - 1))) c → e ≡ put 48 (le 8 (p .attributes)) d → r ≡ put 56 (nameBytes (p .name)) e
+    → (r ≡ newEntry p f) × (length r ≡ 128)
 unfolding zeros
-six-writes type unique f size attributes name a b c d e r h p q s t u v =
-    let w : r ≡ entryWith type unique f (f + size - 1) attributes name = v ∙ rw (u, t, last-of, s, q, p) in
-    (w, ap length w ∙ length-new type unique f (f + size - 1) attributes name)
+six-writes p f a b c d e r h w q s t u v =
+    let k : r ≡ newEntry p f = v ∙ rw (u, t, last-of, s, q, w) in
+    (k, ap length k ∙ length-new p f)

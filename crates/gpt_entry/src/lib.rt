@@ -7,7 +7,8 @@ ghost use mathlib.Core.Path.{_≡_};
 ghost use Prim.Native.Nat.{_+_, _-_, _<_};
 ghost use lib.ListN.{length};
 ghost use Rattle.octets.specs.Bytes.{le, put};
-ghost use Rattle.gpt_model.specs.Table.{entryBytes, firstOf, nameBytes, entryWith};
+ghost use Rattle.gpt_model.specs.Table.{entryBytes, firstOf, nameBytes};
+ghost use Rattle.gpt_model.specs.Calls.{newPartition, newEntry};
 
 // D1: entry size 128
 const ENTRY: usize = 128;
@@ -40,7 +41,7 @@ pub fn added(
     name: &[u16],
 ) -> [u8; ENTRY]
     requires { ⌜ (length (now kind) ≡ 16) × (length (now unique) ≡ 16) × (length (now name) ≡ 36) × (0 < size) × (first + size < 18446744073709551616) ⌝ }
-    ensures { λ r. ⌜ (r ≡ entryWith (now (kind .entry)) (now (unique .entry)) first (first + size - 1) attributes (now (name .entry)))
+    ensures { λ r. ⌜ (r ≡ newEntry (newPartition (now (kind .entry)) (now (unique .entry)) size attributes (now (name .entry))) first)
         × (length r ≡ entryBytes) ⌝ }
 {
     let mut e = [0u8; ENTRY];

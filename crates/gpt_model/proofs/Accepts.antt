@@ -19,26 +19,26 @@ use Rattle.octets.proofs.Tests.{all-make, any-none, any-false, any-make, findIx
 use Rattle.octets.proofs.Equal.{same-refl, same-false}
 use Rattle.octets.proofs.Rows.{pick-false, passes, refusal-append, refusal-before}
 use Rattle.octets.proofs.Chunks.{length-chunks}
-use Rattle.gpt_model.specs.Table.{uniqueOf, firstOf, unused, Slot, vacant, entries, slots}
+use Rattle.gpt_model.specs.Table.{uniqueOf, firstOf, unused, BlockRange, noBlocks, entries, rangesOf}
 use Rattle.gpt_model.specs.Disk.{Shape, lastUsable, tableOf}
-use Rattle.gpt_model.specs.Ranges.{inside}
-use Rattle.gpt_model.specs.Calls.{Edit, resize, rename, edit, accepted, Out, badName, entryOf, carries, slotRows, addRows, fitsAt, tableRows, change, openRows, rowsOf, step}
+use Rattle.gpt_model.specs.Ranges.{blockIn}
+use Rattle.gpt_model.specs.Calls.{NewPartition, Edit, resize, rename, edit, accepted, Outcome, badName, entryOf, carries, slotRows, addRows, fitsAt, tableRows, change, openRows, rowsOf, step}
 use Rattle.gpt_model.specs.Claims.{UsedSlot, NameOk, FitsAlone, NewOk}
-use Rattle.gpt_model.proofs.Room.{not-in-vacant, room-get, room-make}
-use Rattle.gpt_model.proofs.Entries.{length-slots}
-use Rattle.gpt_model.proofs.Ways.{step-refused, step-made, edit-decides}
+use Rattle.gpt_model.proofs.Room.{not-in-none, room-get, room-make}
+use Rattle.gpt_model.proofs.Entries.{length-rangesOf}
+use Rattle.gpt_model.proofs.Outcomes.{step-refused, step-accepted, edit-decides}
 
 -- where the rows before an edit's own do not hold, its own decide
 pub edit-accepted : (g : Shape) (n : ℕ) (h t : List ℕ) (d : Edit) → refusal (openRows g n h t d) ≡ none
     → {P : Type 0} → (refusal (tableRows (g .first) (lastUsable g n) (tableOf g n h t) d) ≡ none) ↔ P
     → (step g n h t (edit d) .answer ≡ accepted (change (g .first) (lastUsable g n) (tableOf g n h t) d .values)) ↔ P
-edit-accepted g n h t d e {P} w = (to (option-cases (refusal (rowsOf g n h t (edit d)))), λ p. ap (λ (o : Out). o .answer) (step-made g n h t (edit d) (edit-decides g n h t d e ∙ w .1 p)))
+edit-accepted g n h t d e {P} w = (to (option-cases (refusal (rowsOf g n h t (edit d)))), λ p. ap (λ (o : Outcome). o .answer) (step-accepted g n h t (edit d) (edit-decides g n h t d e ∙ w .1 p)))
   where
     to : (refusal (rowsOf g n h t (edit d)) ≡ none) ⊎ ((k : ℕ) × (refusal (rowsOf g n h t (edit d)) ≡ some k))
         → step g n h t (edit d) .answer ≡ accepted (change (g .first) (lastUsable g n) (tableOf g n h t) d .values) → P
     to (inl q) a = w .0 (sym (edit-decides g n h t d e) ∙ q)
     to (inr q) a =
-        let b = ap (λ (o : Out). o .answer) (step-refused g n h t (edit d) (q .0) (q .1)) in
+        let b = ap (λ (o : Outcome). o .answer) (step-refused g n h t (edit d) (q .0) (q .1)) in
         let z : _≡_ {A = ℕ} 0 1 = cc in
         absurd (omega arith)
 
@@ -72,86 +72,90 @@ name-make (u ∷ us) f = go (bool-cases (eqb u 0)) (name-make us)
 
 -- ---- the rows
 
-module _ (first last : ℕ) (es : List ℕ) (k : ℕ) where
-  pub slot-rows : (refusal (slotRows first last es k) ≡ none) ↔ UsedSlot es k
+module _ (es : List ℕ) (k : ℕ) where
+  pub slot-rows : (refusal (slotRows es k) ≡ none) ↔ UsedSlot es k
   slot-rows = (to, λ w. pick-false _ 12 _ (ap not (and-i _ _ (le-leb _ _ (w .0)) (le-leb _ _ (w .1)))) ∙ pick-false _ 13 _ (w .2))
     where
-      to : refusal (slotRows first last es k) ≡ none → UsedSlot es k
+      to : refusal (slotRows es k) ≡ none → UsedSlot es k
       to e =
-          let c = not-f _ (passes 12 (slotRows first last es k) e) in
-          (leb-true _ _ (and-l _ _ c), leb-true _ _ (and-r _ _ c), passes 13 (slotRows first last es k) e)
+          let c = not-f _ (passes 12 (slotRows es k) e) in
+          (leb-true _ _ (and-l _ _ c), leb-true _ _ (and-r _ _ c), passes 13 (slotRows es k) e)
 
   -- slot rows, then others
-  then-rows : (qs : List Row) {P : Type 0} → (refusal qs ≡ none) ↔ P → (refusal (slotRows first last es k ++ qs) ≡ none) ↔ (UsedSlot es k × P)
+  then-rows : (qs : List Row) {P : Type 0} → (refusal qs ≡ none) ↔ P → (refusal (slotRows es k ++ qs) ≡ none) ↔ (UsedSlot es k × P)
   then-rows qs w = (
-    λ e. let v = refusal-before (slotRows first last es k) qs e in (slot-rows .0 (v .0), w .0 (v .1)),
-    λ v. refusal-append (slotRows first last es k) qs (slot-rows .1 (v .0)) ∙ w .1 (v .1),
+    λ e. let v = refusal-before (slotRows es k) qs e in (slot-rows .0 (v .0), w .0 (v .1)),
+    λ v. refusal-append (slotRows es k) qs (slot-rows .1 (v .0)) ∙ w .1 (v .1),
   )
 
-  pub rename-rows : (name : List ℕ) → (refusal (tableRows first last es (rename k name)) ≡ none) ↔ (UsedSlot es k × NameOk name)
-  rename-rows name = then-rows (row (badName name) 23 ∷ []) (λ e. name-get name (passes 23 (row (badName name) 23 ∷ []) e), λ f. pick-false _ 23 _ (name-make name f))
+  pub rename-rows : (first last : ℕ) (name : List ℕ) → (refusal (tableRows first last es (rename k name)) ≡ none) ↔ (UsedSlot es k × NameOk name)
+  rename-rows first last name =
+      let rows : List Row = row (badName name) 23 ∷ [] in
+      then-rows rows (λ e. name-get name (passes 23 rows e), λ f. pick-false _ 23 _ (name-make name f))
 
-  fits-alone : (size : ℕ) → (fitsAt first last es k size ≡ true) ↔ FitsAlone last es k size
-  fits-alone size = (
-    λ e. let r = room-get _ _ _ _ e in (r .0, λ b i p q h ne. ap (inside b) (sym (other i ne)) ∙ any-none (inside b) rest vacant (r .1 b p q) i (omega (arith, long))),
-    λ w. room-make _ _ _ _ (w .0, λ b p q. any-false (inside b) rest vacant (λ i h. each b i (omega (arith, long)) p q (w .1 b i p q) (ℕ-discrete i (k - 1)))),
+  fits-alone : (last size : ℕ) → (fitsAt last es k size ≡ true) ↔ FitsAlone last es k size
+  fits-alone last size = (
+    λ e. let r = room-get _ _ _ _ e in (r .0, λ b i p q h ne. ap (blockIn b) (sym (other i ne)) ∙ any-none (blockIn b) rest noBlocks (r .1 b p q) i (omega (arith, long))),
+    λ w. room-make _ _ _ _
+        (w .0, λ b p q. any-false (blockIn b) rest noBlocks (λ i h. each b i (omega (arith, long)) p q (w .1 b i p q) (ℕ-discrete i (k - 1)))),
   )
     where
-      rest : List Slot
-      rest = set (slots es) (k - 1) vacant
+      rest : List BlockRange
+      rest = set (rangesOf es) (k - 1) noBlocks
 
-      long : length (set (slots es) (k - 1) vacant) ≡ 128
-      long = length-set (slots es) (k - 1) vacant ∙ length-slots es
+      long : length (set (rangesOf es) (k - 1) noBlocks) ≡ 128
+      long = length-set (rangesOf es) (k - 1) noBlocks ∙ length-rangesOf es
 
-      other : (i : ℕ) → i ≢ k - 1 → getD (set (slots es) (k - 1) vacant) i vacant ≡ getD (slots es) i vacant
-      other i ne = getD-set-other (slots es) (k - 1) i vacant vacant ne
+      other : (i : ℕ) → i ≢ k - 1 → getD (set (rangesOf es) (k - 1) noBlocks) i noBlocks ≡ getD (rangesOf es) i noBlocks
+      other i ne = getD-set-other (rangesOf es) (k - 1) i noBlocks noBlocks ne
 
       each : (b i : ℕ) → i < 128 → firstOf (entryOf es k) ≤ b → b < firstOf (entryOf es k) + size
-          → (i < 128 → i ≢ k - 1 → inside b (getD (slots es) i vacant) ≡ false) → Dec (i ≡ k - 1) → inside b (getD (set (slots es) (k - 1) vacant) i vacant) ≡ false
+          → (i < 128 → i ≢ k - 1 → blockIn b (getD (rangesOf es) i noBlocks) ≡ false) → Dec (i ≡ k - 1) → blockIn b (getD (set (rangesOf es) (k - 1) noBlocks) i noBlocks) ≡ false
       each b i h p q f (yes z) =
-          ap (inside b) (ap (λ (x : ℕ). getD (set (slots es) (k - 1) vacant) x vacant) z ∙ getD-set-same (slots es) (k - 1) vacant vacant (omega (arith, length-slots es)))
-          ∙ not-in-vacant b
-      each b i h p q f (no z) = ap (inside b) (other i z) ∙ f h z
+          ap (blockIn b) (ap (λ (x : ℕ). getD (set (rangesOf es) (k - 1) noBlocks) x noBlocks) z ∙ getD-set-same (rangesOf es) (k - 1) noBlocks noBlocks (omega (arith, length-rangesOf es)))
+          ∙ not-in-none b
+      each b i h p q f (no z) = ap (blockIn b) (other i z) ∙ f h z
 
-  pub resize-rows : (size : ℕ) → (refusal (tableRows first last es (resize k size)) ≡ none) ↔ (UsedSlot es k × ((0 < size) × FitsAlone last es k size))
-  resize-rows size =
-      let rows : List Row = row (eqb size 0) 20 ∷ row (not (fitsAt first last es k size)) 25 ∷ [] in
+  pub resize-rows : (first last size : ℕ)
+      → (refusal (tableRows first last es (resize k size)) ≡ none) ↔ (UsedSlot es k × ((0 < size) × FitsAlone last es k size))
+  resize-rows first last size =
+      let rows : List Row = row (eqb size 0) 20 ∷ row (not (fitsAt last es k size)) 25 ∷ [] in
       then-rows rows (
-        λ e. (let w : size ≢ 0 = eqb-false size 0 (passes 20 rows e) in omega arith, fits-alone size .0 (not-f _ (passes 25 rows e))),
-        λ w. pick-false _ 20 _ (let p = w .0 in ne-eqb size 0 (λ z. omega arith)) ∙ pick-false _ 25 _ (ap not (fits-alone size .1 (w .1))),
+        λ e. (let w : size ≢ 0 = eqb-false size 0 (passes 20 rows e) in omega arith, fits-alone last size .0 (not-f _ (passes 25 rows e))),
+        λ w. pick-false _ 20 _ (let p = w .0 in ne-eqb size 0 (λ z. omega arith)) ∙ pick-false _ 25 _ (ap not (fits-alone last size .1 (w .1))),
       )
 
 -- ---- an add's rows before the one for room
 
-module _ (first last : ℕ) (es type unique : List ℕ) (size : ℕ) (name : List ℕ) where
+module _ (es : List ℕ) (p : NewPartition) where
   abbrev rows : List Row
-  rows = addRows first last es type unique size name
+  rows = addRows es p
 
   -- the test of row 22, and what it says of each slot
-  new-unique : any (carries unique) (entries es) ≡ false → (k : ℕ) → UsedSlot es k → uniqueOf (entryOf es k) ≢ unique
+  new-unique : any (carries (p .unique)) (entries es) ≡ false → (k : ℕ) → UsedSlot es k → uniqueOf (entryOf es k) ≢ p .unique
   new-unique e k u q =
       let lo = u .0 in
       let hi = u .1 in
       clash (subst (λ (x : List ℕ). same (uniqueOf (entryOf es k)) x ≡ true) q (same-refl _))
-      (and-skip _ _ (ap not (u .2)) (any-none (carries unique) (entries es) [] e (k - 1) (omega (arith, length-chunks 128 128 es))))
+      (and-skip _ _ (ap not (u .2)) (any-none (carries (p .unique)) (entries es) [] e (k - 1) (omega (arith, length-chunks 128 128 es))))
 
-  unique-new : ((k : ℕ) → UsedSlot es k → uniqueOf (entryOf es k) ≢ unique) → any (carries unique) (entries es) ≡ false
-  unique-new f = any-false (carries unique) (entries es) [] (λ i h. one i (omega (arith, length-chunks 128 128 es)) (bool-cases (unused (getD (entries es) i []))))
+  unique-new : ((k : ℕ) → UsedSlot es k → uniqueOf (entryOf es k) ≢ p .unique) → any (carries (p .unique)) (entries es) ≡ false
+  unique-new f = any-false (carries (p .unique)) (entries es) [] (λ i h. one i (omega (arith, length-chunks 128 128 es)) (bool-cases (unused (getD (entries es) i []))))
     where
       at : (i : ℕ) → entryOf es (suc i) ≡ getD (entries es) i []
       at i = ap (λ (x : ℕ). getD (entries es) x []) (omega arith)
 
-      one : (i : ℕ) → i < 128 → (unused (getD (entries es) i []) ≡ true) ⊎ (unused (getD (entries es) i []) ≡ false) → carries unique (getD (entries es) i []) ≡ false
+      one : (i : ℕ) → i < 128 → (unused (getD (entries es) i []) ≡ true) ⊎ (unused (getD (entries es) i []) ≡ false) → carries (p .unique) (getD (entries es) i []) ≡ false
       one i h (inl u) = and-false-l _ _ (ap not u)
       one i h (inr u) = sym (and-t (ap not u) (sym (same-false _ _ (λ e. f (suc i) (omega arith, omega arith, ap unused (at i) ∙ u) (ap uniqueOf (at i) ∙ e)))))
 
-  pub new-get : (length type ≡ 16) × (length unique ≡ 16) × (length name ≡ 36) → refusal (addRows first last es type unique size name) ≡ none → NewOk es type unique size name
+  pub new-get : (length (p .type) ≡ 16) × (length (p .unique) ≡ 16) × (length (p .name) ≡ 36) → refusal (addRows es p) ≡ none → NewOk es p
   new-get l e = record {
     lengths = l;
     blocks = eqb-false _ _ (passes 20 rows e);
     typed = passes 21 rows e;
     own = (or-false-l _ _ (passes 22 rows e), new-unique (or-false-r _ _ (passes 22 rows e)));
-    named = name-get name (passes 23 rows e);
+    named = name-get (p .name) (passes 23 rows e);
     slot =
         let f = findIx-get unused (entries es) [] (not-f _ (passes 24 rows e)) in
         let h = f .0 in
@@ -159,11 +163,11 @@ module _ (first last : ℕ) (es type unique : List ℕ) (size : ℕ) (name : Lis
         (suc (findIx unused (entries es)), omega arith, omega (arith, length-chunks 128 128 es), ap (λ (x : ℕ). unused (getD (entries es) x [])) at ∙ f .1);
   }
 
-  pub new-make : NewOk es type unique size name → refusal (addRows first last es type unique size name) ≡ none
+  pub new-make : NewOk es p → refusal (addRows es p) ≡ none
   new-make w =
       pick-false _ 20 _ (ne-eqb _ _ (w .blocks))
       ∙ pick-false _ 21 _ (w .typed)
       ∙ pick-false _ 22 _ (or-false-i _ _ (w .own .0) (unique-new (w .own .1)))
-      ∙ pick-false _ 23 _ (name-make name (w .named))
+      ∙ pick-false _ 23 _ (name-make (p .name) (w .named))
       ∙ pick-false _ 24 _ (ap not (let s = w .slot in let lo = s .1 in let hi = s .2 in
       any-make unused (entries es) [] (s .0 - 1) (omega (arith, length-chunks 128 128 es)) (s .3)))

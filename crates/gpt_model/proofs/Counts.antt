@@ -11,10 +11,10 @@ use borrow.Author.Tests.{ltb-true, leb-true, le-leb}
 use Rattle.octets.specs.Tests.{_or_, all, pairs}
 use Rattle.octets.proofs.Bools.{and-l, and-r, and-i, or-cases, bool-cases}
 use Rattle.octets.proofs.Tests.{all-get, any-get}
-use Rattle.gpt_model.specs.Table.{Slot, vacant, spans, sizeOf, bounded, apart}
-use Rattle.gpt_model.specs.Ranges.{inside, lies, bit, countFrom, taken, freeCount}
+use Rattle.gpt_model.specs.Table.{BlockRange, noBlocks, spans, rangeSize, bounded, apart}
+use Rattle.gpt_model.specs.Ranges.{blockIn, inSome, bit, countFrom, taken, freeCount}
 use Rattle.gpt_model.specs.Lists.{total}
-use Rattle.gpt_model.proofs.Room.{inside-make, inside-get, inside-vacant}
+use Rattle.gpt_model.proofs.Room.{blockIn-make, blockIn-get, blockIn-none}
 
 -- ---- countFrom
 
@@ -62,52 +62,53 @@ pub bounded-make : (first last f l : ℕ) → first ≤ f → f ≤ l → l ≤ 
 unfolding bounded
 bounded-make first last f l p q r = and-i _ _ (and-i _ _ (le-leb _ _ p) (le-leb _ _ q)) (le-leb _ _ r)
 
-outside : (b f l : ℕ) → (b < f) ⊎ (l < b) → inside b (spans f l) ≡ false
-unfolding inside
-outside b f l w = go (bool-cases (inside b (spans f l)))
+outside : (b f l : ℕ) → (b < f) ⊎ (l < b) → blockIn b (spans f l) ≡ false
+unfolding blockIn
+outside b f l w = go (bool-cases (blockIn b (spans f l)))
   where
-    go : (inside b (spans f l) ≡ true) ⊎ (inside b (spans f l) ≡ false) → inside b (spans f l) ≡ false
+    go : (blockIn b (spans f l) ≡ true) ⊎ (blockIn b (spans f l) ≡ false) → blockIn b (spans f l) ≡ false
     go (inr e) = e
-    go (inl e) = let r = inside-get b f l e in absurd (⊎-elim (λ x. omega arith) (λ x. omega arith) w)
+    go (inl e) = let r = blockIn-get b f l e in absurd (⊎-elim (λ x. omega arith) (λ x. omega arith) w)
 
-count-vacant : (lo k : ℕ) → countFrom (λ b. inside b vacant) lo k ≡ 0
-unfolding inside
-count-vacant lo k = count-false (λ b. inside b vacant) lo k (λ b h g. refl)
+count-none : (lo k : ℕ) → countFrom (λ b. blockIn b noBlocks) lo k ≡ 0
+unfolding blockIn
+count-none lo k = count-false (λ b. blockIn b noBlocks) lo k (λ b h g. refl)
 
-count-range : (first last : ℕ) (s : Slot) → bounded first last s ≡ true → countFrom (λ b. inside b s) first (suc last - first) ≡ sizeOf s
-count-range first last vacant e = count-vacant first (suc last - first)
+count-range : (first last : ℕ) (s : BlockRange) → bounded first last s ≡ true → countFrom (λ b. blockIn b s) first (suc last - first) ≡ rangeSize s
+count-range first last noBlocks e = count-none first (suc last - first)
 count-range first last (spans f l) e =
     let r = bounded-get first last f l e in
-    let p : ℕ → Bool = λ b. inside b (spans f l) in
+    let p : ℕ → Bool = λ b. blockIn b (spans f l) in
     let split : suc last - first ≡ (f - first) + ((suc l - f) + (last - l)) = omega arith in
     ap (countFrom p first) split
     ∙ count-add p first (f - first) ((suc l - f) + (last - l))
     ∙ ap₂ _+_ (count-false p first (f - first) (λ b h g. outside b f l (inl (omega arith))))
     (count-add p (first + (f - first)) (suc l - f) (last - l)
-    ∙ ap₂ _+_ (count-true p (first + (f - first)) (suc l - f) (λ b h g. inside-make b f l (omega arith) (omega arith)))
+    ∙ ap₂ _+_ (count-true p (first + (f - first)) (suc l - f) (λ b h g. blockIn-make b f l (omega arith) (omega arith)))
     (count-false p (first + (f - first) + (suc l - f)) (last - l) (λ b h g. outside b f l (inr (omega arith)))))
     ∙ omega arith
 
-pub apart-get : (s u : Slot) → apart s u ≡ true → (b : ℕ) → inside b s ≡ true → inside b u ≡ true → ⊥
+pub apart-get : (s u : BlockRange) → apart s u ≡ true → (b : ℕ) → blockIn b s ≡ true → blockIn b u ≡ true → ⊥
 unfolding apart
-apart-get vacant u e b p q = inside-vacant b p
-apart-get (spans f l) vacant e b p q = inside-vacant b q
+apart-get noBlocks u e b p q = blockIn-none b p
+apart-get (spans f l) noBlocks e b p q = blockIn-none b q
 apart-get (spans f l) (spans g m) e b p q =
-    let x = inside-get b f l p in
-    let y = inside-get b g m q in
+    let x = blockIn-get b f l p in
+    let y = blockIn-get b g m q in
     ⊎-elim (λ w. let z : l < g = ltb-true _ _ w in omega arith) (λ w. let z : m < f = ltb-true _ _ w in omega arith) (or-cases _ _ e)
 
-count-table : (first last : ℕ) (t : List Slot) → all (bounded first last) t ≡ true → pairs apart t ≡ true
-    → countFrom (lies t) first (suc last - first) ≡ total (map sizeOf t)
-count-table first last [] e f = count-false (lies []) first (suc last - first) (λ b h g. refl)
+count-table : (first last : ℕ) (t : List BlockRange) → all (bounded first last) t ≡ true → pairs apart t ≡ true
+    → countFrom (inSome t) first (suc last - first) ≡ total (map rangeSize t)
+count-table first last [] e f = count-false (inSome []) first (suc last - first) (λ b h g. refl)
 count-table first last (s ∷ t) e f =
-    count-or (λ b. inside b s) (lies t) first (suc last - first) (λ b p q. two b p (any-get (inside b) t vacant q))
+    count-or (λ b. blockIn b s) (inSome t) first (suc last - first) (λ b p q. two b p (any-get (blockIn b) t noBlocks q))
     ∙ ap₂ _+_ (count-range first last s (and-l _ _ e)) (count-table first last t (and-r _ _ e) (and-r _ _ f))
   where
-    two : (b : ℕ) → inside b s ≡ true → (i : ℕ) × (i < length t) × (inside b (getD t i vacant) ≡ true) → ⊥
-    two b p w = apart-get s (getD t (w .0) vacant) (all-get (apart s) t vacant (and-l _ _ f) (w .0) (w .1)) b p (w .2)
+    two : (b : ℕ) → blockIn b s ≡ true → (i : ℕ) × (i < length t) × (blockIn b (getD t i noBlocks) ≡ true) → ⊥
+    two b p w = apart-get s (getD t (w .0) noBlocks) (all-get (apart s) t noBlocks (and-l _ _ f) (w .0) (w .1)) b p (w .2)
 
-pub taken-total : (first last : ℕ) (t : List Slot) → all (bounded first last) t ≡ true → pairs apart t ≡ true → taken t first last ≡ total (map sizeOf t)
+pub taken-total : (first last : ℕ) (t : List BlockRange) → all (bounded first last) t ≡ true → pairs apart t ≡ true
+    → taken t first last ≡ total (map rangeSize t)
 unfolding taken
 taken-total first last t e f = count-table first last t e f
 
@@ -132,6 +133,6 @@ unfolding countFrom
 count-not p lo zero = refl
 count-not p lo (suc k) = omega (arith, bit-not (p lo), count-not p (suc lo) k)
 
-pub taken-free : (t : List Slot) (first last : ℕ) → taken t first last + freeCount t first last ≡ suc last - first
+pub taken-free : (t : List BlockRange) (first last : ℕ) → taken t first last + freeCount t first last ≡ suc last - first
 unfolding taken freeCount
-taken-free t first last = count-not (lies t) first (suc last - first)
+taken-free t first last = count-not (inSome t) first (suc last - first)

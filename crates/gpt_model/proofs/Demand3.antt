@@ -15,51 +15,51 @@ use Rattle.octets.proofs.Bools.{and-l, and-r, and-i, option-cases}
 use Rattle.octets.proofs.Tests.{pairs-get}
 use Rattle.octets.proofs.Parts.{length-zeros}
 use Rattle.octets.proofs.Rows.{pick-false, passes, refusal-append, refusal-before}
-use Rattle.gpt_model.specs.Table.{vacant, apart, slots, goodTable}
+use Rattle.gpt_model.specs.Table.{noBlocks, apart, rangesOf, goodTable}
 use Rattle.gpt_model.specs.Disk.{Shape, disk512, lastUsable, inRange, state, tableOf, freshHead, freshTail}
-use Rattle.gpt_model.specs.Ranges.{inside, place, freeCount, longestFree}
-use Rattle.gpt_model.specs.Calls.{Edit, add, delete, resize, rename, Call, read, freeCounts, repair, edit, refused, accepted, Out, out, decided, isNone, addRows, tableRows, change, edited, lengthsOf, readRows, openRows, rowsOf, repaired, step, formatRows, format}
-use Rattle.gpt_model.specs.Lists.{Run, run, answers, applied, begun, total, StartsAfresh}
-use Rattle.gpt_model.specs.Claims.{FreeFrom, Passes, Sound, Formats, Demand3From, Demand3, Demand3At512, RefusedStays, BooksDifference, Numbers512, UsedSlot, NameOk, NewOk, Serves, NotEmpty, EditReadsBack, RepairReadsBack}
-use Rattle.gpt_model.proofs.Room.{place-none, place-some, place-is-none}
+use Rattle.gpt_model.specs.Ranges.{blockIn, freeCount, longestFree, FreeFrom}
+use Rattle.gpt_model.specs.Calls.{NewPartition, Edit, add, delete, resize, rename, Call, read, freeCounts, repair, edit, refused, accepted, Outcome, outcome, unlessRefused, isNone, addRows, startFor, tableRows, change, edited, lengthsOf, commonRows, openRows, rowsOf, repaired, step, formatRows, format}
+use Rattle.gpt_model.specs.Lists.{Snapshot, afterAll, answers, applied, startAfter, total, StartsAfresh}
+use Rattle.gpt_model.specs.Claims.{Passes, Sound, Formats, Demand3From, Demand3, Demand3At512, RefusedStays, BooksDifference, Numbers512, UsedSlot, NameOk, NewOk, Serves, NotEmpty, EditReadsBack, RepairReadsBack}
+use Rattle.gpt_model.proofs.Room.{start-none, start-some, start-is-none}
 use Rattle.gpt_model.proofs.Counts.{apart-get, taken-total, total-zeros, taken-free}
 use Rattle.gpt_model.proofs.Longest.{room-fits, longest-room}
-use Rattle.gpt_model.proofs.Entries.{length-slots, good-bounded, good-apart, empty-sizes, empty-good}
+use Rattle.gpt_model.proofs.Entries.{length-rangesOf, good-bounded, good-apart, empty-sizes, empty-good}
 use Rattle.gpt_model.proofs.States.{Holds, readable-good, fresh-holds, repair-holds}
-use Rattle.gpt_model.proofs.Ways.{step-refused, step-made, repair-answer, refused-row, accepted-none, not-ten, not-eleven, row1, row10, open-read, edit-open, open-none}
+use Rattle.gpt_model.proofs.Outcomes.{step-refused, step-accepted, repair-answer, refused-row, accepted-none, not-ten, not-eleven, row1, row10, open-common, edit-open, open-none}
 use Rattle.gpt_model.proofs.Accepts.{edit-accepted, slot-rows, rename-rows, resize-rows, new-get, new-make}
 use Rattle.gpt_model.proofs.Steps.{Agrees, Kept, edit-held, keeps-all}
 
 -- ---- formatting
 
 module _ (g : Shape) (n : ℕ) (guid h t : List ℕ) where
-  pub format-refused : (k : ℕ) → refusal (formatRows g n guid h t) ≡ some k → format g n guid h t ≡ out (refused k) h t
+  pub format-refused : (k : ℕ) → refusal (formatRows g n guid h t) ≡ some k → format g n guid h t ≡ outcome (refused k) h t
   unfolding format
   format-refused k e =
-      ap (λ (q : Option ℕ). decided q h t (out (accepted []) (freshHead g n guid (zeros 16384)) (freshTail g n guid (zeros 16384)))) e
+      ap (λ (q : Option ℕ). unlessRefused q h t (outcome (accepted []) (freshHead g n guid (zeros 16384)) (freshTail g n guid (zeros 16384)))) e
 
-  pub format-made : refusal (formatRows g n guid h t) ≡ none → format g n guid h t ≡ out (accepted []) (freshHead g n guid (zeros 16384)) (freshTail g n guid (zeros 16384))
+  pub format-accepted : refusal (formatRows g n guid h t) ≡ none → format g n guid h t ≡ outcome (accepted []) (freshHead g n guid (zeros 16384)) (freshTail g n guid (zeros 16384))
   unfolding format
-  format-made e =
-      ap (λ (q : Option ℕ). decided q h t (out (accepted []) (freshHead g n guid (zeros 16384)) (freshTail g n guid (zeros 16384)))) e
+  format-accepted e =
+      ap (λ (q : Option ℕ). unlessRefused q h t (outcome (accepted []) (freshHead g n guid (zeros 16384)) (freshTail g n guid (zeros 16384)))) e
 
   -- P2: formatting is accepted for every legal N and nonzero GUID
   module _ (f : Formats g n guid h t) where
-    pub formatted : format g n guid h t ≡ out (accepted []) (freshHead g n guid (zeros 16384)) (freshTail g n guid (zeros 16384))
+    pub formatted : format g n guid h t ≡ outcome (accepted []) (freshHead g n guid (zeros 16384)) (freshTail g n guid (zeros 16384))
     formatted =
-        format-made
+        format-accepted
         (pick-false _ _ _ (ap not (and-i _ _ (and-i _ _ (eq-eqb _ _ (f .len-head)) (eq-eqb _ _ (f .len-tail))) (eq-eqb _ _ (f .len-guid))))
         ∙ pick-false _ _ _ (ap not (f .range))
         ∙ pick-false _ _ _ (f .nonzero))
 
     -- a list that follows a formatting starts afresh with the empty table
-    pub format-starts : StartsAfresh g n (zeros 16384) (begun (format g n guid h t))
-    format-starts = subst (λ (o : Out). StartsAfresh g n (zeros 16384) (begun o)) (sym formatted) go
+    pub format-starts : StartsAfresh g n (zeros 16384) (startAfter (format g n guid h t))
+    format-starts = subst (λ (o : Outcome). StartsAfresh g n (zeros 16384) (startAfter o)) (sym formatted) go
       where
         w : Holds g n (freshHead g n guid (zeros 16384)) (freshTail g n guid (zeros 16384)) (zeros 16384)
         w = fresh-holds g (f .wide) n guid (zeros 16384) (f .len-guid) (length-zeros 16384) (empty-good (g .first) (lastUsable g n))
 
-        go : StartsAfresh g n (zeros 16384) (begun (out (accepted []) (freshHead g n guid (zeros 16384)) (freshTail g n guid (zeros 16384))))
+        go : StartsAfresh g n (zeros 16384) (startAfter (outcome (accepted []) (freshHead g n guid (zeros 16384)) (freshTail g n guid (zeros 16384))))
         go = record {
           len-head = w .len-head;
           len-tail = w .len-tail;
@@ -70,7 +70,7 @@ module _ (g : Shape) (n : ℕ) (guid h t : List ℕ) where
           back = refl;
         }
 
-pub starts-kept : (g : Shape) (n : ℕ) (es : List ℕ) (r : Run) → StartsAfresh g n es r → Kept g n r
+pub starts-kept : (g : Shape) (n : ℕ) (es : List ℕ) (r : Snapshot) → StartsAfresh g n es r → Kept g n r
 starts-kept g n es r s = record {
   len-head = s .len-head;
   len-tail = s .len-tail;
@@ -80,30 +80,31 @@ starts-kept g n es r s = record {
 
 -- ---- what is kept says
 
-module _ (g : Shape) (n : ℕ) (r : Run) (v : Kept g n r) where
+module _ (g : Shape) (n : ℕ) (r : Snapshot) (v : Kept g n r) where
   abbrev tab : List ℕ
   tab = tableOf g n (r .head) (r .tail)
 
   good-tab : goodTable (g .first) (lastUsable g n) tab ≡ true
   good-tab = readable-good g n (r .head) (r .tail) (λ z. let w = v .reads in omega arith)
 
-  apart-tab : (b i j : ℕ) → i < j → j < 128 → inside b (getD (slots tab) i vacant) ≡ true → inside b (getD (slots tab) j vacant) ≡ true → ⊥
+  apart-tab : (b i j : ℕ) → i < j → j < 128 → blockIn b (getD (rangesOf tab) i noBlocks) ≡ true → blockIn b (getD (rangesOf tab) j noBlocks) ≡ true → ⊥
   apart-tab b i j l h p q =
-      apart-get _ _ (pairs-get apart (slots tab) vacant (good-apart (g .first) (lastUsable g n) tab good-tab) i j l (omega (arith, length-slots tab))) b p q
+      let w = good-apart (g .first) (lastUsable g n) tab good-tab in
+      apart-get _ _ (pairs-get apart (rangesOf tab) noBlocks w i j l (omega (arith, length-rangesOf tab))) b p q
 
-  -- an add whose checks before 25 pass: 25 where place finds nothing, else accepted
-  module _ (type unique : List ℕ) (size attributes : ℕ) (name : List ℕ) (e : Passes g n r type unique size attributes name) where
+  -- an add whose checks before 25 pass: 25 where no start has room, else accepted
+  module _ (p : NewPartition) (e : Passes g n r p) where
     abbrev c : Call
-    c = edit (add type unique size attributes name)
+    c = edit (add p)
 
     abbrev before : List Row
-    before = openRows g n (r .head) (r .tail) (add type unique size attributes name) ++ addRows (g .first) (lastUsable g n) tab type unique size name
+    before = openRows g n (r .head) (r .tail) (add p) ++ addRows tab p
 
     abbrev start : Option ℕ
-    start = place (slots tab) (g .first) (lastUsable g n) size
+    start = startFor (g .first) (lastUsable g n) tab p
 
-    add-size : 0 < size
-    add-size = let w : size ≢ 0 = eqb-false size 0 (passes 20 before e) in omega arith
+    add-size : 0 < p .size
+    add-size = let w : p .size ≢ 0 = eqb-false (p .size) 0 (passes 20 before e) in omega arith
 
     -- only the row for room is left
     add-row : (b : Bool) → isNone start ≡ b → refusal (rowsOf g n (r .head) (r .tail) c) ≡ pickRow b 25 none
@@ -111,49 +112,49 @@ module _ (g : Shape) (n : ℕ) (r : Run) (v : Kept g n r) where
 
     add-no : start ≡ none → step g n (r .head) (r .tail) c .answer ≡ refused 25
     unfolding pickRow
-    add-no q = ap (λ (o : Out). o .answer) (step-refused g n (r .head) (r .tail) c 25 (add-row true (ap isNone q)))
+    add-no q = ap (λ (o : Outcome). o .answer) (step-refused g n (r .head) (r .tail) c 25 (add-row true (ap isNone q)))
 
     add-yes : (s : ℕ) → start ≡ some s
-        → step g n (r .head) (r .tail) c .answer ≡ accepted (change (g .first) (lastUsable g n) tab (add type unique size attributes name) .values)
+        → step g n (r .head) (r .tail) c .answer ≡ accepted (change (g .first) (lastUsable g n) tab (add p) .values)
     unfolding pickRow
-    add-yes s q = ap (λ (o : Out). o .answer) (step-made g n (r .head) (r .tail) c (add-row false (ap isNone q)))
+    add-yes s q = ap (λ (o : Outcome). o .answer) (step-accepted g n (r .head) (r .tail) c (add-row false (ap isNone q)))
 
     abbrev NoRun : Type 0
-    NoRun = (s : ℕ) → ¬ FreeFrom g n (slots tab) size s
+    NoRun = (s : ℕ) → ¬ FreeFrom g n (rangesOf tab) (p .size) s
 
     room-iff : (step g n (r .head) (r .tail) c .answer ≡ refused 25) ↔ NoRun
-    room-iff = (to (option-cases start), λ f. add-no (place-is-none _ _ _ _ (λ s h w. f s (h, w .0, w .1))))
+    room-iff = (to (option-cases start), λ f. add-no (start-is-none _ _ _ _ (λ s h w. f s (h, w .0, w .1))))
       where
         to : (start ≡ none) ⊎ ((s : ℕ) × (start ≡ some s)) → step g n (r .head) (r .tail) c .answer ≡ refused 25 → NoRun
-        to (inl q) a = λ s w. place-none (slots tab) (g .first) (lastUsable g n) size add-size q s (w .0) (w .1, w .2)
+        to (inl q) a = λ s w. start-none (rangesOf tab) (g .first) (lastUsable g n) (p .size) add-size q s (w .0) (w .1, w .2)
         to (inr w) a = let b = add-yes (w .0) (w .1) in let z : _≡_ {A = ℕ} 0 1 = cc in absurd (omega arith)
 
-    fits-iff : (step g n (r .head) (r .tail) c .answer ≡ accepted (change (g .first) (lastUsable g n) tab (add type unique size attributes name) .values))
-        ↔ ((s : ℕ) × FreeFrom g n (slots tab) size s)
+    fits-iff : (step g n (r .head) (r .tail) c .answer ≡ accepted (change (g .first) (lastUsable g n) tab (add p) .values))
+        ↔ ((s : ℕ) × FreeFrom g n (rangesOf tab) (p .size) s)
     fits-iff = (to (option-cases start), from (option-cases start))
       where
         to : (start ≡ none) ⊎ ((s : ℕ) × (start ≡ some s))
-            → step g n (r .head) (r .tail) c .answer ≡ accepted (change (g .first) (lastUsable g n) tab (add type unique size attributes name) .values)
-            → (s : ℕ) × FreeFrom g n (slots tab) size s
+            → step g n (r .head) (r .tail) c .answer ≡ accepted (change (g .first) (lastUsable g n) tab (add p) .values)
+            → (s : ℕ) × FreeFrom g n (rangesOf tab) (p .size) s
         to (inl q) a = let b = add-no q in let z : _≡_ {A = ℕ} 0 1 = cc in absurd (omega arith)
-        to (inr w) a = let p = place-some (slots tab) (g .first) (lastUsable g n) size (w .0) (w .1) in (w .0, (p .0, p .1 .0, p .1 .1))
+        to (inr w) a = let k = start-some (rangesOf tab) (g .first) (lastUsable g n) (p .size) (w .0) (w .1) in (w .0, (k .0, k .1 .0, k .1 .1))
 
-        from : (start ≡ none) ⊎ ((s : ℕ) × (start ≡ some s)) → ((s : ℕ) × FreeFrom g n (slots tab) size s)
-            → step g n (r .head) (r .tail) c .answer ≡ accepted (change (g .first) (lastUsable g n) tab (add type unique size attributes name) .values)
+        from : (start ≡ none) ⊎ ((s : ℕ) × (start ≡ some s)) → ((s : ℕ) × FreeFrom g n (rangesOf tab) (p .size) s)
+            → step g n (r .head) (r .tail) c .answer ≡ accepted (change (g .first) (lastUsable g n) tab (add p) .values)
         from (inr w) a = add-yes (w .0) (w .1)
-        from (inl q) a = let f = a .1 in absurd (place-none (slots tab) (g .first) (lastUsable g n) size add-size q (a .0) (f .0) (f .1, f .2))
+        from (inl q) a = let f = a .1 in absurd (start-none (rangesOf tab) (g .first) (lastUsable g n) (p .size) add-size q (a .0) (f .0) (f .1, f .2))
 
   pub sound : Sound g n r
   sound = record {
     one = λ b i j p q hi hj x y. same-slot b i j hi hj x y (decLt i j) (decLt j i);
     counted =
         ap (λ (x : ℕ). x + r .ledger .back)
-        (taken-total (g .first) (lastUsable g n) (slots tab) (good-bounded (g .first) (lastUsable g n) tab good-tab) (good-apart (g .first) (lastUsable g n) tab good-tab))
+        (taken-total (g .first) (lastUsable g n) (rangesOf tab) (good-bounded (g .first) (lastUsable g n) tab good-tab) (good-apart (g .first) (lastUsable g n) tab good-tab))
         ∙ v .agrees .sum;
     room = room-iff;
   }
     where
-      same-slot : (b i j : ℕ) → i < 128 → j < 128 → inside b (getD (slots tab) i vacant) ≡ true → inside b (getD (slots tab) j vacant) ≡ true
+      same-slot : (b i j : ℕ) → i < 128 → j < 128 → blockIn b (getD (rangesOf tab) i noBlocks) ≡ true → blockIn b (getD (rangesOf tab) j noBlocks) ≡ true
           → Dec (i < j) → Dec (j < i) → i ≡ j
       same-slot b i j hi hj x y (yes a) d = absurd (apart-tab b i j a hj x y)
       same-slot b i j hi hj x y (no a) (yes d) = absurd (apart-tab b j i d hi y x)
@@ -163,31 +164,32 @@ module _ (g : Shape) (n : ℕ) (r : Run) (v : Kept g n r) where
   serves range = record {
     reads = v .reads;
     table = refl;
-    reading = ap (λ (o : Out). o .answer) (step-made g n (r .head) (r .tail) read read-none) ∙ ap (λ (s : ℕ). accepted (s ∷ [])) (v .reads);
-    repairing = step-made g n (r .head) (r .tail) repair read-none ∙ ap (repaired g n (r .head) (r .tail)) (v .reads);
+    reading = ap (λ (o : Outcome). o .answer) (step-accepted g n (r .head) (r .tail) read read-none) ∙ ap (λ (s : ℕ). accepted (s ∷ [])) (v .reads);
+    repairing = step-accepted g n (r .head) (r .tail) repair read-none ∙ ap (repaired g n (r .head) (r .tail)) (v .reads);
     not10 = not-ten g n (r .head) (r .tail) (v .reads);
     not11 = not-eleven g n (r .head) (r .tail) (v .reads);
     counts =
-        let p = longest-room (slots tab) (g .first) (lastUsable g n) usable-run in (
-          freeCount (slots tab) (g .first) (lastUsable g n),
-          longestFree (slots tab) (g .first) (lastUsable g n),
-          ap (λ (o : Out). o .answer) (step-made g n (r .head) (r .tail) freeCounts read-none),
-          omega (arith, taken-free (slots tab) (g .first) (lastUsable g n)),
+        let p = longest-room (rangesOf tab) (g .first) (lastUsable g n) usable-run in (
+          freeCount (rangesOf tab) (g .first) (lastUsable g n),
+          longestFree (rangesOf tab) (g .first) (lastUsable g n),
+          ap (λ (o : Outcome). o .answer) (step-accepted g n (r .head) (r .tail) freeCounts read-none),
+          omega (arith, taken-free (rangesOf tab) (g .first) (lastUsable g n)),
           (p .0, (p .1, p .2 .0, p .2 .1)),
-          λ size s w. room-fits (slots tab) (g .first) (lastUsable g n) size s (w .0) (w .1, w .2),
+          λ size s w. room-fits (rangesOf tab) (g .first) (lastUsable g n) size s (w .0) (w .1, w .2),
         );
-    passes = λ type unique size attributes name. (new-passes type unique size attributes name, passes-new type unique size attributes name);
+    passes = λ p. (new-passes p, passes-new p);
     fits = fits-iff;
-    deletes = λ k. accepts (delete k) refl (slot-rows (g .first) (lastUsable g n) tab k);
-    renames = λ k name. (named k name, λ w. accepts (rename k name) (eq-eqb _ _ (w .0)) (rename-rows (g .first) (lastUsable g n) tab k name) .1 (w .1, w .2));
-    resizes = λ k size. accepts (resize k size) refl (resize-rows (g .first) (lastUsable g n) tab k size);
+    deletes = λ k. accepts (delete k) refl (slot-rows tab k);
+    renames = λ k name. (named k name, λ w. accepts (rename k name) (eq-eqb _ _ (w .0)) (rename-rows tab k (g .first) (lastUsable g n) name) .1 (w .1, w .2));
+    resizes = λ k size. accepts (resize k size) refl (resize-rows tab k (g .first) (lastUsable g n) size);
   }
     where
       usable-run : g .first ≤ suc (lastUsable g n)
       usable-run = let w : 2 * g .first ≤ n = leb-true _ _ (and-l _ _ range) in omega arith
 
-      read-none : refusal (readRows g n (r .head) (r .tail) true) ≡ none
-      read-none = open-read g n (r .head) (r .tail) (delete 0) (open-none g n (r .head) (r .tail) (delete 0) (v .len-head) (v .len-tail) refl range (v .reads))
+      read-none : refusal (commonRows g n (r .head) (r .tail) true) ≡ none
+      read-none =
+          open-common g n (r .head) (r .tail) (delete 0) (open-none g n (r .head) (r .tail) (delete 0) (v .len-head) (v .len-tail) refl range (v .reads))
 
       opens : (d : Edit) → lengthsOf d ≡ true → refusal (openRows g n (r .head) (r .tail) d) ≡ none
       opens d l = open-none g n (r .head) (r .tail) d (v .len-head) (v .len-tail) l range (v .reads)
@@ -200,35 +202,35 @@ module _ (g : Shape) (n : ℕ) (r : Run) (v : Kept g n r) where
       named : (k : ℕ) (name : List ℕ) → step g n (r .head) (r .tail) (edit (rename k name)) .answer ≡ accepted [] → (length name ≡ 36) × UsedSlot tab k × NameOk name
       named k name a =
           let e = accepted-none g n (r .head) (r .tail) (edit (rename k name)) [] a in
-          let l = row1 g n (r .head) (r .tail) (lengthsOf (rename k name)) (open-read g n (r .head) (r .tail) (rename k name) (edit-open g n (r .head) (r .tail) (rename k name) e)) .2 in
-          let w = accepts (rename k name) l (rename-rows (g .first) (lastUsable g n) tab k name) .0 a in
+          let l = row1 g n (r .head) (r .tail) (lengthsOf (rename k name)) (open-common g n (r .head) (r .tail) (rename k name) (edit-open g n (r .head) (r .tail) (rename k name) e)) .2 in
+          let w = accepts (rename k name) l (rename-rows tab k (g .first) (lastUsable g n) name) .0 a in
           (eqb-true _ _ l, w .0, w .1)
 
-      new-passes : (type unique : List ℕ) (size attributes : ℕ) (name : List ℕ) → Passes g n r type unique size attributes name → NewOk tab type unique size name
-      new-passes type unique size attributes name e =
-          let d = add type unique size attributes name in
-          let w = refusal-before (openRows g n (r .head) (r .tail) d) (addRows (g .first) (lastUsable g n) tab type unique size name) e in
-          let l = row1 g n (r .head) (r .tail) (lengthsOf d) (open-read g n (r .head) (r .tail) d (w .0)) .2 in
-          new-get (g .first) (lastUsable g n) tab type unique size name
+      new-passes : (p : NewPartition) → Passes g n r p → NewOk tab p
+      new-passes p e =
+          let d = add p in
+          let w = refusal-before (openRows g n (r .head) (r .tail) d) (addRows tab p) e in
+          let l = row1 g n (r .head) (r .tail) (lengthsOf d) (open-common g n (r .head) (r .tail) d (w .0)) .2 in
+          new-get tab p
           (eqb-true _ _ (and-l _ _ (and-l _ _ l)), eqb-true _ _ (and-r _ _ (and-l _ _ l)), eqb-true _ _ (and-r _ _ l)) (w .1)
 
-      passes-new : (type unique : List ℕ) (size attributes : ℕ) (name : List ℕ) → NewOk tab type unique size name → Passes g n r type unique size attributes name
-      passes-new type unique size attributes name w =
-          let d = add type unique size attributes name in
+      passes-new : (p : NewPartition) → NewOk tab p → Passes g n r p
+      passes-new p w =
+          let d = add p in
           let l = w .lengths in
-          refusal-append (openRows g n (r .head) (r .tail) d) (addRows (g .first) (lastUsable g n) tab type unique size name)
+          refusal-append (openRows g n (r .head) (r .tail) d) (addRows tab p)
           (opens d (and-i _ _ (and-i _ _ (eq-eqb _ _ (l .0)) (eq-eqb _ _ (l .1))) (eq-eqb _ _ (l .2))))
-          ∙ new-make (g .first) (lastUsable g n) tab type unique size name w
+          ∙ new-make tab p w
 
 -- ---- the theorems
 
 pub demand3From : Demand3From
-demand3From g wide n es r s cs = sound g n (run g n cs r) (keeps-all g wide n cs r (starts-kept g n es r s) .0)
+demand3From g wide n es r s cs = sound g n (afterAll g n cs r) (keeps-all g wide n cs r (starts-kept g n es r s) .0)
 
 pub demand3 : Demand3
 demand3 g n guid h t f cs = (
-  ap (λ (o : Out). o .answer) (formatted g n guid h t f),
-  demand3From g (f .wide) n (zeros 16384) (begun (format g n guid h t)) (format-starts g n guid h t f) cs,
+  ap (λ (o : Outcome). o .answer) (formatted g n guid h t f),
+  demand3From g (f .wide) n (zeros 16384) (startAfter (format g n guid h t)) (format-starts g n guid h t f) cs,
 )
 
 pub demand3At512 : Demand3At512
@@ -237,21 +239,21 @@ demand3At512 n guid h t lo hi lg z lh lt =
 
 pub notEmpty : NotEmpty
 notEmpty g n guid h t f cs =
-    let r = begun (format g n guid h t) in
+    let r = startAfter (format g n guid h t) in
     let s = format-starts g n guid h t f in
     let k = keeps-all g (f .wide) n cs r (starts-kept g n (zeros 16384) r s) in
-    subst (λ (es : List ℕ). Serves g n es (run g n cs r))
+    subst (λ (es : List ℕ). Serves g n es (afterAll g n cs r))
     (k .1 ∙ ap (λ (es : List ℕ). applied (g .first) (lastUsable g n) es cs (answers g n cs r)) (s .table))
-    (serves g n (run g n cs r) (k .0) (f .range))
+    (serves g n (afterAll g n cs r) (k .0) (f .range))
 
 pub refusedStays : RefusedStays
 refusedStays g n k guid h t c = (λ a. step-refused g n h t c k (refused-row g n h t c k a), formats (option-cases (refusal (formatRows g n guid h t))))
   where
     formats : (refusal (formatRows g n guid h t) ≡ none) ⊎ ((j : ℕ) × (refusal (formatRows g n guid h t) ≡ some j))
-        → format g n guid h t .answer ≡ refused k → format g n guid h t ≡ out (refused k) h t
-    formats (inl e) a = let b = ap (λ (o : Out). o .answer) (format-made g n guid h t e) in let z : _≡_ {A = ℕ} 0 1 = cc in absurd (omega arith)
+        → format g n guid h t .answer ≡ refused k → format g n guid h t ≡ outcome (refused k) h t
+    formats (inl e) a = let b = ap (λ (o : Outcome). o .answer) (format-accepted g n guid h t e) in let z : _≡_ {A = ℕ} 0 1 = cc in absurd (omega arith)
     formats (inr w) a =
-        let b = ap (λ (o : Out). o .answer) (format-refused g n guid h t (w .0) (w .1)) in
+        let b = ap (λ (o : Outcome). o .answer) (format-refused g n guid h t (w .0) (w .1)) in
         let q : w .0 ≡ k = cc in
         format-refused g n guid h t k (w .1 ∙ ap some q)
 
@@ -270,12 +272,13 @@ numbers512 = record {
 pub editReadsBack : EditReadsBack
 editReadsBack g n h t d wide e =
     let w = edit-held g wide n h t d e in
-    subst (λ (o : Out). (state g n (o .head) (o .tail) ≡ 1) × (tableOf g n (o .head) (o .tail) ≡ edited (g .first) (lastUsable g n) (tableOf g n h t) d))
-    (sym (step-made g n h t (edit d) e)) (w .reads, w .table)
+    subst (λ (o : Outcome). (state g n (o .head) (o .tail) ≡ 1) × (tableOf g n (o .head) (o .tail) ≡ edited (g .first) (lastUsable g n) (tableOf g n h t) d))
+    (sym (step-accepted g n h t (edit d) e)) (w .reads, w .table)
 
 pub repairReadsBack : RepairReadsBack
 repairReadsBack g n h t wide e =
     let l = row1 g n h t true e in
     let w = repair-holds g wide n h t (l .0) (l .1) (row10 g n h t true e) in
-    subst (λ (o : Out). (o .answer ≡ accepted (state g n h t ∷ [])) × (state g n (o .head) (o .tail) ≡ 1) × (tableOf g n (o .head) (o .tail) ≡ tableOf g n h t))
-    (sym (step-made g n h t repair e)) (repair-answer g n h t, w .reads, w .table)
+    subst (λ (o : Outcome).
+    (o .answer ≡ accepted (state g n h t ∷ [])) × (state g n (o .head) (o .tail) ≡ 1) × (tableOf g n (o .head) (o .tail) ≡ tableOf g n h t))
+    (sym (step-accepted g n h t repair e)) (repair-answer g n h t, w .reads, w .table)

@@ -1,4 +1,4 @@
--- An edit that no row refuses: the one entry that it writes keeps the table's rules, and the ledger's change is the slot's.
+-- An edit that no row refuses: the one entry that it writes keeps the table's rules, and the ledger changes as its range does.
 use mathlib.Core.Path.{_≡_, refl, sym, ap, ap₂, subst, _∙_}
 use mathlib.Core.Logic.{_≢_}
 use mathlib.Core.Bool.{true, false, not, true≢false}
@@ -18,29 +18,29 @@ use Rattle.octets.proofs.Tests.{findIx-get, any-none}
 use Rattle.octets.proofs.Parts.{length-zeros}
 use Rattle.octets.proofs.Rows.{passes}
 use Rattle.octets.proofs.Chunks.{length-chunks, length-chunk}
-use Rattle.gpt_model.specs.Table.{Slot, vacant, spans, sizeOf, bounded, apart, uniqueOf, firstOf, unused, slotOf, entryOk, entries, slots, goodTable, entryWith}
-use Rattle.gpt_model.specs.Calls.{Edit, add, delete, resize, rename, carries, isNone, valueOf, tableRows, lowestUnused, startOf, change, lengthsOf}
+use Rattle.gpt_model.specs.Table.{BlockRange, noBlocks, spans, rangeSize, bounded, apart, uniqueOf, firstOf, lastOf, unused, rangeOf, entryOk, entries, rangesOf, goodTable}
+use Rattle.gpt_model.specs.Calls.{NewPartition, Edit, add, delete, resize, rename, carries, isNone, orZero, lowestUnused, newEntry, startFor, tableRows, change, lengthsOf}
 use Rattle.gpt_model.specs.Lists.{Ledger, bookEdit}
-use Rattle.gpt_model.proofs.Room.{Room, room-get, place-some}
+use Rattle.gpt_model.proofs.Room.{Room, room-get, start-some}
 use Rattle.gpt_model.proofs.Fields.{length-new, new-type, new-unique, new-first, new-last, length-sized, sized-type, sized-unique, sized-first, sized-last, length-named, named-type, named-unique, named-first, named-last}
-use Rattle.gpt_model.proofs.Entries.{same-sym, slot-unused, slot-used, used-type, unused-zeros, Used, ok-used, used-ok, unused-ok, ok-bounded, Beside, getD-slot, length-slots, entryAt, good-at, good-beside, room-apart}
+use Rattle.gpt_model.proofs.Entries.{same-sym, range-unused, range-used, used-type, unused-zeros, Used, ok-used, used-ok, unused-ok, ok-bounded, PairOk, getD-range, length-rangesOf, entryAt, good-at, good-pair, room-apart}
 
 nonzero : (x : ℕ) → eqb x 0 ≡ false → 0 < x
 nonzero x e = let w : x ≢ 0 = eqb-false x 0 e in omega arith
 
-pub place-value : (o : Option ℕ) → isNone o ≡ false → o ≡ some (valueOf o)
-place-value none e = absurd (true≢false e)
-place-value (some s) e = refl
+pub some-orZero : (o : Option ℕ) → isNone o ≡ false → o ≡ some (orZero o)
+some-orZero none e = absurd (true≢false e)
+some-orZero (some s) e = refl
 
 -- the edit d, whose reply begins with k, writes the entry e into slot i of the table es
 pub record Fits (first last : ℕ) (es : List ℕ) (d : Edit) (k i : ℕ) (e : List ℕ) : Type 0 where
   pub index : i < 128
   pub len : length e ≡ 128
   pub ok : entryOk first last e ≡ true
-  pub beside : (j : ℕ) → j < 128 → j ≢ i → Beside e (entryAt es j)
-  pub sizes : (l : Ledger) → l .sizes ≡ map sizeOf (slots es) → bookEdit l d k .sizes ≡ set (l .sizes) i (sizeOf (slotOf e))
-  pub balance : (l : Ledger) → l .sizes ≡ map sizeOf (slots es)
-      → bookEdit l d k .granted + (l .back + sizeOf (slotOf (entryAt es i))) ≡ l .granted + (bookEdit l d k .back + sizeOf (slotOf e))
+  pub pair : (j : ℕ) → j < 128 → j ≢ i → PairOk e (entryAt es j)
+  pub sizes : (l : Ledger) → l .sizes ≡ map rangeSize (rangesOf es) → bookEdit l d k .sizes ≡ set (l .sizes) i (rangeSize (rangeOf e))
+  pub balance : (l : Ledger) → l .sizes ≡ map rangeSize (rangesOf es)
+      → bookEdit l d k .granted + (l .back + rangeSize (rangeOf (entryAt es i))) ≡ l .granted + (bookEdit l d k .back + rangeSize (rangeOf e))
 
 -- what the reply of d begins with
 abbrev pub replied : ℕ → ℕ → List ℕ → Edit → ℕ
@@ -56,34 +56,34 @@ module _ (first last : ℕ) (small : last < 256 ^ 8) (es : List ℕ) (len : leng
   len-at : (i : ℕ) → i < 128 → length (entryAt es i) ≡ 128
   len-at i h = length-chunk 128 128 i es h len
 
-  bounded-at : (j : ℕ) → j < 128 → bounded first last (slotOf (entryAt es j)) ≡ true
+  bounded-at : (j : ℕ) → j < 128 → bounded first last (rangeOf (entryAt es j)) ≡ true
   bounded-at j h = ok-bounded first last (entryAt es j) (good-at first last es good j h)
 
-  size-was : (l : Ledger) → l .sizes ≡ map sizeOf (slots es) → (i : ℕ) → getD (l .sizes) i 0 ≡ sizeOf (slotOf (entryAt es i))
-  size-was l e i = ap (λ (x : List ℕ). getD x i 0) e ∙ List·getD-map sizeOf (slots es) i vacant ∙ ap sizeOf (getD-slot es i)
+  size-was : (l : Ledger) → l .sizes ≡ map rangeSize (rangesOf es) → (i : ℕ) → getD (l .sizes) i 0 ≡ rangeSize (rangeOf (entryAt es i))
+  size-was l e i = ap (λ (x : List ℕ). getD x i 0) e ∙ List·getD-map rangeSize (rangesOf es) i noBlocks ∙ ap rangeSize (getD-range es i)
 
   slot-number : (k : ℕ) → not (leb 1 k and leb k 128) ≡ false → (1 ≤ k) × (k ≤ 128)
   slot-number k e = let c = not-f _ e in (leb-true _ _ (and-l _ _ c), leb-true _ _ (and-r _ _ c))
 
-  -- an edit that keeps the unique GUID, and whose slot is apart from the others
+  -- an edit that keeps the unique GUID, and whose range is apart from the others
   kept : (i : ℕ) (e : List ℕ) → i < 128 → unused (entryAt es i) ≡ false → uniqueOf e ≡ uniqueOf (entryAt es i)
-      → ((j : ℕ) → j < 128 → j ≢ i → unused (entryAt es j) ≡ false → apart (slotOf e) (slotOf (entryAt es j)) ≡ true)
-      → (j : ℕ) → j < 128 → j ≢ i → Beside e (entryAt es j)
+      → ((j : ℕ) → j < 128 → j ≢ i → unused (entryAt es j) ≡ false → apart (rangeOf e) (rangeOf (entryAt es j)) ≡ true)
+      → (j : ℕ) → j < 128 → j ≢ i → PairOk e (entryAt es j)
   kept i e hi u q far j hj ne a b = (
     subst (λ (x : List ℕ). same x (uniqueOf (entryAt es j)) ≡ false) (sym q)
-        (good-beside first last es good i j hi hj (λ x. ne (sym x)) u b .0),
+        (good-pair first last es good i j hi hj (λ x. ne (sym x)) u b .0),
     far j hj ne b,
   )
 
   deletes : (k : ℕ) → refusal (tableRows first last es (delete k)) ≡ none → FitsEdit first last es (delete k)
   deletes k e =
       let w = slot-number k (passes 12 (tableRows first last es (delete k)) e) in
-      let z : sizeOf (slotOf (zeros 128)) ≡ 0 = ap sizeOf (slot-unused (zeros 128) (unused-zeros 128)) in
+      let z : rangeSize (rangeOf (zeros 128)) ≡ 0 = ap rangeSize (range-unused (zeros 128) (unused-zeros 128)) in
       record {
         index = omega arith;
         len = length-zeros 128;
         ok = unused-ok first last (zeros 128) (unused-zeros 128);
-        beside = λ j h ne a b. absurd (clash (unused-zeros 128) a);
+        pair = λ j h ne a b. absurd (clash (unused-zeros 128) a);
         sizes = λ l q. ap (set (l .sizes) (k - 1)) (sym z);
         balance = λ l q. omega (arith, size-was l q (k - 1));
       }
@@ -93,9 +93,9 @@ module _ (first last : ℕ) (small : last < 256 ^ 8) (es : List ℕ) (len : leng
     index = hi;
     len = length-named e le′ name;
     ok = used-ok first last e′ used′;
-    beside = kept (k - 1) e′ hi u (named-unique e le′ name) (λ j hj ne b. rw slot-same (good-beside first last es good (k - 1) j hi hj (λ x. ne (sym x)) u b .1));
-    sizes = λ l q. sym (ap (set (l .sizes) (k - 1)) (ap sizeOf slot-same ∙ sym (size-was l q (k - 1))) ∙ set-getD (l .sizes) (k - 1) 0);
-    balance = λ l q. omega (arith, ap sizeOf slot-same);
+    pair = kept (k - 1) e′ hi u (named-unique e le′ name) (λ j hj ne b. rw range-same (good-pair first last es good (k - 1) j hi hj (λ x. ne (sym x)) u b .1));
+    sizes = λ l q. sym (ap (set (l .sizes) (k - 1)) (ap rangeSize range-same ∙ sym (size-was l q (k - 1))) ∙ set-getD (l .sizes) (k - 1) 0);
+    balance = λ l q. omega (arith, ap rangeSize range-same);
   }
     where
       u : unused (entryAt es (k - 1)) ≡ false
@@ -125,15 +125,15 @@ module _ (first last : ℕ) (small : last < 256 ^ 8) (es : List ℕ) (len : leng
         high = rw (named-last e le′ name) (w .high);
       }
 
-      slot-same : slotOf e′ ≡ slotOf e
-      slot-same = slot-used e′ (used-type e′ (used′ .type)) ∙ ap₂ spans (named-first e le′ name) (named-last e le′ name) ∙ sym (slot-used e u)
+      range-same : rangeOf e′ ≡ rangeOf e
+      range-same = range-used e′ (used-type e′ (used′ .type)) ∙ ap₂ spans (named-first e le′ name) (named-last e le′ name) ∙ sym (range-used e u)
 
   resizes : (k size : ℕ) → refusal (tableRows first last es (resize k size)) ≡ none → FitsEdit first last es (resize k size)
   resizes k size z = record {
     index = hi;
     len = length-sized e le′ l;
     ok = used-ok first last e′ used′;
-    beside = kept (k - 1) e′ hi u (sized-unique e le′ l) far;
+    pair = kept (k - 1) e′ hi u (sized-unique e le′ l) far;
     sizes = λ b q. ap (set (b .sizes) (k - 1)) (sym size-now);
     balance = λ b q. omega (arith, size-was b q (k - 1), size-now);
   }
@@ -159,7 +159,7 @@ module _ (first last : ℕ) (small : last < 256 ^ 8) (es : List ℕ) (len : leng
       l : ℕ
       l = firstOf (entryAt es (k - 1)) + size - 1
 
-      room : Room (set (slots es) (k - 1) vacant) last size (firstOf (entryAt es (k - 1)))
+      room : Room (set (rangesOf es) (k - 1) noBlocks) last size (firstOf (entryAt es (k - 1)))
       room = room-get _ _ _ _ (not-f _ (passes 25 rows z))
 
       le′ : length (entryAt es (k - 1)) ≡ 128
@@ -183,89 +183,97 @@ module _ (first last : ℕ) (small : last < 256 ^ 8) (es : List ℕ) (len : leng
         high = rw (sized-last e le′ l fits) (let a = room .0 in let p = pos in omega arith);
       }
 
-      slot-now : slotOf e′ ≡ spans f l
-      slot-now = slot-used e′ (used-type e′ (used′ .type)) ∙ ap₂ spans (sized-first e le′ l) (sized-last e le′ l fits)
+      range-now : rangeOf e′ ≡ spans f l
+      range-now = range-used e′ (used-type e′ (used′ .type)) ∙ ap₂ spans (sized-first e le′ l) (sized-last e le′ l fits)
 
-      size-now : sizeOf (slotOf e′) ≡ size
-      size-now = ap sizeOf slot-now ∙ (let p = pos in omega arith)
+      size-now : rangeSize (rangeOf e′) ≡ size
+      size-now = ap rangeSize range-now ∙ (let p = pos in omega arith)
 
-      other : (j : ℕ) → j ≢ k - 1 → getD (set (slots es) (k - 1) vacant) j vacant ≡ slotOf (entryAt es j)
-      other j ne = getD-set-other (slots es) (k - 1) j vacant vacant ne ∙ getD-slot es j
+      other : (j : ℕ) → j ≢ k - 1 → getD (set (rangesOf es) (k - 1) noBlocks) j noBlocks ≡ rangeOf (entryAt es j)
+      other j ne = getD-set-other (rangesOf es) (k - 1) j noBlocks noBlocks ne ∙ getD-range es j
 
-      far : (j : ℕ) → j < 128 → j ≢ k - 1 → unused (entryAt es j) ≡ false → apart (slotOf e′) (slotOf (entryAt es j)) ≡ true
+      far : (j : ℕ) → j < 128 → j ≢ k - 1 → unused (entryAt es j) ≡ false → apart (rangeOf e′) (rangeOf (entryAt es j)) ≡ true
       far j hj ne b =
-          rw slot-now
-          (subst (λ (s : Slot). apart (spans f l) s ≡ true) (other j ne)
-          (room-apart first last (set (slots es) (k - 1) vacant) size f j pos room (omega (arith, length-set (slots es) (k - 1) vacant, length-slots es))
-          (subst (λ (s : Slot). bounded first last s ≡ true) (sym (other j ne)) (bounded-at j hj))))
+          rw range-now
+          (subst (λ (s : BlockRange). apart (spans f l) s ≡ true) (other j ne)
+          (room-apart first last (set (rangesOf es) (k - 1) noBlocks) size f j pos room
+          (omega (arith, length-set (rangesOf es) (k - 1) noBlocks, length-rangesOf es))
+          (subst (λ (s : BlockRange). bounded first last s ≡ true) (sym (other j ne)) (bounded-at j hj))))
 
   -- a new entry in an unused slot i, at a start s with room: for add, and for a start that is given
-  pub places : (i s : ℕ) (type unique : List ℕ) (size attributes : ℕ) (name : List ℕ)
-      → i < 128 → unused (entryAt es i) ≡ true → 0 < size → first ≤ s → Room (slots es) last size s
-      → length type ≡ 16 → length unique ≡ 16 → length name ≡ 36 → isZero type ≡ false → isZero unique ≡ false → any (carries unique) (entries es) ≡ false
-      → Fits first last es (add type unique size attributes name) (suc i) i (entryWith type unique s (s + size - 1) attributes name)
-  places i s type unique size attributes name hi u pos low room lt lu ln zt zu fresh = record {
+  pub new-fits : (i s : ℕ) (p : NewPartition)
+      → i < 128 → unused (entryAt es i) ≡ true → 0 < p .size → first ≤ s → Room (rangesOf es) last (p .size) s
+      → length (p .type) ≡ 16 → length (p .unique) ≡ 16 → isZero (p .type) ≡ false → isZero (p .unique) ≡ false → any (carries (p .unique)) (entries es) ≡ false
+      → Fits first last es (add p) (suc i) i (newEntry p s)
+  new-fits i s p hi u pos low room lt lu zt zu fresh = record {
     index = hi;
-    len = length-new type unique s l attributes name;
+    len = length-new p s;
     ok = used-ok first last e′ used′;
-    beside = far;
+    pair = far;
     sizes = λ b q. ap₂ (set (b .sizes)) same-i (sym size-now);
-    balance = λ b q. omega (arith, size-now, ap sizeOf (slot-unused (entryAt es i) u));
+    balance = λ b q. omega (arith, size-now, ap rangeSize (range-unused (entryAt es i) u));
   }
     where
       same-i : suc i - 1 ≡ i
       same-i = omega arith
 
       l : ℕ
-      l = s + size - 1
+      l = s + p .size - 1
 
       e′ : List ℕ
-      e′ = entryWith type unique s (s + size - 1) attributes name
+      e′ = newEntry p s
 
       fs : s < 256 ^ 8
       fs = let a = room .0 in omega arith
 
-      fl : s + size - 1 < 256 ^ 8
+      fl : s + p .size - 1 < 256 ^ 8
       fl = let a = room .0 in omega arith
+
+      unique-is : uniqueOf (newEntry p s) ≡ p .unique
+      unique-is = new-unique p s lu
+
+      first-is : firstOf (newEntry p s) ≡ s
+      first-is = new-first p s fs
+
+      last-is : lastOf (newEntry p s) ≡ s + p .size - 1
+      last-is = new-last p s fl
 
       used′ : Used first last e′
       used′ = record {
-        type = ap isZero (new-type type unique s l attributes name lt) ∙ zt;
-        unique = ap isZero (new-unique type unique s l attributes name lu) ∙ zu;
-        low = rw (new-first type unique s l attributes name fs) low;
-        mid = rw (new-first type unique s l attributes name fs, new-last type unique s l attributes name fl) (omega arith);
-        high = rw (new-last type unique s l attributes name fl) (let a = room .0 in omega arith);
+        type = ap isZero (new-type p s lt) ∙ zt;
+        unique = ap isZero unique-is ∙ zu;
+        low = rw first-is low;
+        mid = rw (first-is, last-is) (omega arith);
+        high = rw last-is (let a = room .0 in omega arith);
       }
 
-      slot-now : slotOf e′ ≡ spans s l
-      slot-now = slot-used e′ (used-type e′ (used′ .type)) ∙ ap₂ spans (new-first type unique s l attributes name fs) (new-last type unique s l attributes name fl)
+      range-now : rangeOf e′ ≡ spans s l
+      range-now = range-used e′ (used-type e′ (used′ .type)) ∙ ap₂ spans first-is last-is
 
-      size-now : sizeOf (slotOf e′) ≡ size
-      size-now = ap sizeOf slot-now ∙ omega arith
+      size-now : rangeSize (rangeOf e′) ≡ p .size
+      size-now = ap rangeSize range-now ∙ omega arith
 
-      far : (j : ℕ) → j < 128 → j ≢ i → Beside e′ (entryAt es j)
+      far : (j : ℕ) → j < 128 → j ≢ i → PairOk e′ (entryAt es j)
       far j hj ne a b = (
-        subst (λ (x : List ℕ). same x (uniqueOf (entryAt es j)) ≡ false) (sym (new-unique type unique s l attributes name lu))
-            (same-sym _ _ (and-skip _ _ (ap not b) (any-none (carries unique) (entries es) [] fresh j (omega (arith, length-chunks 128 128 es))))),
-        rw slot-now
-            (subst (λ (x : Slot). apart (spans s l) x ≡ true) (getD-slot es j)
-            (room-apart first last (slots es) size s j pos room (omega (arith, length-slots es))
-            (subst (λ (x : Slot). bounded first last x ≡ true) (sym (getD-slot es j)) (bounded-at j hj)))),
+        subst (λ (x : List ℕ). same x (uniqueOf (entryAt es j)) ≡ false) (sym unique-is)
+            (same-sym _ _ (and-skip _ _ (ap not b) (any-none (carries (p .unique)) (entries es) [] fresh j (omega (arith, length-chunks 128 128 es))))),
+        rw range-now
+            (subst (λ (x : BlockRange). apart (spans s l) x ≡ true) (getD-range es j)
+            (room-apart first last (rangesOf es) (p .size) s j pos room (omega (arith, length-rangesOf es))
+            (subst (λ (x : BlockRange). bounded first last x ≡ true) (sym (getD-range es j)) (bounded-at j hj)))),
       )
 
-  adds : (type unique : List ℕ) (size attributes : ℕ) (name : List ℕ) → lengthsOf (add type unique size attributes name) ≡ true → refusal (tableRows first last es (add type unique size attributes name)) ≡ none
-      → FitsEdit first last es (add type unique size attributes name)
-  adds type unique size attributes name lens e =
-      let rows = tableRows first last es (add type unique size attributes name) in
-      let p = place-some (slots es) first last size (startOf first last es size) (place-value _ (passes 25 rows e)) in
+  adds : (p : NewPartition) → lengthsOf (add p) ≡ true → refusal (tableRows first last es (add p)) ≡ none → FitsEdit first last es (add p)
+  adds p lens e =
+      let rows = tableRows first last es (add p) in
+      let w = start-some (rangesOf es) first last (p .size) (orZero (startFor first last es p)) (some-orZero _ (passes 25 rows e)) in
       let f = findIx-get unused (entries es) [] (not-f _ (passes 24 rows e)) in
-      places (lowestUnused first last es) (startOf first last es size) type unique size attributes name (omega (arith, f .0, length-chunks 128 128 es)) (f .1)
-      (nonzero size (passes 20 rows e)) (p .0) (p .1)
-      (eqb-true _ _ (and-l _ _ (and-l _ _ lens))) (eqb-true _ _ (and-r _ _ (and-l _ _ lens))) (eqb-true _ _ (and-r _ _ lens))
+      new-fits (lowestUnused es) (orZero (startFor first last es p)) p (omega (arith, f .0, length-chunks 128 128 es)) (f .1)
+      (nonzero (p .size) (passes 20 rows e)) (w .0) (w .1) (eqb-true _ _ (and-l _ _ (and-l _ _ lens))) (eqb-true _ _ (and-r _ _ (and-l _ _ lens)))
       (passes 21 rows e) (or-false-l _ _ (passes 22 rows e)) (or-false-r _ _ (passes 22 rows e))
 
   pub fits : (d : Edit) → lengthsOf d ≡ true → refusal (tableRows first last es d) ≡ none → FitsEdit first last es d
-  fits (add type unique size attributes name) lens e = adds type unique size attributes name lens e
+  fits (add p) lens e = adds p lens e
   fits (delete k) lens e = deletes k e
   fits (resize k size) lens e = resizes k size e
   fits (rename k name) lens e = renames k name (eqb-true _ _ lens) e

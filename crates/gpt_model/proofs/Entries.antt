@@ -17,9 +17,9 @@ use Rattle.octets.proofs.Bools.{and-l, and-r, and-i, or-cases, or-il, or-ir, or
 use Rattle.octets.proofs.Tests.{all-get, all-make, pairs-get, pairs-make, any-none}
 use Rattle.octets.proofs.Equal.{same-true, same-refl, zero-zeros}
 use Rattle.octets.proofs.Chunks.{length-chunks, chunks-put}
-use Rattle.gpt_model.specs.Table.{Slot, vacant, spans, sizeOf, bounded, apart, typeOf, uniqueOf, firstOf, lastOf, unused, slotOf, entryOk, beside, entries, slots, goodTable}
-use Rattle.gpt_model.specs.Ranges.{inside}
-use Rattle.gpt_model.proofs.Room.{Room, inside-make}
+use Rattle.gpt_model.specs.Table.{BlockRange, noBlocks, spans, rangeSize, bounded, apart, typeOf, uniqueOf, firstOf, lastOf, unused, rangeOf, entryOk, pairOk, entries, rangesOf, goodTable}
+use Rattle.gpt_model.specs.Ranges.{blockIn}
+use Rattle.gpt_model.proofs.Room.{Room, blockIn-make}
 use Rattle.gpt_model.proofs.Counts.{bounded-get, bounded-make}
 
 -- ---- lists
@@ -52,13 +52,13 @@ same-sym xs ys e = go (bool-cases (same ys xs))
 
 -- ---- an entry
 
-pub slot-unused : (e : List ℕ) → unused e ≡ true → slotOf e ≡ vacant
-unfolding slotOf
-slot-unused e q = rw (q, slotOf)
+pub range-unused : (e : List ℕ) → unused e ≡ true → rangeOf e ≡ noBlocks
+unfolding rangeOf
+range-unused e q = rw (q, rangeOf)
 
-pub slot-used : (e : List ℕ) → unused e ≡ false → slotOf e ≡ spans (firstOf e) (lastOf e)
-unfolding slotOf
-slot-used e q = rw (q, slotOf)
+pub range-used : (e : List ℕ) → unused e ≡ false → rangeOf e ≡ spans (firstOf e) (lastOf e)
+unfolding rangeOf
+range-used e q = rw (q, rangeOf)
 
 pub used-type : (e : List ℕ) → isZero (typeOf e) ≡ false → unused e ≡ false
 unfolding unused
@@ -90,84 +90,84 @@ pub ok-used : (first last : ℕ) (e : List ℕ) → entryOk first last e ≡ tru
 unfolding entryOk
 ok-used first last e k u = go (or-cases _ _ k)
   where
-    go : (unused e ≡ true) ⊎ ((not (isZero (typeOf e)) and not (isZero (uniqueOf e)) and bounded first last (slotOf e)) ≡ true) → Used first last e
+    go : (unused e ≡ true) ⊎ ((not (isZero (typeOf e)) and not (isZero (uniqueOf e)) and bounded first last (rangeOf e)) ≡ true) → Used first last e
     go (inl f) = absurd (clash f u)
     go (inr f) =
-        let b = bounded-get first last (firstOf e) (lastOf e) (subst (λ (s : Slot). bounded first last s ≡ true) (slot-used e u) (and-r _ _ f)) in
+        let b = bounded-get first last (firstOf e) (lastOf e) (subst (λ (s : BlockRange). bounded first last s ≡ true) (range-used e u) (and-r _ _ f)) in
         record { type = not-t _ (and-l _ _ (and-l _ _ f)); unique = not-t _ (and-r _ _ (and-l _ _ f)); low = b .0; mid = b .1; high = b .2 }
 
 pub used-ok : (first last : ℕ) (e : List ℕ) → Used first last e → entryOk first last e ≡ true
 unfolding entryOk
 used-ok first last e u =
     or-ir _ _ (and-i _ _ (and-i _ _ (ap not (u .type)) (ap not (u .unique)))
-    (subst (λ (s : Slot). bounded first last s ≡ true) (sym (slot-used e (used-type e (u .type))))
+    (subst (λ (s : BlockRange). bounded first last s ≡ true) (sym (range-used e (used-type e (u .type))))
     (bounded-make first last (firstOf e) (lastOf e) (u .low) (u .mid) (u .high))))
 
 pub unused-ok : (first last : ℕ) (e : List ℕ) → unused e ≡ true → entryOk first last e ≡ true
 unfolding entryOk
 unused-ok first last e q = or-il _ _ q
 
-bounded-vacant : (first last : ℕ) → bounded first last vacant ≡ true
+bounded-none : (first last : ℕ) → bounded first last noBlocks ≡ true
 unfolding bounded
-bounded-vacant first last = refl
+bounded-none first last = refl
 
-pub ok-bounded : (first last : ℕ) (e : List ℕ) → entryOk first last e ≡ true → bounded first last (slotOf e) ≡ true
+pub ok-bounded : (first last : ℕ) (e : List ℕ) → entryOk first last e ≡ true → bounded first last (rangeOf e) ≡ true
 unfolding entryOk
 ok-bounded first last e k =
-    ⊎-elim (λ f. subst (λ (s : Slot). bounded first last s ≡ true) (sym (slot-unused e f)) (bounded-vacant first last)) (λ f. and-r _ _ f) (or-cases _ _ k)
+    ⊎-elim (λ f. subst (λ (s : BlockRange). bounded first last s ≡ true) (sym (range-unused e f)) (bounded-none first last)) (λ f. and-r _ _ f) (or-cases _ _ k)
 
 -- ---- two entries
 
-abbrev pub Beside : List ℕ → List ℕ → Type 0
-Beside e d = unused e ≡ false → unused d ≡ false → (same (uniqueOf e) (uniqueOf d) ≡ false) × (apart (slotOf e) (slotOf d) ≡ true)
+abbrev pub PairOk : List ℕ → List ℕ → Type 0
+PairOk e d = unused e ≡ false → unused d ≡ false → (same (uniqueOf e) (uniqueOf d) ≡ false) × (apart (rangeOf e) (rangeOf d) ≡ true)
 
-pub beside-get : (e d : List ℕ) → beside e d ≡ true → Beside e d
-unfolding beside
-beside-get e d k ue ud = go (or-cases _ _ k)
+pub pair-get : (e d : List ℕ) → pairOk e d ≡ true → PairOk e d
+unfolding pairOk
+pair-get e d k ue ud = go (or-cases _ _ k)
   where
-    go : ((unused e or unused d) ≡ true) ⊎ ((not (same (uniqueOf e) (uniqueOf d)) and apart (slotOf e) (slotOf d)) ≡ true)
-        → (same (uniqueOf e) (uniqueOf d) ≡ false) × (apart (slotOf e) (slotOf d) ≡ true)
+    go : ((unused e or unused d) ≡ true) ⊎ ((not (same (uniqueOf e) (uniqueOf d)) and apart (rangeOf e) (rangeOf d)) ≡ true)
+        → (same (uniqueOf e) (uniqueOf d) ≡ false) × (apart (rangeOf e) (rangeOf d) ≡ true)
     go (inl f) = absurd (clash f (or-false-i _ _ ue ud))
     go (inr f) = (not-t _ (and-l _ _ f), and-r _ _ f)
 
-pub beside-make : (e d : List ℕ) → Beside e d → beside e d ≡ true
-unfolding beside
-beside-make e d f = go (bool-cases (unused e)) (bool-cases (unused d))
+pub pair-make : (e d : List ℕ) → PairOk e d → pairOk e d ≡ true
+unfolding pairOk
+pair-make e d f = go (bool-cases (unused e)) (bool-cases (unused d))
   where
     go : (unused e ≡ true) ⊎ (unused e ≡ false) → (unused d ≡ true) ⊎ (unused d ≡ false)
-        → (unused e or unused d or (not (same (uniqueOf e) (uniqueOf d)) and apart (slotOf e) (slotOf d))) ≡ true
+        → (unused e or unused d or (not (same (uniqueOf e) (uniqueOf d)) and apart (rangeOf e) (rangeOf d))) ≡ true
     go (inl p) q = or-il _ _ (or-il _ _ p)
     go (inr p) (inl q) = or-il _ _ (or-ir _ _ q)
     go (inr p) (inr q) = let w = f p q in or-ir _ _ (and-i _ _ (ap not (w .0)) (w .1))
 
-apart-sym : (s u : Slot) → apart s u ≡ true → apart u s ≡ true
+apart-sym : (s u : BlockRange) → apart s u ≡ true → apart u s ≡ true
 unfolding apart
-apart-sym vacant vacant e = refl
-apart-sym vacant (spans g m) e = refl
-apart-sym (spans f l) vacant e = refl
+apart-sym noBlocks noBlocks e = refl
+apart-sym noBlocks (spans g m) e = refl
+apart-sym (spans f l) noBlocks e = refl
 apart-sym (spans f l) (spans g m) e = ⊎-elim (λ x. or-ir _ _ x) (λ x. or-il _ _ x) (or-cases _ _ e)
 
-pub Beside-sym : (e d : List ℕ) → Beside e d → Beside d e
-Beside-sym e d f p q = let w = f q p in (same-sym _ _ (w .0), apart-sym (slotOf e) (slotOf d) (w .1))
+pub pair-sym : (e d : List ℕ) → PairOk e d → PairOk d e
+pair-sym e d f p q = let w = f q p in (same-sym _ _ (w .0), apart-sym (rangeOf e) (rangeOf d) (w .1))
 
-apart-vacant-l : (s : Slot) → apart vacant s ≡ true
+apart-none-l : (s : BlockRange) → apart noBlocks s ≡ true
 unfolding apart
-apart-vacant-l s = refl
+apart-none-l s = refl
 
-pub beside-apart : (e d : List ℕ) → beside e d ≡ true → apart (slotOf e) (slotOf d) ≡ true
-beside-apart e d k = go (bool-cases (unused e)) (bool-cases (unused d))
+pub pair-apart : (e d : List ℕ) → pairOk e d ≡ true → apart (rangeOf e) (rangeOf d) ≡ true
+pair-apart e d k = go (bool-cases (unused e)) (bool-cases (unused d))
   where
-    go : (unused e ≡ true) ⊎ (unused e ≡ false) → (unused d ≡ true) ⊎ (unused d ≡ false) → apart (slotOf e) (slotOf d) ≡ true
-    go (inl p) q = subst (λ (s : Slot). apart s (slotOf d) ≡ true) (sym (slot-unused e p)) (apart-vacant-l _)
+    go : (unused e ≡ true) ⊎ (unused e ≡ false) → (unused d ≡ true) ⊎ (unused d ≡ false) → apart (rangeOf e) (rangeOf d) ≡ true
+    go (inl p) q = subst (λ (s : BlockRange). apart s (rangeOf d) ≡ true) (sym (range-unused e p)) (apart-none-l _)
     go (inr p) (inl q) =
-        subst (λ (s : Slot). apart (slotOf e) s ≡ true) (sym (slot-unused d q)) (apart-sym vacant (slotOf e) (apart-vacant-l _))
-    go (inr p) (inr q) = beside-get e d k p q .1
+        subst (λ (s : BlockRange). apart (rangeOf e) s ≡ true) (sym (range-unused d q)) (apart-sym noBlocks (rangeOf e) (apart-none-l _))
+    go (inr p) (inr q) = pair-get e d k p q .1
 
 -- a range whose blocks are all outside u shares none with u
-pub free-apart : (first last f l : ℕ) (u : Slot) → bounded first last u ≡ true → f ≤ l → ((b : ℕ) → f ≤ b → b ≤ l → inside b u ≡ false)
+pub free-apart : (first last f l : ℕ) (u : BlockRange) → bounded first last u ≡ true → f ≤ l → ((b : ℕ) → f ≤ b → b ≤ l → blockIn b u ≡ false)
     → apart (spans f l) u ≡ true
 unfolding apart
-free-apart first last f l vacant k h w = refl
+free-apart first last f l noBlocks k h w = refl
 free-apart first last f l (spans g m) k h w = go (bool-cases (ltb l g)) (bool-cases (ltb m f))
   where
     go : (ltb l g ≡ true) ⊎ (ltb l g ≡ false) → (ltb m f ≡ true) ⊎ (ltb m f ≡ false) → (ltb l g or ltb m f) ≡ true
@@ -185,19 +185,19 @@ free-apart first last f l (spans g m) k h w = go (bool-cases (ltb l g)) (bool-ca
         y = ltb-false _ _ q
 
         hit : Dec (g ≤ f) → ⊥
-        hit (yes z) = clash (inside-make f g m z y) (w f (le-refl f) h)
-        hit (no z) = clash (inside-make g g m (le-refl g) (b .1)) (w g (omega arith) x)
+        hit (yes z) = clash (blockIn-make f g m z y) (w f (le-refl f) h)
+        hit (no z) = clash (blockIn-make g g m (le-refl g) (b .1)) (w g (omega arith) x)
 
 -- ---- the table
 
-slot-nil : slotOf [] ≡ vacant
-slot-nil = slot-unused [] unused-nil
+range-nil : rangeOf [] ≡ noBlocks
+range-nil = range-unused [] unused-nil
 
-pub getD-slot : (es : List ℕ) (i : ℕ) → getD (slots es) i vacant ≡ slotOf (getD (entries es) i [])
-getD-slot es i = ap (getD (slots es) i) (sym slot-nil) ∙ List·getD-map slotOf (entries es) i []
+pub getD-range : (es : List ℕ) (i : ℕ) → getD (rangesOf es) i noBlocks ≡ rangeOf (getD (entries es) i [])
+getD-range es i = ap (getD (rangesOf es) i) (sym range-nil) ∙ List·getD-map rangeOf (entries es) i []
 
-pub length-slots : (es : List ℕ) → length (slots es) ≡ 128
-length-slots es = length-map (entries es) slotOf ∙ length-chunks 128 128 es
+pub length-rangesOf : (es : List ℕ) → length (rangesOf es) ≡ 128
+length-rangesOf es = length-map (entries es) rangeOf ∙ length-chunks 128 128 es
 
 abbrev pub entryAt : List ℕ → ℕ → List ℕ
 entryAt es i = getD (entries es) i []
@@ -207,41 +207,41 @@ module _ (first last : ℕ) (es : List ℕ) where
   unfolding goodTable
   good-at k i h = all-get (entryOk first last) (entries es) [] (and-l _ _ k) i (omega (arith, length-chunks 128 128 es))
 
-  pub good-beside : goodTable first last es ≡ true → (i j : ℕ) → i < 128 → j < 128 → i ≢ j → Beside (entryAt es i) (entryAt es j)
+  pub good-pair : goodTable first last es ≡ true → (i j : ℕ) → i < 128 → j < 128 → i ≢ j → PairOk (entryAt es i) (entryAt es j)
   unfolding goodTable
-  good-beside k i j h g ne = go (decLt i j)
+  good-pair k i j h g ne = go (decLt i j)
     where
-      go : Dec (i < j) → Beside (entryAt es i) (entryAt es j)
-      go (yes x) = beside-get _ _ (pairs-get beside (entries es) [] (and-r _ _ k) i j x (omega (arith, length-chunks 128 128 es)))
-      go (no x) = Beside-sym _ _ (beside-get _ _ (pairs-get beside (entries es) [] (and-r _ _ k) j i (omega arith) (omega (arith, length-chunks 128 128 es))))
+      go : Dec (i < j) → PairOk (entryAt es i) (entryAt es j)
+      go (yes x) = pair-get _ _ (pairs-get pairOk (entries es) [] (and-r _ _ k) i j x (omega (arith, length-chunks 128 128 es)))
+      go (no x) = pair-sym _ _ (pair-get _ _ (pairs-get pairOk (entries es) [] (and-r _ _ k) j i (omega arith) (omega (arith, length-chunks 128 128 es))))
 
   pub good-make : ((i : ℕ) → i < 128 → entryOk first last (entryAt es i) ≡ true)
-      → ((i j : ℕ) → i < 128 → j < 128 → i < j → Beside (entryAt es i) (entryAt es j)) → goodTable first last es ≡ true
+      → ((i j : ℕ) → i < 128 → j < 128 → i < j → PairOk (entryAt es i) (entryAt es j)) → goodTable first last es ≡ true
   unfolding goodTable
   good-make p q =
       let w : length (entries es) ≡ 128 = length-chunks 128 128 es in
       and-i _ _ (all-make (entryOk first last) (entries es) [] (λ i h. p i (omega arith)))
-      (pairs-make beside (entries es) [] (λ i j h g. beside-make _ _ (q i j (omega arith) (omega arith) h)))
+      (pairs-make pairOk (entries es) [] (λ i j h g. pair-make _ _ (q i j (omega arith) (omega arith) h)))
 
-  pub good-bounded : goodTable first last es ≡ true → all (bounded first last) (slots es) ≡ true
+  pub good-bounded : goodTable first last es ≡ true → all (bounded first last) (rangesOf es) ≡ true
   good-bounded k =
-      all-make (bounded first last) (slots es) vacant
-      (λ i h. subst (λ (s : Slot). bounded first last s ≡ true) (sym (getD-slot es i)) (ok-bounded first last (entryAt es i) (good-at k i (omega (arith, length-slots es)))))
+      all-make (bounded first last) (rangesOf es) noBlocks
+      (λ i h. subst (λ (s : BlockRange). bounded first last s ≡ true) (sym (getD-range es i)) (ok-bounded first last (entryAt es i) (good-at k i (omega (arith, length-rangesOf es)))))
 
-  pub good-apart : goodTable first last es ≡ true → pairs apart (slots es) ≡ true
+  pub good-apart : goodTable first last es ≡ true → pairs apart (rangesOf es) ≡ true
   good-apart k =
-      pairs-make apart (slots es) vacant
-      (λ i j h g. rw (getD-slot es i, getD-slot es j)
-      (beside-apart (entryAt es i) (entryAt es j)
-      (beside-make _ _ (good-beside k i j (omega (arith, length-slots es)) (omega (arith, length-slots es)) (λ e. omega arith)))))
+      pairs-make apart (rangesOf es) noBlocks
+      (λ i j h g. rw (getD-range es i, getD-range es j)
+      (pair-apart (entryAt es i) (entryAt es j)
+      (pair-make _ _ (good-pair k i j (omega (arith, length-rangesOf es)) (omega (arith, length-rangesOf es)) (λ e. omega arith)))))
 
 -- one entry replaced
 module _ (first last : ℕ) (es : List ℕ) (size : length es ≡ 16384) (i : ℕ) (e : List ℕ) (hi : i < 128) (len : length e ≡ 128) where
   pub entries-put : entries (putChunk 128 i e es) ≡ set (entries es) i e
   entries-put = chunks-put 128 128 i e es len hi size
 
-  pub slots-put : slots (putChunk 128 i e es) ≡ set (slots es) i (slotOf e)
-  slots-put = ap (map slotOf) entries-put ∙ map-set slotOf (entries es) i e
+  pub ranges-put : rangesOf (putChunk 128 i e es) ≡ set (rangesOf es) i (rangeOf e)
+  ranges-put = ap (map rangeOf) entries-put ∙ map-set rangeOf (entries es) i e
 
   pub at-same : getD (entries (putChunk 128 i e es)) i [] ≡ e
   at-same = ap (λ (l : List (List ℕ)). getD l i []) entries-put ∙ getD-set-same (entries es) i e [] (omega (arith, length-chunks 128 128 es))
@@ -249,7 +249,7 @@ module _ (first last : ℕ) (es : List ℕ) (size : length es ≡ 16384) (i : �
   pub at-other : (j : ℕ) → j ≢ i → getD (entries (putChunk 128 i e es)) j [] ≡ entryAt es j
   at-other j ne = ap (λ (l : List (List ℕ)). getD l j []) entries-put ∙ getD-set-other (entries es) i j e [] ne
 
-  pub good-put : goodTable first last es ≡ true → entryOk first last e ≡ true → ((j : ℕ) → j < 128 → j ≢ i → Beside e (entryAt es j))
+  pub good-put : goodTable first last es ≡ true → entryOk first last e ≡ true → ((j : ℕ) → j < 128 → j ≢ i → PairOk e (entryAt es j))
       → goodTable first last (putChunk 128 i e es) ≡ true
   good-put k ok bs = good-make first last (putChunk 128 i e es) (λ j h. each j h (ℕ-discrete j i)) (λ a b h g l. two a b h g l (ℕ-discrete a i) (ℕ-discrete b i))
     where
@@ -260,40 +260,42 @@ module _ (first last : ℕ) (es : List ℕ) (size : length es ≡ 16384) (i : �
       each j h (yes q) = subst (λ (x : ℕ). entryOk first last (new x) ≡ true) (sym q) (rw at-same ok)
       each j h (no q) = rw (at-other j q) (good-at first last es k j h)
 
-      two : (a b : ℕ) → a < 128 → b < 128 → a < b → Dec (a ≡ i) → Dec (b ≡ i) → Beside (new a) (new b)
+      two : (a b : ℕ) → a < 128 → b < 128 → a < b → Dec (a ≡ i) → Dec (b ≡ i) → PairOk (new a) (new b)
       two a b h g l (yes p) (yes q) = absurd (omega arith)
-      two a b h g l (yes p) (no q) = subst (λ (x : ℕ). Beside (new x) (new b)) (sym p) (subst₂ Beside (sym at-same) (sym (at-other b q)) (bs b g q))
-      two a b h g l (no p) (yes q) = subst (λ (x : ℕ). Beside (new a) (new x)) (sym q) (subst₂ Beside (sym (at-other a p)) (sym at-same) (Beside-sym e (entryAt es a) (bs a h p)))
-      two a b h g l (no p) (no q) = subst₂ Beside (sym (at-other a p)) (sym (at-other b q)) (good-beside first last es k a b h g (λ r. omega arith))
+      two a b h g l (yes p) (no q) = subst (λ (x : ℕ). PairOk (new x) (new b)) (sym p) (subst₂ PairOk (sym at-same) (sym (at-other b q)) (bs b g q))
+      two a b h g l (no p) (yes q) = subst (λ (x : ℕ). PairOk (new a) (new x)) (sym q) (subst₂ PairOk (sym (at-other a p)) (sym at-same) (pair-sym e (entryAt es a) (bs a h p)))
+      two a b h g l (no p) (no q) = subst₂ PairOk (sym (at-other a p)) (sym (at-other b q)) (good-pair first last es k a b h g (λ r. omega arith))
 
 -- ---- the table with no entries
 
--- every entry of an all-zero table is unused, and every slot vacant
+-- every entry of an all-zero table is unused, and takes no blocks
 zero-entry : (k : ℕ) (xs : List ℕ) → isZero xs ≡ true → (i : ℕ) → unused (getD (chunks 128 k xs) i []) ≡ true
 unfolding chunks
 zero-entry zero xs e i = unused-nil
 zero-entry (suc k) xs e zero = zero-unused (take 128 xs) (zero-take 128 xs e)
 zero-entry (suc k) xs e (suc i) = zero-entry k (drop 128 xs) (zero-drop 128 xs e) i
 
-zero-slots : (k : ℕ) (xs : List ℕ) → isZero xs ≡ true → map slotOf (chunks 128 k xs) ≡ replicate k vacant
+zero-ranges : (k : ℕ) (xs : List ℕ) → isZero xs ≡ true → map rangeOf (chunks 128 k xs) ≡ replicate k noBlocks
 unfolding chunks
-zero-slots zero xs e = refl
-zero-slots (suc k) xs e = ap₂ _∷_ (slot-unused (take 128 xs) (zero-unused (take 128 xs) (zero-take 128 xs e))) (zero-slots k (drop 128 xs) (zero-drop 128 xs e))
+zero-ranges zero xs e = refl
+zero-ranges (suc k) xs e =
+    ap₂ _∷_ (range-unused (take 128 xs) (zero-unused (take 128 xs) (zero-take 128 xs e))) (zero-ranges k (drop 128 xs) (zero-drop 128 xs e))
 
-sizes-vacant : (k : ℕ) → map sizeOf (replicate k vacant) ≡ replicate k 0
-sizes-vacant zero = refl
-sizes-vacant (suc k) = ap (λ (r : List ℕ). 0 ∷ r) (sizes-vacant k)
+sizes-none : (k : ℕ) → map rangeSize (replicate k noBlocks) ≡ replicate k 0
+sizes-none zero = refl
+sizes-none (suc k) = ap (λ (r : List ℕ). 0 ∷ r) (sizes-none k)
 
-pub empty-sizes : map sizeOf (slots (zeros 16384)) ≡ replicate 128 0
-empty-sizes = ap (map sizeOf) (zero-slots 128 (zeros 16384) (zero-zeros 16384)) ∙ sizes-vacant 128
+pub empty-sizes : map rangeSize (rangesOf (zeros 16384)) ≡ replicate 128 0
+empty-sizes = ap (map rangeSize) (zero-ranges 128 (zeros 16384) (zero-zeros 16384)) ∙ sizes-none 128
 
 pub empty-good : (first last : ℕ) → goodTable first last (zeros 16384) ≡ true
 empty-good first last =
     good-make first last (zeros 16384) (λ i h. unused-ok first last _ (zero-entry 128 (zeros 16384) (zero-zeros 16384) i))
     (λ i j h g l a b. absurd (clash (zero-entry 128 (zeros 16384) (zero-zeros 16384) i) a))
 
--- ---- a run of free blocks shares none with a slot of the table
-pub room-apart : (first last : ℕ) (t : List Slot) (size f j : ℕ) → 0 < size → Room t last size f → j < length t → bounded first last (getD t j vacant) ≡ true
-    → apart (spans f (f + size - 1)) (getD t j vacant) ≡ true
+-- ---- a run of free blocks shares none with a range of the table
+pub room-apart : (first last : ℕ) (t : List BlockRange) (size f j : ℕ) → 0 < size → Room t last size f → j < length t
+    → bounded first last (getD t j noBlocks) ≡ true
+    → apart (spans f (f + size - 1)) (getD t j noBlocks) ≡ true
 room-apart first last t size f j pos r h b =
-    free-apart first last f (f + size - 1) (getD t j vacant) b (omega arith) (λ c x y. any-none (inside c) t vacant (r .1 c x (omega arith)) j h)
+    free-apart first last f (f + size - 1) (getD t j noBlocks) b (omega arith) (λ c x y. any-none (blockIn c) t noBlocks (r .1 c x (omega arith)) j h)

@@ -2,7 +2,7 @@
 use mathlib.Core.Path.{_≡_, refl, sym, ap, _∙_}
 use mathlib.Core.Bool.{Bool, true}
 use mathlib.Core.List.{List, [], _∷_}
-use Prim.Native.Nat.{ℕ, zero, suc, _+_, _*_, _^_, _≤_, _<_}
+use Prim.Native.Nat.{ℕ, zero, suc, _+_, _-_, _*_, _^_, _≤_, _<_}
 use native.Mathlib.Nat.{not-suc-le-zero, le-of-suc-le-suc}
 use native.Mathlib.Omega.{arith}
 use lib.Dec.{leb}
@@ -14,7 +14,8 @@ use Rattle.octets.proofs.Bools.{and-l, and-r}
 use Rattle.octets.proofs.Numbers.{length-le, unle-le}
 use Rattle.octets.proofs.Parts.{length-zeros}
 use Rattle.octets.proofs.Puts.{length-put, put-comm, part-put-above, part-put-same}
-use Rattle.gpt_model.specs.Table.{writeAll, typeOf, uniqueOf, firstOf, lastOf, nameBytes, entryWith}
+use Rattle.gpt_model.specs.Table.{writeAll, typeOf, uniqueOf, firstOf, lastOf, nameBytes}
+use Rattle.gpt_model.specs.Calls.{NewPartition, newFields, newEntry}
 
 pub part-put-at : (vs xs : List ℕ) (at k : ℕ) → length vs ≡ k → at + k ≤ length xs → part at k (put at vs xs) ≡ vs
 part-put-at vs xs at k e h =
@@ -61,45 +62,44 @@ pub length-name : (units : List ℕ) → length (nameBytes units) ≡ 2 * length
 length-name [] = refl
 length-name (u ∷ us) = length-append (le 2 u) (nameBytes us) ∙ omega (arith, length-le 2 u, length-name us)
 
-module _ (type unique : List ℕ) (f l attributes : ℕ) (name : List ℕ) where
+module _ (p : NewPartition) (s : ℕ) where
   abbrev fs : List (ℕ × List ℕ)
-  fs = (0, type) ∷ (16, unique) ∷ (32, le 8 f) ∷ (40, le 8 l) ∷ (48, le 8 attributes) ∷ (56, nameBytes name) ∷ []
+  fs = newFields p s
 
-  abbrev new : List ℕ
-  new = entryWith type unique f l attributes name
-
-  pub length-new : length new ≡ 128
+  pub length-new : length (newEntry p s) ≡ 128
   length-new = length-writeAll fs (zeros 128) ∙ length-zeros 128
 
-  pub new-type : length type ≡ 16 → typeOf new ≡ type
+  pub new-type : length (p .type) ≡ 16 → typeOf (newEntry p s) ≡ p .type
   unfolding _and_
-  new-type e = field-reads fs (zeros 128) 0 0 16 type (omega arith) refl refl e (omega (arith, length-zeros 128))
+  new-type e = field-reads fs (zeros 128) 0 0 16 (p .type) (omega arith) refl refl e (omega (arith, length-zeros 128))
 
-  pub new-unique : length unique ≡ 16 → uniqueOf new ≡ unique
+  pub new-unique : length (p .unique) ≡ 16 → uniqueOf (newEntry p s) ≡ p .unique
   unfolding _and_
-  new-unique e = field-reads fs (zeros 128) 1 16 16 unique (omega arith) refl refl e (omega (arith, length-zeros 128))
+  new-unique e = field-reads fs (zeros 128) 1 16 16 (p .unique) (omega arith) refl refl e (omega (arith, length-zeros 128))
 
-  pub new-first-bytes : part 32 8 new ≡ le 8 f
+  pub new-first-bytes : part 32 8 (newEntry p s) ≡ le 8 s
   unfolding _and_
-  new-first-bytes = field-reads fs (zeros 128) 2 32 8 (le 8 f) (omega arith) refl refl (length-le 8 f) (omega (arith, length-zeros 128))
+  new-first-bytes = field-reads fs (zeros 128) 2 32 8 (le 8 s) (omega arith) refl refl (length-le 8 s) (omega (arith, length-zeros 128))
 
-  pub new-first : f < 256 ^ 8 → firstOf new ≡ f
-  new-first h = ap unle new-first-bytes ∙ unle-le 8 f h
+  pub new-first : s < 256 ^ 8 → firstOf (newEntry p s) ≡ s
+  new-first h = ap unle new-first-bytes ∙ unle-le 8 s h
 
-  pub new-last-bytes : part 40 8 new ≡ le 8 l
+  pub new-last-bytes : part 40 8 (newEntry p s) ≡ le 8 (s + p .size - 1)
   unfolding _and_
-  new-last-bytes = field-reads fs (zeros 128) 3 40 8 (le 8 l) (omega arith) refl refl (length-le 8 l) (omega (arith, length-zeros 128))
+  new-last-bytes =
+      field-reads fs (zeros 128) 3 40 8 (le 8 (s + p .size - 1)) (omega arith) refl refl (length-le 8 (s + p .size - 1)) (omega (arith, length-zeros 128))
 
-  pub new-last : l < 256 ^ 8 → lastOf new ≡ l
-  new-last h = ap unle new-last-bytes ∙ unle-le 8 l h
+  pub new-last : s + p .size - 1 < 256 ^ 8 → lastOf (newEntry p s) ≡ s + p .size - 1
+  new-last h = ap unle new-last-bytes ∙ unle-le 8 (s + p .size - 1) h
 
-  pub new-attributes : part 48 8 new ≡ le 8 attributes
+  pub new-attributes : part 48 8 (newEntry p s) ≡ le 8 (p .attributes)
   unfolding _and_
-  new-attributes = field-reads fs (zeros 128) 4 48 8 (le 8 attributes) (omega arith) refl refl (length-le 8 attributes) (omega (arith, length-zeros 128))
+  new-attributes =
+      field-reads fs (zeros 128) 4 48 8 (le 8 (p .attributes)) (omega arith) refl refl (length-le 8 (p .attributes)) (omega (arith, length-zeros 128))
 
-  pub new-name : length name ≡ 36 → part 56 72 new ≡ nameBytes name
+  pub new-name : length (p .name) ≡ 36 → part 56 72 (newEntry p s) ≡ nameBytes (p .name)
   new-name e =
-      field-reads fs (zeros 128) 5 56 72 (nameBytes name) (omega arith) refl refl (length-name name ∙ omega arith) (omega (arith, length-zeros 128))
+      field-reads fs (zeros 128) 5 56 72 (nameBytes (p .name)) (omega arith) refl refl (length-name (p .name) ∙ omega arith) (omega (arith, length-zeros 128))
 
 -- ---- an entry whose last block is set, and one whose name is set
 

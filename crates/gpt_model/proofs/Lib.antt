@@ -9,7 +9,7 @@ pub mod Edits
 pub mod Copies
 pub mod States
 pub mod Writes
-pub mod Ways
+pub mod Outcomes
 pub mod Accepts
 pub mod Steps
 pub mod Demand3

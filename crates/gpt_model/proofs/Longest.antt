@@ -8,7 +8,7 @@ use native.Mathlib.Nat.{le-refl, suc-add, zero-add, add-zero}
 use native.Mathlib.Decide.{decLe, ℕ-discrete}
 use native.Mathlib.Omega.{arith}
 use Rattle.octets.proofs.Bools.{bool-cases, not-t}
-use Rattle.gpt_model.specs.Table.{Slot}
+use Rattle.gpt_model.specs.Table.{BlockRange}
 use Rattle.gpt_model.specs.Ranges.{inNone, runFrom, longest, longestFree}
 use Rattle.gpt_model.proofs.Room.{Room}
 
@@ -130,7 +130,7 @@ longest-stands p lo (suc k) m pos h = go (decLe m (runFrom p lo (suc k))) (longe
         (r .0, omega arith, omega arith, r .3)
 
 -- there is room for size blocks exactly where the longest run has as many
-pub room-fits : (t : List Slot) (first last size s : ℕ) → first ≤ s → Room t last size s → size ≤ longestFree t first last
+pub room-fits : (t : List BlockRange) (first last size s : ℕ) → first ≤ s → Room t last size s → size ≤ longestFree t first last
 unfolding longestFree
 room-fits t first last size s h r = go (decLe s last)
   where
@@ -138,7 +138,7 @@ room-fits t first last size s h r = go (decLe s last)
     go (yes e) = let a = r .0 in longest-least (inNone t) first (suc last - first) s size h (omega arith) (λ b x y. ap not (r .1 b x y))
     go (no e) = let a = r .0 in omega arith
 
-pub fits-room : (t : List Slot) (first last size : ℕ) → 0 < size → size ≤ longestFree t first last → (s : ℕ) × (first ≤ s) × Room t last size s
+pub fits-room : (t : List BlockRange) (first last size : ℕ) → 0 < size → size ≤ longestFree t first last → (s : ℕ) × (first ≤ s) × Room t last size s
 unfolding longestFree
 fits-room t first last size pos h =
     let r = longest-stands (inNone t) first (suc last - first) size pos h in
@@ -147,7 +147,7 @@ fits-room t first last size pos h =
     (r .0, a, (omega arith, λ c x y. not-t _ (r .3 c x y)))
 
 -- a run of that length stands somewhere
-pub longest-room : (t : List Slot) (first last : ℕ) → first ≤ suc last → (s : ℕ) × (first ≤ s) × Room t last (longestFree t first last) s
+pub longest-room : (t : List BlockRange) (first last : ℕ) → first ≤ suc last → (s : ℕ) × (first ≤ s) × Room t last (longestFree t first last) s
 longest-room t first last h = go (ℕ-discrete (longestFree t first last) 0)
   where
     go : Dec (longestFree t first last ≡ 0) → (s : ℕ) × (first ≤ s) × Room t last (longestFree t first last) s

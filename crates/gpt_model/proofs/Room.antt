@@ -9,26 +9,26 @@ use native.Mathlib.Decide.{decLt, ℕ-discrete}
 use native.Mathlib.Omega.{arith}
 use borrow.Author.Tests.{leb-true, le-leb}
 use Rattle.octets.proofs.Bools.{and-l, and-r, and-i, bool-cases, not-t, clash, some-none, option-cases}
-use Rattle.gpt_model.specs.Table.{Slot, vacant, spans}
-use Rattle.gpt_model.specs.Ranges.{inside, lies, inNone, allFrom, roomAt, firstFrom, place}
+use Rattle.gpt_model.specs.Table.{BlockRange, noBlocks, spans}
+use Rattle.gpt_model.specs.Ranges.{blockIn, inSome, inNone, allFrom, roomAt, lowestFrom, lowestStart}
 
 -- ---- a block in a range
 
-pub inside-make : (b f l : ℕ) → f ≤ b → b ≤ l → inside b (spans f l) ≡ true
-unfolding inside
-inside-make b f l h g = and-i _ _ (le-leb _ _ h) (le-leb _ _ g)
+pub blockIn-make : (b f l : ℕ) → f ≤ b → b ≤ l → blockIn b (spans f l) ≡ true
+unfolding blockIn
+blockIn-make b f l h g = and-i _ _ (le-leb _ _ h) (le-leb _ _ g)
 
-pub inside-get : (b f l : ℕ) → inside b (spans f l) ≡ true → (f ≤ b) × (b ≤ l)
-unfolding inside
-inside-get b f l e = (leb-true _ _ (and-l _ _ e), leb-true _ _ (and-r _ _ e))
+pub blockIn-get : (b f l : ℕ) → blockIn b (spans f l) ≡ true → (f ≤ b) × (b ≤ l)
+unfolding blockIn
+blockIn-get b f l e = (leb-true _ _ (and-l _ _ e), leb-true _ _ (and-r _ _ e))
 
-pub inside-vacant : (b : ℕ) → inside b vacant ≡ true → ⊥
-unfolding inside
-inside-vacant b e = false≢true e
+pub blockIn-none : (b : ℕ) → blockIn b noBlocks ≡ true → ⊥
+unfolding blockIn
+blockIn-none b e = false≢true e
 
-pub not-in-vacant : (b : ℕ) → inside b vacant ≡ false
-unfolding inside
-not-in-vacant b = refl
+pub not-in-none : (b : ℕ) → blockIn b noBlocks ≡ false
+unfolding blockIn
+not-in-none b = refl
 
 -- ---- allFrom and firstFrom
 
@@ -46,41 +46,41 @@ unfolding allFrom
 allFrom-make p lo zero f = refl
 allFrom-make p lo (suc k) f = and-i _ _ (f lo (omega arith) (omega arith)) (allFrom-make p (suc lo) k (λ b h g. f b (omega arith) (omega arith)))
 
-firstFrom-yes : (p : ℕ → Bool) (lo k : ℕ) → p lo ≡ true → firstFrom p lo (suc k) ≡ some lo
-unfolding firstFrom
-firstFrom-yes p lo k e = rw (e, firstFrom)
+lowestFrom-yes : (p : ℕ → Bool) (lo k : ℕ) → p lo ≡ true → lowestFrom p lo (suc k) ≡ some lo
+unfolding lowestFrom
+lowestFrom-yes p lo k e = rw (e, lowestFrom)
 
-firstFrom-no : (p : ℕ → Bool) (lo k : ℕ) → p lo ≡ false → firstFrom p lo (suc k) ≡ firstFrom p (suc lo) k
-unfolding firstFrom
-firstFrom-no p lo k e = rw (e, firstFrom)
+lowestFrom-no : (p : ℕ → Bool) (lo k : ℕ) → p lo ≡ false → lowestFrom p lo (suc k) ≡ lowestFrom p (suc lo) k
+unfolding lowestFrom
+lowestFrom-no p lo k e = rw (e, lowestFrom)
 
-firstFrom-end : (p : ℕ → Bool) (lo : ℕ) → firstFrom p lo zero ≡ none
-unfolding firstFrom
-firstFrom-end p lo = refl
+lowestFrom-end : (p : ℕ → Bool) (lo : ℕ) → lowestFrom p lo zero ≡ none
+unfolding lowestFrom
+lowestFrom-end p lo = refl
 
-pub firstFrom-none : (p : ℕ → Bool) (lo k : ℕ) → firstFrom p lo k ≡ none → (b : ℕ) → lo ≤ b → b < lo + k → p b ≡ false
-firstFrom-none p lo zero e b h g = absurd (omega arith)
-firstFrom-none p lo (suc k) e b h g = go (bool-cases (p lo)) (ℕ-discrete b lo) (firstFrom-none p (suc lo) k)
+pub lowestFrom-none : (p : ℕ → Bool) (lo k : ℕ) → lowestFrom p lo k ≡ none → (b : ℕ) → lo ≤ b → b < lo + k → p b ≡ false
+lowestFrom-none p lo zero e b h g = absurd (omega arith)
+lowestFrom-none p lo (suc k) e b h g = go (bool-cases (p lo)) (ℕ-discrete b lo) (lowestFrom-none p (suc lo) k)
   where
-    go : (p lo ≡ true) ⊎ (p lo ≡ false) → Dec (b ≡ lo) → (firstFrom p (suc lo) k ≡ none → (b : ℕ) → suc lo ≤ b → b < suc lo + k → p b ≡ false) → p b ≡ false
-    go (inl q) d ih = absurd (some-none (sym (firstFrom-yes p lo k q) ∙ e))
+    go : (p lo ≡ true) ⊎ (p lo ≡ false) → Dec (b ≡ lo) → (lowestFrom p (suc lo) k ≡ none → (b : ℕ) → suc lo ≤ b → b < suc lo + k → p b ≡ false) → p b ≡ false
+    go (inl q) d ih = absurd (some-none (sym (lowestFrom-yes p lo k q) ∙ e))
     go (inr q) (yes r) ih = ap p r ∙ q
-    go (inr q) (no r) ih = ih (sym (firstFrom-no p lo k q) ∙ e) b (omega arith) (omega arith)
+    go (inr q) (no r) ih = ih (sym (lowestFrom-no p lo k q) ∙ e) b (omega arith) (omega arith)
 
-pub firstFrom-some : (p : ℕ → Bool) (lo k s : ℕ) → firstFrom p lo k ≡ some s
+pub lowestFrom-some : (p : ℕ → Bool) (lo k s : ℕ) → lowestFrom p lo k ≡ some s
     → (lo ≤ s) × (s < lo + k) × (p s ≡ true) × ((b : ℕ) → lo ≤ b → b < s → p b ≡ false)
-firstFrom-some p lo zero s e = absurd (some-none (sym e ∙ firstFrom-end p lo))
-firstFrom-some p lo (suc k) s e = go (bool-cases (p lo)) (firstFrom-some p (suc lo) k s)
+lowestFrom-some p lo zero s e = absurd (some-none (sym e ∙ lowestFrom-end p lo))
+lowestFrom-some p lo (suc k) s e = go (bool-cases (p lo)) (lowestFrom-some p (suc lo) k s)
   where
     go : (p lo ≡ true) ⊎ (p lo ≡ false)
-        → (firstFrom p (suc lo) k ≡ some s → (suc lo ≤ s) × (s < suc lo + k) × (p s ≡ true) × ((b : ℕ) → suc lo ≤ b → b < s → p b ≡ false))
+        → (lowestFrom p (suc lo) k ≡ some s → (suc lo ≤ s) × (s < suc lo + k) × (p s ≡ true) × ((b : ℕ) → suc lo ≤ b → b < s → p b ≡ false))
         → (lo ≤ s) × (s < lo + suc k) × (p s ≡ true) × ((b : ℕ) → lo ≤ b → b < s → p b ≡ false)
     go (inl q) ih =
-        let w = firstFrom-yes p lo k q in
+        let w = lowestFrom-yes p lo k q in
         let r : lo ≡ s = cc in
         (omega arith, omega arith, ap p (sym r) ∙ q, λ b h g. absurd (omega arith))
     go (inr q) ih =
-        let r = ih (sym (firstFrom-no p lo k q) ∙ e) in
+        let r = ih (sym (lowestFrom-no p lo k q) ∙ e) in
         (omega arith, omega arith, r .2, λ b h g. low b h g r (ℕ-discrete b lo))
       where
         low : (b : ℕ) → lo ≤ b → b < s → (suc lo ≤ s) × (s < suc lo + k) × (p s ≡ true) × ((b : ℕ) → suc lo ≤ b → b < s → p b ≡ false)
@@ -91,42 +91,42 @@ firstFrom-some p lo (suc k) s e = go (bool-cases (p lo)) (firstFrom-some p (suc 
 -- ---- room
 
 -- the blocks s to s + size − 1 end at last or before, and each lies in no partition
-abbrev pub Room : List Slot → ℕ → ℕ → ℕ → Type 0
-Room t last size s = (s + size ≤ suc last) × ((b : ℕ) → s ≤ b → b < s + size → lies t b ≡ false)
+abbrev pub Room : List BlockRange → ℕ → ℕ → ℕ → Type 0
+Room t last size s = (s + size ≤ suc last) × ((b : ℕ) → s ≤ b → b < s + size → inSome t b ≡ false)
 
-pub room-make : (t : List Slot) (last size s : ℕ) → Room t last size s → roomAt t last size s ≡ true
+pub room-make : (t : List BlockRange) (last size s : ℕ) → Room t last size s → roomAt t last size s ≡ true
 unfolding roomAt
 room-make t last size s r =
     and-i _ _ (le-leb _ _ (r .0)) (allFrom-make (inNone t) s size (λ b h g. ap not (r .1 b h g)))
 
-pub room-get : (t : List Slot) (last size s : ℕ) → roomAt t last size s ≡ true → Room t last size s
+pub room-get : (t : List BlockRange) (last size s : ℕ) → roomAt t last size s ≡ true → Room t last size s
 unfolding roomAt
 room-get t last size s e =
     (leb-true _ _ (and-l _ _ e), λ b h g. not-t _ (allFrom-get (inNone t) s size (and-r _ _ e) b h g))
 
 -- none: no start at all has room
-pub place-none : (t : List Slot) (first last size : ℕ) → 0 < size → place t first last size ≡ none
+pub start-none : (t : List BlockRange) (first last size : ℕ) → 0 < size → lowestStart t first last size ≡ none
     → (s : ℕ) → first ≤ s → Room t last size s → ⊥
-unfolding place
-place-none t first last size pos e s h r =
+unfolding lowestStart
+start-none t first last size pos e s h r =
     clash (room-make t last size s r)
-    (firstFrom-none (roomAt t last size) first (suc last - first) e s h (omega arith))
+    (lowestFrom-none (roomAt t last size) first (suc last - first) e s h (omega arith))
 
-pub place-some : (t : List Slot) (first last size s : ℕ) → place t first last size ≡ some s
+pub start-some : (t : List BlockRange) (first last size s : ℕ) → lowestStart t first last size ≡ some s
     → (first ≤ s) × Room t last size s × ((b : ℕ) → first ≤ b → b < s → Room t last size b → ⊥)
-unfolding place
-place-some t first last size s e =
-    let r = firstFrom-some (roomAt t last size) first (suc last - first) s e in
+unfolding lowestStart
+start-some t first last size s e =
+    let r = lowestFrom-some (roomAt t last size) first (suc last - first) s e in
     (r .0, room-get t last size s (r .2), λ b h g w. clash (room-make t last size b w) (r .3 b h g))
 
--- the lowest start with room is what `place` answers, and none is what it answers where there is no room
-pub place-is : (t : List Slot) (first last size s : ℕ) → 0 < size → first ≤ s → Room t last size s
-    → ((b : ℕ) → first ≤ b → b < s → Room t last size b → ⊥) → place t first last size ≡ some s
-place-is t first last size s pos h r low = go (option-cases (place t first last size))
+-- the lowest start with room is what `lowestStart` answers, and none is what it answers where there is no room
+pub start-is : (t : List BlockRange) (first last size s : ℕ) → 0 < size → first ≤ s → Room t last size s
+    → ((b : ℕ) → first ≤ b → b < s → Room t last size b → ⊥) → lowestStart t first last size ≡ some s
+start-is t first last size s pos h r low = go (option-cases (lowestStart t first last size))
   where
-    go : (place t first last size ≡ none) ⊎ ((s : ℕ) × (place t first last size ≡ some s)) → place t first last size ≡ some s
-    go (inl e) = absurd (place-none t first last size pos e s h r)
-    go (inr w) = let k = place-some t first last size (w .0) (w .1) in
+    go : (lowestStart t first last size ≡ none) ⊎ ((s : ℕ) × (lowestStart t first last size ≡ some s)) → lowestStart t first last size ≡ some s
+    go (inl e) = absurd (start-none t first last size pos e s h r)
+    go (inr w) = let k = start-some t first last size (w .0) (w .1) in
         w .1 ∙ ap some (same k (decLt (w .0) s) (decLt s (w .0)))
       where
         same : (first ≤ w .0) × Room t last size (w .0) × ((b : ℕ) → first ≤ b → b < w .0 → Room t last size b → ⊥) → Dec (w .0 < s) → Dec (s < w .0) → w .0 ≡ s
@@ -134,10 +134,10 @@ place-is t first last size s pos h r low = go (option-cases (place t first last 
         same k (no a) (yes b) = absurd (k .2 s h b r)
         same k (no a) (no b) = omega arith
 
-pub place-is-none : (t : List Slot) (first last size : ℕ)
-    → ((s : ℕ) → first ≤ s → Room t last size s → ⊥) → place t first last size ≡ none
-place-is-none t first last size f = go (option-cases (place t first last size))
+pub start-is-none : (t : List BlockRange) (first last size : ℕ)
+    → ((s : ℕ) → first ≤ s → Room t last size s → ⊥) → lowestStart t first last size ≡ none
+start-is-none t first last size f = go (option-cases (lowestStart t first last size))
   where
-    go : (place t first last size ≡ none) ⊎ ((s : ℕ) × (place t first last size ≡ some s)) → place t first last size ≡ none
+    go : (lowestStart t first last size ≡ none) ⊎ ((s : ℕ) × (lowestStart t first last size ≡ some s)) → lowestStart t first last size ≡ none
     go (inl e) = e
-    go (inr w) = let k = place-some t first last size (w .0) (w .1) in absurd (f (w .0) (k .0) (k .1))
+    go (inr w) = let k = start-some t first last size (w .0) (w .1) in absurd (f (w .0) (k .0) (k .1))

@@ -20,16 +20,16 @@ use Rattle.octets.proofs.Tests.{any-false}
 use Rattle.octets.proofs.Parts.{length-part, getD-part}
 use Rattle.octets.proofs.Puts.{put-self}
 use Rattle.octets.proofs.Chunks.{chunk-part, putChunk-put}
-use Rattle.gpt_model.specs.Table.{firstOf, lastOf, unused, Slot, vacant, spans, slotOf, apart, slots, goodTable}
+use Rattle.gpt_model.specs.Table.{firstOf, lastOf, unused, BlockRange, noBlocks, spans, rangeOf, apart, rangesOf, goodTable}
 use Rattle.gpt_model.specs.Disk.{Shape, lastUsable, Side, primary, backup, lentBytes, headerAt, entriesAt, guidIn, entriesIn, goodCopy, tableOf, withTable}
-use Rattle.gpt_model.specs.Ranges.{inside}
-use Rattle.gpt_model.specs.Calls.{delete, resize, edit, accepted, out, fitsAt, edited, rowsOf}
+use Rattle.gpt_model.specs.Ranges.{blockIn}
+use Rattle.gpt_model.specs.Calls.{delete, resize, edit, accepted, outcome, fitsAt, edited, rowsOf}
 use Rattle.gpt_model.specs.Claims.{ResizeToSame}
-use Rattle.gpt_model.proofs.Room.{inside-get, not-in-vacant, room-make}
-use Rattle.gpt_model.proofs.Entries.{slot-unused, slot-used, Used, ok-used, getD-slot, length-slots, entryAt, good-at, good-beside}
+use Rattle.gpt_model.proofs.Room.{blockIn-get, not-in-none, room-make}
+use Rattle.gpt_model.proofs.Entries.{range-unused, range-used, Used, ok-used, getD-range, length-rangesOf, entryAt, good-at, good-pair}
 use Rattle.gpt_model.proofs.Copies.{header-inside, entries-inside, length-entries}
 use Rattle.gpt_model.proofs.States.{good-header, one-good, one-primary, one-backup, readable-good}
-use Rattle.gpt_model.proofs.Ways.{step-made, row1, open-read, row11, edit-open}
+use Rattle.gpt_model.proofs.Outcomes.{step-accepted, row1, open-common, row11, edit-open}
 
 -- bytes are those of the number that they stand for
 le-unle : (xs : List ℕ) → ((i : ℕ) → getD xs i 0 < 256) → le (length xs) (unle xs) ≡ xs
@@ -50,15 +50,15 @@ part-bytes xs at k h f i = go (decLt i k)
     go (no l) = subst (λ (x : ℕ). x < 256) (sym (List·getD-eq-default (part at k xs) 0 (omega (arith, length-part xs at k h)))) (omega arith)
 
 -- a block of one range lies in no range apart from it
-outside : (f l b : ℕ) (u : Slot) → apart (spans f l) u ≡ true → f ≤ b → b ≤ l → inside b u ≡ false
+outside : (f l b : ℕ) (u : BlockRange) → apart (spans f l) u ≡ true → f ≤ b → b ≤ l → blockIn b u ≡ false
 unfolding apart
-outside f l b vacant a p q = not-in-vacant b
-outside f l b (spans g m) a p q = go (bool-cases (inside b (spans g m))) (or-cases _ _ a)
+outside f l b noBlocks a p q = not-in-none b
+outside f l b (spans g m) a p q = go (bool-cases (blockIn b (spans g m))) (or-cases _ _ a)
   where
-    go : (inside b (spans g m) ≡ true) ⊎ (inside b (spans g m) ≡ false) → (ltb l g ≡ true) ⊎ (ltb m f ≡ true) → inside b (spans g m) ≡ false
+    go : (blockIn b (spans g m) ≡ true) ⊎ (blockIn b (spans g m) ≡ false) → (ltb l g ≡ true) ⊎ (ltb m f ≡ true) → blockIn b (spans g m) ≡ false
     go (inr w) c = w
-    go (inl w) (inl c) = let r = inside-get b g m w in absurd (omega (arith, ltb-true l g c))
-    go (inl w) (inr c) = let r = inside-get b g m w in absurd (omega (arith, ltb-true m f c))
+    go (inl w) (inl c) = let r = blockIn-get b g m w in absurd (omega (arith, ltb-true l g c))
+    go (inl w) (inr c) = let r = blockIn-get b g m w in absurd (omega (arith, ltb-true m f c))
 
 -- a used entry of a good table has room for its own blocks
 module _ (first last : ℕ) (es : List ℕ) (good : goodTable first last es ≡ true) (k : ℕ) (lo : 1 ≤ k) (hi : k ≤ 128) (used : unused (entryAt es (k - 1)) ≡ false) where
@@ -68,28 +68,28 @@ module _ (first last : ℕ) (es : List ℕ) (good : goodTable first last es ≡ 
   own : Used first last e
   own = ok-used first last e (good-at first last es good (k - 1) (omega arith)) used
 
-  other-slot : (b j : ℕ) → j < 128 → j ≢ k - 1 → firstOf e ≤ b → b ≤ lastOf e → inside b (slotOf (entryAt es j)) ≡ false
-  other-slot b j h ne p q = go (bool-cases (unused (entryAt es j)))
+  other-range : (b j : ℕ) → j < 128 → j ≢ k - 1 → firstOf e ≤ b → b ≤ lastOf e → blockIn b (rangeOf (entryAt es j)) ≡ false
+  other-range b j h ne p q = go (bool-cases (unused (entryAt es j)))
     where
-      go : (unused (entryAt es j) ≡ true) ⊎ (unused (entryAt es j) ≡ false) → inside b (slotOf (entryAt es j)) ≡ false
-      go (inl w) = ap (inside b) (slot-unused (entryAt es j) w) ∙ not-in-vacant b
+      go : (unused (entryAt es j) ≡ true) ⊎ (unused (entryAt es j) ≡ false) → blockIn b (rangeOf (entryAt es j)) ≡ false
+      go (inl w) = ap (blockIn b) (range-unused (entryAt es j) w) ∙ not-in-none b
       go (inr w) =
-          outside (firstOf e) (lastOf e) b (slotOf (entryAt es j))
-          (subst (λ (s : Slot). apart s (slotOf (entryAt es j)) ≡ true) (slot-used e used) (good-beside first last es good (k - 1) j (omega arith) h (λ z. ne (sym z)) used w .1)) p q
+          outside (firstOf e) (lastOf e) b (rangeOf (entryAt es j))
+          (subst (λ (s : BlockRange). apart s (rangeOf (entryAt es j)) ≡ true) (range-used e used) (good-pair first last es good (k - 1) j (omega arith) h (λ z. ne (sym z)) used w .1)) p q
 
-  slot-free : (b j : ℕ) → j < 128 → firstOf e ≤ b → b ≤ lastOf e → Dec (j ≡ k - 1) → inside b (getD (set (slots es) (k - 1) vacant) j vacant) ≡ false
-  slot-free b j h p q (yes z) =
-      ap (inside b) (ap (λ (x : ℕ). getD (set (slots es) (k - 1) vacant) x vacant) z ∙ getD-set-same (slots es) (k - 1) vacant vacant (omega (arith, length-slots es)))
-      ∙ not-in-vacant b
-  slot-free b j h p q (no z) = ap (inside b) (getD-set-other (slots es) (k - 1) j vacant vacant z ∙ getD-slot es j) ∙ other-slot b j h z p q
+  range-free : (b j : ℕ) → j < 128 → firstOf e ≤ b → b ≤ lastOf e → Dec (j ≡ k - 1) → blockIn b (getD (set (rangesOf es) (k - 1) noBlocks) j noBlocks) ≡ false
+  range-free b j h p q (yes z) =
+      ap (blockIn b) (ap (λ (x : ℕ). getD (set (rangesOf es) (k - 1) noBlocks) x noBlocks) z ∙ getD-set-same (rangesOf es) (k - 1) noBlocks noBlocks (omega (arith, length-rangesOf es)))
+      ∙ not-in-none b
+  range-free b j h p q (no z) = ap (blockIn b) (getD-set-other (rangesOf es) (k - 1) j noBlocks noBlocks z ∙ getD-range es j) ∙ other-range b j h z p q
 
-  pub own-room : fitsAt first last es k (suc (lastOf e) - firstOf e) ≡ true
+  pub own-room : fitsAt last es k (suc (lastOf e) - firstOf e) ≡ true
   own-room =
       let u = own in
       let m = u .mid in
       let t = u .high in
-      room-make (set (slots es) (k - 1) vacant) last (suc (lastOf e) - firstOf e) (firstOf e)
-      (omega arith, λ b p q. any-false (inside b) (set (slots es) (k - 1) vacant) vacant (λ j h. slot-free b j (omega (arith, length-set (slots es) (k - 1) vacant, length-slots es)) p (omega arith) (ℕ-discrete j (k - 1))))
+      room-make (set (rangesOf es) (k - 1) noBlocks) last (suc (lastOf e) - firstOf e) (firstOf e)
+      (omega arith, λ b p q. any-false (blockIn b) (set (rangesOf es) (k - 1) noBlocks) noBlocks (λ j h. range-free b j (omega (arith, length-set (rangesOf es) (k - 1) noBlocks, length-rangesOf es)) p (omega arith) (ℕ-discrete j (k - 1))))
 
   -- and its last block, written again, changes nothing
   module _ (long : length es ≡ 16384) (bytes : (i : ℕ) → getD es i 0 < 256) where
@@ -127,7 +127,7 @@ pub resizeToSame : ResizeToSame
 resizeToSame g n h t k wide bytes e =
     let o = edit-open g n h t (delete k) e in
     let one = row11 g n h t (delete k) o in
-    let len = row1 g n h t true (open-read g n h t (delete k) o) in
+    let len = row1 g n h t true (open-common g n h t (delete k) o) in
     let first = g .first in
     let last = lastUsable g n in
     let es = tableOf g n h t in
@@ -144,12 +144,12 @@ resizeToSame g n h t k wide bytes e =
     let m = u .mid in
     let positive : size ≢ 0 = λ z. omega arith in
     let rows : refusal (rowsOf g n h t (edit (resize k size))) ≡ none =
-    refusal-append (rowsOf g n h t (edit (delete k))) (row (eqb size 0) 20 ∷ row (not (fitsAt first last es k size)) 25 ∷ []) e
+    refusal-append (rowsOf g n h t (edit (delete k))) (row (eqb size 0) 20 ∷ row (not (fitsAt last es k size)) 25 ∷ []) e
     ∙ pick-false _ 20 _ (ne-eqb _ _ positive) ∙ pick-false _ 25 _ (ap not (own-room first last es good k lo hi used)) in
     let same : edited first last es (resize k size) ≡ es =
     written-same first last es good k lo hi used long
     (λ i. subst (λ (x : List ℕ). getD x i 0 < 256) (sym head-table) (part-bytes h (entriesAt g primary) 16384 (omega (arith, len .0, entries-inside g wide primary)) bytes i)) in
-    step-made g n h t (edit (resize k size)) rows
-    ∙ ap₂ (λ (x y : List ℕ). out (accepted []) x y)
+    step-accepted g n h t (edit (resize k size)) rows
+    ∙ ap₂ (λ (x y : List ℕ). outcome (accepted []) x y)
     (ap (λ (x : List ℕ). withTable g n primary (guidIn g primary h) x h) (same ∙ head-table) ∙ copy-again g wide n primary h (len .0) (both .0))
     (ap (λ (x : List ℕ). withTable g n backup (guidIn g backup t) x t) (same ∙ one-backup g n h t one) ∙ copy-again g wide n backup t (len .1) (both .1))

@@ -17,11 +17,12 @@ use Rattle.octets.proofs.Parts.{length-part, part-part}
 use Rattle.octets.proofs.Equal.{same-true, same-refl}
 use Rattle.octets.proofs.Rows.{pick-false, pick-true}
 use Rattle.gpt_model.specs.Disk.{Shape, lastUsable, Side, primary, backup, other, headerBlock, entriesBlock, lentBytes, headerAt, headerIn, guidIn, entriesIn, goodCopy, stateOf, sameCopies, state}
-use Rattle.gpt_model.specs.Calls.{read, Answer, refused, accepted, Out, readRows, step}
-use Rattle.gpt_model.specs.Stored.{TableRules, HeaderSays, HeadGood, TailGood, Alike, Lent, GoodByBytes, ReadByBytes}
+use Rattle.gpt_model.specs.Calls.{read, Answer, refused, accepted, Outcome, commonRows, step}
+use Rattle.gpt_model.specs.Stored.{TableRules, HeaderSays, HeadGood, TailGood, Alike, SizesOk}
+use Rattle.gpt_model.specs.Claims.{GoodByBytes, ReadByBytes}
 use Rattle.gpt_model.proofs.Copies.{header-inside}
 use Rattle.gpt_model.proofs.States.{good-header, good-table, table-four, table-primary}
-use Rattle.gpt_model.proofs.Ways.{step-refused, step-made}
+use Rattle.gpt_model.proofs.Outcomes.{step-refused, step-accepted}
 use Rattle.gpt_model.proofs.StoredTable.{rules-iff}
 use Rattle.gpt_model.proofs.StoredHeader.{says-iff}
 
@@ -75,17 +76,18 @@ reply-read zero ne = absurd (ne refl)
 reply-read (suc s) ne = refl
 
 -- only row 10 can hold
-pub lent-rows : (g : Shape) (n : ℕ) (h t : List ℕ) → Lent g n h t → refusal (readRows g n h t true) ≡ pickRow (eqb (state g n h t) 0) 10 none
-lent-rows g n h t l =
+pub sizes-rows : (g : Shape) (n : ℕ) (h t : List ℕ) → SizesOk g n h t → refusal (commonRows g n h t true) ≡ pickRow (eqb (state g n h t) 0) 10 none
+sizes-rows g n h t l =
     pick-false _ 1 _ (ap not (and-i _ _ (and-i _ _ (eq-eqb _ _ (l .head)) (eq-eqb _ _ (l .tail))) refl))
     ∙ pick-false _ 2 _ (ap not (and-i _ _ (le-leb _ _ (l .low)) (le-leb _ _ (l .high))))
 
-pub read-replies : (g : Shape) (n : ℕ) (h t : List ℕ) → Lent g n h t → step g n h t read .answer ≡ reply (state g n h t)
+pub read-replies : (g : Shape) (n : ℕ) (h t : List ℕ) → SizesOk g n h t → step g n h t read .answer ≡ reply (state g n h t)
 read-replies g n h t l = go (ℕ-discrete (state g n h t) 0)
   where
     go : Dec (state g n h t ≡ 0) → step g n h t read .answer ≡ reply (state g n h t)
-    go (yes z) = ap (λ (o : Out). o .answer) (step-refused g n h t read 10 (lent-rows g n h t l ∙ pick-true _ 10 _ (eq-eqb _ _ z))) ∙ ap reply (sym z)
-    go (no z) = ap (λ (o : Out). o .answer) (step-made g n h t read (lent-rows g n h t l ∙ pick-false _ 10 _ (ne-eqb _ _ z))) ∙ reply-read (state g n h t) z
+    go (yes z) = ap (λ (o : Outcome). o .answer) (step-refused g n h t read 10 (sizes-rows g n h t l ∙ pick-true _ 10 _ (eq-eqb _ _ z))) ∙ ap reply (sym z)
+    go (no z) =
+        ap (λ (o : Outcome). o .answer) (step-accepted g n h t read (sizes-rows g n h t l ∙ pick-false _ 10 _ (ne-eqb _ _ z))) ∙ reply-read (state g n h t) z
 
 -- an answer as a number: the state, or 0 for a refusal
 abbrev pub stateIn : Answer → ℕ

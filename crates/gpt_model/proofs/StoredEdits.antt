@@ -19,16 +19,16 @@ use Rattle.octets.proofs.Parts.{part-here, part-skip, part-part, length-zeros}
 use Rattle.octets.proofs.Puts.{put-inside, getD-put-out}
 use Rattle.octets.proofs.Tests.{findIx-get}
 use Rattle.octets.proofs.Chunks.{length-chunks, putChunk-put}
-use Rattle.gpt_model.specs.Table.{firstOf, nameBytes, entryWith, unused, entries, slots}
+use Rattle.gpt_model.specs.Table.{firstOf, nameBytes, unused, entries, rangesOf}
 use Rattle.gpt_model.specs.Disk.{Shape, lastUsable, tableOf}
-use Rattle.gpt_model.specs.Calls.{Edit, add, delete, resize, rename, edit, accepted, Out, tableRows, startOf, change, edited, lengthsOf}
-use Rattle.gpt_model.specs.Claims.{Outside}
-use Rattle.gpt_model.specs.Stored.{firstAt, NameAt, StaysBut, Added, EditSays, EditWrites}
-use Rattle.gpt_model.proofs.Room.{place-some}
+use Rattle.gpt_model.specs.Calls.{NewPartition, Edit, add, delete, resize, rename, edit, accepted, Outcome, orZero, newEntry, startFor, tableRows, change, edited, lengthsOf}
+use Rattle.gpt_model.specs.Stored.{Outside, entryFirst, EntryName, StaysBut, AddSays, EditSays}
+use Rattle.gpt_model.specs.Claims.{EditWrites}
+use Rattle.gpt_model.proofs.Room.{start-some}
 use Rattle.gpt_model.proofs.Fields.{part-put-at, length-name, length-new, new-type, new-unique, new-first-bytes, new-last-bytes, new-attributes, new-name}
 use Rattle.gpt_model.proofs.Entries.{entryAt}
-use Rattle.gpt_model.proofs.Edits.{FitsEdit, place-value}
-use Rattle.gpt_model.proofs.Ways.{step-made, edit-table}
+use Rattle.gpt_model.proofs.Edits.{FitsEdit, some-orZero}
+use Rattle.gpt_model.proofs.Outcomes.{step-accepted, edit-table}
 use Rattle.gpt_model.proofs.Steps.{lens, len-table, edit-fits, edit-held}
 use Rattle.gpt_model.proofs.StoredTable.{entry-is, first-is, used-is}
 
@@ -72,7 +72,7 @@ module _ (es : List ℕ) (long : length es ≡ 16384) (i : ℕ) (hi : i < 128) w
       ∙ put-inside v es (i * 128) 128 at (omega arith) h
 
   -- the name at byte 56 of entry i
-  named : (name es′ : List ℕ) → length name ≡ 36 → part (i * 128 + 56) 72 es′ ≡ nameBytes name → NameAt es′ i name
+  named : (name es′ : List ℕ) → length name ≡ 36 → part (i * 128 + 56) 72 es′ ≡ nameBytes name → EntryName es′ i name
   named name es′ l f u h = sym (part-part (2 * u) 2 (i * 128 + 56) 72 es′ (omega arith)) ∙ ap (part (2 * u) 2) f ∙ unit-at name u (omega arith)
 
 module _ (g : Shape) (n : ℕ) (es : List ℕ) (long : length es ≡ 16384) where
@@ -97,7 +97,7 @@ module _ (g : Shape) (n : ℕ) (es : List ℕ) (long : length es ≡ 16384) wher
       let v = le 8 (firstOf (entryAt es (k - 1)) + size - 1) in
       let at = (k - 1) * 128 + 40 in
       let q = within es long (k - 1) h v 40 (omega (arith, length-le 8 (firstOf (entryAt es (k - 1)) + size - 1))) l in
-      subst (λ (x : List ℕ). (accepted [] ≡ accepted []) × (part at 8 x ≡ le 8 (firstAt es (k - 1) + size - 1)) × StaysBut at 8 es x) (sym q)
+      subst (λ (x : List ℕ). (accepted [] ≡ accepted []) × (part at 8 x ≡ le 8 (entryFirst es (k - 1) + size - 1)) × StaysBut at 8 es x) (sym q)
       (refl, part-put-at v es at 8 (length-le 8 _) (omega arith) ∙ ap (λ (f : ℕ). le 8 (f + size - 1)) (first-is es (k - 1) h), stays es v at 8 (length-le 8 _))
 
   rename-says : (k : ℕ) (name : List ℕ) → length name ≡ 36 → (h : k - 1 < 128) → length (put 56 (nameBytes name) (entryAt es (k - 1))) ≡ 128 → Says (rename k name)
@@ -106,41 +106,41 @@ module _ (g : Shape) (n : ℕ) (es : List ℕ) (long : length es ≡ 16384) wher
       let lv : length (nameBytes name) ≡ 72 = length-name name ∙ omega arith in
       let at = (k - 1) * 128 + 56 in
       let q = within es long (k - 1) h v 56 (omega arith) l in
-      subst (λ (x : List ℕ). (accepted [] ≡ accepted []) × NameAt x (k - 1) name × StaysBut at 72 es x) (sym q)
+      subst (λ (x : List ℕ). (accepted [] ≡ accepted []) × EntryName x (k - 1) name × StaysBut at 72 es x) (sym q)
       (refl, named es long (k - 1) h name _ ln (part-put-at v es at 72 lv (omega arith)), stays es v at 72 lv)
 
-  add-says : (type unique : List ℕ) (size attributes : ℕ) (name : List ℕ) → length type ≡ 16 → length unique ≡ 16 → length name ≡ 36
-      → refusal (tableRows (g .first) (lastUsable g n) es (add type unique size attributes name)) ≡ none → Says (add type unique size attributes name)
-  add-says type unique size attributes name lt lu ln e =
-      let rows = tableRows (g .first) (lastUsable g n) es (add type unique size attributes name) in
+  add-says : (p : NewPartition) → length (p .type) ≡ 16 → length (p .unique) ≡ 16 → length (p .name) ≡ 36
+      → refusal (tableRows (g .first) (lastUsable g n) es (add p)) ≡ none → Says (add p)
+  add-says p lt lu ln e =
+      let rows = tableRows (g .first) (lastUsable g n) es (add p) in
       let i = findIx unused (entries es) in
-      let s = startOf (g .first) (lastUsable g n) es size in
-      let p = place-some (slots es) (g .first) (lastUsable g n) size s (place-value _ (passes 25 rows e)) in
+      let s = orZero (startFor (g .first) (lastUsable g n) es p) in
+      let r = start-some (rangesOf es) (g .first) (lastUsable g n) (p .size) s (some-orZero _ (passes 25 rows e)) in
       let f = findIx-get unused (entries es) [] (not-f _ (passes 24 rows e)) in
       let h : i < 128 = omega (arith, f .0, length-chunks 128 128 es) in
-      let new = entryWith type unique s (s + size - 1) attributes name in
-      let ln′ = length-new type unique s (s + size - 1) attributes name in
+      let new = newEntry p s in
+      let ln′ = length-new p s in
       let q = replaced es long i h new ln′ in
       let at : (k w : ℕ) → k + w ≤ 128 → part (i * 128 + k) w (put (i * 128) new es) ≡ part k w new = λ k w l. inner es new (i * 128) 128 ln′ k w l (omega arith) in (
         i,
         s,
         refl,
-        subst (λ (x : List ℕ). Added g n type unique size attributes name es x i s) (sym q) (record {
+        subst (λ (x : List ℕ). AddSays g n p es x i s) (sym q) (record {
           slot = (h, λ u. clash (f .1) (used-is es i h ∙ u), λ j l. sym (used-is es j (omega arith)) ∙ findIx-before unused (entries es) [] j l);
-          start = ((p .0, p .1 .0, p .1 .1), λ b l w. p .2 b (w .0) l (w .1, w .2));
-          typeGuid = ap (λ (x : ℕ). part x 16 (put (i * 128) new es)) (omega arith) ∙ at 0 16 (omega arith) ∙ new-type type unique s (s + size - 1) attributes name lt;
-          uniqueGuid = at 16 16 (omega arith) ∙ new-unique type unique s (s + size - 1) attributes name lu;
-          first = at 32 8 (omega arith) ∙ new-first-bytes type unique s (s + size - 1) attributes name;
-          last = at 40 8 (omega arith) ∙ new-last-bytes type unique s (s + size - 1) attributes name;
-          bits = at 48 8 (omega arith) ∙ new-attributes type unique s (s + size - 1) attributes name;
-          units = named es long i h name _ ln (at 56 72 (omega arith) ∙ new-name type unique s (s + size - 1) attributes name ln);
+          start = ((r .0, r .1 .0, r .1 .1), λ b l w. r .2 b (w .0) l (w .1, w .2));
+          typeGuid = ap (λ (x : ℕ). part x 16 (put (i * 128) new es)) (omega arith) ∙ at 0 16 (omega arith) ∙ new-type p s lt;
+          uniqueGuid = at 16 16 (omega arith) ∙ new-unique p s lu;
+          first = at 32 8 (omega arith) ∙ new-first-bytes p s;
+          last = at 40 8 (omega arith) ∙ new-last-bytes p s;
+          bits = at 48 8 (omega arith) ∙ new-attributes p s;
+          units = named es long i h (p .name) _ ln (at 56 72 (omega arith) ∙ new-name p s ln);
           others = stays es new (i * 128) 128 ln′;
         }),
       )
 
   says : (d : Edit) → lengthsOf d ≡ true → refusal (tableRows (g .first) (lastUsable g n) es d) ≡ none → FitsEdit (g .first) (lastUsable g n) es d → Says d
-  says (add type unique size attributes name) l e f =
-      add-says type unique size attributes name (eqb-true _ _ (and-l _ _ (and-l _ _ l))) (eqb-true _ _ (and-r _ _ (and-l _ _ l))) (eqb-true _ _ (and-r _ _ l)) e
+  says (add p) l e f =
+      add-says p (eqb-true _ _ (and-l _ _ (and-l _ _ l))) (eqb-true _ _ (and-r _ _ (and-l _ _ l))) (eqb-true _ _ (and-r _ _ l)) e
   says (delete k) l e f = delete-says k (f .index)
   says (resize k size) l e f = resize-says k size (f .index) (f .len)
   says (rename k name) l e f = rename-says k name (eqb-true _ _ l) (f .index) (f .len)
@@ -148,6 +148,6 @@ module _ (g : Shape) (n : ℕ) (es : List ℕ) (long : length es ≡ 16384) wher
 pub editWrites : EditWrites
 editWrites g n h t d wide e =
     let es = tableOf g n h t in
-    subst (λ (o : Out). EditSays g n d (o .answer) (tableOf g n h t) (tableOf g n (o .head) (o .tail))) (sym (step-made g n h t (edit d) e))
+    subst (λ (o : Outcome). EditSays g n d (o .answer) (tableOf g n h t) (tableOf g n (o .head) (o .tail))) (sym (step-accepted g n h t (edit d) e))
     (subst (λ (x : List ℕ). EditSays g n d (accepted (change (g .first) (lastUsable g n) (tableOf g n h t) d .values)) (tableOf g n h t) x) (sym (edit-held g wide n h t d e .table))
     (says g n es (len-table g wide n h t d e) d (lens g wide n h t d e .2) (edit-table g n h t d e) (edit-fits g wide n h t d e)))

@@ -17,8 +17,9 @@ use Rattle.octets.proofs.Parts.{part-here, part-skip, part-part, part-whole, le
 use Rattle.octets.proofs.Puts.{length-put, part-put-below, part-put-above}
 use Rattle.gpt_model.specs.Table.{writeAll}
 use Rattle.gpt_model.specs.Disk.{Shape, lastUsable, primary, backup, lentBytes, header, block0, withTable, freshHead, freshTail}
-use Rattle.gpt_model.specs.Calls.{accepted, Out, out, formatRows, format}
-use Rattle.gpt_model.specs.Stored.{Lent, Formatted, FormatWrites}
+use Rattle.gpt_model.specs.Calls.{accepted, Outcome, outcome, formatRows, format}
+use Rattle.gpt_model.specs.Stored.{SizesOk, FormatSays}
+use Rattle.gpt_model.specs.Claims.{FormatWrites}
 use Rattle.gpt_model.proofs.Fields.{part-put-at, length-writeAll}
 use Rattle.gpt_model.proofs.Entries.{empty-good}
 use Rattle.gpt_model.proofs.Copies.{length-header, written-guid, written-entries}
@@ -87,11 +88,11 @@ module _ (g : Shape) (wide : 512 ≤ g .block) (n : ℕ) (guid : List ℕ) where
       ∙ ap (part at k) (part-put-at entry blank 446 16 length-entry (omega (arith, length-zeros (lentBytes g primary))))
 
   module _ (lg : length guid ≡ 16) where
-    written : (h t : List ℕ) → Lent g n h t → Formatted g n guid (freshHead g n guid es) (freshTail g n guid es)
+    written : (h t : List ℕ) → SizesOk g n h t → FormatSays g n guid (freshHead g n guid es) (freshTail g n guid es)
     written h t l =
         let w = fresh-holds g (l .wide) n guid es lg (length-zeros 16384) (empty-good (g .first) (lastUsable g n)) in
         let k = one-good g n _ _ (w .reads) in
-        let here : Lent g n (freshHead g n guid es) (freshTail g n guid es) = record { wide = l .wide; head = w .len-head; tail = w .len-tail; low = l .low; high = l .high } in
+        let here : SizesOk g n (freshHead g n guid es) (freshTail g n guid es) = record { wide = l .wide; head = w .len-head; tail = w .len-tail; low = l .low; high = l .high } in
         let good = goodByBytes g n _ _ here in
         let lh : length (writeAll (block0 n) blank) ≡ lentBytes g primary = length-writeAll (block0 n) blank ∙ length-zeros _ in
         let lt : length (zeros (lentBytes g backup)) ≡ lentBytes g backup = length-zeros _ in
@@ -118,23 +119,23 @@ module _ (g : Shape) (wide : 512 ≤ g .block) (n : ℕ) (guid : List ℕ) where
         }
 
 pub formatWrites : FormatWrites
-formatWrites g n guid h t wide = ((to, from), λ a. let w = to a in subst (λ (o : Out). Formatted g n guid (o .head) (o .tail)) (sym (done w)) (written g wide n guid (w .1) h t (w .0)))
+formatWrites g n guid h t wide = ((to, from), λ a. let w = to a in subst (λ (o : Outcome). FormatSays g n guid (o .head) (o .tail)) (sym (done w)) (written g wide n guid (w .1) h t (w .0)))
   where
-    done : Lent g n h t × (length guid ≡ 16) × (isZero guid ≡ false)
-        → format g n guid h t ≡ out (accepted []) (freshHead g n guid (zeros 16384)) (freshTail g n guid (zeros 16384))
+    done : SizesOk g n h t × (length guid ≡ 16) × (isZero guid ≡ false)
+        → format g n guid h t ≡ outcome (accepted []) (freshHead g n guid (zeros 16384)) (freshTail g n guid (zeros 16384))
     done w =
         let l = w .0 in
         formatted g n guid h t (record { wide = l .wide; range = and-i _ _ (le-leb _ _ (l .low)) (le-leb _ _ (l .high)); len-guid = w .1; nonzero = w .2; len-head = l .head; len-tail = l .tail })
 
-    from : Lent g n h t × (length guid ≡ 16) × (isZero guid ≡ false) → format g n guid h t .answer ≡ accepted []
-    from w = ap (λ (o : Out). o .answer) (done w)
+    from : SizesOk g n h t × (length guid ≡ 16) × (isZero guid ≡ false) → format g n guid h t .answer ≡ accepted []
+    from w = ap (λ (o : Outcome). o .answer) (done w)
 
-    to : format g n guid h t .answer ≡ accepted [] → Lent g n h t × (length guid ≡ 16) × (isZero guid ≡ false)
+    to : format g n guid h t .answer ≡ accepted [] → SizesOk g n h t × (length guid ≡ 16) × (isZero guid ≡ false)
     to a = go (option-cases (refusal (formatRows g n guid h t)))
       where
-        go : (refusal (formatRows g n guid h t) ≡ none) ⊎ ((k : ℕ) × (refusal (formatRows g n guid h t) ≡ some k)) → Lent g n h t × (length guid ≡ 16) × (isZero guid ≡ false)
+        go : (refusal (formatRows g n guid h t) ≡ none) ⊎ ((k : ℕ) × (refusal (formatRows g n guid h t) ≡ some k)) → SizesOk g n h t × (length guid ≡ 16) × (isZero guid ≡ false)
         go (inr w) =
-            let b = ap (λ (o : Out). o .answer) (format-refused g n guid h t (w .0) (w .1)) in
+            let b = ap (λ (o : Outcome). o .answer) (format-refused g n guid h t (w .0) (w .1)) in
             let z : _≡_ {A = ℕ} 0 1 = cc in
             absurd (omega arith)
         go (inl e) =

@@ -12,12 +12,13 @@ use Rattle.octets.proofs.Parts.{length-zeros, part-zeros}
 use Rattle.octets.proofs.Puts.{part-put-below, part-put-above}
 use Rattle.octets.proofs.Rows.{pick-false, pick-true}
 use Rattle.gpt_model.specs.Disk.{Shape, primary, backup, header, state, withTable, withCopy}
-use Rattle.gpt_model.specs.Calls.{repair, refused, Out, out, repaired, step}
-use Rattle.gpt_model.specs.Stored.{HeadGood, TailGood, Alike, Lent, RepairSays, RepairWrites}
+use Rattle.gpt_model.specs.Calls.{repair, refused, Outcome, outcome, repaired, step}
+use Rattle.gpt_model.specs.Stored.{HeadGood, TailGood, Alike, SizesOk, RepairSays}
+use Rattle.gpt_model.specs.Claims.{RepairWrites}
 use Rattle.gpt_model.proofs.Copies.{length-header, length-entries}
 use Rattle.gpt_model.proofs.States.{Holds, four, not-four, one-good, from-backup, from-primary}
-use Rattle.gpt_model.proofs.Ways.{step-refused, step-made, repair-answer}
-use Rattle.gpt_model.proofs.StoredCopies.{goodByBytes, alike-iff, reply, reply-read, lent-rows, read-replies, stateIn}
+use Rattle.gpt_model.proofs.Outcomes.{step-refused, step-accepted, repair-answer}
+use Rattle.gpt_model.proofs.StoredCopies.{goodByBytes, alike-iff, reply, reply-read, sizes-rows, read-replies, stateIn}
 use Rattle.gpt_model.proofs.StoredEdits.{inner}
 
 -- a copy written over its cleared header block
@@ -48,7 +49,7 @@ module _ (g : Shape) (n : ℕ) (guid es : List ℕ) where
       ∙ inner t (zeros (g .block)) 16384 (g .block) (length-zeros _) 92 (g .block - 92) (omega arith) (omega arith)
       ∙ part-zeros 92 (g .block - 92) (g .block) (omega arith)
 
-module _ (g : Shape) (n : ℕ) (h t : List ℕ) (l : Lent g n h t) where
+module _ (g : Shape) (n : ℕ) (h t : List ℕ) (l : SizesOk g n h t) where
   abbrev s : ℕ
   s = state g n h t
 
@@ -59,15 +60,15 @@ module _ (g : Shape) (n : ℕ) (h t : List ℕ) (l : Lent g n h t) where
       let b = goodByBytes g n h′ t′ (record { wide = l .wide; head = w .len-head; tail = w .len-tail; low = l .low; high = l .high }) in
       (b .0 .0 (k .0), b .1 .0 (k .1), alike-iff g h′ t′ .0 (k .2))
 
-  refused-says : RepairSays g n h t (out (refused 10) h t)
+  refused-says : RepairSays g n h t (outcome (refused 10) h t)
   refused-says = record {
     one = λ e. absurd (omega (arith, ap stateIn e));
     primaryUsed = λ k e p q. let z : _≡_ {A = ℕ} 0 1 = cc in absurd (omega arith);
     backupUsed = λ e. absurd (omega (arith, ap stateIn e));
   }
 
-  made-says : s ≢ 0 → RepairSays g n h t (repaired g n h t (state g n h t))
-  made-says ne = go (ℕ-discrete (state g n h t) 1) (ℕ-discrete (state g n h t) 4)
+  accepted-says : s ≢ 0 → RepairSays g n h t (repaired g n h t (state g n h t))
+  accepted-says ne = go (ℕ-discrete (state g n h t) 1) (ℕ-discrete (state g n h t) 4)
     where
       go : Dec (state g n h t ≡ 1) → Dec (state g n h t ≡ 4) → RepairSays g n h t (repaired g n h t (state g n h t))
       go (yes p) q = rw (eq-eqb _ _ p) (record {
@@ -95,8 +96,8 @@ repairWrites g n h t l = let w = go (ℕ-discrete (state g n h t) 0) in (w .0 �
   where
     go : Dec (state g n h t ≡ 0) → (step g n h t repair .answer ≡ reply (state g n h t)) × RepairSays g n h t (step g n h t repair)
     go (yes z) =
-        let o = step-refused g n h t repair 10 (lent-rows g n h t l ∙ pick-true _ 10 _ (eq-eqb _ _ z)) in
-        (ap (λ (o : Out). o .answer) o ∙ ap reply (sym z), subst (RepairSays g n h t) (sym o) (refused-says g n h t l))
+        let o = step-refused g n h t repair 10 (sizes-rows g n h t l ∙ pick-true _ 10 _ (eq-eqb _ _ z)) in
+        (ap (λ (o : Outcome). o .answer) o ∙ ap reply (sym z), subst (RepairSays g n h t) (sym o) (refused-says g n h t l))
     go (no z) =
-        let o = step-made g n h t repair (lent-rows g n h t l ∙ pick-false _ 10 _ (ne-eqb _ _ z)) in
-        (ap (λ (o : Out). o .answer) o ∙ repair-answer g n h t ∙ reply-read _ z, subst (RepairSays g n h t) (sym o) (made-says g n h t l z))
+        let o = step-accepted g n h t repair (sizes-rows g n h t l ∙ pick-false _ 10 _ (ne-eqb _ _ z)) in
+        (ap (λ (o : Outcome). o .answer) o ∙ repair-answer g n h t ∙ reply-read _ z, subst (RepairSays g n h t) (sym o) (accepted-says g n h t l z))

@@ -15,14 +15,15 @@ use Rattle.octets.proofs.Chunks.{length-putChunk}
 use Rattle.crc_lanes.specs.Crc.{crc32}
 use Rattle.gpt_model.specs.Table.{writeAll}
 use Rattle.gpt_model.specs.Disk.{Shape, lastUsable, Side, primary, backup, lentBytes, headerAt, entriesAt, guidIn, entriesIn, headerFields, headerWith, headerCrc, header, goodCopy, lent, state, tableOf, withTable}
-use Rattle.gpt_model.specs.Calls.{edit, Out, change, lengthsOf, made}
-use Rattle.gpt_model.specs.Claims.{Outside, EditTouches}
+use Rattle.gpt_model.specs.Calls.{edit, Outcome, change, lengthsOf, acceptedOutcome}
+use Rattle.gpt_model.specs.Claims.{EditTouches}
+use Rattle.gpt_model.specs.Stored.{Outside}
 use Rattle.gpt_model.proofs.Fields.{put-before}
 use Rattle.gpt_model.proofs.Edits.{FitsEdit}
 use Rattle.gpt_model.proofs.Copies.{header-inside, places-apart, length-entries, length-withTable}
 use Rattle.gpt_model.proofs.States.{good-header, one-good, one-primary, one-backup}
 use Rattle.gpt_model.proofs.Writes.{entry-written}
-use Rattle.gpt_model.proofs.Ways.{step-made, row1, row11, open-read, edit-open}
+use Rattle.gpt_model.proofs.Outcomes.{step-accepted, row1, row11, open-common, edit-open}
 use Rattle.gpt_model.proofs.Steps.{edit-fits}
 
 -- ---- the header of another table under the same disk GUID: fields 16 and 88 differ
@@ -109,11 +110,11 @@ stays g wide n side b es i e lb good q hi le′ =
 
 pub editTouches : EditTouches
 editTouches g n h t d wide e =
-    subst (λ (o : Out). (side : Side) → Stays g side (change (g .first) (lastUsable g n) (tableOf g n h t) d .index) (lent side h t) (lent side (o .head) (o .tail)))
-    (sym (step-made g n h t (edit d) e)) both
+    subst (λ (o : Outcome). (side : Side) → Stays g side (change (g .first) (lastUsable g n) (tableOf g n h t) d .index) (lent side h t) (lent side (o .head) (o .tail)))
+    (sym (step-accepted g n h t (edit d) e)) both
   where
     l : (length h ≡ lentBytes g primary) × (length t ≡ lentBytes g backup) × (lengthsOf d ≡ true)
-    l = row1 g n h t (lengthsOf d) (open-read g n h t d (edit-open g n h t d e))
+    l = row1 g n h t (lengthsOf d) (open-common g n h t d (edit-open g n h t d e))
 
     one : state g n h t ≡ 1
     one = row11 g n h t d (edit-open g n h t d e)
@@ -121,6 +122,6 @@ editTouches g n h t d wide e =
     f : FitsEdit (g .first) (lastUsable g n) (tableOf g n h t) d
     f = edit-fits g wide n h t d e
 
-    both : (side : Side) → Stays g side (change (g .first) (lastUsable g n) (tableOf g n h t) d .index) (lent side h t) (lent side (made g n h t (edit d) .head) (made g n h t (edit d) .tail))
+    both : (side : Side) → Stays g side (change (g .first) (lastUsable g n) (tableOf g n h t) d .index) (lent side h t) (lent side (acceptedOutcome g n h t (edit d) .head) (acceptedOutcome g n h t (edit d) .tail))
     both primary = stays g wide n primary h _ _ _ (l .0) (one-good g n h t one .0) (one-primary g n h t one) (f .index) (f .len)
     both backup = stays g wide n backup t _ _ _ (l .1) (one-good g n h t one .1) (one-backup g n h t one) (f .index) (f .len)

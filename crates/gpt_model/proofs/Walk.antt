@@ -1,99 +1,27 @@
--- A walk over the blocks from partition to gap to partition, over slots decoded once into two lists of numbers: what a loop that places or counts cites.
+-- A walk over the blocks from partition to gap to partition: what a loop that places or counts cites.
 use mathlib.Core.Path.{_≡_, refl, sym, ap, _∙_}
-use mathlib.Core.Logic.{_⊎_, inl, inr}
 use mathlib.Core.Bool.{true, false, not}
 use mathlib.Core.List.{List, [], _∷_, map}
 use mathlib.Core.Option.{none, some}
 use Prim.Native.Nat.{ℕ, zero, suc, _+_, _-_, _≤_, _<_, max}
 use native.Mathlib.Nat.{not-suc-le-zero, le-of-suc-le-suc, le-refl}
-use native.Mathlib.Decide.{decLe, decLt}
+use native.Mathlib.Decide.{decLt}
 use native.Mathlib.Omega.{arith}
 use lib.ListN.{length, getD}
-use Rattle.octets.proofs.Bools.{bool-cases, clash}
-use Rattle.octets.proofs.Tests.{any-get, any-make}
-use Rattle.gpt_model.specs.Table.{Slot, vacant, spans}
-use Rattle.gpt_model.specs.Ranges.{inside, lies, inNone, place, countFrom, freeCount, longest, longestFree}
-use Rattle.gpt_model.proofs.Room.{Room, place-is, place-is-none, inside-make, inside-get, inside-vacant}
+use Rattle.octets.proofs.Bools.{clash}
+use Rattle.gpt_model.specs.Table.{BlockRange}
+use Rattle.gpt_model.specs.Ranges.{inSome, inNone, lowestStart, countFrom, freeCount, longest, longestFree}
+use Rattle.gpt_model.proofs.Room.{Room, start-is, start-is-none}
 use Rattle.gpt_model.proofs.Counts.{count-false, count-true, count-add}
 use Rattle.gpt_model.proofs.Longest.{longest-skip, longest-gap}
-
--- a slot as two numbers: vacant is the empty range 1 to 0
-abbrev pub low : Slot → ℕ
-low vacant = 1
-low (spans f l) = f
-
-abbrev pub high : Slot → ℕ
-high vacant = 0
-high (spans f l) = l
-
-pub inside-both : (b : ℕ) (s : Slot) → low s ≤ b → b ≤ high s → inside b s ≡ true
-inside-both b vacant p q = absurd (omega arith)
-inside-both b (spans f l) p q = inside-make b f l p q
-
-pub inside-ends : (b : ℕ) (s : Slot) → inside b s ≡ true → (low s ≤ b) × (b ≤ high s)
-inside-ends b vacant e = absurd (inside-vacant b e)
-inside-ends b (spans f l) e = inside-get b f l e
 
 pub getD-map : {A : Type 0} (f : A → ℕ) (xs : List A) (i y : ℕ) (d : A) → i < length xs → getD (map f xs) i y ≡ f (getD xs i d)
 getD-map f [] i y d h = absurd (not-suc-le-zero h)
 getD-map f (x ∷ xs) zero y d h = refl
 getD-map f (x ∷ xs) (suc i) y d h = getD-map f xs i y d (le-of-suc-le-suc h)
 
--- what the two lists say: the i-th range holds a
-abbrev pub Holds : List ℕ → List ℕ → ℕ → ℕ → Type 0
-Holds fs ls a i = (i < 128) × (getD fs i 0 ≤ a) × (a ≤ getD ls i 0)
-
-module _ (s : List Slot) (len : length s ≡ 128) where
-  abbrev fs : List ℕ
-  fs = map low s
-
-  abbrev ls : List ℕ
-  ls = map high s
-
-  low-at : (i : ℕ) → i < 128 → getD fs i 0 ≡ low (getD s i vacant)
-  low-at i h = getD-map low s i 0 vacant (omega arith)
-
-  high-at : (i : ℕ) → i < 128 → getD ls i 0 ≡ high (getD s i vacant)
-  high-at i h = getD-map high s i 0 vacant (omega arith)
-
-  pub held : (a i : ℕ) → Holds fs ls a i → lies s a ≡ true
-  held a i h =
-      let p = low-at i (h .0) in
-      let q = high-at i (h .0) in
-      let u = h .1 in
-      let v = h .2 in
-      any-make (inside a) s vacant i (let w = h .0 in omega arith) (inside-both a (getD s i vacant) (omega arith) (omega arith))
-
-  pub holder : (a : ℕ) → lies s a ≡ true → (i : ℕ) × Holds fs ls a i
-  holder a e =
-      let r = any-get (inside a) s vacant e in
-      let i : ℕ = r .0 in
-      let h : r .0 < 128 = let w = r .1 in omega arith in
-      let p = low-at (r .0) h in
-      let q = high-at (r .0) h in
-      let w = inside-ends a (getD s (r .0) vacant) (r .2) in
-      let w0 = w .0 in
-      let w1 = w .1 in
-      (r .0, (h, omega arith, omega arith))
-
-  pub uncovered : (a : ℕ) → ((i : ℕ) → Holds fs ls a i → ⊥) → lies s a ≡ false
-  uncovered a f = go (bool-cases (lies s a))
-    where
-      go : (lies s a ≡ true) ⊎ (lies s a ≡ false) → lies s a ≡ false
-      go (inl e) = let r = holder a e in absurd (f (r .0) (r .1))
-      go (inr e) = e
-
-  -- from a block that no range holds up to the lowest start behind it
-  pub gap : (a g : ℕ) → ((i : ℕ) → Holds fs ls a i → ⊥) → ((i : ℕ) → i < 128 → a < getD fs i 0 → getD fs i 0 ≤ getD ls i 0 → g ≤ getD fs i 0)
-      → (c : ℕ) → a ≤ c → c < g → lies s c ≡ false
-  gap a g f m c p q = uncovered c (λ i h. go i h (decLe (getD fs i 0) a))
-    where
-      go : (i : ℕ) → Holds fs ls c i → Dec (getD fs i 0 ≤ a) → ⊥
-      go i h (yes x) = let v = h .2 in f i (h .0, x, omega arith)
-      go i h (no x) = let u = h .1 in let v = h .2 in let w : g ≤ getD fs i 0 = m i (h .0) (omega arith) (omega arith) in omega arith
-
 -- ---- placing
-module _ (s : List Slot) (first last size : ℕ) (pos : 0 < size) where
+module _ (s : List BlockRange) (first last size : ℕ) (pos : 0 < size) where
   -- no start below a has room
   abbrev pub Low : ℕ → Type 0
   Low a = (c : ℕ) → first ≤ c → c < a → Room s last size c → ⊥
@@ -101,14 +29,14 @@ module _ (s : List Slot) (first last size : ℕ) (pos : 0 < size) where
   pub low-start : Low first
   low-start c p q r = omega arith
 
-  pub low-over : (a x : ℕ) → Low a → ((c : ℕ) → a ≤ c → c ≤ x → lies s c ≡ true) → Low (x + 1)
+  pub low-over : (a x : ℕ) → Low a → ((c : ℕ) → a ≤ c → c ≤ x → inSome s c ≡ true) → Low (x + 1)
   low-over a x low f c p q r = go (decLt c a)
     where
       go : Dec (c < a) → ⊥
       go (yes w) = low c p w r
       go (no w) = clash (f c (omega arith) (omega arith)) (r .1 c (le-refl c) (omega arith))
 
-  pub low-gap : (a g : ℕ) → Low a → a ≤ g → g - a < size → (g ≤ last → lies s g ≡ true) → Low g
+  pub low-gap : (a g : ℕ) → Low a → a ≤ g → g - a < size → (g ≤ last → inSome s g ≡ true) → Low g
   low-gap a g low ag short stop c p q r = go (decLt c a)
     where
       go : Dec (c < a) → ⊥
@@ -116,11 +44,11 @@ module _ (s : List Slot) (first last size : ℕ) (pos : 0 < size) where
       go (no w) = let k = r .0 in clash (stop (omega arith)) (r .1 g (omega arith) (omega arith))
 
   pub low-found : (a g : ℕ) → Low a → first ≤ a → a ≤ g → size ≤ g - a → g ≤ last + 1
-      → ((c : ℕ) → a ≤ c → c < g → lies s c ≡ false) → place s first last size ≡ some a
-  low-found a g low fa ag fits end clear = place-is s first last size a pos fa (omega arith, λ b p q. clear b p (omega arith)) low
+      → ((c : ℕ) → a ≤ c → c < g → inSome s c ≡ false) → lowestStart s first last size ≡ some a
+  low-found a g low fa ag fits end clear = start-is s first last size a pos fa (omega arith, λ b p q. clear b p (omega arith)) low
 
-  pub low-none : (a : ℕ) → Low a → last < a → place s first last size ≡ none
-  low-none a low out = place-is-none s first last size (λ c h r. go c h r (decLt c a))
+  pub low-none : (a : ℕ) → Low a → last < a → lowestStart s first last size ≡ none
+  low-none a low out = start-is-none s first last size (λ c h r. go c h r (decLt c a))
     where
       go : (c : ℕ) → first ≤ c → Room s last size c → Dec (c < a) → ⊥
       go c h r (yes x) = low c h x r
@@ -130,7 +58,7 @@ max-assoc : (x y z : ℕ) → max (max x y) z ≡ max x (max y z)
 max-assoc x y z = omega arith
 
 -- ---- counting: from a on, k blocks are left
-module _ (s : List Slot) (first last : ℕ) where
+module _ (s : List BlockRange) (first last : ℕ) where
   abbrev pub Counted : ℕ → ℕ → Type 0
   Counted n a = n + countFrom (inNone s) a (suc last - a) ≡ freeCount s first last
 
@@ -145,7 +73,7 @@ module _ (s : List Slot) (first last : ℕ) where
   unfolding longestFree
   longest-start = omega arith
 
-  pub counted-over : (n a x : ℕ) → x ≤ last → a ≤ x → Counted n a → ((c : ℕ) → a ≤ c → c ≤ x → lies s c ≡ true) → Counted n (x + 1)
+  pub counted-over : (n a x : ℕ) → x ≤ last → a ≤ x → Counted n a → ((c : ℕ) → a ≤ c → c ≤ x → inSome s c ≡ true) → Counted n (x + 1)
   counted-over n a x xl ax h f =
       let k : suc last - a ≡ (x + 1 - a) + (suc last - (x + 1)) = omega arith in
       let e : a + (x + 1 - a) ≡ x + 1 = omega arith in
@@ -155,7 +83,7 @@ module _ (s : List Slot) (first last : ℕ) where
       let w = ap (λ (y : ℕ). countFrom (inNone s) y (suc last - (x + 1))) e in
       omega arith
 
-  pub counted-gap : (n a g : ℕ) → a ≤ g → g ≤ last + 1 → Counted n a → ((c : ℕ) → a ≤ c → c < g → lies s c ≡ false) → Counted (n + (g - a)) g
+  pub counted-gap : (n a g : ℕ) → a ≤ g → g ≤ last + 1 → Counted n a → ((c : ℕ) → a ≤ c → c < g → inSome s c ≡ false) → Counted (n + (g - a)) g
   counted-gap n a g ag gl h f =
       let k : suc last - a ≡ (g - a) + (suc last - g) = omega arith in
       let e : a + (g - a) ≡ g = omega arith in
@@ -165,7 +93,7 @@ module _ (s : List Slot) (first last : ℕ) where
       let w = ap (λ (y : ℕ). countFrom (inNone s) y (suc last - g)) e in
       omega arith
 
-  pub longest-over : (m a x : ℕ) → x ≤ last → a ≤ x → Longest m a → ((c : ℕ) → a ≤ c → c ≤ x → lies s c ≡ true) → Longest m (x + 1)
+  pub longest-over : (m a x : ℕ) → x ≤ last → a ≤ x → Longest m a → ((c : ℕ) → a ≤ c → c ≤ x → inSome s c ≡ true) → Longest m (x + 1)
   longest-over m a x xl ax h f =
       let k : suc last - a ≡ (x + 1 - a) + (suc last - (x + 1)) = omega arith in
       let e : a + (x + 1 - a) ≡ x + 1 = omega arith in
@@ -174,8 +102,8 @@ module _ (s : List Slot) (first last : ℕ) where
       let w = ap (λ (y : ℕ). longest (inNone s) y (suc last - (x + 1))) e in
       ap (max m) (sym (p ∙ q ∙ w)) ∙ h
 
-  pub longest-step : (m a g : ℕ) → a ≤ g → g ≤ last + 1 → Longest m a → ((c : ℕ) → a ≤ c → c < g → lies s c ≡ false)
-      → (g ≤ last → lies s g ≡ true) → Longest (max m (g - a)) g
+  pub longest-step : (m a g : ℕ) → a ≤ g → g ≤ last + 1 → Longest m a → ((c : ℕ) → a ≤ c → c < g → inSome s c ≡ false)
+      → (g ≤ last → inSome s g ≡ true) → Longest (max m (g - a)) g
   longest-step m a g ag gl h f stop =
       let k : suc last - a ≡ (g - a) + (suc last - g) = omega arith in
       let e : a + (g - a) ≡ g = omega arith in

@@ -8,14 +8,26 @@ use lib.ListN.{length, getD, set}
 use Rattle.octets.specs.Tests.{_and_, _or_, any, findIx}
 use Rattle.octets.specs.Rows.{Row, row, refusal}
 use Rattle.octets.specs.Bytes.{le, put, zeros, isZero, same, putChunk}
-use Rattle.gpt_model.specs.Table.{vacant, entryBytes, slotCount, tableBytes, uniqueOf, firstOf, nameBytes, entryWith, unused, entries, slots}
+use Rattle.gpt_model.specs.Table.{writeAll, noBlocks, entryBytes, slotCount, tableBytes, uniqueOf, firstOf, nameBytes, unused, entries, rangesOf}
 use Rattle.gpt_model.specs.Disk.{Shape, lastUsable, inRange, primary, backup, lentBytes, guidIn, entriesIn, state, tableOf}
 use Rattle.gpt_model.specs.Disk.{withTable, withCopy, freshHead, freshTail}
-use Rattle.gpt_model.specs.Ranges.{roomAt, place, freeCount, longestFree}
+use Rattle.gpt_model.specs.Ranges.{roomAt, lowestStart, freeCount, longestFree}
 
--- D15: Add is given type, unique GUID (16 stored bytes each), size in blocks, attributes and name (36 units). A slot is named by its number, from 1 on.
+-- D15: Add is given type, unique GUID (16 stored bytes each), size in blocks, attributes and name (36 units)
+pub record NewPartition : Type 0 where
+  pub type : List ℕ
+  pub unique : List ℕ
+  pub size : ℕ
+  pub attributes : ℕ
+  pub name : List ℕ
+
+-- the same from a function's parameters
+abbrev pub newPartition : List ℕ → List ℕ → ℕ → ℕ → List ℕ → NewPartition
+newPartition type unique size attributes name = record { type = type; unique = unique; size = size; attributes = attributes; name = name }
+
+-- a slot is named by its number, from 1 on
 pub data Edit : Type 0 where
-  add : List ℕ → List ℕ → ℕ → ℕ → List ℕ → Edit
+  add : NewPartition → Edit
   delete : ℕ → Edit
   resize : ℕ → ℕ → Edit
   rename : ℕ → List ℕ → Edit
@@ -31,18 +43,19 @@ pub data Answer : Type 0 where
   refused : ℕ → Answer
   accepted : List ℕ → Answer
 
-pub record Out : Type 0 where
+-- what a call answers, and head and tail afterwards
+pub record Outcome : Type 0 where
   pub answer : Answer
   pub head : List ℕ
   pub tail : List ℕ
 
-abbrev pub out : Answer → List ℕ → List ℕ → Out
-out a h t = record { answer = a; head = h; tail = t }
+abbrev pub outcome : Answer → List ℕ → List ℕ → Outcome
+outcome a h t = record { answer = a; head = h; tail = t }
 
 -- R1: and changes no lent byte. R2: a call for which none holds is accepted. Its outcome is o.
-abbrev pub decided : Option ℕ → List ℕ → List ℕ → Out → Out
-decided none h t o = o
-decided (some k) h t o = out (refused k) h t
+abbrev pub unlessRefused : Option ℕ → List ℕ → List ℕ → Outcome → Outcome
+unlessRefused none h t o = o
+unlessRefused (some k) h t o = outcome (refused k) h t
 
 -- ---- an edit on the table alone: its rows, and the one entry that it writes
 
@@ -61,57 +74,72 @@ abbrev pub isNone : Option ℕ → Bool
 isNone none = true
 isNone (some s) = false
 
-abbrev pub valueOf : Option ℕ → ℕ
-valueOf none = 0
-valueOf (some s) = s
+abbrev pub orZero : Option ℕ → ℕ
+orZero none = 0
+orZero (some s) = s
 
 pub record Change : Type 0 where
   pub values : List ℕ
   pub index : ℕ
   pub entry : List ℕ
 
+-- R9: 12 / 13: partition number not 1 to 128 / slot unused
+abbrev pub slotRows : List ℕ → ℕ → List Row
+slotRows es k = row (not (leb 1 k and leb k slotCount)) 12 ∷ row (unused (entryOf es k)) 13 ∷ []
+
+-- R10: 20: size zero. R11: 21 / 22: type GUID zero / unique GUID zero or already in a used slot. R13: 24 / 25: no unused slot / no room
+abbrev pub addRows : List ℕ → NewPartition → List Row
+addRows es p =
+    row (eqb (p .size) 0) 20
+    ∷ row (isZero (p .type)) 21
+    ∷ row (isZero (p .unique) or any (carries (p .unique)) (entries es)) 22
+    ∷ row (badName (p .name)) 23
+    ∷ row (not (any unused (entries es))) 24
+    ∷ []
+
+-- D18: it gets 25 exactly when a block of the new range lies past N−34 or in another partition
+abbrev pub fitsAt : ℕ → List ℕ → ℕ → ℕ → Bool
+fitsAt last es k size = roomAt (set (rangesOf es) (k - 1) noBlocks) last size (firstOf (entryOf es k))
+
+-- D15: takes the lowest unused slot. Counted from 0
+abbrev pub lowestUnused : List ℕ → ℕ
+lowestUnused es = findIx unused (entries es)
+
+-- the fields of a new partition's entry, where it starts at block s
+-- D5: type GUID 0, unique GUID 16, first block 32, last block (inclusive) 40, attributes 48, name 56 as 36 16-bit units.
+abbrev pub newFields : NewPartition → ℕ → List (ℕ × List ℕ)
+newFields p s =
+    (0, p .type)
+    ∷ (16, p .unique)
+    ∷ (32, le 8 s)
+    ∷ (40, le 8 (s + p .size - 1))
+    ∷ (48, le 8 (p .attributes))
+    ∷ (56, nameBytes (p .name))
+    ∷ []
+
+abbrev pub newEntry : NewPartition → ℕ → List ℕ
+newEntry p s = writeAll (newFields p s) (zeros entryBytes)
+
 module _ (first last : ℕ) (es : List ℕ) where
-  -- R9: 12 / 13: partition number not 1 to 128 / slot unused
-  abbrev pub slotRows : ℕ → List Row
-  slotRows k = row (not (leb 1 k and leb k slotCount)) 12 ∷ row (unused (entryOf es k)) 13 ∷ []
-
-  -- R10: 20: size zero. R11: 21 / 22: type GUID zero / unique GUID zero or already in a used slot. R13: 24 / 25: no unused slot / no room
-  abbrev pub addRows : List ℕ → List ℕ → ℕ → List ℕ → List Row
-  addRows type unique size name =
-      row (eqb size 0) 20
-      ∷ row (isZero type) 21
-      ∷ row (isZero unique or any (carries unique) (entries es)) 22
-      ∷ row (badName name) 23
-      ∷ row (not (any unused (entries es))) 24
-      ∷ []
-
-  -- D18: it gets 25 exactly when a block of the new range lies past N−34 or in another partition
-  abbrev pub fitsAt : ℕ → ℕ → Bool
-  fitsAt k size = roomAt (set (slots es) (k - 1) vacant) last size (firstOf (entryOf es k))
+  -- D15: and the lowest start with enough free blocks
+  abbrev pub startFor : NewPartition → Option ℕ
+  startFor p = lowestStart (rangesOf es) first last (p .size)
 
   -- R27: Add: 1, 2, 10, 11, 20, 21, 22, 23, 24, 25. R28: Delete: 1, 2, 10, 11, 12, 13. R29: Rename the same, then 23. R30: Resize as delete, then 20, 25.
   abbrev pub tableRows : Edit → List Row
-  tableRows (add type unique size attributes name) = addRows type unique size name ++ (row (isNone (place (slots es) first last size)) 25 ∷ [])
-  tableRows (delete k) = slotRows k
-  tableRows (resize k size) = slotRows k ++ (row (eqb size 0) 20 ∷ row (not (fitsAt k size)) 25 ∷ [])
-  tableRows (rename k name) = slotRows k ++ (row (badName name) 23 ∷ [])
-
-  -- D15: takes the lowest unused slot and the lowest start with enough free blocks
-  abbrev pub lowestUnused : ℕ
-  lowestUnused = findIx unused (entries es)
-
-  abbrev pub startOf : ℕ → ℕ
-  startOf size = valueOf (place (slots es) first last size)
+  tableRows (add p) = addRows es p ++ (row (isNone (startFor p)) 25 ∷ [])
+  tableRows (delete k) = slotRows es k
+  tableRows (resize k size) = slotRows es k ++ (row (eqb size 0) 20 ∷ row (not (fitsAt last es k size)) 25 ∷ [])
+  tableRows (rename k name) = slotRows es k ++ (row (badName name) 23 ∷ [])
 
   -- what an edit answers, and the one entry that it writes, counted from 0
   -- D16: Delete zeroes the slot. D18: Resize sets the last block alone, to the size asked.
   -- D17: Rename sets the entry's 72 name bytes alone, to 36 given units.
   abbrev pub change : Edit → Change
-  change (add type unique size attributes name) = record {
-    values = suc lowestUnused ∷ startOf size ∷ [];
-    index = lowestUnused;
-    entry = entryWith type unique (startOf size) (startOf size + size - 1) attributes name;
-  }
+  change (add p) =
+      let slot = lowestUnused es in
+      let start = orZero (startFor p) in
+      record { values = suc slot ∷ start ∷ []; index = slot; entry = newEntry p start }
   change (delete k) = record { values = []; index = k - 1; entry = zeros entryBytes }
   change (resize k size) = record { values = []; index = k - 1; entry = put 40 (le 8 (firstOf (entryOf es k) + size - 1)) (entryOf es k) }
   change (rename k name) = record { values = []; index = k - 1; entry = put 56 (nameBytes name) (entryOf es k) }
@@ -124,7 +152,7 @@ module _ (first last : ℕ) (es : List ℕ) where
 
 -- R4: a lent buffer has a wrong length. Right ones: of what an edit is lent besides head and tail; of head and tail.
 abbrev pub lengthsOf : Edit → Bool
-lengthsOf (add type unique size attributes name) = eqb (length type) 16 and eqb (length unique) 16 and eqb (length name) 36
+lengthsOf (add p) = eqb (length (p .type)) 16 and eqb (length (p .unique)) 16 and eqb (length (p .name)) 36
 lengthsOf (delete k) = true
 lengthsOf (resize k size) = true
 lengthsOf (rename k name) = eqb (length name) 36
@@ -133,47 +161,49 @@ abbrev pub lengthsOk : Shape → List ℕ → List ℕ → Bool
 lengthsOk g h t = eqb (length h) (lentBytes g primary) and eqb (length t) (lentBytes g backup)
 
 module _ (g : Shape) (n : ℕ) (h t : List ℕ) where
-  -- R26: Read, repair, free counts: 1, 2, 10. R5: 2: N outside its range. R7: 10: neither GPT copy is good
-  abbrev pub readRows : Bool → List Row
-  readRows lengths = row (not (lengthsOk g h t and lengths)) 1 ∷ row (not (inRange g n)) 2 ∷ row (eqb (state g n h t) 0) 10 ∷ []
+  -- what every call but formatting is refused for first. R26: Read, repair, free counts: 1, 2, 10. R5: 2: N outside its range. R7: 10: neither GPT copy is good
+  abbrev pub commonRows : Bool → List Row
+  commonRows lengths = row (not (lengthsOk g h t and lengths)) 1 ∷ row (not (inRange g n)) 2 ∷ row (eqb (state g n h t) 0) 10 ∷ []
 
   -- R8: 11: an edit, and the copies are not both good and the same
   abbrev pub openRows : Edit → List Row
-  openRows d = readRows (lengthsOf d) ++ (row (not (eqb (state g n h t) 1)) 11 ∷ [])
+  openRows d = commonRows (lengthsOf d) ++ (row (not (eqb (state g n h t) 1)) 11 ∷ [])
 
   abbrev pub rowsOf : Call → List Row
-  rowsOf read = readRows true
-  rowsOf freeCounts = readRows true
-  rowsOf repair = readRows true
+  rowsOf read = commonRows true
+  rowsOf freeCounts = commonRows true
+  rowsOf repair = commonRows true
   rowsOf (edit d) = openRows d ++ tableRows (g .first) (lastUsable g n) (tableOf g n h t) d
 
   -- D24: Repair in state 1 changes nothing; otherwise it writes the other copy's 33 blocks from the good one (state 2: from the primary), header tail zero.
-  abbrev pub repaired : ℕ → Out
+  abbrev pub repaired : ℕ → Outcome
   repaired s =
-      cond (eqb s 1) (out (accepted (s ∷ [])) h t)
-      (cond (eqb s 4) (out (accepted (s ∷ [])) (withCopy g n primary (guidIn g backup t) (entriesIn g backup t) h) t)
-      (out (accepted (s ∷ [])) h (withCopy g n backup (guidIn g primary h) (entriesIn g primary h) t)))
+      cond (eqb s 1) (outcome (accepted (s ∷ [])) h t)
+      (cond (eqb s 4) (outcome (accepted (s ∷ [])) (withCopy g n primary (guidIn g backup t) (entriesIn g backup t) h) t)
+      (outcome (accepted (s ∷ [])) h (withCopy g n backup (guidIn g primary h) (entriesIn g primary h) t)))
 
-  abbrev pub made : Call → Out
-  made read = out (accepted (state g n h t ∷ [])) h t
-  made freeCounts =
-      let t′ = slots (tableOf g n h t) in
-      out (accepted (freeCount t′ (g .first) (lastUsable g n) ∷ longestFree t′ (g .first) (lastUsable g n) ∷ [])) h t
-  made repair = repaired (state g n h t)
+  -- the outcome of a call that no row refuses
+  abbrev pub acceptedOutcome : Call → Outcome
+  acceptedOutcome read = outcome (accepted (state g n h t ∷ [])) h t
+  acceptedOutcome freeCounts =
+      let t′ = rangesOf (tableOf g n h t) in
+      outcome (accepted (freeCount t′ (g .first) (lastUsable g n) ∷ longestFree t′ (g .first) (lastUsable g n) ∷ [])) h t
+  acceptedOutcome repair = repaired (state g n h t)
   -- D23: Each edit changes that entry and the two CRCs, in both copies, and no other byte.
-  made (edit d) =
+  acceptedOutcome (edit d) =
       let es = edited (g .first) (lastUsable g n) (tableOf g n h t) d in
-      out (accepted (change (g .first) (lastUsable g n) (tableOf g n h t) d .values)) (withTable g n primary (guidIn g primary h) es h)
+      outcome (accepted (change (g .first) (lastUsable g n) (tableOf g n h t) d .values)) (withTable g n primary (guidIn g primary h) es h)
       (withTable g n backup (guidIn g backup t) es t)
 
-  unfoldable pub step : Call → Out
-  step c = decided (refusal (rowsOf c)) h t (made c)
+  unfoldable pub step : Call → Outcome
+  step c = unlessRefused (refusal (rowsOf c)) h t (acceptedOutcome c)
 
 -- R25: Order: format 1, 2, 3. R6: 3: disk GUID all zero (formatting)
 abbrev pub formatRows : Shape → ℕ → List ℕ → List ℕ → List ℕ → List Row
 formatRows g n guid h t = row (not (lengthsOk g h t and eqb (length guid) 16)) 1 ∷ row (not (inRange g n)) 2 ∷ row (isZero guid) 3 ∷ []
 
 -- D13: Formatting writes both copies with no entries and block 0
-unfoldable pub format : Shape → ℕ → List ℕ → List ℕ → List ℕ → Out
+unfoldable pub format : Shape → ℕ → List ℕ → List ℕ → List ℕ → Outcome
 format g n guid h t =
-    decided (refusal (formatRows g n guid h t)) h t (out (accepted []) (freshHead g n guid (zeros tableBytes)) (freshTail g n guid (zeros tableBytes)))
+    let es = zeros tableBytes in
+    unlessRefused (refusal (formatRows g n guid h t)) h t (outcome (accepted []) (freshHead g n guid es) (freshTail g n guid es))

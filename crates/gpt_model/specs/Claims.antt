@@ -1,6 +1,6 @@
 -- What is claimed of the definitions: the statements of the theorems, proved under the same names in lower case. A reader relies on these.
 use mathlib.Core.Path.{_≡_}
-use mathlib.Core.Logic.{_⊎_, _≢_, _↔_}
+use mathlib.Core.Logic.{_≢_, _↔_}
 use mathlib.Core.Bool.{true, false}
 use mathlib.Core.List.{List, [], _∷_, _++_}
 use mathlib.Core.Option.{none}
@@ -8,37 +8,31 @@ use Prim.Native.Nat.{ℕ, suc, _+_, _-_, _*_, _≤_, _<_}
 use lib.ListN.{length, getD}
 use Rattle.octets.specs.Rows.{refusal}
 use Rattle.octets.specs.Bytes.{zeros, isZero}
-use Rattle.gpt_model.specs.Table.{entryBytes, uniqueOf, firstOf, lastOf, unused, Slot, vacant, slotCount, tableBytes, slots}
+use Rattle.gpt_model.specs.Table.{entryBytes, uniqueOf, firstOf, lastOf, unused, noBlocks, slotCount, tableBytes, rangesOf}
 use Rattle.gpt_model.specs.Disk.{Shape, disk512, lastUsable, usable, inRange, Side, primary, backup, entriesBlock, lentBytes, headerAt, entriesAt}
-use Rattle.gpt_model.specs.Disk.{headerBytes, state, lent, tableOf}
-use Rattle.gpt_model.specs.Ranges.{inside, lies, taken}
-use Rattle.gpt_model.specs.Calls.{Edit, add, delete, resize, rename, Call, read, freeCounts, repair, edit, refused, accepted, out}
+use Rattle.gpt_model.specs.Disk.{headerBytes, goodCopy, state, lent, tableOf}
+use Rattle.gpt_model.specs.Ranges.{blockIn, inSome, FreeFrom, taken}
+use Rattle.gpt_model.specs.Calls.{NewPartition, Edit, add, delete, resize, rename, Call, read, freeCounts, repair, edit, refused, accepted, outcome}
 use Rattle.gpt_model.specs.Calls.{entryOf, addRows, change, edited, openRows, rowsOf, step, format}
-use Rattle.gpt_model.specs.Lists.{Ledger, sizeWas, bookEdit, Run, run, answers, applied, begun, slotsOf, StartsAfresh}
+use Rattle.gpt_model.specs.Lists.{Ledger, sizeWas, bookEdit, Snapshot, afterAll, answers, applied, startAfter, rangesIn, StartsAfresh}
+use Rattle.gpt_model.specs.Stored.{EntryHolds, HeadGood, TailGood, SizesOk, ReadSays, FormatSays, Outside, EditSays, RepairSays}
 
 -- ---- demand 3
 
--- (D21) a run of free blocks: the size blocks from s on are usable, and each lies in no partition
-abbrev pub FreeFrom : Shape → ℕ → List Slot → ℕ → ℕ → Type 0
-FreeFrom g n t size s = (g .first ≤ s) × (s + size ≤ suc (lastUsable g n)) × ((b : ℕ) → s ≤ b → b < s + size → lies t b ≡ false)
-
 -- an add that comes next passes its checks before the one for room
-abbrev pub Passes : Shape → ℕ → Run → List ℕ → List ℕ → ℕ → ℕ → List ℕ → Type 0
-Passes g n r type unique size attributes name =
-    refusal (openRows g n (r .head) (r .tail) (add type unique size attributes name)
-    ++ addRows (g .first) (lastUsable g n) (tableOf g n (r .head) (r .tail)) type unique size name) ≡ none
+abbrev pub Passes : Shape → ℕ → Snapshot → NewPartition → Type 0
+Passes g n r p = refusal (openRows g n (r .head) (r .tail) (add p) ++ addRows (tableOf g n (r .head) (r .tail)) p) ≡ none
 
-pub record Sound (g : Shape) (n : ℕ) (r : Run) : Type 0 where
+pub record Sound (g : Shape) (n : ℕ) (r : Snapshot) : Type 0 where
   -- No usable block lies in two partitions.
   pub one : (b i j : ℕ) → g .first ≤ b → b ≤ lastUsable g n → i < slotCount → j < slotCount
-      → inside b (getD (slotsOf g n r) i vacant) ≡ true → inside b (getD (slotsOf g n r) j vacant) ≡ true → i ≡ j
+      → blockIn b (getD (rangesIn g n r) i noBlocks) ≡ true → blockIn b (getD (rangesIn g n r) j noBlocks) ≡ true → i ≡ j
   -- The blocks lying in partitions, counted one by one, equal all blocks granted by accepted calls less all given back.
-  pub counted : taken (slotsOf g n r) (g .first) (lastUsable g n) + r .ledger .back ≡ r .ledger .granted
+  pub counted : taken (rangesIn g n r) (g .first) (lastUsable g n) + r .ledger .back ≡ r .ledger .granted
   -- An add that comes next, once its earlier checks pass, is refused for room exactly when no run of as many free blocks as it asks exists, freed ones
   -- included.
-  pub room : (type unique : List ℕ) (size attributes : ℕ) (name : List ℕ) → Passes g n r type unique size attributes name
-      → (step g n (r .head) (r .tail) (edit (add type unique size attributes name)) .answer ≡ refused 25)
-      ↔ ((s : ℕ) → ¬ FreeFrom g n (slotsOf g n r) size s)
+  pub room : (p : NewPartition) → Passes g n r p
+      → (step g n (r .head) (r .tail) (edit (add p)) .answer ≡ refused 25) ↔ ((s : ℕ) → ¬ FreeFrom g n (rangesIn g n r) (p .size) s)
 
 -- a formatting with any N in its range and any nonzero disk GUID, whatever head and tail held, on any shape whose blocks have room for a header
 pub record Formats (g : Shape) (n : ℕ) (guid h t : List ℕ) : Type 0 where
@@ -52,20 +46,20 @@ pub record Formats (g : Shape) (n : ℕ) (guid h t : List ℕ) : Type 0 where
 -- from every start afresh
 abbrev pub Demand3From : Type 0
 Demand3From =
-    (g : Shape) → headerBytes ≤ g .block → (n : ℕ) (es : List ℕ) (r : Run) → StartsAfresh g n es r → (cs : List Call) → Sound g n (run g n cs r)
+    (g : Shape) → headerBytes ≤ g .block → (n : ℕ) (es : List ℕ) (r : Snapshot) → StartsAfresh g n es r → (cs : List Call) → Sound g n (afterAll g n cs r)
 
 -- D19: Demand 3 is one claim about the whole list, not one for each call.
 abbrev pub Demand3 : Type 0
 Demand3 =
     (g : Shape) (n : ℕ) (guid h t : List ℕ) → Formats g n guid h t
-    → (cs : List Call) → (format g n guid h t .answer ≡ accepted []) × Sound g n (run g n cs (begun (format g n guid h t)))
+    → (cs : List Call) → (format g n guid h t .answer ≡ accepted []) × Sound g n (afterAll g n cs (startAfter (format g n guid h t)))
 
 -- The same on a disk of 512-byte blocks, in the numbers of the rules.
 abbrev pub Demand3At512 : Type 0
 Demand3At512 =
     (n : ℕ) (guid h t : List ℕ) → 68 ≤ n → n ≤ 4294967296 → length guid ≡ 16 → isZero guid ≡ false → length h ≡ 17408 → length t ≡ 16896
     → (cs : List Call)
-    → (format disk512 n guid h t .answer ≡ accepted []) × Sound disk512 n (run disk512 n cs (begun (format disk512 n guid h t)))
+    → (format disk512 n guid h t .answer ≡ accepted []) × Sound disk512 n (afterAll disk512 n cs (startAfter (format disk512 n guid h t)))
 
 -- The numbers of such a disk. Q2: N .. is 68 to 4,294,967,296. Q3: the head .. (17,408 bytes), and the tail .. (16,896 bytes).
 -- D1: first usable 34, last usable N−34. D2: entries from N−33. So N−67 blocks are usable.
@@ -94,46 +88,45 @@ UsedSlot es k = (1 ≤ k) × (k ≤ slotCount) × (unused (entryOf es k) ≡ fal
 abbrev pub NameOk : List ℕ → Type 0
 NameOk name = (i j : ℕ) → i < j → getD name i 0 ≡ 0 → getD name j 0 ≡ 0
 
--- (D18) with size blocks from its first on, slot k ends at the last usable block or before, and no block of it lies in another slot
+-- (D18) with size blocks from its first on, slot k ends at the last usable block or before, and no block of it lies in another slot's range
 abbrev pub FitsAlone : ℕ → List ℕ → ℕ → ℕ → Type 0
 FitsAlone last es k size =
     let f = firstOf (entryOf es k) in
-    (f + size ≤ suc last) × ((b i : ℕ) → f ≤ b → b < f + size → i < slotCount → i ≢ k - 1 → inside b (getD (slots es) i vacant) ≡ false)
+    (f + size ≤ suc last) × ((b i : ℕ) → f ≤ b → b < f + size → i < slotCount → i ≢ k - 1 → blockIn b (getD (rangesOf es) i noBlocks) ≡ false)
 
 -- what an add is given is right, and the table has a slot for it: each line denies one row
-pub record NewOk (es type unique : List ℕ) (size : ℕ) (name : List ℕ) : Type 0 where
-  pub lengths : (length type ≡ 16) × (length unique ≡ 16) × (length name ≡ 36)
-  pub blocks : size ≢ 0
-  pub typed : isZero type ≡ false
-  pub own : (isZero unique ≡ false) × ((k : ℕ) → UsedSlot es k → uniqueOf (entryOf es k) ≢ unique)
-  pub named : NameOk name
+pub record NewOk (es : List ℕ) (p : NewPartition) : Type 0 where
+  pub lengths : (length (p .type) ≡ 16) × (length (p .unique) ≡ 16) × (length (p .name) ≡ 36)
+  pub blocks : p .size ≢ 0
+  pub typed : isZero (p .type) ≡ false
+  pub own : (isZero (p .unique) ≡ false) × ((k : ℕ) → UsedSlot es k → uniqueOf (entryOf es k) ≢ p .unique)
+  pub named : NameOk (p .name)
   pub slot : (k : ℕ) × (1 ≤ k) × (k ≤ slotCount) × (unused (entryOf es k) ≡ true)
 
 -- an edit that answers nothing else is accepted when it comes next
-abbrev pub Accepts : Shape → ℕ → Run → Edit → Type 0
+abbrev pub Accepts : Shape → ℕ → Snapshot → Edit → Type 0
 Accepts g n r d = step g n (r .head) (r .tail) (edit d) .answer ≡ accepted []
 
-pub record Serves (g : Shape) (n : ℕ) (es : List ℕ) (r : Run) : Type 0 where
+pub record Serves (g : Shape) (n : ℕ) (es : List ℕ) (r : Snapshot) : Type 0 where
   -- the disk reads as state 1, with the table es, and repair finds state 1 and changes nothing
   pub reads : state g n (r .head) (r .tail) ≡ 1
   pub table : tableOf g n (r .head) (r .tail) ≡ es
   pub reading : step g n (r .head) (r .tail) read .answer ≡ accepted (1 ∷ [])
-  pub repairing : step g n (r .head) (r .tail) repair ≡ out (accepted (1 ∷ [])) (r .head) (r .tail)
+  pub repairing : step g n (r .head) (r .tail) repair ≡ outcome (accepted (1 ∷ [])) (r .head) (r .tail)
   -- rows 10 and 11 do not hold
   pub not10 : (c : Call) → step g n (r .head) (r .tail) c .answer ≢ refused 10
   pub not11 : (c : Call) → step g n (r .head) (r .tail) c .answer ≢ refused 11
   -- (D12) free counts: the usable blocks that lie in no partition, and the longest run of such: one of that length stands somewhere, and no longer one does
   pub counts : (free : ℕ) × (longest : ℕ) × (step g n (r .head) (r .tail) freeCounts .answer ≡ accepted (free ∷ longest ∷ []))
-      × (free + taken (slotsOf g n r) (g .first) (lastUsable g n) ≡ usable g n)
-      × ((s : ℕ) × FreeFrom g n (slotsOf g n r) longest s)
-      × ((size s : ℕ) → FreeFrom g n (slotsOf g n r) size s → size ≤ longest)
+      × (free + taken (rangesIn g n r) (g .first) (lastUsable g n) ≡ usable g n)
+      × ((s : ℕ) × FreeFrom g n (rangesIn g n r) longest s)
+      × ((size s : ℕ) → FreeFrom g n (rangesIn g n r) size s → size ≤ longest)
   -- an add's checks before the one for room pass exactly when what it is given is right and a slot is unused
-  pub passes : (type unique : List ℕ) (size attributes : ℕ) (name : List ℕ) → Passes g n r type unique size attributes name ↔ NewOk es type unique size name
+  pub passes : (p : NewPartition) → Passes g n r p ↔ NewOk es p
   -- and then it is accepted exactly when a run of as many free blocks as it asks exists
-  pub fits : (type unique : List ℕ) (size attributes : ℕ) (name : List ℕ) → Passes g n r type unique size attributes name
-      → (step g n (r .head) (r .tail) (edit (add type unique size attributes name)) .answer
-      ≡ accepted (change (g .first) (lastUsable g n) es (add type unique size attributes name) .values))
-      ↔ ((s : ℕ) × FreeFrom g n (slotsOf g n r) size s)
+  pub fits : (p : NewPartition) → Passes g n r p
+      → (step g n (r .head) (r .tail) (edit (add p)) .answer ≡ accepted (change (g .first) (lastUsable g n) es (add p) .values))
+      ↔ ((s : ℕ) × FreeFrom g n (rangesIn g n r) (p .size) s)
   -- a delete is accepted exactly when its slot is used
   pub deletes : (k : ℕ) → Accepts g n r (delete k) ↔ UsedSlot es k
   -- a rename, exactly when it has 36 units, its slot is used and no nonzero unit comes after a zero one
@@ -145,16 +138,16 @@ pub record Serves (g : Shape) (n : ℕ) (es : List ℕ) (r : Run) : Type 0 where
 abbrev pub NotEmpty : Type 0
 NotEmpty =
     (g : Shape) (n : ℕ) (guid h t : List ℕ) → Formats g n guid h t → (cs : List Call)
-    → let r = begun (format g n guid h t) in
-    Serves g n (applied (g .first) (lastUsable g n) (zeros tableBytes) cs (answers g n cs r)) (run g n cs r)
+    → let r = startAfter (format g n guid h t) in
+    Serves g n (applied (g .first) (lastUsable g n) (zeros tableBytes) cs (answers g n cs r)) (afterAll g n cs r)
 
 -- ---- demand 1. R1: A refusal returns its number alone .. and changes no lent byte.
 
 abbrev pub RefusedStays : Type 0
 RefusedStays =
     (g : Shape) (n k : ℕ) (guid h t : List ℕ) (c : Call)
-    → (step g n h t c .answer ≡ refused k → step g n h t c ≡ out (refused k) h t)
-    × (format g n guid h t .answer ≡ refused k → format g n guid h t ≡ out (refused k) h t)
+    → (step g n h t c .answer ≡ refused k → step g n h t c ≡ outcome (refused k) h t)
+    × (format g n guid h t .answer ≡ refused k → format g n guid h t ≡ outcome (refused k) h t)
 
 -- ---- demand 2: What is written reads back as the same table
 
@@ -170,10 +163,6 @@ RepairReadsBack =
     (g : Shape) (n : ℕ) (h t : List ℕ) → headerBytes ≤ g .block → refusal (rowsOf g n h t repair) ≡ none
     → let o = step g n h t repair in
     (o .answer ≡ accepted (state g n h t ∷ [])) × (state g n (o .head) (o .tail) ≡ 1) × (tableOf g n (o .head) (o .tail) ≡ tableOf g n h t)
-
--- byte k is none of the w bytes from at on
-abbrev pub Outside : ℕ → ℕ → ℕ → Type 0
-Outside at w k = (k < at) ⊎ (at + w ≤ k)
 
 -- D23: Each edit changes that entry and the two CRCs, in both copies, and no other byte.
 abbrev pub EditTouches : Type 0
@@ -191,4 +180,38 @@ abbrev pub ResizeToSame : Type 0
 ResizeToSame =
     (g : Shape) (n : ℕ) (h t : List ℕ) (k : ℕ) → headerBytes ≤ g .block → ((i : ℕ) → getD h i 0 < 256) → refusal (rowsOf g n h t (edit (delete k))) ≡ none
     → let e = entryOf (tableOf g n h t) k in
-    step g n h t (edit (resize k (suc (lastOf e) - firstOf e))) ≡ out (accepted []) h t
+    step g n h t (edit (resize k (suc (lastOf e) - firstOf e))) ≡ outcome (accepted []) h t
+
+-- ---- the definitions go by what Stored says in bytes
+
+-- a block lies in a partition of the table es, by the definitions, exactly when the bytes say so
+abbrev pub InSomeByBytes : Type 0
+InSomeByBytes = (es : List ℕ) (b : ℕ) → (inSome (rangesOf es) b ≡ true) ↔ ((i : ℕ) × (i < slotCount) × EntryHolds es i b)
+
+-- D8: A copy is good when every named header field, both CRCs and all entry rules hold.
+abbrev pub GoodByBytes : Type 0
+GoodByBytes =
+    (g : Shape) (n : ℕ) (h t : List ℕ) → SizesOk g n h t
+    → ((goodCopy g n primary h ≡ true) ↔ HeadGood g n h) × ((goodCopy g n backup t ≡ true) ↔ TailGood g n t)
+
+abbrev pub ReadByBytes : Type 0
+ReadByBytes = (g : Shape) (n : ℕ) (h t : List ℕ) → SizesOk g n h t → ReadSays g n h t (step g n h t read .answer) (tableOf g n h t)
+
+-- P2: formatting is accepted for every legal N and nonzero GUID. It is refused for every other
+abbrev pub FormatWrites : Type 0
+FormatWrites =
+    (g : Shape) (n : ℕ) (guid h t : List ℕ) → 512 ≤ g .block
+    → let o = format g n guid h t in
+    ((o .answer ≡ accepted []) ↔ (SizesOk g n h t × (length guid ≡ 16) × (isZero guid ≡ false)))
+    × (o .answer ≡ accepted [] → FormatSays g n guid (o .head) (o .tail))
+
+abbrev pub EditWrites : Type 0
+EditWrites =
+    (g : Shape) (n : ℕ) (h t : List ℕ) (d : Edit) → headerBytes ≤ g .block → refusal (rowsOf g n h t (edit d)) ≡ none
+    → let o = step g n h t (edit d) in EditSays g n d (o .answer) (tableOf g n h t) (tableOf g n (o .head) (o .tail))
+
+-- R3: Accepted, .. repair [answers] the state found, as reading does
+abbrev pub RepairWrites : Type 0
+RepairWrites =
+    (g : Shape) (n : ℕ) (h t : List ℕ) → SizesOk g n h t
+    → let o = step g n h t repair in (o .answer ≡ step g n h t read .answer) × RepairSays g n h t o

@@ -4,5 +4,5 @@ pub mod Disk
 pub mod Ranges
 pub mod Calls
 pub mod Lists
-pub mod Claims
 pub mod Stored
+pub mod Claims

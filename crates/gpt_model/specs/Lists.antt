@@ -3,9 +3,10 @@ use mathlib.Core.Path.{_≡_}
 use mathlib.Core.List.{List, [], _∷_, map}
 use Prim.Native.Nat.{ℕ, _+_, _-_}
 use lib.ListN.{length, getD, set, replicate}
-use Rattle.gpt_model.specs.Table.{Slot, sizeOf, slotCount, slots}
+use Rattle.gpt_model.specs.Table.{BlockRange, rangeSize, slotCount, rangesOf}
 use Rattle.gpt_model.specs.Disk.{Shape, primary, backup, lentBytes, state, tableOf}
-use Rattle.gpt_model.specs.Calls.{Edit, add, delete, resize, rename, Call, read, freeCounts, repair, edit, Answer, refused, accepted, Out, edited, step}
+use Rattle.gpt_model.specs.Calls.{Edit, add, delete, resize, rename, Call, read, freeCounts, repair, edit, Answer, refused, accepted, Outcome}
+use Rattle.gpt_model.specs.Calls.{edited, step}
 
 -- ---- D22: The sums come from calls and replies alone
 
@@ -21,7 +22,7 @@ sizeWas l k = getD (l .sizes) (k - 1) 0
 -- D22: an accepted add grants the size asked, a delete gives back the size last accepted for that slot, a resize grants or gives back the difference
 -- from it (of two truncated differences one is 0); rename [does] neither. k is the first value of the reply: an add's slot.
 abbrev pub bookEdit : Ledger → Edit → ℕ → Ledger
-bookEdit l (add type unique size attributes name) k = record { granted = l .granted + size; back = l .back; sizes = set (l .sizes) (k - 1) size }
+bookEdit l (add p) k = record { granted = l .granted + p .size; back = l .back; sizes = set (l .sizes) (k - 1) (p .size) }
 bookEdit l (delete k) _ = record { granted = l .granted; back = l .back + sizeWas l k; sizes = set (l .sizes) (k - 1) 0 }
 bookEdit l (resize k size) _ =
     record { granted = l .granted + (size - sizeWas l k); back = l .back + (sizeWas l k - size); sizes = set (l .sizes) (k - 1) size }
@@ -37,22 +38,23 @@ book l (edit d) (accepted values) = bookEdit l d (getD values 0 0)
 
 -- ---- a list of calls: each gets the head and tail that the one before it left
 
-pub record Run : Type 0 where
+-- head, tail and ledger between two calls
+pub record Snapshot : Type 0 where
   pub head : List ℕ
   pub tail : List ℕ
   pub ledger : Ledger
 
-abbrev pub next : Shape → ℕ → Call → Run → Run
-next g n c r =
+abbrev pub afterOne : Shape → ℕ → Call → Snapshot → Snapshot
+afterOne g n c r =
     let o = step g n (r .head) (r .tail) c in record { head = o .head; tail = o .tail; ledger = book (r .ledger) c (o .answer) }
 
-abbrev pub run : Shape → ℕ → List Call → Run → Run
-run g n [] r = r
-run g n (c ∷ cs) r = run g n cs (next g n c r)
+abbrev pub afterAll : Shape → ℕ → List Call → Snapshot → Snapshot
+afterAll g n [] r = r
+afterAll g n (c ∷ cs) r = afterAll g n cs (afterOne g n c r)
 
-abbrev pub answers : Shape → ℕ → List Call → Run → List Answer
+abbrev pub answers : Shape → ℕ → List Call → Snapshot → List Answer
 answers g n [] r = []
-answers g n (c ∷ cs) r = step g n (r .head) (r .tail) c .answer ∷ answers g n cs (next g n c r)
+answers g n (c ∷ cs) r = step g n (r .head) (r .tail) c .answer ∷ answers g n cs (afterOne g n c r)
 
 -- the table es after the call c was answered a: an accepted edit writes its one entry
 abbrev pub tableNext : ℕ → ℕ → List ℕ → Call → Answer → List ℕ
@@ -68,23 +70,24 @@ applied first last es [] replies = es
 applied first last es (c ∷ cs) [] = es
 applied first last es (c ∷ cs) (a ∷ replies) = applied first last (tableNext first last es c a) cs replies
 
--- D20: The list follows an accepted formatting: nothing is granted yet
-abbrev pub begun : Out → Run
-begun o = record { head = o .head; tail = o .tail; ledger = record { granted = 0; back = 0; sizes = replicate slotCount 0 } }
+-- D20: The list follows an accepted formatting. Nothing is granted yet
+abbrev pub startAfter : Outcome → Snapshot
+startAfter o = record { head = o .head; tail = o .tail; ledger = record { granted = 0; back = 0; sizes = replicate slotCount 0 } }
 
-abbrev pub slotsOf : Shape → ℕ → Run → List Slot
-slotsOf g n r = slots (tableOf g n (r .head) (r .tail))
+-- what the entries that reading uses take
+abbrev pub rangesIn : Shape → ℕ → Snapshot → List BlockRange
+rangesIn g n r = rangesOf (tableOf g n (r .head) (r .tail))
 
 abbrev pub total : List ℕ → ℕ
 total [] = 0
 total (k ∷ ks) = k + total ks
 
 -- the list starts afresh with the table es, its partitions granted, each to its slot in its size; formatting is the case of no entries
-pub record StartsAfresh (g : Shape) (n : ℕ) (es : List ℕ) (r : Run) : Type 0 where
+pub record StartsAfresh (g : Shape) (n : ℕ) (es : List ℕ) (r : Snapshot) : Type 0 where
   pub len-head : length (r .head) ≡ lentBytes g primary
   pub len-tail : length (r .tail) ≡ lentBytes g backup
   pub reads : state g n (r .head) (r .tail) ≡ 1
   pub table : tableOf g n (r .head) (r .tail) ≡ es
-  pub sizes : r .ledger .sizes ≡ map sizeOf (slots es)
-  pub granted : r .ledger .granted ≡ total (map sizeOf (slots es))
+  pub sizes : r .ledger .sizes ≡ map rangeSize (rangesOf es)
+  pub granted : r .ledger .granted ≡ total (map rangeSize (rangesOf es))
   pub back : r .ledger .back ≡ 0

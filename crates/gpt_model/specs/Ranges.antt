@@ -1,23 +1,30 @@
 -- Blocks: which lie in partitions, where there is room, how many are free. Definitions only; `first` and `last` are the first and the last usable block.
+use mathlib.Core.Path.{_≡_}
 use mathlib.Core.Bool.{Bool, true, false, not}
 use mathlib.Core.List.{List}
 use mathlib.Core.Option.{Option, none, some}
-use Prim.Native.Nat.{ℕ, zero, suc, _+_, _-_, max}
+use Prim.Native.Nat.{ℕ, zero, suc, _+_, _-_, _≤_, _<_, max}
 use lib.Dec.{leb}
 use Rattle.octets.specs.Tests.{_and_, any}
-use Rattle.gpt_model.specs.Table.{Slot, vacant, spans}
+use Rattle.gpt_model.specs.Table.{BlockRange, noBlocks, spans}
+use Rattle.gpt_model.specs.Disk.{Shape, lastUsable}
 
 -- D21: A block lies in a partition when it is one of first to last of a used entry
-unfoldable pub inside : ℕ → Slot → Bool
-inside b vacant = false
-inside b (spans f l) = leb f b and leb b l
+unfoldable pub blockIn : ℕ → BlockRange → Bool
+blockIn b noBlocks = false
+blockIn b (spans f l) = leb f b and leb b l
 
-abbrev pub lies : List Slot → ℕ → Bool
-lies t b = any (inside b) t
+-- the block lies in some partition
+abbrev pub inSome : List BlockRange → ℕ → Bool
+inSome t b = any (blockIn b) t
 
 -- the block lies in no partition, whether usable or not. D21: usable blocks (34 to N−34) in none are free, consecutive ones a run.
-abbrev pub inNone : List Slot → ℕ → Bool
-inNone t b = not (lies t b)
+abbrev pub inNone : List BlockRange → ℕ → Bool
+inNone t b = not (inSome t b)
+
+-- (D21) a run of free blocks: the size blocks from s on are usable, and each lies in no partition
+abbrev pub FreeFrom : Shape → ℕ → List BlockRange → ℕ → ℕ → Type 0
+FreeFrom g n t size s = (g .first ≤ s) × (s + size ≤ suc (lastUsable g n)) × ((b : ℕ) → s ≤ b → b < s + size → inSome t b ≡ false)
 
 -- ---- room: a run of enough free blocks; placing and row 25 go by this one definition, and demand 3 says over blocks what it must be
 
@@ -27,17 +34,17 @@ allFrom p lo zero = true
 allFrom p lo (suc k) = p lo and allFrom p (suc lo) k
 
 -- the blocks s to s + size − 1 end at last or before, and lie in no partition
-unfoldable pub roomAt : List Slot → ℕ → ℕ → ℕ → Bool
+unfoldable pub roomAt : List BlockRange → ℕ → ℕ → ℕ → Bool
 roomAt t last size s = leb (s + size) (suc last) and allFrom (inNone t) s size
 
 -- the lowest of the k numbers from lo on of which p holds
-unfoldable pub firstFrom : (ℕ → Bool) → ℕ → ℕ → Option ℕ
-firstFrom p lo zero = none
-firstFrom p lo (suc k) = elim (p lo) [ true ↦ some lo | false ↦ firstFrom p (suc lo) k ]
+unfoldable pub lowestFrom : (ℕ → Bool) → ℕ → ℕ → Option ℕ
+lowestFrom p lo zero = none
+lowestFrom p lo (suc k) = elim (p lo) [ true ↦ some lo | false ↦ lowestFrom p (suc lo) k ]
 
 -- D15: the lowest start with enough free blocks
-unfoldable pub place : List Slot → ℕ → ℕ → ℕ → Option ℕ
-place t first last size = firstFrom (roomAt t last size) first (suc last - first)
+unfoldable pub lowestStart : List BlockRange → ℕ → ℕ → ℕ → Option ℕ
+lowestStart t first last size = lowestFrom (roomAt t last size) first (suc last - first)
 
 -- ---- blocks counted one by one
 
@@ -51,11 +58,11 @@ countFrom p lo zero = 0
 countFrom p lo (suc k) = bit (p lo) + countFrom p (suc lo) k
 
 -- the blocks lying in partitions, counted one by one
-unfoldable pub taken : List Slot → ℕ → ℕ → ℕ
-taken t first last = countFrom (lies t) first (suc last - first)
+unfoldable pub taken : List BlockRange → ℕ → ℕ → ℕ
+taken t first last = countFrom (inSome t) first (suc last - first)
 
 -- D12: usable blocks in no partition
-unfoldable pub freeCount : List Slot → ℕ → ℕ → ℕ
+unfoldable pub freeCount : List BlockRange → ℕ → ℕ → ℕ
 freeCount t first last = countFrom (inNone t) first (suc last - first)
 
 -- of how many of the k numbers from lo on p holds before it fails
@@ -69,5 +76,5 @@ longest p lo zero = 0
 longest p lo (suc k) = max (runFrom p lo (suc k)) (longest p (suc lo) k)
 
 -- D12: and the longest such run (0 if none)
-unfoldable pub longestFree : List Slot → ℕ → ℕ → ℕ
+unfoldable pub longestFree : List BlockRange → ℕ → ℕ → ℕ
 longestFree t first last = longest (inNone t) first (suc last - first)

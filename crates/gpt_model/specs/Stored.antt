@@ -1,56 +1,53 @@
--- What stands in head and tail, byte by byte, and the claims that reading, formatting, edits and repair go by it.
--- The rules are said here a second time, in byte positions: no field, entry or place is taken from Table, Disk or Calls.
+-- What stands in head and tail, byte by byte, and what reading, formatting, edits and repair say in bytes; Claims holds the definitions to it.
+-- The rules are said here a second time, in byte positions: no field, entry or byte position is taken from Table, Disk or Calls.
 use mathlib.Core.Path.{_≡_}
-use mathlib.Core.Logic.{_≢_, _↔_}
-use mathlib.Core.Bool.{true, false}
+use mathlib.Core.Logic.{_⊎_, _≢_, _↔_}
+use mathlib.Core.Bool.{false}
 use mathlib.Core.List.{List, [], _∷_}
-use mathlib.Core.Option.{none}
 use Prim.Native.Nat.{ℕ, suc, _+_, _-_, _*_, _≤_, _<_}
 use lib.ListN.{length, getD}
 use Rattle.octets.specs.Ascii.{ascii}
-use Rattle.octets.specs.Rows.{refusal}
 use Rattle.octets.specs.Bytes.{le, unle, part, put, zeros, isZero}
 use Rattle.crc_lanes.specs.Crc.{crc32}
-use Rattle.gpt_model.specs.Table.{slots}
-use Rattle.gpt_model.specs.Disk.{Shape, primary, backup, goodCopy, tableOf}
-use Rattle.gpt_model.specs.Ranges.{lies}
-use Rattle.gpt_model.specs.Calls.{Edit, add, delete, resize, rename, read, repair, edit, Answer, refused, accepted, Out, rowsOf, step, format}
-use Rattle.gpt_model.specs.Claims.{FreeFrom, Outside}
+use Rattle.gpt_model.specs.Table.{rangesOf}
+use Rattle.gpt_model.specs.Disk.{Shape}
+use Rattle.gpt_model.specs.Ranges.{FreeFrom}
+use Rattle.gpt_model.specs.Calls.{NewPartition, Edit, add, delete, resize, rename, Answer, refused, accepted, Outcome}
 
 -- ---- a table: 128 entries of 128 bytes, counted from 0
 
 -- D6: An entry is unused when all its 128 bytes are zero .. a used entry is one that is not unused.
-abbrev pub UsedAt : List ℕ → ℕ → Type 0
-UsedAt es i = isZero (part (i * 128) 128 es) ≡ false
+abbrev pub EntryUsed : List ℕ → ℕ → Type 0
+EntryUsed es i = isZero (part (i * 128) 128 es) ≡ false
 
 -- D5: type GUID 0, unique GUID 16, first block 32, last block (inclusive) 40
-abbrev pub typeAt : List ℕ → ℕ → List ℕ
-typeAt es i = part (i * 128) 16 es
+abbrev pub entryType : List ℕ → ℕ → List ℕ
+entryType es i = part (i * 128) 16 es
 
-abbrev pub uniqueAt : List ℕ → ℕ → List ℕ
-uniqueAt es i = part (i * 128 + 16) 16 es
+abbrev pub entryUnique : List ℕ → ℕ → List ℕ
+entryUnique es i = part (i * 128 + 16) 16 es
 
-abbrev pub firstAt : List ℕ → ℕ → ℕ
-firstAt es i = unle (part (i * 128 + 32) 8 es)
+abbrev pub entryFirst : List ℕ → ℕ → ℕ
+entryFirst es i = unle (part (i * 128 + 32) 8 es)
 
-abbrev pub lastAt : List ℕ → ℕ → ℕ
-lastAt es i = unle (part (i * 128 + 40) 8 es)
+abbrev pub entryLast : List ℕ → ℕ → ℕ
+entryLast es i = unle (part (i * 128 + 40) 8 es)
 
 -- D21: A block lies in a partition when it is one of first to last of a used entry
-abbrev pub LiesAt : List ℕ → ℕ → ℕ → Type 0
-LiesAt es i b = UsedAt es i × (firstAt es i ≤ b) × (b ≤ lastAt es i)
+abbrev pub EntryHolds : List ℕ → ℕ → ℕ → Type 0
+EntryHolds es i b = EntryUsed es i × (entryFirst es i ≤ b) × (b ≤ entryLast es i)
 
 pub record TableRules (first last : ℕ) (es : List ℕ) : Type 0 where
   -- D7: A used entry has nonzero type and unique GUID
-  pub guids : (i : ℕ) → i < 128 → UsedAt es i → (isZero (typeAt es i) ≡ false) × (isZero (uniqueAt es i) ≡ false)
+  pub guids : (i : ℕ) → i < 128 → EntryUsed es i → (isZero (entryType es i) ≡ false) × (isZero (entryUnique es i) ≡ false)
   -- and 34 ≤ first ≤ last ≤ N−34
-  pub range : (i : ℕ) → i < 128 → UsedAt es i → (first ≤ firstAt es i) × (firstAt es i ≤ lastAt es i) × (lastAt es i ≤ last)
+  pub range : (i : ℕ) → i < 128 → EntryUsed es i → (first ≤ entryFirst es i) × (entryFirst es i ≤ entryLast es i) × (entryLast es i ≤ last)
   -- unique GUIDs differ
-  pub differ : (i j : ℕ) → i < 128 → j < 128 → i ≢ j → UsedAt es i → UsedAt es j → uniqueAt es i ≢ uniqueAt es j
+  pub differ : (i j : ℕ) → i < 128 → j < 128 → i ≢ j → EntryUsed es i → EntryUsed es j → entryUnique es i ≢ entryUnique es j
   -- ranges share no block
-  pub apart : (i j b : ℕ) → i < 128 → j < 128 → i ≢ j → LiesAt es i b → ¬ LiesAt es j b
+  pub apart : (i j b : ℕ) → i < 128 → j < 128 → i ≢ j → EntryHolds es i b → ¬ EntryHolds es j b
 
--- ---- a header: the 92 bytes x, beside the table es
+-- ---- a header: the 92 bytes x, with the table es
 
 -- D1: Header fields at byte .. All stored numbers are little-endian (Q6).
 pub record HeaderSays (own other first last table : ℕ) (es x : List ℕ) : Type 0 where
@@ -89,24 +86,14 @@ abbrev pub Alike : Shape → List ℕ → List ℕ → Type 0
 Alike g h t = (part (g .block + 56) 16 h ≡ part (16384 + 56) 16 t) × (part (2 * g .block) 16384 h ≡ part 0 16384 t)
 
 -- head and tail have their lengths, and N is in its range
-pub record Lent (g : Shape) (n : ℕ) (h t : List ℕ) : Type 0 where
+pub record SizesOk (g : Shape) (n : ℕ) (h t : List ℕ) : Type 0 where
   pub wide : 92 ≤ g .block
   pub head : length h ≡ 2 * g .block + 16384
   pub tail : length t ≡ 16384 + g .block
   pub low : 2 * g .first ≤ n
   pub high : n ≤ 4294967296
 
--- ---- the claims
-
--- a block lies in a partition of the table es, by the definitions, exactly when the bytes say so
-abbrev pub LiesByBytes : Type 0
-LiesByBytes = (es : List ℕ) (b : ℕ) → (lies (slots es) b ≡ true) ↔ ((i : ℕ) × (i < 128) × LiesAt es i b)
-
--- D8: A copy is good when every named header field, both CRCs and all entry rules hold.
-abbrev pub GoodByBytes : Type 0
-GoodByBytes =
-    (g : Shape) (n : ℕ) (h t : List ℕ) → Lent g n h t
-    → ((goodCopy g n primary h ≡ true) ↔ HeadGood g n h) × ((goodCopy g n backup t ≡ true) ↔ TailGood g n t)
+-- ---- what reading answers
 
 -- D10: Reading answers: 1 both good with equal disk GUID and entries, 2 both good but different (primary used), 3 primary only, 4 backup only. R7: 10: neither
 pub record ReadSays (g : Shape) (n : ℕ) (h t : List ℕ) (a : Answer) (es : List ℕ) : Type 0 where
@@ -119,12 +106,9 @@ pub record ReadSays (g : Shape) (n : ℕ) (h t : List ℕ) (a : Answer) (es : Li
   pub inHead : a ≢ accepted (4 ∷ []) → es ≡ part (2 * g .block) 16384 h
   pub inTail : a ≡ accepted (4 ∷ []) → es ≡ part 0 16384 t
 
-abbrev pub ReadByBytes : Type 0
-ReadByBytes = (g : Shape) (n : ℕ) (h t : List ℕ) → Lent g n h t → ReadSays g n h t (step g n h t read .answer) (tableOf g n h t)
-
 -- ---- what formatting writes
 
-pub record Formatted (g : Shape) (n : ℕ) (guid h t : List ℕ) : Type 0 where
+pub record FormatSays (g : Shape) (n : ℕ) (guid h t : List ℕ) : Type 0 where
   -- D13: Formatting writes both copies with no entries
   pub head : HeadGood g n h
   pub tail : TailGood g n t
@@ -141,70 +125,54 @@ pub record Formatted (g : Shape) (n : ℕ) (guid h t : List ℕ) : Type 0 where
   pub at510 : part 510 2 h ≡ 0x55 ∷ 0xAA ∷ []
   pub at512 : part 512 (g .block - 512) h ≡ zeros (g .block - 512)
 
--- P2: formatting is accepted for every legal N and nonzero GUID. It is refused for every other
-abbrev pub FormatWrites : Type 0
-FormatWrites =
-    (g : Shape) (n : ℕ) (guid h t : List ℕ) → 512 ≤ g .block
-    → let o = format g n guid h t in
-    ((o .answer ≡ accepted []) ↔ (Lent g n h t × (length guid ≡ 16) × (isZero guid ≡ false)))
-    × (o .answer ≡ accepted [] → Formatted g n guid (o .head) (o .tail))
-
 -- ---- what an edit writes into the table
 
 -- D5: name 56 as 36 16-bit units
-abbrev pub NameAt : List ℕ → ℕ → List ℕ → Type 0
-NameAt es i name = (u : ℕ) → u < 36 → part (i * 128 + 56 + 2 * u) 2 es ≡ le 2 (getD name u 0)
+abbrev pub EntryName : List ℕ → ℕ → List ℕ → Type 0
+EntryName es i name = (u : ℕ) → u < 36 → part (i * 128 + 56 + 2 * u) 2 es ≡ le 2 (getD name u 0)
+
+-- byte k is none of the w bytes from at on
+abbrev pub Outside : ℕ → ℕ → ℕ → Type 0
+Outside at w k = (k < at) ⊎ (at + w ≤ k)
 
 -- every byte but the w bytes from at on is as it was
 abbrev pub StaysBut : ℕ → ℕ → List ℕ → List ℕ → Type 0
 StaysBut at w es es′ = (k : ℕ) → Outside at w k → getD es′ k 0 ≡ getD es k 0
 
--- what an add writes into entry i, at start s
-pub record Added (g : Shape) (n : ℕ) (type unique : List ℕ) (size attributes : ℕ) (name es es′ : List ℕ) (i s : ℕ) : Type 0 where
+-- what an add of p writes into entry i, at start s
+pub record AddSays (g : Shape) (n : ℕ) (p : NewPartition) (es es′ : List ℕ) (i s : ℕ) : Type 0 where
   -- D15: and takes the lowest unused slot
-  pub slot : (i < 128) × (¬ UsedAt es i) × ((j : ℕ) → j < i → UsedAt es j)
+  pub slot : (i < 128) × (¬ EntryUsed es i) × ((j : ℕ) → j < i → EntryUsed es j)
   -- and the lowest start with enough free blocks
-  pub start : FreeFrom g n (slots es) size s × ((b : ℕ) → b < s → ¬ FreeFrom g n (slots es) size b)
+  pub start : FreeFrom g n (rangesOf es) (p .size) s × ((b : ℕ) → b < s → ¬ FreeFrom g n (rangesOf es) (p .size) b)
   -- D15: Add is given type, unique GUID (16 stored bytes each), size in blocks, attributes and name (36 units)
-  pub typeGuid : typeAt es′ i ≡ type
-  pub uniqueGuid : uniqueAt es′ i ≡ unique
+  pub typeGuid : entryType es′ i ≡ p .type
+  pub uniqueGuid : entryUnique es′ i ≡ p .unique
   pub first : part (i * 128 + 32) 8 es′ ≡ le 8 s
-  pub last : part (i * 128 + 40) 8 es′ ≡ le 8 (s + size - 1)
-  pub bits : part (i * 128 + 48) 8 es′ ≡ le 8 attributes
-  pub units : NameAt es′ i name
+  pub last : part (i * 128 + 40) 8 es′ ≡ le 8 (s + p .size - 1)
+  pub bits : part (i * 128 + 48) 8 es′ ≡ le 8 (p .attributes)
+  pub units : EntryName es′ i (p .name)
   pub others : StaysBut (i * 128) 128 es es′
 
 -- the answer a of an edit, the table es before it and es′ after it
 abbrev pub EditSays : Shape → ℕ → Edit → Answer → List ℕ → List ℕ → Type 0
 -- R3: Accepted, add answers slot and first block
-EditSays g n (add type unique size attributes name) a es es′ =
-    (i : ℕ) × (s : ℕ) × (a ≡ accepted (suc i ∷ s ∷ [])) × Added g n type unique size attributes name es es′ i s
+EditSays g n (add p) a es es′ = (i : ℕ) × (s : ℕ) × (a ≡ accepted (suc i ∷ s ∷ [])) × AddSays g n p es es′ i s
 -- D16: Delete zeroes the slot.
 EditSays g n (delete k) a es es′ = (a ≡ accepted []) × (part ((k - 1) * 128) 128 es′ ≡ zeros 128) × StaysBut ((k - 1) * 128) 128 es es′
 -- D18: Resize sets the last block alone, to the size asked
 EditSays g n (resize k size) a es es′ =
-    (a ≡ accepted []) × (part ((k - 1) * 128 + 40) 8 es′ ≡ le 8 (firstAt es (k - 1) + size - 1)) × StaysBut ((k - 1) * 128 + 40) 8 es es′
+    (a ≡ accepted []) × (part ((k - 1) * 128 + 40) 8 es′ ≡ le 8 (entryFirst es (k - 1) + size - 1)) × StaysBut ((k - 1) * 128 + 40) 8 es es′
 -- D17: Rename sets the entry's 72 name bytes alone, to 36 given units.
-EditSays g n (rename k name) a es es′ = (a ≡ accepted []) × NameAt es′ (k - 1) name × StaysBut ((k - 1) * 128 + 56) 72 es es′
-
-abbrev pub EditWrites : Type 0
-EditWrites =
-    (g : Shape) (n : ℕ) (h t : List ℕ) (d : Edit) → 92 ≤ g .block → refusal (rowsOf g n h t (edit d)) ≡ none
-    → let o = step g n h t (edit d) in EditSays g n d (o .answer) (tableOf g n h t) (tableOf g n (o .head) (o .tail))
+EditSays g n (rename k name) a es es′ = (a ≡ accepted []) × EntryName es′ (k - 1) name × StaysBut ((k - 1) * 128 + 56) 72 es es′
 
 -- ---- what repair writes
 
 -- D24: Repair in state 1 changes nothing; otherwise it writes the other copy's 33 blocks from the good one (state 2: from the primary), header tail zero.
-pub record RepairSays (g : Shape) (n : ℕ) (h t : List ℕ) (o : Out) : Type 0 where
+pub record RepairSays (g : Shape) (n : ℕ) (h t : List ℕ) (o : Outcome) : Type 0 where
   pub one : o .answer ≡ accepted (1 ∷ []) → (o .head ≡ h) × (o .tail ≡ t)
   pub primaryUsed : (s : ℕ) → o .answer ≡ accepted (s ∷ []) → s ≢ 1 → s ≢ 4
       → (o .head ≡ h) × TailGood g n (o .tail) × Alike g h (o .tail) × (part (16384 + 92) (g .block - 92) (o .tail) ≡ zeros (g .block - 92))
   pub backupUsed : o .answer ≡ accepted (4 ∷ [])
       → (o .tail ≡ t) × HeadGood g n (o .head) × Alike g (o .head) t × (part (g .block + 92) (g .block - 92) (o .head) ≡ zeros (g .block - 92))
       × (part 0 (g .block) (o .head) ≡ part 0 (g .block) h)
-
--- R3: Accepted, .. repair [answers] the state found, as reading does
-abbrev pub RepairWrites : Type 0
-RepairWrites =
-    (g : Shape) (n : ℕ) (h t : List ℕ) → Lent g n h t
-    → let o = step g n h t repair in (o .answer ≡ step g n h t read .answer) × RepairSays g n h t o

@@ -4,7 +4,7 @@ use mathlib.Core.List.{List, [], _∷_, map}
 use Prim.Native.Nat.{ℕ, suc, _-_}
 use lib.Dec.{leb, ltb}
 use Rattle.octets.specs.Tests.{_and_, _or_, all, pairs}
-use Rattle.octets.specs.Bytes.{le, part, field, put, zeros, isZero, same, chunks, flat}
+use Rattle.octets.specs.Bytes.{le, part, field, put, isZero, same, chunks, flat}
 
 -- fields written at their byte positions, one after the other
 abbrev pub writeAll : List (ℕ × List ℕ) → List ℕ → List ℕ
@@ -30,45 +30,41 @@ lastOf e = field 40 8 e
 abbrev pub nameBytes : List ℕ → List ℕ
 nameBytes units = flat (map (le 2) units)
 
-abbrev pub entryWith : List ℕ → List ℕ → ℕ → ℕ → ℕ → List ℕ → List ℕ
-entryWith type unique f l attributes name =
-    writeAll ((0, type) ∷ (16, unique) ∷ (32, le 8 f) ∷ (40, le 8 l) ∷ (48, le 8 attributes) ∷ (56, nameBytes name) ∷ []) (zeros entryBytes)
-
 -- D6: An entry is unused when all its 128 bytes are zero. All else goes by this definition; a used entry is one that is not unused.
 unfoldable pub unused : List ℕ → Bool
 unused e = isZero e
 
 -- what an entry takes: nothing where it is unused, else the blocks from its first to its last
-pub data Slot : Type 0 where
-  vacant : Slot
-  spans : ℕ → ℕ → Slot
+pub data BlockRange : Type 0 where
+  noBlocks : BlockRange
+  spans : ℕ → ℕ → BlockRange
 
 -- D5: last block (inclusive)
-abbrev pub sizeOf : Slot → ℕ
-sizeOf vacant = 0
-sizeOf (spans f l) = suc l - f
+abbrev pub rangeSize : BlockRange → ℕ
+rangeSize noBlocks = 0
+rangeSize (spans f l) = suc l - f
 
-unfoldable pub slotOf : List ℕ → Slot
-slotOf e = elim (unused e) [ true ↦ vacant | false ↦ spans (firstOf e) (lastOf e) ]
+unfoldable pub rangeOf : List ℕ → BlockRange
+rangeOf e = elim (unused e) [ true ↦ noBlocks | false ↦ spans (firstOf e) (lastOf e) ]
 
 -- D7: 34 ≤ first ≤ last ≤ N−34
-unfoldable pub bounded : ℕ → ℕ → Slot → Bool
-bounded first last vacant = true
+unfoldable pub bounded : ℕ → ℕ → BlockRange → Bool
+bounded first last noBlocks = true
 bounded first last (spans f l) = leb first f and leb f l and leb l last
 
 -- D7: ranges share no block
-unfoldable pub apart : Slot → Slot → Bool
-apart vacant t = true
-apart (spans f l) vacant = true
+unfoldable pub apart : BlockRange → BlockRange → Bool
+apart noBlocks t = true
+apart (spans f l) noBlocks = true
 apart (spans f l) (spans g m) = ltb l g or ltb m f
 
 -- D7: A used entry has nonzero type and unique GUID and 34 ≤ first ≤ last ≤ N−34
 unfoldable pub entryOk : ℕ → ℕ → List ℕ → Bool
-entryOk first last e = unused e or (not (isZero (typeOf e)) and not (isZero (uniqueOf e)) and bounded first last (slotOf e))
+entryOk first last e = unused e or (not (isZero (typeOf e)) and not (isZero (uniqueOf e)) and bounded first last (rangeOf e))
 
 -- D7: unique GUIDs differ; ranges share no block
-unfoldable pub beside : List ℕ → List ℕ → Bool
-beside e d = unused e or unused d or (not (same (uniqueOf e) (uniqueOf d)) and apart (slotOf e) (slotOf d))
+unfoldable pub pairOk : List ℕ → List ℕ → Bool
+pairOk e d = unused e or unused d or (not (same (uniqueOf e) (uniqueOf d)) and apart (rangeOf e) (rangeOf d))
 
 -- D1: 80 count 128, 84 entry size 128, 88 CRC of all 16,384 entry bytes.
 abbrev pub slotCount : ℕ
@@ -80,9 +76,9 @@ tableBytes = 16384
 abbrev pub entries : List ℕ → List (List ℕ)
 entries es = chunks entryBytes slotCount es
 
-abbrev pub slots : List ℕ → List Slot
-slots es = map slotOf (entries es)
+abbrev pub rangesOf : List ℕ → List BlockRange
+rangesOf es = map rangeOf (entries es)
 
 -- D8: all entry rules hold.
 unfoldable pub goodTable : ℕ → ℕ → List ℕ → Bool
-goodTable first last es = all (entryOk first last) (entries es) and pairs beside (entries es)
+goodTable first last es = all (entryOk first last) (entries es) and pairs pairOk (entries es)

@@ -14,9 +14,9 @@ use borrow.Author.Tests.{lt-leb, le-leb, leb-true}
 use Rattle.octets.specs.Tests.{_and_}
 use Rattle.octets.proofs.Bools.{and-l, and-r, and-i, and-f, and-t, bool-cases, clash}
 use Rattle.octets.proofs.Tests.{any-make, any-false}
-use Rattle.gpt_model.specs.Ranges.{inside, lies, inNone, roomAt}
-use Rattle.gpt_model.specs.Table.{Slot, vacant, spans}
-use Rattle.gpt_model.proofs.Room.{Room, inside-make, inside-get, room-get, room-make}
+use Rattle.gpt_model.specs.Ranges.{blockIn, inSome, inNone, roomAt}
+use Rattle.gpt_model.specs.Table.{BlockRange, noBlocks, spans}
+use Rattle.gpt_model.proofs.Room.{Room, blockIn-make, blockIn-get, room-get, room-make}
 use Rattle.gpt_room.specs.Gaps.{Passed, Next, Full, Clear, Stands, taken, gap}
 use Rattle.gpt_table.specs.Decoded.{ranges}
 use Rattle.gpt_table.specs.Sorted.{Ascending}
@@ -27,8 +27,8 @@ use Rattle.gpt_room.specs.declared.Ahead.the-variants.{Taken, Gap}
 
 -- ---- one range
 
-pub inside-below : (b f l : ℕ) → b < f → inside b (spans f l) ≡ false
-inside-below b f l h = ⊎-elim (λ e. let w = inside-get b f l e .0 in absurd (omega arith)) (λ e. e) (bool-cases (inside b (spans f l)))
+pub inside-below : (b f l : ℕ) → b < f → blockIn b (spans f l) ≡ false
+inside-below b f l h = ⊎-elim (λ e. let w = blockIn-get b f l e .0 in absurd (omega arith)) (λ e. e) (bool-cases (blockIn b (spans f l)))
 
 -- it has a block at a or behind it
 pub reaches-empty : (f l a : ℕ) → l < f → false ≡ (leb f l and leb a l)
@@ -40,26 +40,26 @@ reaches-last f l a h = and-t (le-leb f l h) refl
 pub reaches-yes : (f l a : ℕ) → (leb f l and leb a l) ≡ true → (f ≤ l) × (a ≤ l)
 reaches-yes f l a e = (leb-true f l (and-l _ _ e), leb-true a l (and-r _ _ e))
 
-pub reaches-no : (f l a : ℕ) → (leb f l and leb a l) ≡ false → (c : ℕ) → a ≤ c → inside c (spans f l) ≡ false
-reaches-no f l a e c h = ⊎-elim (λ q. absurd (go (inside-get c f l q))) (λ q. q) (bool-cases (inside c (spans f l)))
+pub reaches-no : (f l a : ℕ) → (leb f l and leb a l) ≡ false → (c : ℕ) → a ≤ c → blockIn c (spans f l) ≡ false
+reaches-no f l a e c h = ⊎-elim (λ q. absurd (go (blockIn-get c f l q))) (λ q. q) (bool-cases (blockIn c (spans f l)))
   where
     go : (f ≤ c) × (c ≤ l) → ⊥
     go (p, q) = clash (and-i _ _ (le-leb f l (omega arith)) (le-leb a l (omega arith))) e
 
 -- ---- the next range
 
-pub passed-more : {s : List Slot} {a b i : ℕ} → a ≤ b → Passed s a i → Passed s b i
+pub passed-more : {s : List BlockRange} {a b i : ℕ} → a ≤ b → Passed s a i → Passed s b i
 passed-more h p = record { over = λ k u c v. p .over k u c (omega arith) }
 
-pub passed-none : {s : List Slot} {a : ℕ} → Passed s a 0
+pub passed-none : {s : List BlockRange} {a : ℕ} → Passed s a 0
 passed-none = record { over = λ k u. absurd (omega arith) }
 
 module _ (f l : List ℕ) (n a : ℕ) where
   pub next-over : (i : ℕ) → i < n → Passed (ranges f l n) a i → (leb (getD f i 0) (getD l i 0) and leb a (getD l i 0)) ≡ false → Passed (ranges f l n) a (i + 1)
   next-over i h p e =
       record {
-        over = below-more (λ (k : ℕ). (c : ℕ) → a ≤ c → inside c (getD (ranges f l n) k vacant) ≡ false) i (p .over)
-            (λ c v. ap (inside c) (getD-ranges f l n i h) ∙ reaches-no _ _ a e c v);
+        over = below-more (λ (k : ℕ). (c : ℕ) → a ≤ c → blockIn c (getD (ranges f l n) k noBlocks) ≡ false) i (p .over)
+            (λ c v. ap (blockIn c) (getD-ranges f l n i h) ∙ reaches-no _ _ a e c v);
       }
 
   pub next-found : (i : ℕ) → i < n → Passed (ranges f l n) a i → (leb (getD f i 0) (getD l i 0) and leb a (getD l i 0)) ≡ true → Next f l n a i
@@ -71,28 +71,28 @@ module _ (f l : List ℕ) (n a : ℕ) where
 -- ---- what begins at a, where range i is the next
 
 module _ (f l : List ℕ) (n i a last : ℕ) (asc : Ascending 1 n f) (next : Next f l n a i) where
-  abbrev s : List Slot
+  abbrev s : List BlockRange
   s = ranges f l n
 
   behind : (k : ℕ) → i ≤ k → k < n → getD f i 0 ≤ getD f k 0
   behind k g h = let e : i + (k - i) ≡ k = omega arith in subst (λ (m : ℕ). getD f i 0 ≤ getD f m 0) e (ascends n f asc i (k - i) (omega arith))
 
   -- free from a up to g, if no range from i on begins before g
-  clear : (g : ℕ) → a < g → g ≤ last + 1 → (i < n → g ≤ getD f i 0) → (g ≤ last → lies s g ≡ true) → Clear s a last g
+  clear : (g : ℕ) → a < g → g ≤ last + 1 → (i < n → g ≤ getD f i 0) → (g ≤ last → inSome s g ≡ true) → Clear s a last g
   clear g p q r t =
       record {
         past = p;
         end = q;
-        free = λ c u v. any-false (inside c) s vacant (λ k h. each c u v k (omega (arith, length-ranges f l n)) (decLt k i));
+        free = λ c u v. any-false (blockIn c) s noBlocks (λ k h. each c u v k (omega (arith, length-ranges f l n)) (decLt k i));
         stop = t;
       }
     where
-      each : (c : ℕ) → a ≤ c → c < g → (k : ℕ) → k < n → Dec (k < i) → inside c (getD s k vacant) ≡ false
+      each : (c : ℕ) → a ≤ c → c < g → (k : ℕ) → k < n → Dec (k < i) → blockIn c (getD s k noBlocks) ≡ false
       each c u v k h (yes w) = next .passed .over k w c u
       each c u v k h (no w) =
           let z = behind k (omega arith) h in
           let y = r (omega arith) in
-          ap (inside c) (getD-ranges f l n k h) ∙ inside-below c _ _ (omega arith)
+          ap (blockIn c) (getD-ranges f l n k h) ∙ inside-below c _ _ (omega arith)
 
   pub clear-none : a ≤ last → n ≤ i → Clear s a last (last + 1)
   clear-none h g = clear (last + 1) (omega arith) (omega arith) (λ u. absurd (omega arith)) (λ u. absurd (omega arith))
@@ -101,22 +101,22 @@ module _ (f l : List ℕ) (n i a last : ℕ) (asc : Ascending 1 n f) (next : Nex
   clear-far h g = clear (last + 1) (omega arith) (omega arith) (λ u. omega arith) (λ u. absurd (omega arith))
 
   module _ (h : i < n) where
-    holds : (b : ℕ) → inside b (spans (getD f i 0) (getD l i 0)) ≡ true → lies s b ≡ true
-    holds b e = any-make (inside b) s vacant i (omega (arith, length-ranges f l n)) (ap (inside b) (getD-ranges f l n i h) ∙ e)
+    holds : (b : ℕ) → blockIn b (spans (getD f i 0) (getD l i 0)) ≡ true → inSome s b ≡ true
+    holds b e = any-make (blockIn b) s noBlocks i (omega (arith, length-ranges f l n)) (ap (blockIn b) (getD-ranges f l n i h) ∙ e)
 
     pub full : getD f i 0 ≤ a → Full s a (getD l i 0)
-    full g = record { from = next .reaches h .1; taken = λ c u v. holds c (inside-make c _ _ (omega arith) v) }
+    full g = record { from = next .reaches h .1; taken = λ c u v. holds c (blockIn-make c _ _ (omega arith) v) }
 
     pub clear-gap : a < getD f i 0 → getD f i 0 ≤ last → Clear s a last (getD f i 0)
     clear-gap p q =
-        clear (getD f i 0) p (omega arith) (λ u. le-refl (getD f i 0)) (λ u. holds _ (inside-make _ _ _ (le-refl (getD f i 0)) (next .reaches h .0)))
+        clear (getD f i 0) p (omega arith) (λ u. le-refl (getD f i 0)) (λ u. holds _ (blockIn-make _ _ _ (le-refl (getD f i 0)) (next .reaches h .0)))
 
 -- ---- the two answers
 
 taken-gap : {x g : ℕ} → Taken x ≡ Gap g → ⊥
 taken-gap e = let z : _≡_ {A = ℕ} 0 1 = cc in omega arith
 
-module _ {s : List Slot} {a last : ℕ} where
+module _ {s : List BlockRange} {a last : ℕ} where
   pub taken-of : {r : Ahead} {x : ℕ} → Stands s a last r → r ≡ Taken x → Full s a x
   taken-of {x = y} (taken {x} w) e = let q : x ≡ y = cc in subst (λ (z : ℕ). Full s a z) q w
   taken-of (gap w) e = absurd (taken-gap (sym e))
@@ -127,7 +127,7 @@ module _ {s : List Slot} {a last : ℕ} where
 
 -- ---- room at a
 
-module _ (s : List Slot) (last size a : ℕ) where
+module _ (s : List BlockRange) (last size a : ℕ) where
   no-room : (Room s last size a → ⊥) → roomAt s last size a ≡ false
   no-room f = ⊎-elim (λ e. absurd (f (room-get s last size a e))) (λ e. e) (bool-cases (roomAt s last size a))
 

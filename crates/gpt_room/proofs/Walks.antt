@@ -10,9 +10,9 @@ use lib.Dec.{leb}
 use lib.ListN.{set}
 use lib.Seq.{set-out}
 use Rattle.octets.specs.Tests.{_and_}
-use Rattle.gpt_model.specs.Ranges.{inside, inNone, allFrom, firstFrom, roomAt, place, countFrom, freeCount, longest as longestOf, longestFree}
-use Rattle.gpt_model.specs.Table.{Slot, vacant, slotOf, entries, slots}
-use Rattle.gpt_model.proofs.Entries.{map-set, length-slots}
+use Rattle.gpt_model.specs.Ranges.{blockIn, inNone, allFrom, lowestFrom, roomAt, lowestStart, countFrom, freeCount, longest as longestOf, longestFree}
+use Rattle.gpt_model.specs.Table.{BlockRange, noBlocks, rangeOf, entries, rangesOf}
+use Rattle.gpt_model.proofs.Entries.{map-set, length-rangesOf}
 use Rattle.gpt_model.proofs.Walk.{Low, low-start, low-over, low-gap, low-found, low-none, Counted, Longest, counted-start, longest-start, counted-over, longest-over, counted-gap, longest-step, counted-end, longest-end}
 use Rattle.gpt_table.specs.Decoded.{ranges}
 use Rattle.gpt_table.specs.Sorted.{InOrder}
@@ -24,27 +24,27 @@ use Rattle.gpt_room.specs.Gaps.{Full, Clear}
 -- ---- the same blocks are free
 
 -- the ranges of used entries in order leave the same blocks free as the entries
-free-ranges : (es : List (List ℕ)) {f l : List ℕ} {n : ℕ} → InOrder es f l n → inNone (ranges f l n) ≡ inNone (map slotOf es)
-free-ranges es w = fun-ext (λ b. ap not (reordered-any (inside b) (w .same) ∙ lies-used b es))
+free-ranges : (es : List (List ℕ)) {f l : List ℕ} {n : ℕ} → InOrder es f l n → inNone (ranges f l n) ≡ inNone (map rangeOf es)
+free-ranges es w = fun-ext (λ b. ap not (reordered-any (blockIn b) (w .same) ∙ lies-used b es))
 
 -- and as the table's slots, but slot `but`
 pub free-but : (t : List ℕ) (but : ℕ) {f l : List ℕ} {n : ℕ} → InOrder (set (entries t) but []) f l n
-    → inNone (ranges f l n) ≡ inNone (set (slots t) but vacant)
+    → inNone (ranges f l n) ≡ inNone (set (rangesOf t) but noBlocks)
 free-but t but w =
-    free-ranges (set (entries t) but []) w ∙ ap inNone (map-set slotOf (entries t) but [] ∙ ap (set (slots t) but) slot-nil)
+    free-ranges (set (entries t) but []) w ∙ ap inNone (map-set rangeOf (entries t) but [] ∙ ap (set (rangesOf t) but) slot-nil)
 
-pub free-all : (t : List ℕ) {f l : List ℕ} {n : ℕ} → InOrder (set (entries t) 128 []) f l n → inNone (ranges f l n) ≡ inNone (slots t)
-free-all t w = free-but t 128 w ∙ ap inNone (set-out (slots t) 128 vacant (omega (arith, length-slots t)))
+pub free-all : (t : List ℕ) {f l : List ℕ} {n : ℕ} → InOrder (set (entries t) 128 []) f l n → inNone (ranges f l n) ≡ inNone (rangesOf t)
+free-all t w = free-but t 128 w ∙ ap inNone (set-out (rangesOf t) 128 noBlocks (omega (arith, length-rangesOf t)))
 
-module _ (s u : List Slot) (e : inNone s ≡ inNone u) (last : ℕ) where
+module _ (s u : List BlockRange) (e : inNone s ≡ inNone u) (last : ℕ) where
   pub room-same : (size : ℕ) {a b : ℕ} → a ≡ b → roomAt s last size a ≡ roomAt u last size b
   unfolding roomAt
   room-same size q = ap₂ (λ (p : ℕ → Bool) (x : ℕ). leb (x + size) (suc last) and allFrom p x size) e q
 
   module _ (first : ℕ) where
-    pub place-same : (size : ℕ) → place s first last size ≡ place u first last size
-    unfolding place roomAt
-    place-same size = ap (λ (p : ℕ → Bool). firstFrom (λ (a : ℕ). leb (a + size) (suc last) and allFrom p a size) first (suc last - first)) e
+    pub place-same : (size : ℕ) → lowestStart s first last size ≡ lowestStart u first last size
+    unfolding lowestStart roomAt
+    place-same size = ap (λ (p : ℕ → Bool). lowestFrom (λ (a : ℕ). leb (a + size) (suc last) and allFrom p a size) first (suc last - first)) e
 
     pub counts-same : freeOf s first last ≡ freeOf u first last
     unfolding freeCount longestFree
@@ -52,14 +52,14 @@ module _ (s u : List Slot) (e : inNone s ≡ inNone u) (last : ℕ) where
 
 -- ---- placing: what is known at block a
 
-pub record Looked (s : List Slot) (first last size a : ℕ) : Type 0 where
+pub record Looked (s : List BlockRange) (first last size a : ℕ) : Type 0 where
   pub from : first ≤ a
   pub low : (pos : 0 < size) → Low s first last size pos a
 
-pub looked-start : {s : List Slot} {first last size : ℕ} → Looked s first last size first
+pub looked-start : {s : List BlockRange} {first last size : ℕ} → Looked s first last size first
 looked-start {s} {first} {last} {size} = record { from = le-refl first; low = λ p. low-start s first last size p }
 
-module _ {s : List Slot} {first last size a : ℕ} (k : Looked s first last size a) where
+module _ {s : List BlockRange} {first last size a : ℕ} (k : Looked s first last size a) where
   pub looked-over : {x : ℕ} → Full s a x → Looked s first last size (x + 1)
   looked-over {x} w =
       record { from = omega (arith, k .from, w .from); low = λ p. low-over s first last size p a x (k .low p) (w .taken) }
@@ -70,25 +70,25 @@ module _ {s : List Slot} {first last size a : ℕ} (k : Looked s first last size
       record { from = omega (arith, k .from); low = λ p. low-gap s first last size p a g (k .low p) (omega arith) h (w .stop) }
 
   module _ (pos : 0 < size) where
-    pub looked-none : last < a → none ≡ place s first last size
+    pub looked-none : last < a → none ≡ lowestStart s first last size
     looked-none h = sym (low-none s first last size pos a (k .low pos) h)
 
-    pub looked-found : {g : ℕ} → Clear s a last g → size ≤ g - a → some a ≡ place s first last size
+    pub looked-found : {g : ℕ} → Clear s a last g → size ≤ g - a → some a ≡ lowestStart s first last size
     looked-found {g} w h =
         let u = w .past in
         sym (low-found s first last size pos a g (k .low pos) (k .from) (omega arith) h (w .end) (w .free))
 
 -- ---- counting: n free blocks before block a, the longest run of them m
 
-pub record Tallied (s : List Slot) (first last n m a : ℕ) : Type 0 where
+pub record Tallied (s : List BlockRange) (first last n m a : ℕ) : Type 0 where
   pub fit : n + first ≤ a
   pub counted : Counted s first last n a
   pub longest : Longest s first last m a
 
-pub tallied-start : {s : List Slot} {first last : ℕ} → Tallied s first last 0 0 first
+pub tallied-start : {s : List BlockRange} {first last : ℕ} → Tallied s first last 0 0 first
 tallied-start {s} {first} {last} = record { fit = omega arith; counted = counted-start s first last; longest = longest-start s first last }
 
-module _ {s : List Slot} {first last n m a : ℕ} (k : Tallied s first last n m a) where
+module _ {s : List BlockRange} {first last n m a : ℕ} (k : Tallied s first last n m a) where
   pub tallied-over : {x : ℕ} → x ≤ last → Full s a x → Tallied s first last n m (x + 1)
   tallied-over {x} h w =
       record {
@@ -112,7 +112,7 @@ module _ {s : List Slot} {first last n m a : ℕ} (k : Tallied s first last n m 
   tallied-end h =
       ap₂ (λ (x y : ℕ). record { blocks = x; longest = y }) (counted-end s first last n a h (k .counted)) (longest-end s first last m a h (k .longest))
 
-pub tallied-full : {s : List Slot} {first last n m a x : ℕ} → Tallied s first last n m a → a ≤ last → last ≤ x → Full s a x
+pub tallied-full : {s : List BlockRange} {first last n m a x : ℕ} → Tallied s first last n m a → a ≤ last → last ≤ x → Full s a x
     → record { blocks = n; longest = m } ≡ freeOf s first last
 tallied-full {s} {first} {last} {n} {m} {a} {x} k al h w =
     tallied-end (tallied-over k (le-refl last) (record { from = al; taken = λ c p q. w .taken c p (omega arith) })) (omega arith)

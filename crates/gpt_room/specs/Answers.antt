@@ -3,7 +3,7 @@ use mathlib.Core.List.{List}
 use mathlib.Core.Option.{Option, none, some}
 use Prim.Native.Nat.{ℕ}
 use Rattle.gpt_model.specs.Ranges.{freeCount, longestFree}
-use Rattle.gpt_model.specs.Table.{Slot}
+use Rattle.gpt_model.specs.Table.{BlockRange}
 use Rattle.gpt_room.specs.declared.Free.{Free}
 use Rattle.gpt_room.specs.declared.Place.{Place}
 use Rattle.gpt_room.specs.declared.Place.the-variants.{At, None}
@@ -14,5 +14,5 @@ placed (At b) = some (b .0)
 placed None = none
 
 -- D12: Free counts: usable blocks in no partition, and the longest such run (0 if none).
-abbrev pub freeOf : List Slot → ℕ → ℕ → Free
+abbrev pub freeOf : List BlockRange → ℕ → ℕ → Free
 freeOf s first last = record { blocks = freeCount s first last; longest = longestFree s first last }

@@ -4,12 +4,12 @@ use gpt_model::Block;
 use gpt_table::FIRST_AT;
 use gpt_table::SLOTS;
 ghost use mathlib.Core.Path.{_≡_};
-ghost use Prim.Native.Nat.{ℕ, _≤_, _<_, max};
+ghost use Prim.Native.Nat.{_≤_, _<_, max};
 ghost use lib.Dec.{leb};
 ghost use lib.ListN.{length};
 ghost use Rattle.octets.specs.Tests.{_and_};
-ghost use Rattle.gpt_model.specs.Ranges.{roomAt, place};
-ghost use Rattle.gpt_model.specs.Table.{slotCount, tableBytes, slots};
+ghost use Rattle.gpt_model.specs.Ranges.{roomAt, lowestStart};
+ghost use Rattle.gpt_model.specs.Table.{slotCount, tableBytes, rangesOf};
 ghost use Rattle.gpt_model.specs.Calls.{fitsAt};
 ghost use Rattle.gpt_table.specs.Decoded.{ranges};
 ghost use Rattle.gpt_room.specs.Answers.{placed, freeOf};
@@ -94,7 +94,7 @@ fn search(
     size: u64,
 ) -> Place
     requires { ⌜ (count ≤ slotCount) × (0 < size) × (last < 18446744073709551615) × Ascending 1 count (now firsts) ⌝ }
-    ensures { λ r. ⌜ placed r ≡ place (ranges (now (firsts .entry)) (now (lasts .entry)) count) first last size ⌝ }
+    ensures { λ r. ⌜ placed r ≡ lowestStart (ranges (now (firsts .entry)) (now (lasts .entry)) count) first last size ⌝ }
 {
     let mut a = first;
     let mut i = 0;
@@ -121,7 +121,7 @@ fn search(
 // The lowest start with enough free blocks.
 pub fn lowest(t: &[u8], first: Block, last: Block, size: u64) -> Place
     requires { ⌜ (length (now t) ≡ tableBytes) × (0 < size) × (last .0 < 18446744073709551615) ⌝ }
-    ensures { λ r. ⌜ placed r ≡ place (slots (now (t .entry))) (first .0) (last .0) size ⌝ }
+    ensures { λ r. ⌜ placed r ≡ lowestStart (rangesOf (now (t .entry))) (first .0) (last .0) size ⌝ }
 {
     let mut firsts = [0u64; SLOTS];
     let mut lasts = [0u64; SLOTS];
@@ -168,7 +168,7 @@ fn tally(firsts: &[u64; SLOTS], lasts: &[u64; SLOTS], count: usize, first: u64, 
 
 pub fn free_counts(t: &[u8], first: Block, last: Block) -> Free
     requires { ⌜ (length (now t) ≡ tableBytes) × (last .0 < 18446744073709551615) ⌝ }
-    ensures { λ r. ⌜ r ≡ freeOf (slots (now (t .entry))) (first .0) (last .0) ⌝ }
+    ensures { λ r. ⌜ r ≡ freeOf (rangesOf (now (t .entry))) (first .0) (last .0) ⌝ }
 {
     let mut firsts = [0u64; SLOTS];
     let mut lasts = [0u64; SLOTS];
@@ -200,7 +200,7 @@ fn room_at(
 // From its first block on, the partition of slot k, counted from 1, has room for that size, its own range left out.
 pub fn fits_at(t: &[u8], k: usize, last: Block, size: u64) -> bool
     requires { ⌜ (1 ≤ k) × (k ≤ slotCount) × (length (now t) ≡ tableBytes) × (0 < size) × (last .0 < 18446744073709551615) ⌝ }
-    ensures { λ r. ⌜ ((first : ℕ) → r ≡ fitsAt first (last .0) (now (t .entry)) k size) ⌝ }
+    ensures { λ r. ⌜ r ≡ fitsAt (last .0) (now (t .entry)) k size ⌝ }
 {
     let i = k - 1;
     let a = octets::load64(gpt_table::entry(t, i), FIRST_AT);

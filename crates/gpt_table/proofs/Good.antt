@@ -19,8 +19,8 @@ use Rattle.octets.proofs.Tests.{pairs-get, pairs-make, all-get, all-make, all-d
 use Rattle.octets.proofs.Parts.{getD-part, part-part}
 use Rattle.octets.proofs.Equal.{same-true, same-refl, field-same}
 use Rattle.octets.proofs.Chunks.{chunk-part, length-chunk}
-use Rattle.gpt_model.specs.Table.{Slot, vacant, spans, slotOf, bounded, apart, typeOf, uniqueOf, firstOf, lastOf, unused, entryOk, beside, entries, goodTable}
-use Rattle.gpt_model.proofs.Entries.{slot-used, beside-make}
+use Rattle.gpt_model.specs.Table.{BlockRange, noBlocks, spans, rangeOf, bounded, apart, typeOf, uniqueOf, firstOf, lastOf, unused, entryOk, pairOk, entries, goodTable}
+use Rattle.gpt_model.proofs.Entries.{range-used, pair-make}
 use Rattle.gpt_table.specs.Decoded.{used, Decoded, differ, Guids, ranges}
 use Rattle.gpt_table.specs.Sorted.{Reordered, Ascending, InOrder}
 use Rattle.gpt_table.proofs.Entries.{unused-is, length-entries}
@@ -53,7 +53,7 @@ module _ (first last : ℕ) (e : List ℕ) where
     unfolding entryOk _or_
     ok-used =
         rw (unused-is e ∙ u)
-        (ap (λ (s : Slot). not (isZero (typeOf e)) and not (isZero (uniqueOf e)) and bounded first last s) (slot-used e (unused-is e ∙ u)))
+        (ap (λ (s : BlockRange). not (isZero (typeOf e)) and not (isZero (uniqueOf e)) and bounded first last s) (range-used e (unused-is e ∙ u)))
 
     pub ok-type : isZero (typeOf e) ≡ true → entryOk first last e ≡ false
     unfolding _and_
@@ -67,7 +67,7 @@ module _ (first last : ℕ) (e : List ℕ) where
     unfolding _and_
     ok-range w z = ok-used ∙ rw (w, z)
 
-ok-bounded : (first last : ℕ) (e : List ℕ) → unused e ≡ false → entryOk first last e ≡ true → bounded first last (slotOf e) ≡ true
+ok-bounded : (first last : ℕ) (e : List ℕ) → unused e ≡ false → entryOk first last e ≡ true → bounded first last (rangeOf e) ≡ true
 unfolding entryOk _or_
 ok-bounded first last e u h = and-r _ _ (rw u at h)
 
@@ -156,7 +156,7 @@ module _ {es : List (List ℕ)} {u v : List ℕ} {n : ℕ} (w : Guids es u v n) 
 -- ---- ranges in order
 
 module _ (f l : List ℕ) (n : ℕ) (asc : Ascending 1 n f) where
-  apart-at : (i j : ℕ) → i < j → j < n → getD l i 0 < getD f (i + 1) 0 → apart (getD (ranges f l n) i vacant) (getD (ranges f l n) j vacant) ≡ true
+  apart-at : (i j : ℕ) → i < j → j < n → getD l i 0 < getD f (i + 1) 0 → apart (getD (ranges f l n) i noBlocks) (getD (ranges f l n) j noBlocks) ≡ true
   apart-at i j h k e =
       let z = ascends n f asc (i + 1) (j - (i + 1)) (omega arith) in
       let y : i + 1 + (j - (i + 1)) ≡ j = omega arith in
@@ -165,81 +165,81 @@ module _ (f l : List ℕ) (n : ℕ) (asc : Ascending 1 n f) where
 
   pub apart-all : ((k : ℕ) → k + 1 < n → getD l k 0 < getD f (k + 1) 0) → pairs apart (ranges f l n) ≡ true
   apart-all g =
-      pairs-make apart (ranges f l n) vacant
+      pairs-make apart (ranges f l n) noBlocks
       (λ i j h k. let k' : j < n = omega (arith, length-ranges f l n) in apart-at i j h k' (g i (omega arith)))
 
   pub apart-not : (i : ℕ) → i + 1 < n → getD f (i + 1) 0 ≤ getD l (i + 1) 0 → getD f (i + 1) 0 ≤ getD l i 0 → pairs apart (ranges f l n) ≡ false
   apart-not i h own e = ⊎-elim (λ q. absurd (go q)) (λ q. q) (bool-cases (pairs apart (ranges f l n)))
     where
-      not-apart : apart (getD (ranges f l n) i vacant) (getD (ranges f l n) (i + 1) vacant) ≡ false
+      not-apart : apart (getD (ranges f l n) i noBlocks) (getD (ranges f l n) (i + 1) noBlocks) ≡ false
       not-apart =
           let z = asc i h in
           ap₂ apart (getD-ranges f l n i (omega arith)) (getD-ranges f l n (i + 1) h) ∙ apart-behind _ _ _ _ e ∙ le-ltb (getD l (i + 1) 0) (getD f i 0) (omega arith)
 
       go : pairs apart (ranges f l n) ≡ true → ⊥
-      go q = clash (pairs-get apart (ranges f l n) vacant q i (i + 1) (omega arith) (omega (arith, length-ranges f l n))) not-apart
+      go q = clash (pairs-get apart (ranges f l n) noBlocks q i (i + 1) (omega arith) (omega (arith, length-ranges f l n))) not-apart
 
 -- ---- the whole table
 
-beside-first : (e d : List ℕ) → unused e ≡ true → beside e d ≡ true
-beside-first e d q = beside-make e d (λ a b. absurd (clash q a))
+beside-first : (e d : List ℕ) → unused e ≡ true → pairOk e d ≡ true
+beside-first e d q = pair-make e d (λ a b. absurd (clash q a))
 
-beside-second : (e d : List ℕ) → unused d ≡ true → beside e d ≡ true
-beside-second e d q = beside-make e d (λ a b. absurd (clash q b))
+beside-second : (e d : List ℕ) → unused d ≡ true → pairOk e d ≡ true
+beside-second e d q = pair-make e d (λ a b. absurd (clash q b))
 
-all-first : (e : List ℕ) (es : List (List ℕ)) → unused e ≡ true → all (beside e) es ≡ true
+all-first : (e : List ℕ) (es : List (List ℕ)) → unused e ≡ true → all (pairOk e) es ≡ true
 all-first e [] q = refl
 all-first e (d ∷ es) q = and-i _ _ (beside-first e d q) (all-first e es q)
 
-all-used : (e : List ℕ) (es : List (List ℕ)) → all (beside e) (used es) ≡ all (beside e) es
+all-used : (e : List ℕ) (es : List (List ℕ)) → all (pairOk e) (used es) ≡ all (pairOk e) es
 unfolding _and_
 all-used e [] = refl
 all-used e (d ∷ es) = go (bool-cases (unused d)) (all-used e es)
   where
-    go : (unused d ≡ true) ⊎ (unused d ≡ false) → all (beside e) (used es) ≡ all (beside e) es → all (beside e) (used (d ∷ es)) ≡ (beside e d and all (beside e) es)
-    go (inl q) ih = ap (all (beside e)) (used-no d es q) ∙ ih ∙ sym (rw (beside-second e d q))
-    go (inr q) ih = ap (all (beside e)) (used-yes d es q) ∙ ap (λ (b : Bool). beside e d and b) ih
+    go : (unused d ≡ true) ⊎ (unused d ≡ false) → all (pairOk e) (used es) ≡ all (pairOk e) es → all (pairOk e) (used (d ∷ es)) ≡ (pairOk e d and all (pairOk e) es)
+    go (inl q) ih = ap (all (pairOk e)) (used-no d es q) ∙ ih ∙ sym (rw (beside-second e d q))
+    go (inr q) ih = ap (all (pairOk e)) (used-yes d es q) ∙ ap (λ (b : Bool). pairOk e d and b) ih
 
-pairs-used : (es : List (List ℕ)) → pairs beside (used es) ≡ pairs beside es
+pairs-used : (es : List (List ℕ)) → pairs pairOk (used es) ≡ pairs pairOk es
 unfolding _and_
 pairs-used [] = refl
 pairs-used (e ∷ es) = go (bool-cases (unused e)) (pairs-used es)
   where
-    go : (unused e ≡ true) ⊎ (unused e ≡ false) → pairs beside (used es) ≡ pairs beside es → pairs beside (used (e ∷ es)) ≡ (all (beside e) es and pairs beside es)
-    go (inl q) ih = ap (pairs beside) (used-no e es q) ∙ ih ∙ sym (rw (all-first e es q))
-    go (inr q) ih = ap (pairs beside) (used-yes e es q) ∙ ap₂ _and_ (all-used e es) ih
+    go : (unused e ≡ true) ⊎ (unused e ≡ false) → pairs pairOk (used es) ≡ pairs pairOk es → pairs pairOk (used (e ∷ es)) ≡ (all (pairOk e) es and pairs pairOk es)
+    go (inl q) ih = ap (pairs pairOk) (used-no e es q) ∙ ih ∙ sym (rw (all-first e es q))
+    go (inr q) ih = ap (pairs pairOk) (used-yes e es q) ∙ ap₂ _and_ (all-used e es) ih
 
-beside-both : (e d : List ℕ) → unused e ≡ false → unused d ≡ false → beside e d ≡ (differ e d and apart (slotOf e) (slotOf d))
-unfolding beside _or_
+beside-both : (e d : List ℕ) → unused e ≡ false → unused d ≡ false → pairOk e d ≡ (differ e d and apart (rangeOf e) (rangeOf d))
+unfolding pairOk _or_
 beside-both e d p q = rw (p, q)
 
 -- of used entries: the GUIDs by themselves, the ranges by themselves
 module _ (es : List (List ℕ)) (each : (i : ℕ) → i < length es → unused (getD es i []) ≡ false) where
-  slot-at : (i : ℕ) → i < length es → getD (map slotOf es) i vacant ≡ slotOf (getD es i [])
-  slot-at i h = getD-map slotOf es i vacant [] h
+  slot-at : (i : ℕ) → i < length es → getD (map rangeOf es) i noBlocks ≡ rangeOf (getD es i [])
+  slot-at i h = getD-map rangeOf es i noBlocks [] h
 
   at : (i j : ℕ) → i < j → j < length es
-      → beside (getD es i []) (getD es j []) ≡ (differ (getD es i []) (getD es j []) and apart (getD (map slotOf es) i vacant) (getD (map slotOf es) j vacant))
+      → pairOk (getD es i []) (getD es j []) ≡ (differ (getD es i []) (getD es j []) and apart (getD (map rangeOf es) i noBlocks) (getD (map rangeOf es) j noBlocks))
   at i j h k =
       beside-both _ _ (each i (omega arith)) (each j k)
       ∙ ap (λ (b : Bool). differ (getD es i []) (getD es j []) and b) (sym (ap₂ apart (slot-at i (omega arith)) (slot-at j k)))
 
-  pairs-split : pairs beside es ≡ (pairs differ es and pairs apart (map slotOf es))
+  pairs-split : pairs pairOk es ≡ (pairs differ es and pairs apart (map rangeOf es))
   pairs-split = eq-from _ _ forth back
     where
-      forth : pairs beside es ≡ true → (pairs differ es and pairs apart (map slotOf es)) ≡ true
+      forth : pairs pairOk es ≡ true → (pairs differ es and pairs apart (map rangeOf es)) ≡ true
       forth h =
-          and-i _ _ (pairs-make differ es [] (λ i j p q. and-l _ _ (sym (at i j p q) ∙ pairs-get beside es [] h i j p q)))
-          (pairs-make apart (map slotOf es) vacant
-          (λ i j p q. let q' : j < length es = omega (arith, length-map es slotOf) in and-r _ _ (sym (at i j p q') ∙ pairs-get beside es [] h i j p q')))
+          and-i _ _ (pairs-make differ es [] (λ i j p q. and-l _ _ (sym (at i j p q) ∙ pairs-get pairOk es [] h i j p q)))
+          (pairs-make apart (map rangeOf es) noBlocks
+          (λ i j p q. let q' : j < length es = omega (arith, length-map es rangeOf) in and-r _ _ (sym (at i j p q') ∙ pairs-get pairOk es [] h i j p q')))
 
-      back : (pairs differ es and pairs apart (map slotOf es)) ≡ true → pairs beside es ≡ true
+      back : (pairs differ es and pairs apart (map rangeOf es)) ≡ true → pairs pairOk es ≡ true
       back h =
-          pairs-make beside es []
+          pairs-make pairOk es []
           (λ i j p q.
           at i j p q
           ∙ and-i _ _ (pairs-get differ es [] (and-l _ _ h) i j p q)
-          (pairs-get apart (map slotOf es) vacant (and-r _ _ h) i j p (omega (arith, length-map es slotOf))))
+          (pairs-get apart (map rangeOf es) noBlocks (and-r _ _ h) i j p (omega (arith, length-map es rangeOf))))
 
 all-in : (t : List ℕ) → set (entries t) 128 [] ≡ entries t
 all-in t = set-out (entries t) 128 [] (omega (arith, length-entries t))
@@ -251,11 +251,11 @@ or-both true false = refl
 or-both false true = refl
 or-both false false = refl
 
-apart-both : (s u : Slot) → apart s u ≡ apart u s
+apart-both : (s u : BlockRange) → apart s u ≡ apart u s
 unfolding apart
-apart-both vacant vacant = refl
-apart-both vacant (spans g m) = refl
-apart-both (spans f l) vacant = refl
+apart-both noBlocks noBlocks = refl
+apart-both noBlocks (spans g m) = refl
+apart-both (spans f l) noBlocks = refl
 apart-both (spans f l) (spans g m) = or-both (ltb l g) (ltb m f)
 
 module _ (first last : ℕ) (t : List ℕ) where
@@ -264,26 +264,26 @@ module _ (first last : ℕ) (t : List ℕ) where
   good-not h = rw h
 
   module _ (ok : all (entryOk first last) (entries t) ≡ true) where
-    good-split : (pairs differ (used (entries t)) and pairs apart (map slotOf (used (entries t)))) ≡ goodTable first last t
+    good-split : (pairs differ (used (entries t)) and pairs apart (map rangeOf (used (entries t)))) ≡ goodTable first last t
     unfolding goodTable _and_
     good-split =
         sym (pairs-split (used (entries t)) (λ i h. used-each (λ e. ℕ) (entries t) (λ j k. 0) i h .0)) ∙ pairs-used (entries t) ∙ sym (rw ok)
 
-    all-bounded : all (bounded first last) (map slotOf (used (entries t))) ≡ true
+    all-bounded : all (bounded first last) (map rangeOf (used (entries t))) ≡ true
     all-bounded =
-        all-make (bounded first last) (map slotOf (used (entries t))) vacant
+        all-make (bounded first last) (map rangeOf (used (entries t))) noBlocks
         (λ i h.
-        let h' : i < length (used (entries t)) = omega (arith, length-map (used (entries t)) slotOf) in
+        let h' : i < length (used (entries t)) = omega (arith, length-map (used (entries t)) rangeOf) in
         let w = used-each (λ e. entryOk first last e ≡ true) (entries t) (λ j k. all-get (entryOk first last) (entries t) [] ok j k) i h' in
-        ap (bounded first last) (getD-map slotOf (used (entries t)) i vacant [] h') ∙ ok-bounded first last _ (w .0) (w .1))
+        ap (bounded first last) (getD-map rangeOf (used (entries t)) i noBlocks [] h') ∙ ok-bounded first last _ (w .0) (w .1))
 
     pub good-guids : pairs differ (used (entries t)) ≡ false → goodTable first last t ≡ false
     unfolding _and_
     good-guids h = sym good-split ∙ rw h
 
     module _ {f l : List ℕ} {n : ℕ} (w : InOrder (set (entries t) 128 []) f l n) where
-      same-ranges : Reordered (map slotOf (used (entries t))) (ranges f l n)
-      same-ranges = subst (λ (es : List (List ℕ)). Reordered (map slotOf (used es)) (ranges f l n)) (all-in t) (w .same)
+      same-ranges : Reordered (map rangeOf (used (entries t))) (ranges f l n)
+      same-ranges = subst (λ (es : List (List ℕ)). Reordered (map rangeOf (used es)) (ranges f l n)) (all-in t) (w .same)
 
       pub good-ranges : pairs differ (used (entries t)) ≡ true → pairs apart (ranges f l n) ≡ goodTable first last t
       unfolding _and_
@@ -293,8 +293,8 @@ module _ (first last : ℕ) (t : List ℕ) where
       pub ranges-proper : (k : ℕ) → k < n → getD f k 0 ≤ getD l k 0
       unfolding bounded
       ranges-proper k h =
-          let b = subst (λ (s : Slot). bounded first last s ≡ true) (getD-ranges f l n k h)
-          (all-get (bounded first last) (ranges f l n) vacant (reordered-all (bounded first last) same-ranges all-bounded) k (omega (arith, length-ranges f l n))) in
+          let b = subst (λ (s : BlockRange). bounded first last s ≡ true) (getD-ranges f l n k h)
+          (all-get (bounded first last) (ranges f l n) noBlocks (reordered-all (bounded first last) same-ranges all-bounded) k (omega (arith, length-ranges f l n))) in
           leb-true _ _ (and-r _ _ (and-l _ _ b))
 
 -- a table's unique GUIDs decoded

@@ -12,10 +12,10 @@ use lib.Seq.{take-suc, take-suc-set, take-all, getD-take, ext-getD}
 use Rattle.octets.specs.Tests.{_or_}
 use Rattle.octets.specs.Bytes.{field}
 use Rattle.octets.proofs.Bools.{bool-cases}
-use Rattle.gpt_model.specs.Ranges.{inside, lies}
-use Rattle.gpt_model.specs.Table.{vacant, spans, unused, slotOf}
+use Rattle.gpt_model.specs.Ranges.{blockIn, inSome}
+use Rattle.gpt_model.specs.Table.{noBlocks, spans, unused, rangeOf}
 use Rattle.gpt_model.proofs.Walk.{getD-map}
-use Rattle.gpt_model.proofs.Entries.{zero-unused, slot-unused, slot-used}
+use Rattle.gpt_model.proofs.Entries.{zero-unused, range-unused, range-used}
 use Rattle.gpt_table.specs.Decoded.{used, Decoded, ranges}
 
 -- ---- the used ones of a list
@@ -146,36 +146,36 @@ getD-tail [] zero = refl
 getD-tail [] (suc i) = refl
 getD-tail (x ∷ f) i = refl
 
-pub getD-ranges : (f l : List ℕ) (n i : ℕ) → i < n → getD (ranges f l n) i vacant ≡ spans (getD f i 0) (getD l i 0)
+pub getD-ranges : (f l : List ℕ) (n i : ℕ) → i < n → getD (ranges f l n) i noBlocks ≡ spans (getD f i 0) (getD l i 0)
 getD-ranges f l zero i h = absurd (not-suc-le-zero h)
 getD-ranges f l (suc n) zero h = refl
 getD-ranges f l (suc n) (suc i) h = getD-ranges (drop 1 f) (drop 1 l) n i (le-of-suc-le-suc h) ∙ ap₂ spans (getD-tail f i) (getD-tail l i)
 
-pub slot-nil : slotOf [] ≡ vacant
-slot-nil = slot-unused [] (zero-unused [] refl)
+pub slot-nil : rangeOf [] ≡ noBlocks
+slot-nil = range-unused [] (zero-unused [] refl)
 
 pub ranges-slots : (es : List (List ℕ)) (f l : List ℕ) (n : ℕ) → Decoded es 32 f l n → ((i : ℕ) → i < n → unused (getD es i []) ≡ false)
-    → ranges f l n ≡ map slotOf es
+    → ranges f l n ≡ map rangeOf es
 ranges-slots es f l n d u =
     let c = d .count in
-    ext-getD vacant (ranges f l n) (map slotOf es) (omega (arith, length-ranges f l n, length-map es slotOf))
+    ext-getD noBlocks (ranges f l n) (map rangeOf es) (omega (arith, length-ranges f l n, length-map es rangeOf))
     (λ i h. go i (omega (arith, length-ranges f l n)))
   where
-    go : (i : ℕ) → i < n → getD (ranges f l n) i vacant ≡ getD (map slotOf es) i vacant
+    go : (i : ℕ) → i < n → getD (ranges f l n) i noBlocks ≡ getD (map rangeOf es) i noBlocks
     go i h =
-        getD-ranges f l n i h ∙ ap₂ spans (low-at d i h) (high-at d i h) ∙ sym (slot-used (getD es i []) (u i h))
-        ∙ sym (ap (getD (map slotOf es) i) (sym slot-nil) ∙ List·getD-map slotOf es i [])
+        getD-ranges f l n i h ∙ ap₂ spans (low-at d i h) (high-at d i h) ∙ sym (range-used (getD es i []) (u i h))
+        ∙ sym (ap (getD (map rangeOf es) i) (sym slot-nil) ∙ List·getD-map rangeOf es i [])
 
-inside-none : (b : ℕ) → inside b vacant ≡ false
-unfolding inside
+inside-none : (b : ℕ) → blockIn b noBlocks ≡ false
+unfolding blockIn
 inside-none b = refl
 
-pub lies-used : (b : ℕ) (es : List (List ℕ)) → lies (map slotOf (used es)) b ≡ lies (map slotOf es) b
+pub lies-used : (b : ℕ) (es : List (List ℕ)) → inSome (map rangeOf (used es)) b ≡ inSome (map rangeOf es) b
 unfolding _or_
 lies-used b [] = refl
 lies-used b (e ∷ es) = go (bool-cases (unused e)) (lies-used b es)
   where
-    go : (unused e ≡ true) ⊎ (unused e ≡ false) → lies (map slotOf (used es)) b ≡ lies (map slotOf es) b
-        → lies (map slotOf (used (e ∷ es))) b ≡ (inside b (slotOf e) or lies (map slotOf es) b)
-    go (inl q) ih = ap (λ (l : List (List ℕ)). lies (map slotOf l) b) (used-no e es q) ∙ ih ∙ sym (rw (slot-unused e q, inside-none b))
-    go (inr q) ih = ap (λ (l : List (List ℕ)). lies (map slotOf l) b) (used-yes e es q) ∙ ap (λ (t : Bool). inside b (slotOf e) or t) ih
+    go : (unused e ≡ true) ⊎ (unused e ≡ false) → inSome (map rangeOf (used es)) b ≡ inSome (map rangeOf es) b
+        → inSome (map rangeOf (used (e ∷ es))) b ≡ (blockIn b (rangeOf e) or inSome (map rangeOf es) b)
+    go (inl q) ih = ap (λ (l : List (List ℕ)). inSome (map rangeOf l) b) (used-no e es q) ∙ ih ∙ sym (rw (range-unused e q, inside-none b))
+    go (inr q) ih = ap (λ (l : List (List ℕ)). inSome (map rangeOf l) b) (used-yes e es q) ∙ ap (λ (t : Bool). blockIn b (rangeOf e) or t) ih

@@ -5,7 +5,7 @@ use mathlib.Core.List.{List, [], _∷_, map}
 use Prim.Native.Nat.{ℕ, zero, suc, _+_, _≤_, _<_}
 use lib.ListN.{length, getD, take, drop}
 use Rattle.octets.specs.Bytes.{field, same}
-use Rattle.gpt_model.specs.Table.{Slot, spans, uniqueOf, unused}
+use Rattle.gpt_model.specs.Table.{BlockRange, spans, uniqueOf, unused}
 
 -- the used ones of a list of entries, in their order
 abbrev pub used : List (List ℕ) → List (List ℕ)
@@ -22,7 +22,7 @@ pub record Decoded (es : List (List ℕ)) (at : ℕ) (x y : List ℕ) (n : ℕ) 
   pub high : take n y ≡ map (field (at + 8) 8) es
 
 -- the first n ranges that two lists of numbers make
-abbrev pub ranges : List ℕ → List ℕ → ℕ → List Slot
+abbrev pub ranges : List ℕ → List ℕ → ℕ → List BlockRange
 ranges f l zero = []
 ranges f l (suc n) = spans (getD f 0 0) (getD l 0 0) ∷ ranges (drop 1 f) (drop 1 l) n
 

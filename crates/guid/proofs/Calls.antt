@@ -14,7 +14,7 @@ use Rattle.octets.specs.Tests.{_and_, _or_, all}
 use Rattle.octets.proofs.Bools.{and-l, and-r}
 use Rattle.octets.proofs.Equal.{same-true}
 use Rattle.octets.proofs.Puts.{put-all}
-use Rattle.guid.specs.Hex.{isDigit, bytesOf, digitsOf}
+use Rattle.guid.specs.Hex.{isHexDigit, bytesOf, digitsOf}
 use Rattle.guid.specs.Text.{digitsIn, dashesIn, isGuidText, reordered, storedOf, textOf}
 use Rattle.guid.specs.Calls.{outcome, readOf, writeOf}
 use Rattle.guid.proofs.Hex.{length-bytes, length-digits}
@@ -31,7 +31,7 @@ module _ (t : List ℕ) where
   unfolding isGuidText _and_
   text-other l e = rw (eq-eqb (length t) 36 l, e)
 
-  pub text-digits : length t ≡ 36 → same (dashesIn t) (ascii "----") ≡ true → all isDigit (digitsIn t) ≡ isGuidText t
+  pub text-digits : length t ≡ 36 → same (dashesIn t) (ascii "----") ≡ true → all isHexDigit (digitsIn t) ≡ isGuidText t
   unfolding isGuidText _and_
   text-digits l e = rw (eq-eqb (length t) 36 l, e)
 
@@ -44,7 +44,7 @@ module _ (t : List ℕ) where
     unfolding isGuidText
     text-dashes = same-true (dashesIn t) (ascii "----") (and-l _ _ (and-r _ _ e))
 
-    pub text-all : all isDigit (digitsIn t) ≡ true
+    pub text-all : all isHexDigit (digitsIn t) ≡ true
     unfolding isGuidText
     text-all = and-r _ _ (and-r _ _ e)
 

@@ -13,7 +13,7 @@ use Rattle.octets.proofs.Bools.{and-l, and-r, and-i, and-false-l, bool-cases}
 use Rattle.octets.proofs.Tests.{all-get}
 use Rattle.octets.proofs.Filled.{Filled, filled-on}
 use Rattle.guid.specs.Promises.{areBytes}
-use Rattle.guid.specs.Hex.{valueOf, isDigit, bytesOf, digitOf, digitsOf, upper}
+use Rattle.guid.specs.Hex.{hexValue, isHexDigit, bytesOf, hexDigitOf, digitsOf, upper}
 
 -- ---- ranges
 
@@ -35,58 +35,58 @@ module _ (lo hi b : ℕ) where
 -- ---- the value of a byte, range by range
 
 module _ (b : ℕ) where
-  pub value-decimal : 48 ≤ b → b ≤ 57 → b - 48 ≡ valueOf b
-  unfolding valueOf
+  pub value-decimal : 48 ≤ b → b ≤ 57 → b - 48 ≡ hexValue b
+  unfolding hexValue
   value-decimal h k = rw (inside 48 57 b h k)
 
-  pub value-upper : 65 ≤ b → b ≤ 70 → b - 55 ≡ valueOf b
-  unfolding valueOf
+  pub value-upper : 65 ≤ b → b ≤ 70 → b - 55 ≡ hexValue b
+  unfolding hexValue
   value-upper h k = rw (after 48 57 b (omega arith), inside 65 70 b h k) (omega arith)
 
-  pub value-lower : 97 ≤ b → b ≤ 102 → b - 87 ≡ valueOf b
-  unfolding valueOf
+  pub value-lower : 97 ≤ b → b ≤ 102 → b - 87 ≡ hexValue b
+  unfolding hexValue
   value-lower h k = rw (after 48 57 b (omega arith), after 65 70 b (omega arith), inside 97 102 b h k) (omega arith)
 
-  pub value-none : (leb 48 b and leb b 57) ≡ false → (leb 65 b and leb b 70) ≡ false → (leb 97 b and leb b 102) ≡ false → 16 ≡ valueOf b
-  unfolding valueOf
+  pub value-none : (leb 48 b and leb b 57) ≡ false → (leb 65 b and leb b 70) ≡ false → (leb 97 b and leb b 102) ≡ false → 16 ≡ hexValue b
+  unfolding hexValue
   value-none p q r = rw (p, q, r)
 
 -- ---- a digit and its value
 
-pub value-digit : (n : ℕ) → n < 16 → valueOf (digitOf n) ≡ n
-unfolding digitOf
+pub value-digit : (n : ℕ) → n < 16 → hexValue (hexDigitOf n) ≡ n
+unfolding hexDigitOf
 value-digit n h = go (bool-cases (ltb n 10))
   where
-    go : (ltb n 10 ≡ true) ⊎ (ltb n 10 ≡ false) → valueOf (cond (ltb n 10) (48 + n) (65 + (n - 10))) ≡ n
+    go : (ltb n 10 ≡ true) ⊎ (ltb n 10 ≡ false) → hexValue (cond (ltb n 10) (48 + n) (65 + (n - 10))) ≡ n
     go (inl e) = rw e (let k : n < 10 = ltb-true n 10 e in sym (value-decimal (48 + n) (omega arith) (omega arith)) ∙ omega arith)
     go (inr e) = rw e (let k : 10 ≤ n = ltb-false n 10 e in sym (value-upper (65 + (n - 10)) (omega arith) (omega arith)) ∙ omega arith)
 
-pub digit-is : (n : ℕ) → n < 16 → isDigit (digitOf n) ≡ true
+pub digit-is : (n : ℕ) → n < 16 → isHexDigit (hexDigitOf n) ≡ true
 digit-is n h = rw (value-digit n h) (lt-ltb n 16 h)
 
 -- what is written for a digit of either case
-pub digit-value : (b : ℕ) → isDigit b ≡ true → digitOf (valueOf b) ≡ upper b
-unfolding digitOf upper
+pub digit-value : (b : ℕ) → isHexDigit b ≡ true → hexDigitOf (hexValue b) ≡ upper b
+unfolding hexDigitOf upper
 digit-value b d = go (bool-cases (leb 48 b and leb b 57)) (bool-cases (leb 65 b and leb b 70)) (bool-cases (leb 97 b and leb b 102))
   where
     go : (leb 48 b and leb b 57 ≡ true) ⊎ (leb 48 b and leb b 57 ≡ false) → (leb 65 b and leb b 70 ≡ true) ⊎ (leb 65 b and leb b 70 ≡ false)
-        → (leb 97 b and leb b 102 ≡ true) ⊎ (leb 97 b and leb b 102 ≡ false) → digitOf (valueOf b) ≡ upper b
+        → (leb 97 b and leb b 102 ≡ true) ⊎ (leb 97 b and leb b 102 ≡ false) → hexDigitOf (hexValue b) ≡ upper b
     go (inl p) q r =
         let lo : 48 ≤ b = leb-true 48 b (and-l _ _ p) in
         let hi : b ≤ 57 = leb-true b 57 (and-r _ _ p) in
         let v = value-decimal b lo hi in
-        rw (lt-ltb (valueOf b) 10 (omega arith), before 97 122 b (omega arith)) (omega arith)
+        rw (lt-ltb (hexValue b) 10 (omega arith), before 97 122 b (omega arith)) (omega arith)
     go (inr p) (inl q) r =
         let lo : 65 ≤ b = leb-true 65 b (and-l _ _ q) in
         let hi : b ≤ 70 = leb-true b 70 (and-r _ _ q) in
         let v = value-upper b lo hi in
-        rw (le-ltb (valueOf b) 10 (omega arith), before 97 122 b (omega arith)) (omega arith)
+        rw (le-ltb (hexValue b) 10 (omega arith), before 97 122 b (omega arith)) (omega arith)
     go (inr p) (inr q) (inl r) =
         let lo : 97 ≤ b = leb-true 97 b (and-l _ _ r) in
         let hi : b ≤ 102 = leb-true b 102 (and-r _ _ r) in
         let v = value-lower b lo hi in
-        rw (le-ltb (valueOf b) 10 (omega arith), inside 97 122 b lo (omega arith)) (omega arith)
-    go (inr p) (inr q) (inr r) = let v = value-none b p q r in let k : valueOf b < 16 = ltb-true (valueOf b) 16 d in absurd (omega arith)
+        rw (le-ltb (hexValue b) 10 (omega arith), inside 97 122 b lo (omega arith)) (omega arith)
+    go (inr p) (inr q) (inr r) = let v = value-none b p q r in let k : hexValue b < 16 = ltb-true (hexValue b) 16 d in absurd (omega arith)
 
 -- ---- along lists
 
@@ -95,7 +95,7 @@ unfolding digitsOf
 length-digits [] = refl
 length-digits (b ∷ bs) = omega (arith, length-digits bs)
 
-pub digits-are : (bs : List ℕ) → areBytes bs ≡ true → all isDigit (digitsOf bs) ≡ true
+pub digits-are : (bs : List ℕ) → areBytes bs ≡ true → all isHexDigit (digitsOf bs) ≡ true
 unfolding digitsOf
 digits-are [] e = refl
 digits-are (b ∷ bs) e =
@@ -118,7 +118,7 @@ length-bytes k (h ∷ []) l = absurd (omega arith)
 length-bytes zero (h ∷ m ∷ ds) l = absurd (omega arith)
 length-bytes (suc k) (h ∷ m ∷ ds) l = ap suc (length-bytes k ds (omega arith))
 
-pub digits-bytes : (k : ℕ) (ds : List ℕ) → length ds ≡ 2 * k → all isDigit ds ≡ true → digitsOf (bytesOf ds) ≡ map upper ds
+pub digits-bytes : (k : ℕ) (ds : List ℕ) → length ds ≡ 2 * k → all isHexDigit ds ≡ true → digitsOf (bytesOf ds) ≡ map upper ds
 unfolding bytesOf digitsOf
 digits-bytes k [] l e = refl
 digits-bytes k (h ∷ []) l e = absurd (omega arith)
@@ -126,19 +126,19 @@ digits-bytes zero (h ∷ m ∷ ds) l e = absurd (omega arith)
 digits-bytes (suc k) (h ∷ m ∷ ds) l e =
     let a = and-l _ _ e in
     let b = and-l _ _ (and-r _ _ e) in
-    let x : valueOf h < 16 = ltb-true (valueOf h) 16 a in
-    let y : valueOf m < 16 = ltb-true (valueOf m) 16 b in
-    let p : (16 * valueOf h + valueOf m) / 16 ≡ valueOf h = omega arith in
-    let q : (16 * valueOf h + valueOf m) % 16 ≡ valueOf m = omega arith in
+    let x : hexValue h < 16 = ltb-true (hexValue h) 16 a in
+    let y : hexValue m < 16 = ltb-true (hexValue m) 16 b in
+    let p : (16 * hexValue h + hexValue m) / 16 ≡ hexValue h = omega arith in
+    let q : (16 * hexValue h + hexValue m) % 16 ≡ hexValue m = omega arith in
     rw (p, q, digit-value h a, digit-value m b) (ap (λ (r : List ℕ). upper h ∷ upper m ∷ r) (digits-bytes k ds (omega arith) (and-r _ _ (and-r _ _ e))))
 
 -- ---- element by element
 
-pub digit-below : (ds : List ℕ) → all isDigit ds ≡ true → (i : ℕ) → i < length ds → valueOf (getD ds i 0) < 16
-digit-below ds e i h = ltb-true (valueOf (getD ds i 0)) 16 (all-get isDigit ds 0 e i h)
+pub digit-below : (ds : List ℕ) → all isHexDigit ds ≡ true → (i : ℕ) → i < length ds → hexValue (getD ds i 0) < 16
+digit-below ds e i h = ltb-true (hexValue (getD ds i 0)) 16 (all-get isHexDigit ds 0 e i h)
 
 pub bytes-at : (i : ℕ) (ds : List ℕ) → 2 * i + 1 < length ds
-    → getD (bytesOf ds) i 0 ≡ 16 * valueOf (getD ds (2 * i) 0) + valueOf (getD ds (2 * i + 1) 0)
+    → getD (bytesOf ds) i 0 ≡ 16 * hexValue (getD ds (2 * i) 0) + hexValue (getD ds (2 * i + 1) 0)
 unfolding bytesOf
 bytes-at i [] h = absurd (omega arith)
 bytes-at i (d ∷ []) h = absurd (omega arith)
@@ -148,20 +148,20 @@ bytes-at (suc i) (d ∷ e ∷ ds) h =
     let b : 2 * suc i + 1 ≡ suc (suc (2 * i + 1)) = omega arith in
     rw (b, a) (bytes-at i ds (omega arith))
 
-pub high-at : (i : ℕ) (bs : List ℕ) → i < length bs → getD (digitsOf bs) (2 * i) 0 ≡ digitOf (getD bs i 0 / 16)
+pub high-at : (i : ℕ) (bs : List ℕ) → i < length bs → getD (digitsOf bs) (2 * i) 0 ≡ hexDigitOf (getD bs i 0 / 16)
 unfolding digitsOf
 high-at i [] h = absurd (omega arith)
 high-at zero (b ∷ bs) h = refl
 high-at (suc i) (b ∷ bs) h = let a : 2 * suc i ≡ suc (suc (2 * i)) = omega arith in rw a (high-at i bs (omega arith))
 
-pub low-at : (i : ℕ) (bs : List ℕ) → i < length bs → getD (digitsOf bs) (2 * i + 1) 0 ≡ digitOf (getD bs i 0 % 16)
+pub low-at : (i : ℕ) (bs : List ℕ) → i < length bs → getD (digitsOf bs) (2 * i + 1) 0 ≡ hexDigitOf (getD bs i 0 % 16)
 unfolding digitsOf
 low-at i [] h = absurd (omega arith)
 low-at zero (b ∷ bs) h = refl
 low-at (suc i) (b ∷ bs) h = let a : 2 * suc i + 1 ≡ suc (suc (2 * i + 1)) = omega arith in rw a (low-at i bs (omega arith))
 
 -- both digits of byte i of 16 are put in place
-pub digits-on : (bs a : List ℕ) (i u v : ℕ) → length bs ≡ 16 → i < 16 → u ≡ digitOf (getD bs i 0 / 16) → v ≡ digitOf (getD bs i 0 % 16)
+pub digits-on : (bs a : List ℕ) (i u v : ℕ) → length bs ≡ 16 → i < 16 → u ≡ hexDigitOf (getD bs i 0 / 16) → v ≡ hexDigitOf (getD bs i 0 % 16)
     → Filled 32 (digitsOf bs) a (2 * i) → Filled 32 (digitsOf bs) (set (set a (2 * i) u) (2 * i + 1) v) (2 * (i + 1))
 digits-on bs a i u v l h p q f =
     let n : length (digitsOf bs) ≡ 32 = length-digits bs ∙ omega arith in

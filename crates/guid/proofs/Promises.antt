@@ -16,9 +16,9 @@ use Rattle.octets.proofs.Equal.{same-refl}
 use Rattle.octets.proofs.Puts.{put-all}
 use Rattle.octets.proofs.Rows.{passes}
 use Rattle.octets.proofs.Tests.{all-append, all-take, all-drop, all-reverse}
-use Rattle.guid.specs.Hex.{isDigit, bytesOf, digitsOf, upper}
+use Rattle.guid.specs.Hex.{isHexDigit, bytesOf, digitsOf, upper}
 use Rattle.guid.specs.Text.{digitsIn, isGuidText, grouped, reordered, storedOf, textOf}
-use Rattle.guid.specs.Calls.{outcome, readRows, readOf, writeRows, writeOf}
+use Rattle.guid.specs.Calls.{outcome, readTextRows, readOf, writeRows, writeOf}
 use Rattle.guid.specs.Promises.{areBytes, WrittenReadsBack, ReadWritesUpper, RefusedStays}
 use Rattle.guid.proofs.Hex.{length-digits, digits-are, bytes-digits, length-bytes, digits-bytes}
 use Rattle.guid.proofs.Text.{length-reordered, reordered-twice, digits-grouped, dashes-grouped, length-grouped, upper-grouped, length-digitsIn, grouped-digits}
@@ -50,7 +50,7 @@ module _ (g : List ℕ) (l : length g ≡ 16) (e : areBytes g ≡ true) where
       let ds = digitsOf (reordered g) in
       and-i _ _ (eq-eqb (length (grouped ds)) 36 (length-grouped ds digits-32))
       (and-i _ _ (ap (λ (xs : List ℕ). same xs (ascii "----")) (dashes-grouped ds digits-32) ∙ same-refl (ascii "----"))
-      (ap (all isDigit) (digits-grouped ds digits-32) ∙ digits-are (reordered g) (bytes-reordered g e)))
+      (ap (all isHexDigit) (digits-grouped ds digits-32) ∙ digits-are (reordered g) (bytes-reordered g e)))
 
   pub stored-text : storedOf (textOf g) ≡ g
   unfolding storedOf textOf
@@ -84,16 +84,16 @@ buffer-is none new old e = refl
 buffer-is (some k) new old e = absurd (some-none e)
 
 module _ (t g : List ℕ) (e : readOf t g .number ≡ none) where
-  pub read-rows : refusal (readRows t g) ≡ none
+  pub read-rows : refusal (readTextRows t g) ≡ none
   unfolding readOf
-  read-rows = sym (number-is (refusal (readRows t g)) (storedOf t) g) ∙ e
+  read-rows = sym (number-is (refusal (readTextRows t g)) (storedOf t) g) ∙ e
 
   pub read-is-text : isGuidText t ≡ true
-  read-is-text = not-f _ (passes 30 (readRows t g) read-rows)
+  read-is-text = not-f _ (passes 30 (readTextRows t g) read-rows)
 
   pub read-buffer : readOf t g .buffer ≡ storedOf t
   unfolding readOf
-  read-buffer = buffer-is (refusal (readRows t g)) (storedOf t) g read-rows
+  read-buffer = buffer-is (refusal (readTextRows t g)) (storedOf t) g read-rows
 
 module _ (g t : List ℕ) (e : writeOf g t .number ≡ none) where
   pub write-rows : refusal (writeRows g t) ≡ none
@@ -116,7 +116,7 @@ stays (some j) new old k e = refl
 
 pub refused-stays : RefusedStays
 unfolding readOf writeOf
-refused-stays text guid k = (stays (refusal (readRows text guid)) (storedOf text) guid k, stays (refusal (writeRows guid text)) (textOf guid) text k)
+refused-stays text guid k = (stays (refusal (readTextRows text guid)) (storedOf text) guid k, stays (refusal (writeRows guid text)) (textOf guid) text k)
 
 pub written-reads-back : WrittenReadsBack
 written-reads-back guid text buffer b e n =

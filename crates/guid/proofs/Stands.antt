@@ -18,10 +18,10 @@ use Rattle.octets.proofs.Equal.{same-refl, same-false}
 use Rattle.octets.proofs.Filled.{each-is}
 use Rattle.octets.proofs.Rows.{passes}
 use Rattle.octets.proofs.Tests.{all-get, all-make, getD-map}
-use Rattle.guid.specs.Hex.{valueOf, isDigit, bytesOf, upper}
+use Rattle.guid.specs.Hex.{hexValue, isHexDigit, bytesOf, upper}
 use Rattle.guid.specs.Text.{digitsIn, dashesIn, isGuidText, reordered, storedOf, textOf}
 use Rattle.guid.specs.Types.{shortAt, expand}
-use Rattle.guid.specs.Calls.{Outcome, readRows, readOf, writeRows}
+use Rattle.guid.specs.Calls.{Outcome, readTextRows, readOf, writeRows}
 use Rattle.guid.specs.Promises.{areBytes, Digit, inText, inBytes, StandsFor, ReadsText, WritesText, ReadsTypes}
 use Rattle.guid.proofs.Hex.{inside, value-decimal, value-upper, value-lower, value-none}
 use Rattle.guid.proofs.Calls.{text-length, text-dashes, text-all, length-stored, read-done, write-done}
@@ -29,11 +29,11 @@ use Rattle.guid.proofs.Promises.{text-is, stored-text, text-stored, rea
 
 -- ---- a digit
 
-digit-get : (c : ℕ) → isDigit c ≡ true → Digit c (valueOf c)
+digit-get : (c : ℕ) → isHexDigit c ≡ true → Digit c (hexValue c)
 digit-get c d = go (bool-cases (leb 48 c and leb c 57)) (bool-cases (leb 65 c and leb c 70)) (bool-cases (leb 97 c and leb c 102))
   where
     go : ((leb 48 c and leb c 57) ≡ true) ⊎ ((leb 48 c and leb c 57) ≡ false) → ((leb 65 c and leb c 70) ≡ true) ⊎ ((leb 65 c and leb c 70) ≡ false)
-        → ((leb 97 c and leb c 102) ≡ true) ⊎ ((leb 97 c and leb c 102) ≡ false) → Digit c (valueOf c)
+        → ((leb 97 c and leb c 102) ≡ true) ⊎ ((leb 97 c and leb c 102) ≡ false) → Digit c (hexValue c)
     go (inl p) q r =
         let lo : 48 ≤ c = leb-true 48 c (and-l _ _ p) in
         let hi : c ≤ 57 = leb-true c 57 (and-r _ _ p) in
@@ -49,12 +49,12 @@ digit-get c d = go (bool-cases (leb 48 c and leb c 57)) (bool-cases (leb 65 c an
         let hi : c ≤ 102 = leb-true c 102 (and-r _ _ r) in
         let v = value-lower c lo hi in
         inr (omega arith, omega arith, inr (omega arith))
-    go (inr p) (inr q) (inr r) = let v = value-none c p q r in let k : valueOf c < 16 = ltb-true (valueOf c) 16 d in absurd (omega arith)
+    go (inr p) (inr q) (inr r) = let v = value-none c p q r in let k : hexValue c < 16 = ltb-true (hexValue c) 16 d in absurd (omega arith)
 
-digit-make : (c v : ℕ) → Digit c v → isDigit c ≡ true
-digit-make c v (inl (h, e)) = let w = value-decimal c (omega arith) (omega arith) in lt-ltb (valueOf c) 16 (omega arith)
-digit-make c v (inr (l, h, inl e)) = let w = value-upper c (omega arith) (omega arith) in lt-ltb (valueOf c) 16 (omega arith)
-digit-make c v (inr (l, h, inr e)) = let w = value-lower c (omega arith) (omega arith) in lt-ltb (valueOf c) 16 (omega arith)
+digit-make : (c v : ℕ) → Digit c v → isHexDigit c ≡ true
+digit-make c v (inl (h, e)) = let w = value-decimal c (omega arith) (omega arith) in lt-ltb (hexValue c) 16 (omega arith)
+digit-make c v (inr (l, h, inl e)) = let w = value-upper c (omega arith) (omega arith) in lt-ltb (hexValue c) 16 (omega arith)
+digit-make c v (inr (l, h, inr e)) = let w = value-lower c (omega arith) (omega arith) in lt-ltb (hexValue c) 16 (omega arith)
 
 -- ---- the pairs of digits of a text
 
@@ -65,21 +65,21 @@ module _ (t : List ℕ) where
   spread (p ∷ ps) = getD t p 0 ∷ getD t (p + 1) 0 ∷ spread ps
 
   abbrev isPair : ℕ → Bool
-  isPair p = isDigit (getD t p 0) and isDigit (getD t (p + 1) 0)
+  isPair p = isHexDigit (getD t p 0) and isHexDigit (getD t (p + 1) 0)
 
-  spread-get : (ps : List ℕ) → all isDigit (spread ps) ≡ true → all isPair ps ≡ true
+  spread-get : (ps : List ℕ) → all isHexDigit (spread ps) ≡ true → all isPair ps ≡ true
   unfolding spread
   spread-get [] e = refl
   spread-get (p ∷ ps) e = and-i _ _ (and-i _ _ (and-l _ _ e) (and-l _ _ (and-r _ _ e))) (spread-get ps (and-r _ _ (and-r _ _ e)))
 
-  spread-make : (ps : List ℕ) → all isPair ps ≡ true → all isDigit (spread ps) ≡ true
+  spread-make : (ps : List ℕ) → all isPair ps ≡ true → all isHexDigit (spread ps) ≡ true
   unfolding spread
   spread-make [] e = refl
   spread-make (p ∷ ps) e = and-i _ _ (and-l _ _ (and-l _ _ e)) (and-i _ _ (and-r _ _ (and-l _ _ e)) (spread-make ps (and-r _ _ e)))
 
   -- the value of a pair
   abbrev pairValue : ℕ → ℕ
-  pairValue p = 16 * valueOf (getD t p 0) + valueOf (getD t (p + 1) 0)
+  pairValue p = 16 * hexValue (getD t p 0) + hexValue (getD t (p + 1) 0)
 
 digits-spread : (t : List ℕ) → length t ≡ 36 → digitsIn t ≡ spread t inText
 unfolding digitsIn part spread
@@ -98,8 +98,8 @@ stands t e = record {
   dashes = let d = text-dashes t e in (at 0 d, at 1 d, at 2 d, at 3 d);
   pairs = λ k h.
       let p = getD inText k 0 in
-      let d = all-get (isPair t) inText 0 (spread-get t inText (ap (all isDigit) (sym (digits-spread t (text-length t e))) ∙ text-all t e)) k h in
-      (valueOf (getD t p 0), valueOf (getD t (p + 1) 0), digit-get _ (and-l _ _ d), digit-get _ (and-r _ _ d), value k h);
+      let d = all-get (isPair t) inText 0 (spread-get t inText (ap (all isHexDigit) (sym (digits-spread t (text-length t e))) ∙ text-all t e)) k h in
+      (hexValue (getD t p 0), hexValue (getD t (p + 1) 0), digit-get _ (and-l _ _ d), digit-get _ (and-r _ _ d), value k h);
 }
   where
     at : (i : ℕ) → dashesIn t ≡ ascii "----" → getD (dashesIn t) i 0 ≡ getD (ascii "----") i 0
@@ -118,7 +118,7 @@ judged t b w =
     let d = w .dashes in
     and-i _ _ (eq-eqb (length t) 36 l)
     (and-i _ _ (rw (d .0, d .1, d .2, d .3) (same-refl (ascii "----")))
-    (ap (all isDigit) (digits-spread t l)
+    (ap (all isHexDigit) (digits-spread t l)
     ∙ spread-make t inText (all-make (isPair t) inText 0 (λ k h. let p = w .pairs k h in and-i _ _ (digit-make _ (p .0) (p .2)) (digit-make _ (p .1) (p .3))))))
 
 pub reads-text : ReadsText
@@ -131,7 +131,7 @@ reads-text text guid = (
 )
   where
     read-length-16 : readOf text guid .number ≡ none → length guid ≡ 16
-    read-length-16 e = eqb-true (length guid) 16 (not-f _ (passes 1 (readRows text guid) (read-rows text guid e)))
+    read-length-16 e = eqb-true (length guid) 16 (not-f _ (passes 1 (readTextRows text guid) (read-rows text guid e)))
 
     says : readOf text guid .number ≡ none → StandsFor text (readOf text guid .buffer)
     says e = subst (StandsFor text) (sym (read-buffer text guid e)) (stands text (read-is-text text guid e))

@@ -34,11 +34,11 @@ isNot k xs = not (eqb (length xs) k)
 -- ---- reading a GUID text into 16 bytes
 
 -- R4, then R14, as docs/DECISIONS.md orders them
-abbrev pub readRows : List ℕ → List ℕ → List Row
-readRows text guid = row (isNot 16 guid) 1 ∷ row (not (isGuidText text)) 30 ∷ []
+abbrev pub readTextRows : List ℕ → List ℕ → List Row
+readTextRows text guid = row (isNot 16 guid) 1 ∷ row (not (isGuidText text)) 30 ∷ []
 
 unfoldable pub readOf : List ℕ → List ℕ → Outcome
-readOf text guid = outcome (refusal (readRows text guid)) (storedOf text) guid
+readOf text guid = outcome (refusal (readTextRows text guid)) (storedOf text) guid
 
 -- G1: a type may also be a short name
 abbrev pub readTypeOf : List ℕ → List ℕ → Outcome

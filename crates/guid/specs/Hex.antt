@@ -13,32 +13,32 @@ within lo hi b = leb (code lo) b and leb b (code hi)
 -- ---- G1: hex of either case read
 
 -- the value of a digit; 16 for a byte that is none
-unfoldable pub valueOf : ℕ → ℕ
-valueOf b =
+unfoldable pub hexValue : ℕ → ℕ
+hexValue b =
     cond (within "0" "9" b) (b - code "0")
     (cond (within "A" "F" b) (b - code "A" + 10)
     (cond (within "a" "f" b) (b - code "a" + 10)
     16))
 
-abbrev pub isDigit : ℕ → Bool
-isDigit b = ltb (valueOf b) 16
+abbrev pub isHexDigit : ℕ → Bool
+isHexDigit b = ltb (hexValue b) 16
 
 -- the bytes that digits stand for, two digits a byte, the higher first
 unfoldable pub bytesOf : List ℕ → List ℕ
 bytesOf [] = []
 bytesOf (h ∷ []) = []
-bytesOf (h ∷ l ∷ ds) = (16 * valueOf h + valueOf l) ∷ bytesOf ds
+bytesOf (h ∷ l ∷ ds) = (16 * hexValue h + hexValue l) ∷ bytesOf ds
 
 -- ---- G1: upper case written
 
 -- the digit with the value n, below 16
-unfoldable pub digitOf : ℕ → ℕ
-digitOf n = cond (ltb n 10) (code "0" + n) (code "A" + (n - 10))
+unfoldable pub hexDigitOf : ℕ → ℕ
+hexDigitOf n = cond (ltb n 10) (code "0" + n) (code "A" + (n - 10))
 
 -- the digits of bytes
 unfoldable pub digitsOf : List ℕ → List ℕ
 digitsOf [] = []
-digitsOf (b ∷ bs) = digitOf (b / 16) ∷ digitOf (b % 16) ∷ digitsOf bs
+digitsOf (b ∷ bs) = hexDigitOf (b / 16) ∷ hexDigitOf (b % 16) ∷ digitsOf bs
 
 -- a byte in upper case
 unfoldable pub upper : ℕ → ℕ

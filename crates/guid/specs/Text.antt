@@ -7,7 +7,7 @@ use lib.ListN.{length, getD}
 use Rattle.octets.specs.Ascii.{ascii}
 use Rattle.octets.specs.Bytes.{part, rest, same}
 use Rattle.octets.specs.Tests.{_and_, all}
-use Rattle.guid.specs.Hex.{isDigit, bytesOf, digitsOf}
+use Rattle.guid.specs.Hex.{isHexDigit, bytesOf, digitsOf}
 
 -- ---- G1: Groups 8-4-4-4-12, exactly 36 bytes
 
@@ -20,7 +20,7 @@ unfoldable pub dashesIn : List ℕ → List ℕ
 dashesIn t = getD t 8 0 ∷ getD t 13 0 ∷ getD t 18 0 ∷ getD t 23 0 ∷ []
 
 unfoldable pub isGuidText : List ℕ → Bool
-isGuidText t = eqb (length t) 36 and (same (dashesIn t) (ascii "----") and all isDigit (digitsIn t))
+isGuidText t = eqb (length t) 36 and (same (dashesIn t) (ascii "----") and all isHexDigit (digitsIn t))
 
 -- 32 digits as a text: five groups with dashes between them
 unfoldable pub grouped : List ℕ → List ℕ

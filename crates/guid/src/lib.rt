@@ -4,7 +4,7 @@ ghost use mathlib.Core.Bool.{true};
 ghost use Prim.Native.Nat.{_<_};
 ghost use lib.ListN.{length};
 ghost use Rattle.octets.specs.Tests.{all};
-ghost use Rattle.guid.specs.Hex.{valueOf, isDigit, bytesOf, digitOf, digitsOf};
+ghost use Rattle.guid.specs.Hex.{hexValue, isHexDigit, bytesOf, hexDigitOf, digitsOf};
 ghost use Rattle.guid.specs.Text.{digitsIn, isGuidText, grouped as groupedOf, reordered as reorderedOf};
 ghost use Rattle.guid.specs.Types.{shortAt};
 ghost use Rattle.guid.specs.Table.{tableAgrees};
@@ -53,7 +53,7 @@ const SHORT_TYPES: [ShortType; 5] = [
 
 // The value of a hex digit, 16 for any other byte.
 fn value(b: u8) -> u8
-    ensures { λ r. ⌜ r ≡ valueOf b ⌝ }
+    ensures { λ r. ⌜ r ≡ hexValue b ⌝ }
 {
     if b < 48 {
         return 16;
@@ -79,7 +79,7 @@ fn value(b: u8) -> u8
 // The upper-case hex digit of a value.
 fn digit(n: u8) -> u8
     requires { ⌜ n < 16 ⌝ }
-    ensures { λ r. ⌜ r ≡ digitOf n ⌝ }
+    ensures { λ r. ⌜ r ≡ hexDigitOf n ⌝ }
 {
     if n < 10 { 48 + n } else { 55 + n }
 }
@@ -99,7 +99,7 @@ fn digits_in(text: &[u8]) -> [u8; 32]
 }
 
 fn all_digits(s: &[u8]) -> bool
-    ensures { λ r. ⌜ r ≡ all isDigit (now (s .entry)) ⌝ }
+    ensures { λ r. ⌜ r ≡ all isHexDigit (now (s .entry)) ⌝ }
 {
     let mut i = 0;
     while i < s.len() {
@@ -127,7 +127,7 @@ fn is_text(text: &[u8]) -> bool
 
 // The bytes that 32 digits stand for.
 fn bytes_of(digits: &[u8]) -> [u8; 16]
-    requires { ⌜ (length (now digits) ≡ 32) × (all isDigit (now digits) ≡ true) ⌝ }
+    requires { ⌜ (length (now digits) ≡ 32) × (all isHexDigit (now digits) ≡ true) ⌝ }
     ensures { λ r. ⌜ r ≡ bytesOf (now (digits .entry)) ⌝ }
 {
     let mut bytes = [0u8; 16];

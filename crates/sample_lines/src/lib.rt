@@ -4,7 +4,7 @@ use gpt::Added;
 use gpt::Counted;
 use gpt::Done;
 use gpt::Reading;
-use gpt::Refusal;
+use gpt_checks::Refusal;
 ghost use mathlib.Core.Path.{_≡_};
 ghost use lib.ListN.{length};
 

@@ -23,38 +23,31 @@ const TAIL: usize = 16896;
 
 // A step is a letter, a digit K and a size SS in two digits:
 //
-//     f000    format
 //     h000    the headers
+//     c000    state, free counts, sums and CRCs
+//     f000    format
+//     dK00    delete slot K
+//     rKSS    resize slot K to SS blocks
 //     aKSS    the K-th add, of SS blocks
 //     mK00    the K-th add, of 2^64 − 1 blocks
 //     wK00    the K-th add, of all usable blocks
-//     dK00    delete slot K
-//     rKSS    resize slot K to SS blocks
-//     c000    state, free counts, sums and CRCs
-fn step(
-    head: &mut [u8],
-    tail: &mut [u8],
-    n: u64,
-    sums: Sums,
-    letter: u8,
-    k: u8,
-    size: u64,
-) -> Change
+fn show(head: &[u8], tail: &[u8], n: u64, sums: Sums, letter: u8)
     requires { ⌜ (length (now head) ≡ 17408) × (length (now tail) ≡ 16896) ⌝ }
 {
     match letter {
+        b'h' => sample_lines::headers(head, tail, n),
+        b'c' => sample_lines::close(head, tail, n, sums.granted, sums.back),
+        _ => (),
+    }
+}
+
+fn call(head: &mut [u8], tail: &mut [u8], n: u64, letter: u8, k: u8, size: u64) -> Change {
+    match letter {
         b'f' => calls::format(head, tail, n),
-        b'h' => {
-            sample_lines::headers(&head[..], &tail[..], n);
-            Change::Nothing
-        }
         b'd' => calls::delete(head, tail, n, k as u64),
         b'r' => calls::resize(head, tail, n, k as u64, size),
-        b'c' => {
-            sample_lines::close(&head[..], &tail[..], n, sums.granted, sums.back);
-            Change::Nothing
-        }
-        _ => calls::add(head, tail, n, k, asked(n, letter, size)),
+        b'a' | b'm' | b'w' => calls::add(head, tail, n, k, asked(n, letter, size)),
+        _ => Change::Nothing,
     }
 }
 
@@ -84,12 +77,13 @@ fn steps(n: u64, script: &[u8]) {
     let mut i = 0;
     while i < count {
         let at = 5 * i;
-        let change = step(
+        let letter = script[at];
+        show(&head, &tail, n, sums, letter);
+        let change = call(
             &mut head,
             &mut tail,
             n,
-            sums,
-            script[at],
+            letter,
             digit(script[at + 1]),
             number(script[at + 2], script[at + 3]),
         );

@@ -16,15 +16,15 @@ use Rattle.octets.proofs.Bools.{and-l, and-r, and-i}
 use Rattle.octets.proofs.Numbers.{length-le, unle-le}
 use Rattle.octets.proofs.Parts.{length-zeros}
 use Rattle.octets.proofs.Rows.{pick-true, pick-false}
-use Rattle.gpt_model.specs.Table.{Slot, vacant, spans, unused, slotOf, slots}
+use Rattle.gpt_model.specs.Table.{BlockRange, noBlocks, spans, unused, rangeOf, rangesOf}
 use Rattle.gpt_model.specs.Disk.{Shape, disk512, lastUsable, inRange, Side, primary, backup, block0, headerFields, headerIn, headerCrc, header, tableOf}
-use Rattle.gpt_model.specs.Ranges.{inside, allFrom, roomAt, firstFrom, place, countFrom, taken, freeCount}
-use Rattle.gpt_model.specs.Calls.{Edit, Call, read, freeCounts, repair, edit, Answer, refused, accepted, Out, tableRows, change, lengthsOf, lengthsOk, rowsOf, step, format}
-use Rattle.gpt_model.specs.Lists.{Ledger, book, Run, next, run, answers, tableNext, applied, begun, slotsOf}
+use Rattle.gpt_model.specs.Ranges.{blockIn, allFrom, roomAt, lowestFrom, lowestStart, countFrom, taken, freeCount}
+use Rattle.gpt_model.specs.Calls.{Edit, Call, read, freeCounts, repair, edit, Answer, refused, accepted, Outcome, tableRows, change, lengthsOf, lengthsOk, rowsOf, step, format}
+use Rattle.gpt_model.specs.Lists.{Ledger, book, Snapshot, afterOne, afterAll, answers, tableNext, applied, startAfter, rangesIn}
 use Rattle.gpt_model.specs.Claims.{Formats}
 use Rattle.gpt_model.proofs.Fields.{length-writeAll, behind}
 use Rattle.gpt_model.proofs.Copies.{header-reads, written-header}
-use Rattle.gpt_model.proofs.Ways.{step-refused, step-made, edit-decides, open-none}
+use Rattle.gpt_model.proofs.Outcomes.{step-refused, step-accepted, edit-decides, open-none}
 use Rattle.gpt_model.proofs.Steps.{Kept, keeps}
 use Rattle.gpt_model.proofs.Demand3.{format-refused, formatted, format-starts, starts-kept, notEmpty}
 use Rattle.starred.specs.Starred.{After, lengthsIn, edits2, edits4, edits5, Sample1, Sample2, Sample3, Sample4, Sample5}
@@ -44,7 +44,7 @@ answersT first last es (d ∷ ds) =
     let a = answerT first last es d in a ∷ answersT first last (tableNext first last es (edit d) a) ds
 
 module _ (g : Shape) (wide : 92 ≤ g .block) (n : ℕ) (range : inRange g n ≡ true) where
-  answer-table : (r : Run) (d : Edit) → Kept g n r → lengthsOf d ≡ true
+  answer-table : (r : Snapshot) (d : Edit) → Kept g n r → lengthsOf d ≡ true
       → step g n (r .head) (r .tail) (edit d) .answer ≡ answerT (g .first) (lastUsable g n) (tableOf g n (r .head) (r .tail)) d
   answer-table r d v l = go (refusal (tableRows (g .first) (lastUsable g n) (tableOf g n (r .head) (r .tail)) d)) refl
     where
@@ -53,10 +53,10 @@ module _ (g : Shape) (wide : 92 ≤ g .block) (n : ℕ) (range : inRange g n ≡
 
       go : (q : Option ℕ) → refusal (tableRows (g .first) (lastUsable g n) (tableOf g n (r .head) (r .tail)) d) ≡ q
           → step g n (r .head) (r .tail) (edit d) .answer ≡ answerT (g .first) (lastUsable g n) (tableOf g n (r .head) (r .tail)) d
-      go none e = rw e (ap (λ (o : Out). o .answer) (step-made g n (r .head) (r .tail) (edit d) (rows ∙ e)))
-      go (some k) e = rw e (ap (λ (o : Out). o .answer) (step-refused g n (r .head) (r .tail) (edit d) k (rows ∙ e)))
+      go none e = rw e (ap (λ (o : Outcome). o .answer) (step-accepted g n (r .head) (r .tail) (edit d) (rows ∙ e)))
+      go (some k) e = rw e (ap (λ (o : Outcome). o .answer) (step-refused g n (r .head) (r .tail) (edit d) k (rows ∙ e)))
 
-  answers-table : (ds : List Edit) (r : Run) (es : List ℕ) → Kept g n r → tableOf g n (r .head) (r .tail) ≡ es → all lengthsOf ds ≡ true
+  answers-table : (ds : List Edit) (r : Snapshot) (es : List ℕ) → Kept g n r → tableOf g n (r .head) (r .tail) ≡ es → all lengthsOf ds ≡ true
       → answers g n (map edit ds) r ≡ answersT (g .first) (lastUsable g n) es ds
   answers-table [] r es v q l = refl
   answers-table (d ∷ ds) r es v q l =
@@ -64,7 +64,7 @@ module _ (g : Shape) (wide : 92 ≤ g .block) (n : ℕ) (range : inRange g n ≡
       let a : step g n (r .head) (r .tail) (edit d) .answer ≡ answerT (g .first) (lastUsable g n) es d =
       answer-table r d v (and-l _ _ l) ∙ ap (λ (x : List ℕ). answerT (g .first) (lastUsable g n) x d) q in
       ap₂ _∷_ a
-      (answers-table ds (next g n (edit d) r) (tableNext (g .first) (lastUsable g n) es (edit d) (answerT (g .first) (lastUsable g n) es d)) (w .0)
+      (answers-table ds (afterOne g n (edit d) r) (tableNext (g .first) (lastUsable g n) es (edit d) (answerT (g .first) (lastUsable g n) es d)) (w .0)
       (w .1 ∙ ap₂ (λ (x : List ℕ) (y : Answer). tableNext (g .first) (lastUsable g n) x (edit d) y) q a) (and-r _ _ l))
 
 -- the ledger after a list, from calls and replies alone
@@ -73,25 +73,25 @@ bookAll l [] replies = l
 bookAll l (c ∷ cs) [] = l
 bookAll l (c ∷ cs) (a ∷ replies) = bookAll (book l c a) cs replies
 
-ledger-run : (g : Shape) (n : ℕ) (cs : List Call) (r : Run) → run g n cs r .ledger ≡ bookAll (r .ledger) cs (answers g n cs r)
+ledger-run : (g : Shape) (n : ℕ) (cs : List Call) (r : Snapshot) → afterAll g n cs r .ledger ≡ bookAll (r .ledger) cs (answers g n cs r)
 ledger-run g n [] r = refl
-ledger-run g n (c ∷ cs) r = ledger-run g n cs (next g n c r)
+ledger-run g n (c ∷ cs) r = ledger-run g n cs (afterOne g n c r)
 
 -- ---- a list of edits on a freshly formatted disk of 512-byte blocks, by the answers on the table alone
 
-record Computed (n : ℕ) (ds : List Edit) (replies : List Answer) (a : List Answer) (r : Run) : Type 0 where
+record Computed (n : ℕ) (ds : List Edit) (replies : List Answer) (a : List Answer) (r : Snapshot) : Type 0 where
   replied : a ≡ replies
-  table : slotsOf disk512 n r ≡ slots (applied 34 (n - 34) (zeros 16384) (map edit ds) replies)
+  table : rangesIn disk512 n r ≡ rangesOf (applied 34 (n - 34) (zeros 16384) (map edit ds) replies)
   ledger : r .ledger ≡ bookAll (record { granted = 0; back = 0; sizes = replicate 128 0 }) (map edit ds) replies
 
 computed : (n : ℕ) (ds : List Edit) (replies : List Answer) → all lengthsOf ds ≡ true → answersT 34 (n - 34) (zeros 16384) ds ≡ replies → After n ds (Computed n ds replies)
 computed n ds replies l q guid h t f =
     let s = format-starts disk512 n guid h t f in
-    let r = begun (format disk512 n guid h t) in
+    let r = startAfter (format disk512 n guid h t) in
     let a = answers-table disk512 (f .wide) n (f .range) ds r (zeros 16384) (starts-kept disk512 n (zeros 16384) r s) (s .table) l ∙ q in
     record {
       replied = a;
-      table = ap slots (notEmpty disk512 n guid h t f (map edit ds) .table ∙ ap (applied 34 (n - 34) (zeros 16384) (map edit ds)) a);
+      table = ap rangesOf (notEmpty disk512 n guid h t f (map edit ds) .table ∙ ap (applied 34 (n - 34) (zeros 16384) (map edit ds)) a);
       ledger = ledger-run disk512 n (map edit ds) r ∙ ap (bookAll (r .ledger) (map edit ds)) a;
     }
 
@@ -103,8 +103,8 @@ small = refl
 
 pub sample1 : Sample1
 sample1 guid h t lg lh lt = (
-  ap (λ (o : Out). o .answer) (format-refused disk512 67 guid h t 2 (rows (eqb (length guid) 16) _ (eq-eqb _ _ lg))),
-  λ c l. ap (λ (o : Out). o .answer) (step-refused disk512 67 h t c 2 (calls c l)),
+  ap (λ (o : Outcome). o .answer) (format-refused disk512 67 guid h t 2 (rows (eqb (length guid) 16) _ (eq-eqb _ _ lg))),
+  λ c l. ap (λ (o : Outcome). o .answer) (step-refused disk512 67 h t c 2 (calls c l)),
 )
   where
     rows : (b : Bool) (o : Option ℕ) → b ≡ true → pickRow (not (lengthsOk disk512 h t and b)) 1 (pickRow (not (inRange disk512 67)) 2 o) ≡ some 2
@@ -117,11 +117,11 @@ sample1 guid h t lg lh lt = (
     calls (edit d) l = rows (lengthsOf d) _ l
 
 answers2 : answersT 34 34 (zeros 16384) edits2 ≡ accepted (1 ∷ 34 ∷ []) ∷ refused 25 ∷ []
-unfolding zeros put putChunk chunks slotOf unused part le unle same place roomAt firstFrom allFrom inside pickRow _or_ _and_
+unfolding zeros put putChunk chunks rangeOf unused part le unle same lowestStart roomAt lowestFrom allFrom blockIn pickRow _or_ _and_
 answers2 = refl
 
-slots2 : slots (applied 34 34 (zeros 16384) (map edit edits2) (accepted (1 ∷ 34 ∷ []) ∷ refused 25 ∷ [])) ≡ spans 34 34 ∷ replicate 127 vacant
-unfolding zeros put putChunk chunks slotOf unused part le unle same place roomAt firstFrom allFrom inside _or_ _and_
+slots2 : rangesOf (applied 34 34 (zeros 16384) (map edit edits2) (accepted (1 ∷ 34 ∷ []) ∷ refused 25 ∷ [])) ≡ spans 34 34 ∷ replicate 127 noBlocks
+unfolding zeros put putChunk chunks rangeOf unused part le unle same lowestStart roomAt lowestFrom allFrom blockIn _or_ _and_
 slots2 = refl
 
 lengths2 : all lengthsOf edits2 ≡ true
@@ -135,12 +135,12 @@ sample2 = (refl, refl, λ guid h t f. let w = computed 68 edits2 _ lengths2 answ
 module _ (n : ℕ) (guid h t : List ℕ) (f : Formats disk512 n guid h t) where
   head-header : headerIn disk512 primary (format disk512 n guid h t .head) ≡ header disk512 n primary guid (zeros 16384)
   head-header =
-      ap (λ (o : Out). headerIn disk512 primary (o .head)) (formatted disk512 n guid h t f)
+      ap (λ (o : Outcome). headerIn disk512 primary (o .head)) (formatted disk512 n guid h t f)
       ∙ written-header disk512 (f .wide) n primary guid (zeros 16384) _ (length-zeros 16384) (length-writeAll (block0 n) (zeros 17408) ∙ length-zeros 17408)
 
   tail-header : headerIn disk512 backup (format disk512 n guid h t .tail) ≡ header disk512 n backup guid (zeros 16384)
   tail-header =
-      ap (λ (o : Out). headerIn disk512 backup (o .tail)) (formatted disk512 n guid h t f)
+      ap (λ (o : Outcome). headerIn disk512 backup (o .tail)) (formatted disk512 n guid h t f)
       ∙ written-header disk512 (f .wide) n backup guid (zeros 16384) _ (length-zeros 16384) (length-zeros 16896)
 
 -- by the field's place in the list
@@ -177,23 +177,23 @@ abbrev replies5 : List Answer
 replies5 = replies4 ++ (refused 25 ∷ accepted [] ∷ [])
 
 answersAre : (answersT 34 66 (zeros 16384) (take 2 edits4) ≡ replies2) × (answersT 34 66 (zeros 16384) edits4 ≡ replies4) × (answersT 34 66 (zeros 16384) edits5 ≡ replies5)
-unfolding zeros put putChunk chunks slotOf unused part le unle same place roomAt firstFrom allFrom inside pickRow _or_ _and_
+unfolding zeros put putChunk chunks rangeOf unused part le unle same lowestStart roomAt lowestFrom allFrom blockIn pickRow _or_ _and_
 answersAre = (refl, refl, refl)
 
 lengthsAre : (all lengthsOf (take 2 edits4) ≡ true) × (all lengthsOf edits4 ≡ true) × (all lengthsOf edits5 ≡ true)
 unfolding _and_
 lengthsAre = (refl, refl, refl)
 
-slotsAre : (slots (applied 34 66 (zeros 16384) (map edit (take 2 edits4)) replies2) ≡ spans 34 43 ∷ spans 44 48 ∷ replicate 126 vacant)
-    × (slots (applied 34 66 (zeros 16384) (map edit edits4) replies4) ≡ spans 49 59 ∷ spans 44 48 ∷ spans 34 43 ∷ replicate 125 vacant)
-    × (slots (applied 34 66 (zeros 16384) (map edit edits5) replies5) ≡ spans 49 66 ∷ spans 44 48 ∷ spans 34 43 ∷ replicate 125 vacant)
-unfolding zeros put putChunk chunks slotOf unused part le unle same place roomAt firstFrom allFrom inside _or_ _and_
+slotsAre : (rangesOf (applied 34 66 (zeros 16384) (map edit (take 2 edits4)) replies2) ≡ spans 34 43 ∷ spans 44 48 ∷ replicate 126 noBlocks)
+    × (rangesOf (applied 34 66 (zeros 16384) (map edit edits4) replies4) ≡ spans 49 59 ∷ spans 44 48 ∷ spans 34 43 ∷ replicate 125 noBlocks)
+    × (rangesOf (applied 34 66 (zeros 16384) (map edit edits5) replies5) ≡ spans 49 66 ∷ spans 44 48 ∷ spans 34 43 ∷ replicate 125 noBlocks)
+unfolding zeros put putChunk chunks rangeOf unused part le unle same lowestStart roomAt lowestFrom allFrom blockIn _or_ _and_
 slotsAre = (refl, refl, refl)
 
-countsAre : (taken (spans 49 59 ∷ spans 44 48 ∷ spans 34 43 ∷ replicate 125 vacant) 34 66 ≡ 26)
-    × (freeCount (spans 49 59 ∷ spans 44 48 ∷ spans 34 43 ∷ replicate 125 vacant) 34 66 ≡ 7)
-    × (freeCount (spans 49 66 ∷ spans 44 48 ∷ spans 34 43 ∷ replicate 125 vacant) 34 66 ≡ 0)
-unfolding taken freeCount countFrom inside _or_ _and_
+countsAre : (taken (spans 49 59 ∷ spans 44 48 ∷ spans 34 43 ∷ replicate 125 noBlocks) 34 66 ≡ 26)
+    × (freeCount (spans 49 59 ∷ spans 44 48 ∷ spans 34 43 ∷ replicate 125 noBlocks) 34 66 ≡ 7)
+    × (freeCount (spans 49 66 ∷ spans 44 48 ∷ spans 34 43 ∷ replicate 125 noBlocks) 34 66 ≡ 0)
+unfolding taken freeCount countFrom blockIn _or_ _and_
 countsAre = (refl, refl, refl)
 
 pub sample4 : Sample4
@@ -204,14 +204,14 @@ sample4 = (
       let s = w .table ∙ slotsAre .1 in (
         w .replied,
         ap (take 3) s,
-        ap (λ (x : List Slot). taken x 34 66) s ∙ countsAre .0,
+        ap (λ (x : List BlockRange). taken x 34 66) s ∙ countsAre .0,
         ap (λ (l : Ledger). l .granted) (w .ledger),
         ap (λ (l : Ledger). l .back) (w .ledger),
-        ap (λ (x : List Slot). freeCount x 34 66) s ∙ countsAre .1,
+        ap (λ (x : List BlockRange). freeCount x 34 66) s ∙ countsAre .1,
       ),
 )
 
 pub sample5 : Sample5
 sample5 guid h t f =
     let w = computed 100 edits5 replies5 (lengthsAre .2) (answersAre .2) guid h t f in
-    (ap (drop 5) (w .replied), ap (λ (x : List Slot). freeCount x 34 66) (w .table ∙ slotsAre .2) ∙ countsAre .2)
+    (ap (drop 5) (w .replied), ap (λ (x : List BlockRange). freeCount x 34 66) (w .table ∙ slotsAre .2) ∙ countsAre .2)

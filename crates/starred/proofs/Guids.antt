@@ -3,12 +3,12 @@ use mathlib.Core.Path.{refl}
 use Rattle.octets.specs.Bytes.{zeros, part, rest, same}
 use Rattle.octets.specs.Rows.{pickRow}
 use Rattle.octets.specs.Tests.{_and_}
-use Rattle.guid.specs.Hex.{valueOf, bytesOf}
+use Rattle.guid.specs.Hex.{hexValue, bytesOf}
 use Rattle.guid.specs.Text.{digitsIn, dashesIn, isGuidText, reordered, storedOf}
 use Rattle.guid.specs.Types.{shortAt, expand}
 use Rattle.guid.specs.Calls.{outcome, readOf}
 use Rattle.starred.specs.Starred.{Sample6}
 
 pub sample6 : Sample6
-unfolding zeros part rest same _and_ pickRow valueOf bytesOf digitsIn dashesIn isGuidText reordered storedOf shortAt expand outcome readOf
+unfolding zeros part rest same _and_ pickRow hexValue bytesOf digitsIn dashesIn isGuidText reordered storedOf shortAt expand outcome readOf
 sample6 = refl

@@ -11,8 +11,8 @@ use Rattle.octets.specs.Bytes.{field, zeros}
 use Rattle.gpt_model.specs.Table.{spans}
 use Rattle.gpt_model.specs.Disk.{disk512, lastUsable, primary, backup, headerIn, headerBlock, entriesBlock, lentBytes}
 use Rattle.gpt_model.specs.Ranges.{taken, freeCount}
-use Rattle.gpt_model.specs.Calls.{Edit, add, delete, resize, Call, read, freeCounts, repair, edit, Answer, refused, accepted, lengthsOf, step, format}
-use Rattle.gpt_model.specs.Lists.{Run, run, answers, begun, slotsOf}
+use Rattle.gpt_model.specs.Calls.{Edit, add, newPartition, delete, resize, Call, read, freeCounts, repair, edit, Answer, refused, accepted, lengthsOf, step, format}
+use Rattle.gpt_model.specs.Lists.{Snapshot, afterAll, answers, startAfter, rangesIn}
 use Rattle.gpt_model.specs.Claims.{Formats}
 use Rattle.guid.specs.Calls.{readTypeOf}
 use Rattle.fmd_parse.specs.Layouts.{layout, refused as refusedText, layoutOf}
@@ -24,14 +24,14 @@ use Rattle.fmd_table.specs.declared.Size.the-variants.{Given as GivenSize, Omit
 use Rattle.fmd_table.specs.declared.Section.{Section}
 
 -- what holds of the answers to a list of edits, and of what it leaves, on every freshly formatted disk of n blocks
-abbrev pub After : ℕ → List Edit → (List Answer → Run → Type 0) → Type 0
+abbrev pub After : ℕ → List Edit → (List Answer → Snapshot → Type 0) → Type 0
 After n ds P =
     (guid h t : List ℕ) → Formats disk512 n guid h t
-    → let r = begun (format disk512 n guid h t) in P (answers disk512 n (map edit ds) r) (run disk512 n (map edit ds) r)
+    → let r = startAfter (format disk512 n guid h t) in P (answers disk512 n (map edit ds) r) (afterAll disk512 n (map edit ds) r)
 
 -- add, with some type, unique GUID and name
 abbrev pub adding : ℕ → ℕ → Edit
-adding id size = add (replicate 16 7) (replicate 16 id) size 0 (replicate 36 0)
+adding id size = add (newPartition (replicate 16 7) (replicate 16 id) size 0 (replicate 36 0))
 
 -- a call's own lent buffers have their lengths
 abbrev pub lengthsIn : Call → Bool
@@ -53,7 +53,7 @@ edits2 = adding 1 1 ∷ adding 2 1 ∷ []
 abbrev pub Sample2 : Type 0
 Sample2 =
     (disk512 .first ≡ 34) × (lastUsable disk512 68 ≡ 34)
-    × After 68 edits2 (λ a r. (a ≡ accepted (1 ∷ 34 ∷ []) ∷ refused 25 ∷ []) × (take 1 (slotsOf disk512 68 r) ≡ spans 34 34 ∷ []))
+    × After 68 edits2 (λ a r. (a ≡ accepted (1 ∷ 34 ∷ []) ∷ refused 25 ∷ []) × (take 1 (rangesIn disk512 68 r) ≡ spans 34 34 ∷ []))
 
 -- S3: (3*) N 100: last usable 66, backup header 99, entries from 67.
 abbrev pub Sample3 : Type 0
@@ -70,18 +70,18 @@ edits4 = adding 1 10 ∷ adding 2 5 ∷ delete 1 ∷ adding 3 11 ∷ adding 4 10
 
 abbrev pub Sample4 : Type 0
 Sample4 =
-    After 100 (take 2 edits4) (λ a r. take 2 (slotsOf disk512 100 r) ≡ spans 34 43 ∷ spans 44 48 ∷ [])
+    After 100 (take 2 edits4) (λ a r. take 2 (rangesIn disk512 100 r) ≡ spans 34 43 ∷ spans 44 48 ∷ [])
     × After 100 edits4 (λ a r.
     (a ≡ accepted (1 ∷ 34 ∷ []) ∷ accepted (2 ∷ 44 ∷ []) ∷ accepted [] ∷ accepted (1 ∷ 49 ∷ []) ∷ accepted (3 ∷ 34 ∷ []) ∷ [])
-    × (take 3 (slotsOf disk512 100 r) ≡ spans 49 59 ∷ spans 44 48 ∷ spans 34 43 ∷ [])
-    × (taken (slotsOf disk512 100 r) 34 66 ≡ 26) × (r .ledger .granted ≡ 36) × (r .ledger .back ≡ 10) × (freeCount (slotsOf disk512 100 r) 34 66 ≡ 7))
+    × (take 3 (rangesIn disk512 100 r) ≡ spans 49 59 ∷ spans 44 48 ∷ spans 34 43 ∷ [])
+    × (taken (rangesIn disk512 100 r) 34 66 ≡ 26) × (r .ledger .granted ≡ 36) × (r .ledger .back ≡ 10) × (freeCount (rangesIn disk512 100 r) 34 66 ≡ 7))
 
 -- S5: (5*) Then resizing slot 1 to 19 is 25, to 18 accepted, free 0.
 abbrev pub edits5 : List Edit
 edits5 = edits4 ++ (resize 1 19 ∷ resize 1 18 ∷ [])
 
 abbrev pub Sample5 : Type 0
-Sample5 = After 100 edits5 (λ a r. (drop 5 a ≡ refused 25 ∷ accepted [] ∷ []) × (freeCount (slotsOf disk512 100 r) 34 66 ≡ 0))
+Sample5 = After 100 edits5 (λ a r. (drop 5 a ≡ refused 25 ∷ accepted [] ∷ []) × (freeCount (rangesIn disk512 100 r) 34 66 ≡ 0))
 
 -- S6: (6*) Type data is stored A2 A0 D0 EB E5 B9 33 44 87 C0 68 B6 B7 26 99 C7.
 abbrev pub Sample6 : Type 0

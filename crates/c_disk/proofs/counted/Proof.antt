@@ -1,4 +1,4 @@
-use Rattle.c_disk.proofs.Told.{gpt-refused}
+use Rattle.c_disk.proofs.Effects.{gpt-refused}
 use Rattle.gpt.specs.Answers.{countedOf}
 use mathlib.Core.Path.{ap}
 use borrow.Author.Needs.{needs}

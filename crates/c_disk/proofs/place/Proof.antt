@@ -1,4 +1,4 @@
-use Rattle.c_disk.proofs.Told.{gpt-refused, gpt-accepted, placeBy}
+use Rattle.c_disk.proofs.Effects.{gpt-refused, gpt-accepted, placeBy}
 use mathlib.Core.Path.{ap}
 use borrow.Author.Needs.{needs}
 use Rattle.c_disk.proofs.place.Statement.{statement}

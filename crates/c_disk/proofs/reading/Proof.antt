@@ -1,4 +1,4 @@
-use Rattle.c_disk.proofs.Told.{gpt-refused, gpt-accepted}
+use Rattle.c_disk.proofs.Effects.{gpt-refused, gpt-accepted}
 use Rattle.gpt.specs.Answers.{readingOf}
 use mathlib.Core.Path.{ap}
 use borrow.Author.Needs.{needs}

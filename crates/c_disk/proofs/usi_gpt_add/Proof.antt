@@ -1,5 +1,5 @@
 use Rattle.c_disk.proofs.Lengths.{kind-wrong, unique-wrong, name-wrong, add-on}
-use Rattle.c_disk.proofs.Told.{gpt-tells}
+use Rattle.c_disk.proofs.Effects.{gpt-tells}
 use borrow.Author.Needs.{needs}
 use Rattle.c_disk.proofs.usi_gpt_add.Statement.{statement}
 use Rattle.c_disk.proofs.usi_gpt_add.Tie as tie

@@ -1,5 +1,5 @@
 use Rattle.fmap.specs.declared.Lookup.the-variants.{Nothing, WrongLength, NoSignature, NoGoodMap}
-use Rattle.c_flash.proofs.Told.{looked-tells, area-tells}
+use Rattle.c_flash.proofs.Effects.{looked-tells, area-tells}
 use borrow.Author.Needs.{needs}
 use Rattle.c_flash.proofs.area_found.Statement.{statement}
 use Rattle.c_flash.proofs.area_found.Tie as tie

@@ -1,4 +1,4 @@
-use Rattle.c_flash.proofs.Told.{position-low, position-high}
+use Rattle.c_flash.proofs.Effects.{position-low, position-high}
 use borrow.Author.Needs.{needs}
 use Rattle.c_flash.proofs.position_of.Statement.{statement}
 use Rattle.c_flash.proofs.position_of.Tie as tie

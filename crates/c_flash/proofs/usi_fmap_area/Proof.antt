@@ -1,4 +1,4 @@
-use Rattle.c_flash.proofs.Told.{area-wrong, area-right}
+use Rattle.c_flash.proofs.Effects.{area-wrong, area-right}
 use borrow.Author.Needs.{needs}
 use Rattle.c_flash.proofs.usi_fmap_area.Statement.{statement}
 use Rattle.c_flash.proofs.usi_fmap_area.Tie as tie

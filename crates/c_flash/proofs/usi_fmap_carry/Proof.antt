@@ -1,4 +1,4 @@
-use Rattle.c_flash.proofs.Told.{carry-tells}
+use Rattle.c_flash.proofs.Effects.{carry-tells}
 use borrow.Author.Needs.{needs}
 use Rattle.c_flash.proofs.usi_fmap_carry.Statement.{statement}
 use Rattle.c_flash.proofs.usi_fmap_carry.Tie as tie

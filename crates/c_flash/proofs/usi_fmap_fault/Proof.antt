@@ -1,4 +1,4 @@
-use Rattle.c_flash.proofs.Told.{fault-tells}
+use Rattle.c_flash.proofs.Effects.{fault-tells}
 use borrow.Author.Needs.{needs}
 use Rattle.c_flash.proofs.usi_fmap_fault.Statement.{statement}
 use Rattle.c_flash.proofs.usi_fmap_fault.Tie as tie

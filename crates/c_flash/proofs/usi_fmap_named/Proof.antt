@@ -1,6 +1,6 @@
 use Rattle.fmap.specs.Areas.{indexReply}
-use Rattle.c_flash.specs.Told.{namedTold}
-use Rattle.c_flash.proofs.Told.{tells}
+use Rattle.c_flash.specs.Effects.{namedEffect}
+use Rattle.c_flash.proofs.Effects.{tells}
 use borrow.Author.Needs.{needs}
 use Rattle.c_flash.proofs.usi_fmap_named.Statement.{statement}
 use Rattle.c_flash.proofs.usi_fmap_named.Tie as tie
@@ -27,19 +27,19 @@ enum-told-4 : tie.Need-enum-told-4
 enum-told-4 c = search needs
 
 returns : tie.Need-returns
-returns c = tells (namedTold _) indexReply (c .before .i .given .1) (c .before .before .before .area-index .ensures)
+returns c = tells (namedEffect _) indexReply (c .before .i .given .1) (c .before .before .before .area-index .ensures)
 
 returns-2 : tie.Need-returns-2
-returns-2 c = tells (namedTold _) indexReply (c .enum-told .given .1) (c .before .before .area-index .ensures)
+returns-2 c = tells (namedEffect _) indexReply (c .enum-told .given .1) (c .before .before .area-index .ensures)
 
 returns-3 : tie.Need-returns-3
-returns-3 c = tells (namedTold _) indexReply (c .enum-told2 .given .1) (c .before .before .area-index .ensures)
+returns-3 c = tells (namedEffect _) indexReply (c .enum-told2 .given .1) (c .before .before .area-index .ensures)
 
 returns-4 : tie.Need-returns-4
-returns-4 c = tells (namedTold _) indexReply (c .enum-told3 .given .1) (c .before .before .area-index .ensures)
+returns-4 c = tells (namedEffect _) indexReply (c .enum-told3 .given .1) (c .before .before .area-index .ensures)
 
 returns-5 : tie.Need-returns-5
-returns-5 c = tells (namedTold _) indexReply (c .enum-told4 .given .1) (c .before .before .area-index .ensures)
+returns-5 c = tells (namedEffect _) indexReply (c .enum-told4 .given .1) (c .before .before .area-index .ensures)
 
 pub usi-fmap-named-spec : {M : Type 1} → statement M
 usi-fmap-named-spec =

@@ -1,4 +1,4 @@
-use Rattle.c_layout.proofs.Told.{count-refused, count-accepted}
+use Rattle.c_layout.proofs.Effects.{count-refused, count-accepted}
 use borrow.Author.Needs.{needs}
 use Rattle.c_layout.proofs.counted.Statement.{statement}
 use Rattle.c_layout.proofs.counted.Tie as tie

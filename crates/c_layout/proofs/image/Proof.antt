@@ -1,7 +1,7 @@
 use mathlib.Core.Path.{_≡_}
 use lib.ListN.{length}
 use native.Mathlib.Omega.{arith}
-use Rattle.c_layout.proofs.Told.{image-refused, image-accepted}
+use Rattle.c_layout.proofs.Effects.{image-refused, image-accepted}
 use borrow.Author.Needs.{needs}
 use Rattle.c_layout.proofs.image.Statement.{statement}
 use Rattle.c_layout.proofs.image.Tie as tie

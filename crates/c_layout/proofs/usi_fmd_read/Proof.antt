@@ -1,4 +1,4 @@
-use Rattle.c_layout.proofs.Told.{read-wrong, read-right}
+use Rattle.c_layout.proofs.Effects.{read-wrong, read-right}
 use borrow.Author.Needs.{needs}
 use Rattle.c_layout.proofs.usi_fmd_read.Statement.{statement}
 use Rattle.c_layout.proofs.usi_fmd_read.Tie as tie

@@ -1,4 +1,4 @@
-use Rattle.c_layout.proofs.Told.{records-tell}
+use Rattle.c_layout.proofs.Effects.{records-tell}
 use borrow.Author.Needs.{needs}
 use Rattle.c_layout.proofs.usi_fmd_records.Statement.{statement}
 use Rattle.c_layout.proofs.usi_fmd_records.Tie as tie

@@ -1,4 +1,4 @@
-use Rattle.c_layout.proofs.Told.{write-tells}
+use Rattle.c_layout.proofs.Effects.{write-tells}
 use borrow.Author.Needs.{needs}
 use Rattle.c_layout.proofs.usi_fmd_write.Statement.{statement}
 use Rattle.c_layout.proofs.usi_fmd_write.Tie as tie

@@ -1,5 +1,5 @@
 use borrow.Author.Needs.{needs}
-use Rattle.c_text.proofs.Told.{tells}
+use Rattle.c_text.proofs.Effects.{tells}
 use Rattle.c_text.proofs.usi_guid_read.Statement.{statement}
 use Rattle.c_text.proofs.usi_guid_read.Tie as tie
 

@@ -1,8 +1,8 @@
 use mathlib.Core.Path.{sym, ap, _∙_}
 use denote.Ref.{now}
-use Rattle.gpt.proofs.Refusals.{stop-numbered, stop-step}
+use Rattle.gpt.proofs.Refusals.{stop-step}
 use Rattle.gpt_checks.specs.Checks.{stopBy, startBy}
-use Rattle.gpt_model.specs.Calls.{edit, add}
+use Rattle.gpt_model.specs.Calls.{edit, add, newPartition}
 use borrow.Author.Needs.{needs}
 use Rattle.gpt.proofs.add.Statement.{statement}
 use Rattle.gpt.proofs.add.Tie as tie
@@ -19,15 +19,8 @@ slice-aggregate-add-3 c = search needs
 add-requires : tie.Need-add-requires
 add-requires c κs = search needs
 
-enum-known-k : tie.Need-enum-known-k
-enum-known-k c = search needs
-
-refusal-of-requires : tie.Need-refusal-of-requires
-refusal-of-requires c κs =
-    let c4 = c .before .before .before .before in
-    let c8 = c4 .before .before .before .before in
-    let a = c8 .before .before .before .args in
-    stop-numbered (a .n) (now (a .head)) (now (a .tail)) (edit (add (a .t4) (a .t5) (a .size) (a .attributes) (a .t8))) _ (sym (c .before .before .before .add .ensures .0 (a .attributes)) ∙ ap stopBy (c .before .k .given .1))
+enum-known-r : tie.Need-enum-known-r
+enum-known-r c = search needs
 
 enum-known-first : tie.Need-enum-known-first
 enum-known-first c = search needs
@@ -49,7 +42,7 @@ add-requires-2 c κs =
     let c16 = c12 .before .before .before .before in
     let e = c8 .add .ensures in
     let p = c4 .before .before .first .given .1 in
-    (sym (e .0 (c16 .args .attributes)) ∙ ap stopBy p, e .1 _ (ap startBy p))
+    (sym (e .0) ∙ ap stopBy p, e .1 _ (ap startBy p))
 
 same-length : tie.Need-same-length
 same-length c = search needs
@@ -59,11 +52,11 @@ same-length-2 c = search needs
 
 returns : tie.Need-returns
 returns c =
-    let c4 = c .before .before .before .before in
+    let c4 = c .before .before .before in
     let c8 = c4 .before .before .before .before in
     let c12 = c8 .before .before .before .before in
     let a = c12 .args in
-    stop-step (a .n) (now (a .head)) (now (a .tail)) (edit (add (a .t4) (a .t5) (a .size) (a .attributes) (a .t8))) _ (sym (c4 .add .ensures .0 (a .attributes)) ∙ ap stopBy (c .before .before .k .given .1)) _ (c .refusal-of .ensures)
+    stop-step (a .n) (now (a .head)) (now (a .tail)) (edit (add (newPartition (a .t4) (a .t5) (a .size) (a .attributes) (a .t8)))) _ (sym (c4 .add .ensures .0) ∙ ap stopBy (c .before .r .given .1))
 
 same-length-3 : tie.Need-same-length-3
 same-length-3 c = search needs
@@ -82,8 +75,7 @@ add-spec =
     slice-aggregate-add-2
     slice-aggregate-add-3
     add-requires
-    enum-known-k
-    refusal-of-requires
+    enum-known-r
     enum-known-first
     slice-aggregate-add-4
     slice-aggregate-add-5

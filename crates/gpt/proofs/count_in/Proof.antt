@@ -5,7 +5,7 @@ use denote.Ref.{now}
 use borrow.Author.Needs.{needs}
 use Rattle.gpt_model.specs.Calls.{accepted}
 use Rattle.gpt_model.specs.Ranges.{freeCount, longestFree}
-use Rattle.gpt_model.specs.Table.{slots}
+use Rattle.gpt_model.specs.Table.{rangesOf}
 use Rattle.gpt_room.specs.declared.Free.{Free}
 use Rattle.gpt.proofs.count_in.Statement.{statement}
 use Rattle.gpt.proofs.count_in.Tie as tie
@@ -23,7 +23,7 @@ returns : tie.Need-returns
 returns c =
     let t = now (c .before .before .before .before .args .table) in
     ap (λ (f : Free). accepted (f .blocks ∷ f .longest ∷ [])) (c .free-counts .ensures)
-    ∙ ap₂ (λ (f l : ℕ). accepted (freeCount (slots t) f l ∷ longestFree (slots t) f l ∷ [])) (c .before .before .first-usable .ensures) (c .before .last-usable .ensures)
+    ∙ ap₂ (λ (f l : ℕ). accepted (freeCount (rangesOf t) f l ∷ longestFree (rangesOf t) f l ∷ [])) (c .before .before .first-usable .ensures) (c .before .last-usable .ensures)
 
 pub count-in-spec : {M : Type 1} → statement M
 count-in-spec =

@@ -1,6 +1,6 @@
 use denote.Ref.{now}
 use Rattle.gpt.proofs.Found.{format-done}
-use Rattle.gpt.proofs.Refusals.{format-numbered, format-stop}
+use Rattle.gpt.proofs.Refusals.{format-stop}
 use Rattle.gpt_checks.proofs.Judged.{format-facts, passed, stopped}
 use borrow.Author.Needs.{needs}
 use Rattle.gpt.proofs.format.Statement.{statement}
@@ -12,13 +12,8 @@ slice-aggregate-format c = search needs
 format-requires : tie.Need-format-requires
 format-requires c κs = search needs
 
-enum-known-k : tie.Need-enum-known-k
-enum-known-k c = search needs
-
-refusal-of-requires : tie.Need-refusal-of-requires
-refusal-of-requires c κs =
-    let a = c .before .before .before .before .before .before .before .before .before .args in
-    format-numbered (a .n) (now (a .head)) (now (a .tail)) (a .t4) _ (stopped _ _ (c .before .k .given .1) (c .before .before .before .format .ensures))
+enum-known-r : tie.Need-enum-known-r
+enum-known-r c = search needs
 
 enum-told : tie.Need-enum-told
 enum-told c = search needs
@@ -49,8 +44,8 @@ same-length-2 c = search needs
 
 returns : tie.Need-returns
 returns c =
-    let a = c .before .before .before .before .before .before .before .before .before .before .args in
-    format-stop (a .n) (now (a .head)) (now (a .tail)) (a .t4) _ (stopped _ _ (c .before .before .k .given .1) (c .before .before .before .before .format .ensures)) _ (c .refusal-of .ensures)
+    let a = c .before .before .before .before .before .before .before .before .before .args in
+    format-stop (a .n) (now (a .head)) (now (a .tail)) (a .t4) _ (stopped _ _ (c .before .r .given .1) (c .before .before .before .format .ensures))
 
 same-length-3 : tie.Need-same-length-3
 same-length-3 c = search needs
@@ -69,8 +64,7 @@ format-spec =
     (tie.spec
     slice-aggregate-format
     format-requires
-    enum-known-k
-    refusal-of-requires
+    enum-known-r
     enum-told
     slice-aggregate-fresh-head
     fresh-head-requires

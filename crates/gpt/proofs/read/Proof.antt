@@ -2,7 +2,7 @@ use mathlib.Core.Path.{refl}
 use native.Mathlib.Omega.{arith}
 use denote.Ref.{now}
 use Rattle.gpt.proofs.Found.{rows-lent, found-state, found-neither}
-use Rattle.gpt.proofs.Refusals.{stop-numbered, stop-step}
+use Rattle.gpt.proofs.Refusals.{stop-step}
 use Rattle.gpt_checks.proofs.Judged.{passed, stopped, lent-facts}
 use Rattle.gpt_copies.specs.declared.State.the-variants.{Both, Differ, PrimaryOnly, BackupOnly, Neither}
 use Rattle.gpt_model.specs.Calls.{read}
@@ -13,13 +13,8 @@ use Rattle.gpt.proofs.read.Tie as tie
 lent-requires : tie.Need-lent-requires
 lent-requires c κs = search needs
 
-enum-known-k : tie.Need-enum-known-k
-enum-known-k c = search needs
-
-refusal-of-requires : tie.Need-refusal-of-requires
-refusal-of-requires c κs =
-    let a = c .before .before .before .before .before .before .args in
-    stop-numbered (a .n) (now (a .head)) (now (a .tail)) read _ (rows-lent (a .n) (now (a .head)) (now (a .tail)) _ (stopped _ _ (c .before .k .given .1) (c .before .before .before .lent .ensures)))
+enum-known-r : tie.Need-enum-known-r
+enum-known-r c = search needs
 
 enum-told : tie.Need-enum-told
 enum-told c = search needs
@@ -47,8 +42,8 @@ enum-told-6 c = search needs
 
 returns : tie.Need-returns
 returns c =
-    let a = c .before .before .before .before .before .before .before .args in
-    stop-step (a .n) (now (a .head)) (now (a .tail)) read _ (rows-lent (a .n) (now (a .head)) (now (a .tail)) _ (stopped _ _ (c .before .before .k .given .1) (c .before .before .before .before .lent .ensures))) _ (c .refusal-of .ensures)
+    let a = c .before .before .before .before .before .before .args in
+    stop-step (a .n) (now (a .head)) (now (a .tail)) read _ (rows-lent (a .n) (now (a .head)) (now (a .tail)) _ (stopped _ _ (c .before .r .given .1) (c .before .before .before .lent .ensures)))
 
 returns-2 : tie.Need-returns-2
 returns-2 c =
@@ -90,8 +85,7 @@ read-spec =
     tie.close
     (tie.spec
     lent-requires
-    enum-known-k
-    refusal-of-requires
+    enum-known-r
     enum-told
     state-requires
     enum-told-2

@@ -1,5 +1,5 @@
 use denote.Ref.{now}
-use Rattle.gpt.proofs.Refusals.{stop-numbered, stop-step}
+use Rattle.gpt.proofs.Refusals.{stop-step}
 use Rattle.gpt_checks.proofs.Judged.{passed, stopped}
 use Rattle.gpt_model.specs.Calls.{edit, rename}
 use borrow.Author.Needs.{needs}
@@ -12,13 +12,8 @@ slice-aggregate-rename c = search needs
 rename-requires : tie.Need-rename-requires
 rename-requires c κs = search needs
 
-enum-known-k : tie.Need-enum-known-k
-enum-known-k c = search needs
-
-refusal-of-requires : tie.Need-refusal-of-requires
-refusal-of-requires c κs =
-    let a = c .before .before .before .before .before .before .before .before .before .args in
-    stop-numbered (a .n) (now (a .head)) (now (a .tail)) (edit (rename (a .slot) (a .t5))) _ (stopped _ _ (c .before .k .given .1) (c .before .before .before .rename .ensures))
+enum-known-r : tie.Need-enum-known-r
+enum-known-r c = search needs
 
 enum-told : tie.Need-enum-told
 enum-told c = search needs
@@ -37,10 +32,10 @@ same-length-2 c = search needs
 
 returns : tie.Need-returns
 returns c =
-    let c4 = c .before .before .before .before in
+    let c4 = c .before .before .before in
     let c8 = c4 .before .before .before .before in
     let a = c8 .before .before .args in
-    stop-step (a .n) (now (a .head)) (now (a .tail)) (edit (rename (a .slot) (a .t5))) _ (stopped _ _ (c .before .before .k .given .1) (c4 .rename .ensures)) _ (c .refusal-of .ensures)
+    stop-step (a .n) (now (a .head)) (now (a .tail)) (edit (rename (a .slot) (a .t5))) _ (stopped _ _ (c .before .r .given .1) (c4 .rename .ensures))
 
 same-length-3 : tie.Need-same-length-3
 same-length-3 c = search needs
@@ -57,8 +52,7 @@ rename-spec =
     (tie.spec
     slice-aggregate-rename
     rename-requires
-    enum-known-k
-    refusal-of-requires
+    enum-known-r
     enum-told
     slice-aggregate-rename-2
     rename-requires-2

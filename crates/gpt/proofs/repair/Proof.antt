@@ -1,5 +1,5 @@
 use Rattle.gpt.proofs.Found.{found-lent, repaired-is, refused-repair}
-use Rattle.gpt_model.specs.Calls.{accepted, out}
+use Rattle.gpt_model.specs.Calls.{accepted, outcome}
 use Prim.Native.Nat.{ℕ}
 use mathlib.Core.List.{List, [], _∷_}
 use Rattle.gpt.specs.declared.Reading.the-variants.{Same, Different, PrimaryOnly, BackupOnly}
@@ -84,7 +84,7 @@ returns-2 c =
     let a = c12 .args in
     let h = now (a .head) in
     let t = now (a .tail) in
-    ap (λ (x : List ℕ). out (accepted (2 ∷ [])) h x) (c .before .before .repair-tail .ensures) ∙ repaired-is (a .n) h t _ Different
+    ap (λ (x : List ℕ). outcome (accepted (2 ∷ [])) h x) (c .before .before .repair-tail .ensures) ∙ repaired-is (a .n) h t _ Different
     (c4 .before .before .before .read .ensures) (c4 .before .enum-told2 .given .1) 2
     refl
 
@@ -102,7 +102,7 @@ returns-3 c =
     let a = c12 .args in
     let h = now (a .head) in
     let t = now (a .tail) in
-    ap (λ (x : List ℕ). out (accepted (3 ∷ [])) h x) (c .before .before .repair-tail2 .ensures) ∙ repaired-is (a .n) h t _ PrimaryOnly
+    ap (λ (x : List ℕ). outcome (accepted (3 ∷ [])) h x) (c .before .before .repair-tail2 .ensures) ∙ repaired-is (a .n) h t _ PrimaryOnly
     (c4 .before .before .before .read .ensures) (c4 .before .enum-told3 .given .1) 3
     refl
 
@@ -120,7 +120,7 @@ returns-4 c =
     let a = c12 .args in
     let h = now (a .head) in
     let t = now (a .tail) in
-    ap (λ (x : List ℕ). out (accepted (4 ∷ [])) x t) (c .before .before .repair-head .ensures) ∙ repaired-is (a .n) h t _ BackupOnly
+    ap (λ (x : List ℕ). outcome (accepted (4 ∷ [])) x t) (c .before .before .repair-head .ensures) ∙ repaired-is (a .n) h t _ BackupOnly
     (c4 .before .before .before .read .ensures) (c4 .before .enum-told4 .given .1) 4
     refl
 

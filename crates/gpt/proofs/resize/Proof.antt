@@ -1,5 +1,5 @@
 use denote.Ref.{now}
-use Rattle.gpt.proofs.Refusals.{stop-numbered, stop-step}
+use Rattle.gpt.proofs.Refusals.{stop-step}
 use Rattle.gpt_checks.proofs.Judged.{passed, stopped}
 use Rattle.gpt_model.specs.Calls.{edit, resize}
 use borrow.Author.Needs.{needs}
@@ -9,13 +9,8 @@ use Rattle.gpt.proofs.resize.Tie as tie
 resize-requires : tie.Need-resize-requires
 resize-requires c κs = search needs
 
-enum-known-k : tie.Need-enum-known-k
-enum-known-k c = search needs
-
-refusal-of-requires : tie.Need-refusal-of-requires
-refusal-of-requires c κs =
-    let a = c .before .before .before .before .before .before .before .before .args in
-    stop-numbered (a .n) (now (a .head)) (now (a .tail)) (edit (resize (a .slot) (a .size))) _ (stopped _ _ (c .before .k .given .1) (c .before .before .before .resize .ensures))
+enum-known-r : tie.Need-enum-known-r
+enum-known-r c = search needs
 
 enum-told : tie.Need-enum-told
 enum-told c = search needs
@@ -31,10 +26,10 @@ same-length-2 c = search needs
 
 returns : tie.Need-returns
 returns c =
-    let c4 = c .before .before .before .before in
+    let c4 = c .before .before .before in
     let c8 = c4 .before .before .before .before in
     let a = c8 .before .args in
-    stop-step (a .n) (now (a .head)) (now (a .tail)) (edit (resize (a .slot) (a .size))) _ (stopped _ _ (c .before .before .k .given .1) (c4 .resize .ensures)) _ (c .refusal-of .ensures)
+    stop-step (a .n) (now (a .head)) (now (a .tail)) (edit (resize (a .slot) (a .size))) _ (stopped _ _ (c .before .r .given .1) (c4 .resize .ensures))
 
 same-length-3 : tie.Need-same-length-3
 same-length-3 c = search needs
@@ -50,8 +45,7 @@ resize-spec =
     tie.close
     (tie.spec
     resize-requires
-    enum-known-k
-    refusal-of-requires
+    enum-known-r
     enum-told
     resize-requires-2
     same-length

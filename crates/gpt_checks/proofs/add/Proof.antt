@@ -2,7 +2,7 @@ use mathlib.Core.Path.{sym, _∙_}
 use denote.Ref.{now}
 use Rattle.gpt_checks.proofs.Judged.{passed, stopped, open-facts, open-stops, own-rows, placed-in, add-lengths}
 use Rattle.octets.proofs.Bools.{some-none}
-use Rattle.gpt_model.specs.Calls.{add}
+use Rattle.gpt_model.specs.Calls.{add, newPartition}
 use borrow.Author.Needs.{needs}
 use Rattle.gpt_checks.proofs.add.Statement.{statement}
 use Rattle.gpt_checks.proofs.add.Tie as tie
@@ -10,8 +10,8 @@ use Rattle.gpt_checks.proofs.add.Tie as tie
 opened-requires : tie.Need-opened-requires
 opened-requires c κs = search needs
 
-enum-known-k : tie.Need-enum-known-k
-enum-known-k c = search needs
+enum-known-r : tie.Need-enum-known-r
+enum-known-r c = search needs
 
 enum-told : tie.Need-enum-told
 enum-told c = search needs
@@ -33,7 +33,11 @@ returns c =
     let c8 = c4 .before .before .before .before in
     let a = c8 .before .args in
     let p = c8 .before .pre in
-    (λ x. open-stops (a .n) (now (a .head)) (now (a .tail)) (add (now (a .kind)) (now (a .unique)) (a .size) x (now (a .name))) (add-lengths (now (a .kind)) (now (a .unique)) (a .size) x (now (a .name)) (p .0) (p .1) (p .2)) _ (stopped _ _ (c .before .k .given .1) (c .before .before .before .opened .ensures)), λ b q. absurd (some-none (sym q)))
+    let new = newPartition (now (a .kind)) (now (a .unique)) (a .size) (a .attributes) (now (a .name)) in (
+      open-stops (a .n) (now (a .head)) (now (a .tail)) (add new) (add-lengths new (p .0) (p .1) (p .2)) _
+          (stopped _ _ (c .before .r .given .1) (c .before .before .before .opened .ensures)),
+      λ b q. absurd (some-none (sym q)),
+    )
 
 returns-2 : tie.Need-returns-2
 returns-2 c =
@@ -41,16 +45,19 @@ returns-2 c =
     let c8 = c4 .before .before .before .before in
     let a = c8 .before .before .args in
     let p = c8 .before .before .pre in
+    let new = newPartition (now (a .kind)) (now (a .unique)) (a .size) (a .attributes) (now (a .name)) in
     let o = passed _ (c .before .before .enum-told .given .1) (c4 .opened .ensures) in
-    let is = c .before .entries-in .ensures .0 in
-    (λ x. c .place .ensures .0 x ∙ own-rows (a .n) (now (a .head)) (now (a .tail)) o (add (now (a .kind)) (now (a .unique)) (a .size) x (now (a .name))) (add-lengths (now (a .kind)) (now (a .unique)) (a .size) x (now (a .name)) (p .0) (p .1) (p .2)) _ is, λ b q. placed-in (a .n) (now (a .head)) (now (a .tail)) o _ is (a .size) b (c .place .ensures .1 b q))
+    let is = c .before .entries-in .ensures .0 in (
+      c .place .ensures .0 ∙ own-rows (a .n) (now (a .head)) (now (a .tail)) o (add new) (add-lengths new (p .0) (p .1) (p .2)) _ is,
+      λ b q. placed-in (a .n) (now (a .head)) (now (a .tail)) o _ is new b (c .place .ensures .1 b q),
+    )
 
 pub add-spec : {M : Type 1} → statement M
 add-spec =
     tie.close
     (tie.spec
     opened-requires
-    enum-known-k
+    enum-known-r
     enum-told
     entries-in-requires
     place-requires

@@ -9,8 +9,8 @@ use Rattle.gpt_checks.proofs.delete.Tie as tie
 opened-requires : tie.Need-opened-requires
 opened-requires c κs = search needs
 
-enum-known-k : tie.Need-enum-known-k
-enum-known-k c = search needs
+enum-known-r : tie.Need-enum-known-r
+enum-known-r c = search needs
 
 enum-told : tie.Need-enum-told
 enum-told c = search needs
@@ -26,7 +26,7 @@ slot-requires c κs = search needs
 returns : tie.Need-returns
 returns c =
     let a = c .before .before .before .before .before .before .args in
-    open-stops (a .n) (now (a .head)) (now (a .tail)) (delete (a .number)) refl _ (stopped _ _ (c .before .k .given .1) (c .before .before .before .opened .ensures))
+    open-stops (a .n) (now (a .head)) (now (a .tail)) (delete (a .number)) refl _ (stopped _ _ (c .before .r .given .1) (c .before .before .before .opened .ensures))
 
 returns-2 : tie.Need-returns-2
 returns-2 c =
@@ -39,7 +39,7 @@ delete-spec =
     tie.close
     (tie.spec
     opened-requires
-    enum-known-k
+    enum-known-r
     enum-told
     entries-in-requires
     slot-requires

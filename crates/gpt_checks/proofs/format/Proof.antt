@@ -9,8 +9,8 @@ use Rattle.gpt_checks.proofs.format.Tie as tie
 lent-requires : tie.Need-lent-requires
 lent-requires c κs = search needs
 
-enum-known-k : tie.Need-enum-known-k
-enum-known-k c = search needs
+enum-known-r : tie.Need-enum-known-r
+enum-known-r c = search needs
 
 enum-told : tie.Need-enum-told
 enum-told c = search needs
@@ -30,7 +30,7 @@ returns-2 : tie.Need-returns-2
 returns-2 c =
     let o = c .before .before .before .before .before .before .before in
     let a = o .args in
-    format-lent (a .n) (now (a .guid)) (now (a .head)) (now (a .tail)) (o .pre) _ (sym (stopped _ _ (c .before .k .given .1) (c .before .before .before .lent .ensures)))
+    format-lent (a .n) (now (a .guid)) (now (a .head)) (now (a .tail)) (o .pre) _ (sym (stopped _ _ (c .before .r .given .1) (c .before .before .before .lent .ensures)))
 
 returns-3 : tie.Need-returns-3
 returns-3 c =
@@ -43,4 +43,4 @@ returns-3 c =
 pub format-spec : {M : Type 1} → statement M
 format-spec =
     tie.close
-    (tie.spec lent-requires enum-known-k enum-told is-zero-requires returns returns-2 returns-3)
+    (tie.spec lent-requires enum-known-r enum-told is-zero-requires returns returns-2 returns-3)

@@ -3,13 +3,14 @@ use native.Mathlib.Omega.{arith}
 use denote.Ref.{now}
 use borrow.Author.Needs.{needs}
 use Rattle.gpt_checks.proofs.Rows.{size-zero, type-zero, unique-zero, unique-carried, name-bad, slots-full, add-passes, none-unused, one-unused}
+use Rattle.gpt_model.specs.Calls.{newPartition}
 use Rattle.gpt_checks.proofs.new.Statement.{statement}
 use Rattle.gpt_checks.proofs.new.Tie as tie
 
 returns : tie.Need-returns
 returns c =
     let a = c .before .before .before .before .before .args in
-    size-zero 0 0 (now (a .table)) (now (a .kind)) (now (a .unique)) (a .size) (now (a .name)) (c .if1 .taken)
+    size-zero (now (a .table)) (newPartition (now (a .kind)) (now (a .unique)) (a .size) (a .attributes) (now (a .name))) (c .if1 .taken)
 
 is-zero-requires : tie.Need-is-zero-requires
 is-zero-requires c κs = search needs
@@ -17,7 +18,7 @@ is-zero-requires c κs = search needs
 returns-2 : tie.Need-returns-2
 returns-2 c =
     let a = c .before .before .before .before .before .before .before .args in
-    type-zero 0 0 (now (a .table)) (now (a .kind)) (now (a .unique)) (a .size) (now (a .name)) (c .before .before .if1 .left) (sym (c .before .is-zero .ensures) ∙ c .if2 .taken)
+    type-zero (now (a .table)) (newPartition (now (a .kind)) (now (a .unique)) (a .size) (a .attributes) (now (a .name))) (c .before .before .if1 .left) (sym (c .before .is-zero .ensures) ∙ c .if2 .taken)
 
 is-zero-requires-2 : tie.Need-is-zero-requires-2
 is-zero-requires-2 c κs = search needs
@@ -27,7 +28,7 @@ returns-3 c =
     let c4 = c .before .before .before .before in
     let c8 = c4 .before .before .before .before in
     let a = c8 .before .args in
-    unique-zero 0 0 (now (a .table)) (now (a .kind)) (now (a .unique)) (a .size) (now (a .name)) (c4 .if1 .left) (sym (c .before .before .before .is-zero .ensures) ∙ c .before .before .if2 .left) (sym (c .before .is-zero2 .ensures) ∙ c .if3 .taken)
+    unique-zero (now (a .table)) (newPartition (now (a .kind)) (now (a .unique)) (a .size) (a .attributes) (now (a .name))) (c4 .if1 .left) (sym (c .before .before .before .is-zero .ensures) ∙ c .before .before .if2 .left) (sym (c .before .is-zero2 .ensures) ∙ c .if3 .taken)
 
 carried-requires : tie.Need-carried-requires
 carried-requires c κs = search needs
@@ -37,7 +38,7 @@ returns-4 c =
     let c4 = c .before .before .before .before in
     let c8 = c4 .before .before .before .before in
     let a = c8 .before .before .before .args in
-    unique-carried 0 0 (now (a .table)) (now (a .kind)) (now (a .unique)) (a .size) (now (a .name))
+    unique-carried (now (a .table)) (newPartition (now (a .kind)) (now (a .unique)) (a .size) (a .attributes) (now (a .name)))
     (c4 .before .before .if1 .left)
     (sym (c4 .before .is-zero .ensures) ∙ c4 .if2 .left)
     (sym (c .before .carried .ensures) ∙ c .if4 .taken)
@@ -51,7 +52,7 @@ returns-5 c =
     let c8 = c4 .before .before .before .before in
     let c12 = c8 .before .before .before .before in
     let a = c12 .before .args in
-    name-bad 0 0 (now (a .table)) (now (a .kind)) (now (a .unique)) (a .size) (now (a .name))
+    name-bad (now (a .table)) (newPartition (now (a .kind)) (now (a .unique)) (a .size) (a .attributes) (now (a .name)))
     (c8 .if1 .left)
     (sym (c4 .before .before .before .is-zero .ensures) ∙ c4 .before .before .if2 .left)
     (sym (c4 .before .is-zero2 .ensures) ∙ c4 .if3 .left)
@@ -67,7 +68,7 @@ returns-6 c =
     let c8 = c4 .before .before .before .before in
     let c12 = c8 .before .before .before .before in
     let a = c12 .before .before .before .args in
-    slots-full 0 0 (now (a .table)) (now (a .kind)) (now (a .unique)) (a .size) (now (a .name))
+    slots-full (now (a .table)) (newPartition (now (a .kind)) (now (a .unique)) (a .size) (a .attributes) (now (a .name)))
     (c8 .before .before .if1 .left)
     (sym (c8 .before .is-zero .ensures) ∙ c8 .if2 .left)
     (sym (c4 .before .before .before .is-zero2 .ensures) ∙ c4 .before .before .if3 .left)
@@ -81,7 +82,7 @@ returns-7 c =
     let c8 = c4 .before .before .before .before in
     let c12 = c8 .before .before .before .before in
     let a = c12 .before .before .before .args in
-    add-passes 0 0 (now (a .table)) (now (a .kind)) (now (a .unique)) (a .size) (now (a .name))
+    add-passes (now (a .table)) (newPartition (now (a .kind)) (now (a .unique)) (a .size) (a .attributes) (now (a .name)))
     (c8 .before .before .if1 .left)
     (sym (c8 .before .is-zero .ensures) ∙ c8 .if2 .left)
     (sym (c4 .before .before .before .is-zero2 .ensures) ∙ c4 .before .before .if3 .left)

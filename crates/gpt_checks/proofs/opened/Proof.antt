@@ -9,8 +9,8 @@ use Rattle.gpt_checks.proofs.opened.Tie as tie
 lent-requires : tie.Need-lent-requires
 lent-requires c κs = search needs
 
-enum-known-k : tie.Need-enum-known-k
-enum-known-k c = search needs
+enum-known-r : tie.Need-enum-known-r
+enum-known-r c = search needs
 
 enum-told : tie.Need-enum-told
 enum-told c = search needs
@@ -39,7 +39,7 @@ enum-told-6 c = search needs
 returns : tie.Need-returns
 returns c =
     let a = c .before .before .before .before .before .before .args in
-    open-lent (a .n) (now (a .head)) (now (a .tail)) _ (stopped _ _ (c .before .k .given .1) (c .before .before .before .lent .ensures))
+    open-lent (a .n) (now (a .head)) (now (a .tail)) _ (stopped _ _ (c .before .r .given .1) (c .before .before .before .lent .ensures))
 
 returns-2 : tie.Need-returns-2
 unfolding pickRow
@@ -76,7 +76,7 @@ opened-spec =
     tie.close
     (tie.spec
     lent-requires
-    enum-known-k
+    enum-known-r
     enum-told
     state-requires
     enum-told-2

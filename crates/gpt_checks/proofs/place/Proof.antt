@@ -2,14 +2,15 @@ use native.Mathlib.Omega.{arith}
 use denote.Ref.{now}
 use Rattle.gpt_checks.proofs.Judged.{passed, stopped, add-size, start-stops, start-full, start-at}
 use borrow.Author.Needs.{needs}
+use Rattle.gpt_model.specs.Calls.{newPartition}
 use Rattle.gpt_checks.proofs.place.Statement.{statement}
 use Rattle.gpt_checks.proofs.place.Tie as tie
 
 new-requires : tie.Need-new-requires
 new-requires c κs = search needs
 
-enum-known-k : tie.Need-enum-known-k
-enum-known-k c = search needs
+enum-known-r : tie.Need-enum-known-r
+enum-known-r c = search needs
 
 enum-told : tie.Need-enum-told
 enum-told c = search needs
@@ -27,7 +28,7 @@ lowest-requires c κs =
     let a = c8 .before .args in
     let e = c .last-usable .ensures in
     let m = c8 .before .pre .2 in
-    (c8 .before .pre .0, add-size (a .n) (now (a .table)) (now (a .kind)) (now (a .unique)) (a .size) (now (a .name)) (passed _ (c .before .before .enum-told .given .1) (c4 .new .ensures)), omega arith)
+    (c8 .before .pre .0, add-size (a .n) (now (a .table)) (newPartition (now (a .kind)) (now (a .unique)) (a .size) (a .attributes) (now (a .name))) (passed _ (c .before .before .enum-told .given .1) (c4 .new .ensures)), omega arith)
 
 enum-told-2 : tie.Need-enum-told-2
 enum-told-2 c = search needs
@@ -38,7 +39,7 @@ enum-known-first c = search needs
 returns : tie.Need-returns
 returns c =
     let a = c .before .before .before .before .before .before .before .before .args in
-    start-stops (a .n) (now (a .table)) (now (a .kind)) (now (a .unique)) (a .size) (now (a .name)) _ (stopped _ _ (c .before .k .given .1) (c .before .before .before .new .ensures))
+    start-stops (a .n) (now (a .table)) (newPartition (now (a .kind)) (now (a .unique)) (a .size) (a .attributes) (now (a .name))) _ (stopped _ _ (c .before .r .given .1) (c .before .before .before .new .ensures))
 
 returns-2 : tie.Need-returns-2
 returns-2 c =
@@ -46,7 +47,7 @@ returns-2 c =
     let c8 = c4 .before .before .before .before in
     let c12 = c8 .before .before .before .before in
     let a = c12 .args in
-    start-full (a .n) (now (a .table)) (now (a .kind)) (now (a .unique)) (a .size) (now (a .name))
+    start-full (a .n) (now (a .table)) (newPartition (now (a .kind)) (now (a .unique)) (a .size) (a .attributes) (now (a .name)))
     (passed _ (c4 .before .enum-told .given .1) (c4 .before .before .before .new .ensures)) _ _ _
     (c4 .first-usable .ensures)
     (c .before .before .before .last-usable .ensures)
@@ -59,7 +60,7 @@ returns-3 c =
     let c8 = c4 .before .before .before .before in
     let c12 = c8 .before .before .before .before in
     let a = c12 .before .args in
-    start-at (a .n) (now (a .table)) (now (a .kind)) (now (a .unique)) (a .size) (now (a .name))
+    start-at (a .n) (now (a .table)) (newPartition (now (a .kind)) (now (a .unique)) (a .size) (a .attributes) (now (a .name)))
     (passed _ (c4 .before .before .enum-told .given .1) (c8 .new .ensures)) _ _ _
     (c4 .before .first-usable .ensures)
     (c4 .last-usable .ensures)
@@ -71,7 +72,7 @@ place-spec =
     tie.close
     (tie.spec
     new-requires
-    enum-known-k
+    enum-known-r
     enum-told
     first-usable-requires
     last-usable-requires

@@ -8,8 +8,8 @@ use Rattle.gpt_checks.proofs.rename.Tie as tie
 delete-requires : tie.Need-delete-requires
 delete-requires c κs = search needs
 
-enum-known-k : tie.Need-enum-known-k
-enum-known-k c = search needs
+enum-known-r : tie.Need-enum-known-r
+enum-known-r c = search needs
 
 enum-told : tie.Need-enum-told
 enum-told c = search needs
@@ -28,7 +28,7 @@ returns-2 : tie.Need-returns-2
 returns-2 c =
     let c4 = c .before .before .before .before in
     let a = c4 .before .before .before .args in
-    rename-stops (a .n) (now (a .head)) (now (a .tail)) (a .number) (now (a .name)) (c4 .before .before .before .pre) _ (stopped _ _ (c .before .k .given .1) (c .before .before .before .delete .ensures))
+    rename-stops (a .n) (now (a .head)) (now (a .tail)) (a .number) (now (a .name)) (c4 .before .before .before .pre) _ (stopped _ _ (c .before .r .given .1) (c .before .before .before .delete .ensures))
 
 returns-3 : tie.Need-returns-3
 returns-3 c =
@@ -42,7 +42,7 @@ rename-spec =
     tie.close
     (tie.spec
     delete-requires
-    enum-known-k
+    enum-known-r
     enum-told
     bad-name-requires
     returns

@@ -8,8 +8,8 @@ use Rattle.gpt_checks.proofs.resize.Tie as tie
 delete-requires : tie.Need-delete-requires
 delete-requires c κs = search needs
 
-enum-known-k : tie.Need-enum-known-k
-enum-known-k c = search needs
+enum-known-r : tie.Need-enum-known-r
+enum-known-r c = search needs
 
 enum-told : tie.Need-enum-told
 enum-told c = search needs
@@ -45,26 +45,26 @@ returns-2 c =
     let c4 = c .before .before .before .before in
     let c8 = c4 .before .before .before .before in
     let a = c8 .before .before .args in
-    resize-right (a .n) (now (a .head)) (now (a .tail)) (a .number) (a .size) (passed _ (c4 .before .enum-told .given .1) (c4 .before .before .before .delete .ensures)) (c4 .if1 .left) _ _ (c .before .before .before .entries-in .ensures .0) (c .before .before .last-usable .ensures) _ (c .before .fits-at .ensures 34) (c .if2 .taken)
+    resize-right (a .n) (now (a .head)) (now (a .tail)) (a .number) (a .size) (passed _ (c4 .before .enum-told .given .1) (c4 .before .before .before .delete .ensures)) (c4 .if1 .left) _ _ (c .before .before .before .entries-in .ensures .0) (c .before .before .last-usable .ensures) _ (c .before .fits-at .ensures) (c .if2 .taken)
 
 returns-3 : tie.Need-returns-3
 returns-3 c =
     let a = c .before .before .before .before .before .before .args in
-    resize-stops (a .n) (now (a .head)) (now (a .tail)) (a .number) (a .size) _ (stopped _ _ (c .before .k .given .1) (c .before .before .before .delete .ensures))
+    resize-stops (a .n) (now (a .head)) (now (a .tail)) (a .number) (a .size) _ (stopped _ _ (c .before .r .given .1) (c .before .before .before .delete .ensures))
 
 returns-4 : tie.Need-returns-4
 returns-4 c =
     let c4 = c .before .before .before .before in
     let c8 = c4 .before .before .before .before in
     let a = c8 .before .before .args in
-    resize-full (a .n) (now (a .head)) (now (a .tail)) (a .number) (a .size) (passed _ (c4 .before .enum-told .given .1) (c4 .before .before .before .delete .ensures)) (c4 .if1 .left) _ _ (c .before .before .before .entries-in .ensures .0) (c .before .before .last-usable .ensures) _ (c .before .fits-at .ensures 34) (c .if2 .left)
+    resize-full (a .n) (now (a .head)) (now (a .tail)) (a .number) (a .size) (passed _ (c4 .before .enum-told .given .1) (c4 .before .before .before .delete .ensures)) (c4 .if1 .left) _ _ (c .before .before .before .entries-in .ensures .0) (c .before .before .last-usable .ensures) _ (c .before .fits-at .ensures) (c .if2 .left)
 
 pub resize-spec : {M : Type 1} → statement M
 resize-spec =
     tie.close
     (tie.spec
     delete-requires
-    enum-known-k
+    enum-known-r
     enum-told
     returns
     entries-in-requires

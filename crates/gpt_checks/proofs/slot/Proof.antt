@@ -6,10 +6,10 @@ use Rattle.gpt_checks.proofs.slot.Statement.{statement}
 use Rattle.gpt_checks.proofs.slot.Tie as tie
 
 returns : tie.Need-returns
-returns c = let a = c .before .before .args in slot-low 0 0 (now (a .table)) (a .slot) (c .if1 .taken)
+returns c = let a = c .before .before .args in slot-low (now (a .table)) (a .slot) (c .if1 .taken)
 
 returns-2 : tie.Need-returns-2
-returns-2 c = let a = c .before .before .before .args in slot-high 0 0 (now (a .table)) (a .slot) (c .before .if1 .left) (c .if2 .taken)
+returns-2 c = let a = c .before .before .before .args in slot-high (now (a .table)) (a .slot) (c .before .if1 .left) (c .if2 .taken)
 
 is-unused-requires : tie.Need-is-unused-requires
 is-unused-requires c κs = search needs
@@ -17,12 +17,12 @@ is-unused-requires c κs = search needs
 returns-3 : tie.Need-returns-3
 returns-3 c =
     let a = c .before .before .before .before .before .args in
-    slot-unused 0 0 (now (a .table)) (a .slot) (c .before .before .before .if1 .left) (c .before .before .if2 .left) (sym (c .before .is-unused .ensures) ∙ c .if3 .taken)
+    slot-unused (now (a .table)) (a .slot) (c .before .before .before .if1 .left) (c .before .before .if2 .left) (sym (c .before .is-unused .ensures) ∙ c .if3 .taken)
 
 returns-4 : tie.Need-returns-4
 returns-4 c =
     let a = c .before .before .before .before .before .args in
-    slot-used 0 0 (now (a .table)) (a .slot) (c .before .before .before .if1 .left) (c .before .before .if2 .left) (sym (c .before .is-unused .ensures) ∙ c .if3 .left)
+    slot-used (now (a .table)) (a .slot) (c .before .before .before .if1 .left) (c .before .before .if2 .left) (sym (c .before .is-unused .ensures) ∙ c .if3 .left)
 
 pub slot-spec : {M : Type 1} → statement M
 slot-spec = tie.close (tie.spec returns returns-2 is-unused-requires returns-3 returns-4)

@@ -1,4 +1,5 @@
 use denote.Ref.{now}
+use Rattle.gpt_model.specs.Calls.{newPartition}
 use Rattle.gpt_entry.proofs.Bytes.{six-writes}
 use borrow.Author.Needs.{needs}
 use Rattle.gpt_entry.proofs.added.Statement.{statement}
@@ -49,7 +50,7 @@ put-name-requires c κs = search needs
 returns : tie.Need-returns
 returns c =
     let a = c .before .before .before .before .before .before .before .before .before .before .before .before .before .before .before .before .before .before .before .before .before .args in
-    six-writes (now (a .kind)) (now (a .unique)) (a .first) (a .size) (a .attributes) (now (a .name)) _ _ _ _ _ _ (c .before .before .before .before .before .before .before .before .before .before .before .before .before .before .before .before .before .before .before .before .before .pre .3) (c .before .before .before .before .before .before .before .before .before .before .before .before .before .before .before .before .copy .ensures) (c .before .before .before .before .before .before .before .before .before .before .before .before .before .copy2 .ensures) (c .before .before .before .before .before .before .before .before .before .before .store64 .ensures) (c .before .before .before .before .before .before .before .store642 .ensures) (c .before .before .before .before .store643 .ensures) (c .before .put-name .ensures)
+    six-writes (newPartition (now (a .kind)) (now (a .unique)) (a .size) (a .attributes) (now (a .name))) (a .first) _ _ _ _ _ _ (c .before .before .before .before .before .before .before .before .before .before .before .before .before .before .before .before .before .before .before .before .before .pre .3) (c .before .before .before .before .before .before .before .before .before .before .before .before .before .before .before .before .copy .ensures) (c .before .before .before .before .before .before .before .before .before .before .before .before .before .copy2 .ensures) (c .before .before .before .before .before .before .before .before .before .before .store64 .ensures) (c .before .before .before .before .before .before .before .store642 .ensures) (c .before .before .before .before .store643 .ensures) (c .before .put-name .ensures)
 
 pub added-spec : {M : Type 1} → statement M
 added-spec =

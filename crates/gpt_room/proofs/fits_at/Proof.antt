@@ -4,7 +4,7 @@ use lib.ListN.{set}
 use denote.Ref.{now}
 use borrow.Author.Needs.{needs}
 use Rattle.octets.specs.Bytes.{field}
-use Rattle.gpt_model.specs.Table.{slots, vacant}
+use Rattle.gpt_model.specs.Table.{rangesOf, noBlocks}
 use Rattle.gpt_room.proofs.Walks.{free-but, room-same}
 use Rattle.gpt_room.proofs.fits_at.Statement.{statement}
 use Rattle.gpt_room.proofs.fits_at.Tie as tie
@@ -25,10 +25,10 @@ room-at-requires : tie.Need-room-at-requires
 room-at-requires c κs = search needs
 
 returns : tie.Need-returns
-returns c = λ first.
+returns c =
     let a = c .before .before .before .before .before .before .before .before .before .args in
     c .room-at .ensures
-    ∙ room-same _ (set (slots (now (a .t))) (a .k - 1) vacant) (free-but (now (a .t)) (a .k - 1) (c .before .before .before .ranges .ensures)) (a .last .0) (a .size)
+    ∙ room-same _ (set (rangesOf (now (a .t))) (a .k - 1) noBlocks) (free-but (now (a .t)) (a .k - 1) (c .before .before .before .ranges .ensures)) (a .last .0) (a .size)
     (c .before .before .before .before .before .before .load64 .ensures ∙ ap (field 32 8) (c .before .before .before .before .before .before .before .entry .ensures .0))
 
 pub fits-at-spec : {M : Type 1} → statement M

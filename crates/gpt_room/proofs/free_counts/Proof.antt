@@ -1,7 +1,7 @@
 use mathlib.Core.Path.{_∙_}
 use denote.Ref.{now}
 use borrow.Author.Needs.{needs}
-use Rattle.gpt_model.specs.Table.{slots}
+use Rattle.gpt_model.specs.Table.{rangesOf}
 use Rattle.gpt_room.proofs.Walks.{free-all, counts-same}
 use Rattle.gpt_room.proofs.free_counts.Statement.{statement}
 use Rattle.gpt_room.proofs.free_counts.Tie as tie
@@ -13,7 +13,7 @@ tally-requires : tie.Need-tally-requires
 tally-requires c κs = search needs
 
 returns : tie.Need-returns
-returns c = let a = c .before .before .before .before .before .before .before .args in c .tally .ensures ∙ counts-same _ (slots (now (a .t))) (free-all (now (a .t)) (c .before .before .before .ranges .ensures)) (a .last .0) (a .first .0)
+returns c = let a = c .before .before .before .before .before .before .before .args in c .tally .ensures ∙ counts-same _ (rangesOf (now (a .t))) (free-all (now (a .t)) (c .before .before .before .ranges .ensures)) (a .last .0) (a .first .0)
 
 pub free-counts-spec : {M : Type 1} → statement M
 free-counts-spec = tie.close (tie.spec ranges-requires tally-requires returns)

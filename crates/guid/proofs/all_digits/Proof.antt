@@ -6,12 +6,12 @@ use borrow.Author.Needs.{needs}
 use borrow.Author.Tests.{lt-ltb, le-ltb}
 use Rattle.octets.specs.Tests.{all}
 use Rattle.octets.proofs.Tests.{all-on, all-stop, all-done}
-use Rattle.guid.specs.Hex.{isDigit}
+use Rattle.guid.specs.Hex.{isHexDigit}
 use Rattle.guid.proofs.all_digits.Statement.{statement}
 use Rattle.guid.proofs.all_digits.Tie as tie
 
 abbrev Inv-loop : tie.InvT-loop
-Inv-loop s i₀ i = (i ≤ length s) × (all isDigit s ≡ all isDigit (drop i s))
+Inv-loop s i₀ i = (i ≤ length s) × (all isHexDigit s ≡ all isHexDigit (drop i s))
 
 abbrev μ-loop : tie.MeasureT-loop
 μ-loop s i₀ i = length s - i
@@ -31,7 +31,7 @@ returns c =
     let l = c .before .before .before .before .loop in
     sym
     (l .inv .1
-    ∙ all-stop isDigit s 0 (l .i) (c .before .before .before .loop-test .taken) (rw (← c .before .value .ensures) (le-ltb _ _ (c .if1 .taken))))
+    ∙ all-stop isHexDigit s 0 (l .i) (c .before .before .before .loop-test .taken) (rw (← c .before .value .ensures) (le-ltb _ _ (c .if1 .taken))))
 
 add-i : tie.Need-add-i Inv-loop μ-loop
 add-i c = search needs
@@ -45,11 +45,11 @@ loop-again c =
     let l = c .before .before .before .before .loop in (
       search needs,
       l .inv .1
-          ∙ all-on isDigit s 0 (l .i) (c .before .before .before .loop-test .taken) (rw (← c .before .value .ensures) (lt-ltb _ _ (c .if1 .left))),
+          ∙ all-on isHexDigit s 0 (l .i) (c .before .before .before .loop-test .taken) (rw (← c .before .value .ensures) (lt-ltb _ _ (c .if1 .left))),
     )
 
 returns-2 : tie.Need-returns-2 Inv-loop μ-loop
-returns-2 c = let s = now (c .before .before .before .args .s) in let l = c .before .loop in sym (l .inv .1 ∙ all-done isDigit s (l .i) (c .loop-test .left))
+returns-2 c = let s = now (c .before .before .before .args .s) in let l = c .before .loop in sym (l .inv .1 ∙ all-done isHexDigit s (l .i) (c .loop-test .left))
 
 pub all-digits-spec : {M : Type 1} → statement M
 all-digits-spec =

@@ -1,7 +1,7 @@
 use native.Mathlib.Omega.{arith}
 use borrow.Author.Tests.{lt-ltb, le-ltb}
 use borrow.Author.Needs.{needs}
-use Rattle.guid.specs.Hex.{digitOf}
+use Rattle.guid.specs.Hex.{hexDigitOf}
 use Rattle.guid.proofs.digit.Statement.{statement}
 use Rattle.guid.proofs.digit.Tie as tie
 
@@ -12,11 +12,11 @@ add-result-2 : tie.Need-add-result-2
 add-result-2 c = search needs
 
 returns : tie.Need-returns
-unfolding digitOf
+unfolding hexDigitOf
 returns c = rw (lt-ltb (c .before .args .n) 10 (c .if1 .taken))
 
 returns-2 : tie.Need-returns-2
-unfolding digitOf
+unfolding hexDigitOf
 returns-2 c = rw (le-ltb (c .before .args .n) 10 (c .if1 .left)) (omega arith)
 
 pub digit-spec : {M : Type 1} → statement M

@@ -4,7 +4,7 @@ use borrow.Author.Tests.{not-true, not-false}
 use borrow.Author.Needs.{needs}
 use Rattle.octets.specs.Tests.{all}
 use Rattle.guid.specs.Text.{dashesIn}
-use Rattle.guid.specs.Hex.{isDigit}
+use Rattle.guid.specs.Hex.{isHexDigit}
 use Rattle.guid.proofs.Calls.{text-short, text-other, text-digits}
 use Rattle.guid.proofs.is_text.Statement.{statement}
 use Rattle.guid.proofs.is_text.Tie as tie
@@ -54,7 +54,7 @@ unfolding dashesIn
 returns-3 c =
     let a = c .before .before .before .before .before .before .before .before .before .before .before .before .before .args in
     c .all-digits .ensures
-    ∙ ap (all isDigit) (c .before .before .digits-in .ensures)
+    ∙ ap (all isHexDigit) (c .before .before .digits-in .ensures)
     ∙ text-digits (now (a .text)) (c .before .before .before .before .before .before .before .before .before .before .before .if1 .left)
     (sym (c .before .before .before .before .same .ensures) ∙ not-false _ (c .before .before .before .if2 .left))
 

@@ -7,7 +7,7 @@ use borrow.Author.Needs.{needs}
 use Rattle.octets.specs.Tests.{all}
 use Rattle.octets.specs.Bytes.{put}
 use Rattle.guid.specs.Text.{reordered, storedOf}
-use Rattle.guid.specs.Hex.{isDigit, bytesOf}
+use Rattle.guid.specs.Hex.{isHexDigit, bytesOf}
 use Rattle.guid.proofs.Calls.{text-length, text-all, read-length, read-text, read-done}
 use Rattle.guid.proofs.read.Statement.{statement}
 use Rattle.guid.proofs.read.Tie as tie
@@ -34,7 +34,7 @@ bytes-of-requires : tie.Need-bytes-of-requires
 bytes-of-requires c κs =
     let a = c .before .before .before .before .before .before .before .args in
     let e = sym (c .before .before .before .is-text .ensures) ∙ not-false _ (c .before .before .if2 .left) in
-    (search needs, ap (all isDigit) (c .before .digits-in .ensures) ∙ text-all (now (a .text)) e)
+    (search needs, ap (all isHexDigit) (c .before .digits-in .ensures) ∙ text-all (now (a .text)) e)
 
 slice-aggregate-reordered : tie.Need-slice-aggregate-reordered
 slice-aggregate-reordered c = search needs

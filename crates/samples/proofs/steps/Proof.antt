@@ -21,14 +21,23 @@ loop-holds c = search needs
 mul-at : tie.Need-mul-at Inv-loop μ-loop
 mul-at c = search needs
 
-slice-aggregate-step : tie.Need-slice-aggregate-step Inv-loop μ-loop
-slice-aggregate-step c = search needs
+shared-slice-read-letter : tie.Need-shared-slice-read-letter Inv-loop μ-loop
+shared-slice-read-letter c = search needs
 
-slice-aggregate-step-2 : tie.Need-slice-aggregate-step-2 Inv-loop μ-loop
-slice-aggregate-step-2 c = search needs
+slice-aggregate-show : tie.Need-slice-aggregate-show Inv-loop μ-loop
+slice-aggregate-show c = search needs
 
-shared-slice-read-step : tie.Need-shared-slice-read-step Inv-loop μ-loop
-shared-slice-read-step c = search needs
+slice-aggregate-show-2 : tie.Need-slice-aggregate-show-2 Inv-loop μ-loop
+slice-aggregate-show-2 c = search needs
+
+show-requires : tie.Need-show-requires Inv-loop μ-loop
+show-requires c κs = search needs
+
+slice-aggregate-call : tie.Need-slice-aggregate-call Inv-loop μ-loop
+slice-aggregate-call c = search needs
+
+slice-aggregate-call-2 : tie.Need-slice-aggregate-call-2 Inv-loop μ-loop
+slice-aggregate-call-2 c = search needs
 
 add-digit : tie.Need-add-digit Inv-loop μ-loop
 add-digit c = search needs
@@ -54,8 +63,8 @@ shared-slice-read-number-2 c = search needs
 number-requires : tie.Need-number-requires Inv-loop μ-loop
 number-requires c κs = search needs
 
-step-requires : tie.Need-step-requires Inv-loop μ-loop
-step-requires c κs = search needs
+call-requires : tie.Need-call-requires Inv-loop μ-loop
+call-requires c κs = search needs
 
 booked-requires : tie.Need-booked-requires Inv-loop μ-loop
 booked-requires c κs = search needs
@@ -81,9 +90,12 @@ steps-spec =
     empty-requires
     loop-holds
     mul-at
-    slice-aggregate-step
-    slice-aggregate-step-2
-    shared-slice-read-step
+    shared-slice-read-letter
+    slice-aggregate-show
+    slice-aggregate-show-2
+    show-requires
+    slice-aggregate-call
+    slice-aggregate-call-2
     add-digit
     shared-slice-read-digit
     digit-requires
@@ -92,7 +104,7 @@ steps-spec =
     add-number-2
     shared-slice-read-number-2
     number-requires
-    step-requires
+    call-requires
     booked-requires
     add-i
     loop-less

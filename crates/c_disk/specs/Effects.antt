@@ -1,13 +1,13 @@
--- What C is told of a GPT call: the result, head and tail afterwards, and the number answers afterwards. Definitions, and the statement that an
+-- What C gets of a GPT call: the result, head and tail afterwards, and the number answers afterwards. Definitions, and the statement that an
 -- accepted call can't be taken for a refused one.
 use mathlib.Core.Path.{_≡_}
 use mathlib.Core.List.{List, [], _∷_}
 use Prim.Native.Nat.{ℕ}
 use lib.ListN.{getD}
 use Rattle.gpt_model.specs.Disk.{disk512, Side, primary, backup, usedSide, entriesAt}
-use Rattle.gpt_model.specs.Calls.{Answer, refused, accepted, Out, out}
-use Rattle.gpt.specs.Answers.{numberOf}
-use Rattle.gpt.specs.declared.Refusal.{Refusal}
+use Rattle.gpt_model.specs.Calls.{Answer, refused, accepted, Outcome, outcome}
+use Rattle.gpt_checks.specs.Refusals.{numberOf}
+use Rattle.gpt_checks.specs.declared.Refusal.{Refusal}
 
 -- R1: A refusal returns its number alone. Accepted is 0
 abbrev pub resultOf : Answer → ℕ
@@ -19,14 +19,14 @@ abbrev pub valuesOf : List ℕ → Answer → List ℕ
 valuesOf old (refused k) = old
 valuesOf old (accepted vs) = vs
 
-pub record GptTold : Type 0 where
+pub record GptEffect : Type 0 where
   pub result : ℕ
   pub head : List ℕ
   pub tail : List ℕ
   pub values : List ℕ
 
-abbrev pub gptTold : List ℕ → Out → GptTold
-gptTold old o = record { result = resultOf (o .answer); head = o .head; tail = o .tail; values = valuesOf old (o .answer) }
+abbrev pub gptEffect : List ℕ → Outcome → GptEffect
+gptEffect old o = record { result = resultOf (o .answer); head = o .head; tail = o .tail; values = valuesOf old (o .answer) }
 
 -- D11: inside whichever of the two lent buffers was used. 0 the head, 1 the tail
 abbrev pub sideNumber : Side → ℕ
@@ -34,12 +34,12 @@ sideNumber primary = 0
 sideNumber backup = 1
 
 -- where the entries begin, by what reading answers (the state): the buffer used, and the byte in it
-abbrev pub placeOf : Answer → Answer
-placeOf (refused k) = refused k
-placeOf (accepted vs) = accepted (sideNumber (usedSide (getD vs 0 0)) ∷ entriesAt disk512 (usedSide (getD vs 0 0)) ∷ [])
+abbrev pub tablePlace : Answer → Answer
+tablePlace (refused k) = refused k
+tablePlace (accepted vs) = accepted (sideNumber (usedSide (getD vs 0 0)) ∷ entriesAt disk512 (usedSide (getD vs 0 0)) ∷ [])
 
-abbrev pub placed : Out → Out
-placed o = out (placeOf (o .answer)) (o .head) (o .tail)
+abbrev pub withTablePlace : Outcome → Outcome
+withTablePlace o = outcome (tablePlace (o .answer)) (o .head) (o .tail)
 
 -- no refusal's number is 0
 abbrev pub NoRefusalIsZero : Type 0

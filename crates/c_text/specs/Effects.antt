@@ -8,12 +8,12 @@ use Rattle.guid.specs.Calls.{Outcome, numberOf}
 use Rattle.guid.specs.declared.Answer.{Answer}
 
 -- the result and the lent buffer afterwards
-pub record Told : Type 0 where
+pub record Effect : Type 0 where
   pub result : ℕ
   pub buffer : List ℕ
 
-abbrev pub told : Outcome → Told
-told o = record { result = codeOf (o .number); buffer = o .buffer }
+abbrev pub effect : Outcome → Effect
+effect o = record { result = codeOf (o .number); buffer = o .buffer }
 
 -- no refusal's number is 0
 abbrev pub ZeroIsAccepted : Type 0

@@ -1,4 +1,4 @@
--- The ways out of a call, and what its rows say by number.
+-- The outcomes of a call, and what its rows say by number.
 use mathlib.Core.Path.{_≡_, refl, sym, ap, _∙_}
 use mathlib.Core.Logic.{_≢_}
 use mathlib.Core.Bool.{Bool, true, false, not, cond}
@@ -14,54 +14,54 @@ use Rattle.octets.specs.Rows.{row, refusal}
 use Rattle.octets.proofs.Bools.{and-l, and-r, and-i, clash, not-f}
 use Rattle.octets.proofs.Rows.{passes, pick-false, refusal-append, refusal-first, refusal-before, refusal-holds}
 use Rattle.gpt_model.specs.Disk.{Shape, lastUsable, inRange, primary, backup, lentBytes, guidIn, entriesIn, state, tableOf, withCopy}
-use Rattle.gpt_model.specs.Calls.{Edit, add, delete, resize, rename, Call, read, freeCounts, repair, edit, Answer, refused, accepted, Out, out, decided, tableRows, lengthsOf, readRows, openRows, rowsOf, made, step}
+use Rattle.gpt_model.specs.Calls.{Edit, add, delete, resize, rename, Call, read, freeCounts, repair, edit, Answer, refused, accepted, Outcome, outcome, unlessRefused, tableRows, lengthsOf, commonRows, openRows, rowsOf, acceptedOutcome, step}
 
--- ---- the two ways out: refused, and nothing is changed; or made
+-- ---- the two outcomes: refused, and nothing is changed; or accepted
 
 module _ (g : Shape) (n : ℕ) (h t : List ℕ) (c : Call) where
-  pub step-refused : (k : ℕ) → refusal (rowsOf g n h t c) ≡ some k → step g n h t c ≡ out (refused k) h t
+  pub step-refused : (k : ℕ) → refusal (rowsOf g n h t c) ≡ some k → step g n h t c ≡ outcome (refused k) h t
   unfolding step
-  step-refused k e = ap (λ (q : Option ℕ). decided q h t (made g n h t c)) e
+  step-refused k e = ap (λ (q : Option ℕ). unlessRefused q h t (acceptedOutcome g n h t c)) e
 
-  pub step-made : refusal (rowsOf g n h t c) ≡ none → step g n h t c ≡ made g n h t c
+  pub step-accepted : refusal (rowsOf g n h t c) ≡ none → step g n h t c ≡ acceptedOutcome g n h t c
   unfolding step
-  step-made e = ap (λ (q : Option ℕ). decided q h t (made g n h t c)) e
+  step-accepted e = ap (λ (q : Option ℕ). unlessRefused q h t (acceptedOutcome g n h t c)) e
 
 -- repair answers the state found
-pub repair-answer : (g : Shape) (n : ℕ) (h t : List ℕ) → made g n h t repair .answer ≡ accepted (state g n h t ∷ [])
+pub repair-answer : (g : Shape) (n : ℕ) (h t : List ℕ) → acceptedOutcome g n h t repair .answer ≡ accepted (state g n h t ∷ [])
 repair-answer g n h t = go (eqb (state g n h t) 1) (eqb (state g n h t) 4)
   where
     a : Answer
     a = accepted (state g n h t ∷ [])
 
     go : (p q : Bool)
-        → cond p (out a h t)
-        (cond q (out a (withCopy g n primary (guidIn g backup t) (entriesIn g backup t) h) t)
-        (out a h (withCopy g n backup (guidIn g primary h) (entriesIn g primary h) t)))
+        → cond p (outcome a h t)
+        (cond q (outcome a (withCopy g n primary (guidIn g backup t) (entriesIn g backup t) h) t)
+        (outcome a h (withCopy g n backup (guidIn g primary h) (entriesIn g primary h) t)))
         .answer ≡ a
     go true q = refl
     go false true = refl
     go false false = refl
 
--- what is made is accepted, so a refusal's number is that of the first row that holds
-made-accepts : (g : Shape) (n : ℕ) (h t : List ℕ) (c : Call) → (values : List ℕ) × (made g n h t c .answer ≡ accepted values)
-made-accepts g n h t read = (_, refl)
-made-accepts g n h t freeCounts = (_, refl)
-made-accepts g n h t repair = (_, repair-answer g n h t)
-made-accepts g n h t (edit d) = (_, refl)
+-- an accepted outcome answers values, so a refusal's number is that of the first row that holds
+accepted-values : (g : Shape) (n : ℕ) (h t : List ℕ) (c : Call) → (values : List ℕ) × (acceptedOutcome g n h t c .answer ≡ accepted values)
+accepted-values g n h t read = (_, refl)
+accepted-values g n h t freeCounts = (_, refl)
+accepted-values g n h t repair = (_, repair-answer g n h t)
+accepted-values g n h t (edit d) = (_, refl)
 
 pub refused-row : (g : Shape) (n : ℕ) (h t : List ℕ) (c : Call) (k : ℕ) → step g n h t c .answer ≡ refused k → refusal (rowsOf g n h t c) ≡ some k
 refused-row g n h t c k a = go (refusal (rowsOf g n h t c)) refl
   where
     go : (q : Option ℕ) → refusal (rowsOf g n h t c) ≡ q → q ≡ some k
     go none e =
-        let w = made-accepts g n h t c in
-        let b : made g n h t c .answer ≡ refused k = ap (λ (o : Out). o .answer) (sym (step-made g n h t c e)) ∙ a in
+        let w = accepted-values g n h t c in
+        let b : acceptedOutcome g n h t c .answer ≡ refused k = ap (λ (o : Outcome). o .answer) (sym (step-accepted g n h t c e)) ∙ a in
         let v = w .1 in
         let z : _≡_ {A = ℕ} 0 1 = cc in
         absurd (omega arith)
     go (some j) e =
-        let b : refused j ≡ refused k = ap (λ (o : Out). o .answer) (sym (step-refused g n h t c j e)) ∙ a in
+        let b : refused j ≡ refused k = ap (λ (o : Outcome). o .answer) (sym (step-refused g n h t c j e)) ∙ a in
         cc
 
 -- and where it is accepted no row holds
@@ -71,7 +71,7 @@ accepted-none g n h t c values a = go (refusal (rowsOf g n h t c)) refl
     go : (q : Option ℕ) → refusal (rowsOf g n h t c) ≡ q → q ≡ none
     go none e = refl
     go (some k) e =
-        let b = ap (λ (o : Out). o .answer) (step-refused g n h t c k e) in
+        let b = ap (λ (o : Outcome). o .answer) (step-refused g n h t c k e) in
         let z : _≡_ {A = ℕ} 0 1 = cc in
         absurd (omega arith)
 
@@ -82,7 +82,7 @@ module _ (g : Shape) (n : ℕ) (h t : List ℕ) (one : state g n h t ≡ 1) wher
   none10 read = rw one
   none10 freeCounts = rw one
   none10 repair = rw one
-  none10 (edit (add type unique size attributes name)) = rw one
+  none10 (edit (add p)) = rw one
   none10 (edit (delete k)) = rw one
   none10 (edit (resize k size)) = rw one
   none10 (edit (rename k name)) = rw one
@@ -92,7 +92,7 @@ module _ (g : Shape) (n : ℕ) (h t : List ℕ) (one : state g n h t ≡ 1) wher
   none11 read = refl
   none11 freeCounts = refl
   none11 repair = refl
-  none11 (edit (add type unique size attributes name)) = rw one
+  none11 (edit (add p)) = rw one
   none11 (edit (delete k)) = rw one
   none11 (edit (resize k size)) = rw one
   none11 (edit (rename k name)) = rw one
@@ -106,21 +106,21 @@ module _ (g : Shape) (n : ℕ) (h t : List ℕ) (one : state g n h t ≡ 1) wher
 -- ---- what the rows before an edit's own say, by number
 
 module _ (g : Shape) (n : ℕ) (h t : List ℕ) where
-  module _ (lengths : Bool) (e : refusal (readRows g n h t lengths) ≡ none) where
+  module _ (lengths : Bool) (e : refusal (commonRows g n h t lengths) ≡ none) where
     pub row1 : (length h ≡ lentBytes g primary) × (length t ≡ lentBytes g backup) × (lengths ≡ true)
     row1 =
-        let w = not-f _ (passes 1 (readRows g n h t lengths) e) in
+        let w = not-f _ (passes 1 (commonRows g n h t lengths) e) in
         (eqb-true _ _ (and-l _ _ (and-l _ _ w)), eqb-true _ _ (and-r _ _ (and-l _ _ w)), and-r _ _ w)
 
     pub row2 : inRange g n ≡ true
-    row2 = not-f _ (passes 2 (readRows g n h t lengths) e)
+    row2 = not-f _ (passes 2 (commonRows g n h t lengths) e)
 
     pub row10 : state g n h t ≢ 0
-    row10 = eqb-false _ _ (passes 10 (readRows g n h t lengths) e)
+    row10 = eqb-false _ _ (passes 10 (commonRows g n h t lengths) e)
 
   module _ (d : Edit) (e : refusal (openRows g n h t d) ≡ none) where
-    pub open-read : refusal (readRows g n h t (lengthsOf d)) ≡ none
-    open-read = refusal-before (readRows g n h t (lengthsOf d)) (row (not (eqb (state g n h t) 1)) 11 ∷ []) e .0
+    pub open-common : refusal (commonRows g n h t (lengthsOf d)) ≡ none
+    open-common = refusal-before (commonRows g n h t (lengthsOf d)) (row (not (eqb (state g n h t) 1)) 11 ∷ []) e .0
 
     pub row11 : state g n h t ≡ 1
     row11 = eqb-true _ _ (not-f _ (passes 11 (openRows g n h t d) e))

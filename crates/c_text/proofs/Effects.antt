@@ -1,4 +1,4 @@
--- Laws of what C is told.
+-- Laws of what C gets.
 use mathlib.Core.Path.{_≡_, refl, ap, _∙_}
 use mathlib.Core.List.{List}
 use mathlib.Core.Option.{Option}
@@ -8,12 +8,12 @@ use Rattle.octets.specs.Rows.{codeOf}
 use Rattle.guid.specs.Calls.{Outcome, numberOf}
 use Rattle.guid.specs.declared.Answer.{Answer}
 use Rattle.guid.specs.declared.Answer.the-variants.{Done, WrongLength, NotGuidText}
-use Rattle.c_text.specs.Told.{Told, told, ZeroIsAccepted}
+use Rattle.c_text.specs.Effects.{Effect, effect, ZeroIsAccepted}
 
--- an answer told by its code, with the buffer that the call left
+-- an answer given by its code, with the buffer that the call left
 pub tells : (n : Option ℕ) (r : ℕ) (b : List ℕ) (o : Outcome) → record { number = n; buffer = b } ≡ o → r ≡ codeOf n
-    → _≡_ {A = Told} (record { result = r; buffer = b }) (told o)
-tells n r b o e q = ap (λ (k : ℕ). record { result = k; buffer = b }) q ∙ ap told e
+    → _≡_ {A = Effect} (record { result = r; buffer = b }) (effect o)
+tells n r b o e q = ap (λ (k : ℕ). record { result = k; buffer = b }) q ∙ ap effect e
 
 pub zero-is-accepted : ZeroIsAccepted
 zero-is-accepted Done e = refl

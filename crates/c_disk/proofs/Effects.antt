@@ -1,29 +1,29 @@
--- Laws of what C is told of a GPT call.
+-- Laws of what C gets of a GPT call.
 use mathlib.Core.Path.{_≡_, refl, sym, ap, ap₂, _∙_}
 use mathlib.Core.List.{List, []}
 use Prim.Native.Nat.{ℕ}
 use native.Mathlib.Omega.{arith}
-use Rattle.gpt_model.specs.Calls.{Answer, refused, accepted, Out, out}
+use Rattle.gpt_model.specs.Calls.{Answer, refused, accepted, Outcome, outcome}
 use Rattle.gpt.specs.Answers.{doneOf, readingOf}
 use Rattle.gpt.specs.declared.Done.{Done}
 use Rattle.gpt.specs.declared.Done.the-variants as done
 use Rattle.gpt.specs.declared.Reading.{Reading}
-use Rattle.gpt.specs.declared.Refusal.the-variants.{WrongLength, BlockCount, NoDiskGuid, NeitherGood, NotTheSame, NoSuchSlot, SlotUnused, NoSize, NoType, NoUniqueGuid, BadName, NoUnusedSlot, NoRoom}
-use Rattle.c_disk.specs.Told.{GptTold, resultOf, valuesOf, gptTold, placeOf, NoRefusalIsZero}
+use Rattle.gpt_checks.specs.declared.Refusal.the-variants.{WrongLength, BlockCount, NoDiskGuid, NeitherGood, NotTheSame, NoSuchSlot, SlotUnused, NoSize, NoType, NoUniqueGuid, BadName, NoUnusedSlot, NoRoom}
+use Rattle.c_disk.specs.Effects.{GptEffect, resultOf, valuesOf, gptEffect, tablePlace, NoRefusalIsZero}
 
--- an answer a told by its number and values, with the buffers that the call left
-pub gpt-tells : (a : Answer) (r : ℕ) (old new h t : List ℕ) (o : Out) → out a h t ≡ o → r ≡ resultOf a → new ≡ valuesOf old a
-    → _≡_ {A = GptTold} (record { result = r; head = h; tail = t; values = new }) (gptTold old o)
-gpt-tells a r old new h t o e p q = ap₂ (λ (k : ℕ) (vs : List ℕ). record { result = k; head = h; tail = t; values = vs }) p q ∙ ap (gptTold old) e
+-- an answer a given by its number and values, with the buffers that the call left
+pub gpt-tells : (a : Answer) (r : ℕ) (old new h t : List ℕ) (o : Outcome) → outcome a h t ≡ o → r ≡ resultOf a → new ≡ valuesOf old a
+    → _≡_ {A = GptEffect} (record { result = r; head = h; tail = t; values = new }) (gptEffect old o)
+gpt-tells a r old new h t o e p q = ap₂ (λ (k : ℕ) (vs : List ℕ). record { result = k; head = h; tail = t; values = vs }) p q ∙ ap (gptEffect old) e
 
 -- the same for an answer without values
-pub gpt-tells-done : (d : Done) (r : ℕ) (h t : List ℕ) (o : Out) → out (doneOf d) h t ≡ o → r ≡ resultOf (doneOf d)
-    → _≡_ {A = GptTold} (record { result = r; head = h; tail = t; values = [] }) (gptTold [] o)
-gpt-tells-done d r h t o e q = gpt-tells (doneOf d) r [] [] h t o e q (none-told d)
+pub gpt-tells-done : (d : Done) (r : ℕ) (h t : List ℕ) (o : Outcome) → outcome (doneOf d) h t ≡ o → r ≡ resultOf (doneOf d)
+    → _≡_ {A = GptEffect} (record { result = r; head = h; tail = t; values = [] }) (gptEffect [] o)
+gpt-tells-done d r h t o e q = gpt-tells (doneOf d) r [] [] h t o e q (no-values d)
   where
-    none-told : (d : Done) → _≡_ {A = List ℕ} [] (valuesOf [] (doneOf d))
-    none-told done.Accepted = refl
-    none-told (done.Refused k) = refl
+    no-values : (d : Done) → _≡_ {A = List ℕ} [] (valuesOf [] (doneOf d))
+    no-values done.Accepted = refl
+    no-values (done.Refused k) = refl
 
 -- a refused answer a, by its number k
 pub gpt-refused : (a : Answer) (k r : ℕ) (old : List ℕ) → a ≡ refused k → r ≡ k → (r ≡ resultOf a) × (old ≡ valuesOf old a)
@@ -35,7 +35,7 @@ gpt-accepted a old vs e = (ap resultOf (sym e), ap (valuesOf old) (sym e))
 
 -- where the entries begin, by a reading
 abbrev pub placeBy : Reading → Answer
-placeBy r = placeOf (readingOf r)
+placeBy r = tablePlace (readingOf r)
 
 pub no-refusal-is-zero : NoRefusalIsZero
 no-refusal-is-zero WrongLength e = omega arith

@@ -1,4 +1,4 @@
--- Laws of what C is told of a flash map call.
+-- Laws of what C gets of a flash map call.
 use mathlib.Core.Path.{_≡_, refl, sym, ap, _∙_}
 use mathlib.Core.List.{List}
 use mathlib.Core.Logic.{_≢_, _⊎_, inl, inr}
@@ -31,11 +31,11 @@ use Rattle.fmap.specs.declared.Fault.the-variants as fault
 use Rattle.fmap.specs.declared.Lookup.the-variants as lookup
 use Rattle.fmap.specs.declared.AreaIndex.the-variants as index
 use Rattle.fmap.specs.declared.Carried.the-variants as carried
-use Rattle.c_flash.specs.Told.{BufferTold, positionOf, faultTold, answerTold, lookedTold, areaTold, carryTold, NoneIsZero}
+use Rattle.c_flash.specs.Effects.{BufferEffect, positionOf, faultEffect, answerEffect, lookedEffect, areaEffect, carryEffect, NoneIsZero}
 
 -- an answer a that is x, and whose reply is r
-pub tells : {A B C : Type 0} (told : B → C) (reply : A → B) {a x : A} {r : B} → a ≡ x → reply a ≡ r → told (reply x) ≡ told r
-tells told reply p q = ap told (sym (ap reply p) ∙ q)
+pub tells : {A B C : Type 0} (effect : B → C) (reply : A → B) {a x : A} {r : B} → a ≡ x → reply a ≡ r → effect (reply x) ≡ effect r
+tells effect reply p q = ap effect (sym (ap reply p) ∙ q)
 
 pub position-low : (n : ℕ) → n < 4294967295 → n ≡ positionOf n
 unfolding positionOf
@@ -47,33 +47,33 @@ position-high n h = rw (le-ltb n 4294967295 h)
 
 -- an answer f that is x, of the position r that n stands for
 pub fault-tells : (old : ℕ) (image : List ℕ) (n r : ℕ) {f x : Fault} → r ≡ positionOf n → f ≡ x → faultReply f ≡ faultAt image r
-    → faultTold old (faultReply x) ≡ faultTold old (faultAt image n)
-fault-tells old image n r {f} {x} p q e = tells (faultTold old) faultReply q (e ∙ go (bool-cases (ltb n 4294967295)))
+    → faultEffect old (faultReply x) ≡ faultEffect old (faultAt image n)
+fault-tells old image n r {f} {x} p q e = tells (faultEffect old) faultReply q (e ∙ go (bool-cases (ltb n 4294967295)))
   where
     go : (ltb n 4294967295 ≡ true) ⊎ (ltb n 4294967295 ≡ false) → faultAt image r ≡ faultAt image n
     go (inl w) = ap (faultAt image) (p ∙ sym (position-low n (ltb-true _ _ w)))
     go (inr w) = let h : 4294967295 ≤ n = ltb-false _ _ w in fault-behind image r n (omega (arith, p, position-high n h)) (omega arith)
 
 -- an area's answer x, and the bytes of an area that is there
-pub looked-tells : (old : List ℕ) (a : AreaFound) (x : Lookup) → a .answer ≡ x → answerTold old (a .area) (lookupReply x) ≡ lookedTold old (looked a)
-looked-tells old a x p = ap (λ (y : Lookup). answerTold old (a .area) (lookupReply y)) (sym p)
+pub looked-tells : (old : List ℕ) (a : AreaFound) (x : Lookup) → a .answer ≡ x → answerEffect old (a .area) (lookupReply x) ≡ lookedEffect old (looked a)
+looked-tells old a x p = ap (λ (y : Lookup). answerEffect old (a .area) (lookupReply y)) (sym p)
 
 pub area-tells : (old new : List ℕ) (a : AreaFound) → a .answer ≡ lookup.There → length old ≡ 42
-    → (new ≡ put 0 (areaBytes (a .area)) old) × (length (areaBytes (a .area)) ≡ 42) → record { result = 0; buffer = new } ≡ lookedTold old (looked a)
+    → (new ≡ put 0 (areaBytes (a .area)) old) × (length (areaBytes (a .area)) ≡ 42) → record { result = 0; buffer = new } ≡ lookedEffect old (looked a)
 area-tells old new a p h (q, l) =
     ap (λ (b : List ℕ). record { result = 0; buffer = b }) (q ∙ put-all (areaBytes (a .area)) old (l ∙ sym h)) ∙ looked-tells old a lookup.There p
 
-pub area-wrong : (old : List ℕ) (l : Looked) → length old ≢ 42 → record { result = 1; buffer = old } ≡ areaTold old l
-unfolding areaTold
+pub area-wrong : (old : List ℕ) (l : Looked) → length old ≢ 42 → record { result = 1; buffer = old } ≡ areaEffect old l
+unfolding areaEffect
 area-wrong old l h = rw (ne-eqb (length old) 42 h)
 
-pub area-right : (old : List ℕ) (l m : Looked) (t : BufferTold) → length old ≡ 42 → t ≡ lookedTold old l → l ≡ m → t ≡ areaTold old m
-unfolding areaTold
-area-right old l m t h p q = rw (eq-eqb (length old) 42 h) (p ∙ ap (lookedTold old) q)
+pub area-right : (old : List ℕ) (l m : Looked) (t : BufferEffect) → length old ≡ 42 → t ≡ lookedEffect old l → l ≡ m → t ≡ areaEffect old m
+unfolding areaEffect
+area-right old l m t h p q = rw (eq-eqb (length old) 42 h) (p ∙ ap (lookedEffect old) q)
 
 pub carry-tells : (n : Option ℕ) (r : ℕ) (b : List ℕ) (o : Outcome) → record { answer = n; image = b } ≡ o → r ≡ codeOf n
-    → _≡_ {A = BufferTold} (record { result = r; buffer = b }) (carryTold o)
-carry-tells n r b o e q = ap (λ (k : ℕ). record { result = k; buffer = b }) q ∙ ap carryTold e
+    → _≡_ {A = BufferEffect} (record { result = r; buffer = b }) (carryEffect o)
+carry-tells n r b o e q = ap (λ (k : ℕ). record { result = k; buffer = b }) q ∙ ap carryEffect e
 
 -- ---- no refusal's number is 0
 

@@ -1,0 +1,21 @@
+-- W15: When an answer is an enum, a definition states this paper's number and values for each enum case. Definitions only.
+use Prim.Native.Nat.{ℕ}
+use Rattle.gpt_checks.specs.declared.Refusal.{Refusal}
+use Rattle.gpt_checks.specs.declared.Refusal.the-variants.{WrongLength, BlockCount, NoDiskGuid, NeitherGood, NotTheSame, NoSuchSlot, SlotUnused}
+use Rattle.gpt_checks.specs.declared.Refusal.the-variants.{NoSize, NoType, NoUniqueGuid, BadName, NoUnusedSlot, NoRoom}
+
+-- R4 to R13, in the order there
+abbrev pub numberOf : Refusal → ℕ
+numberOf WrongLength = 1
+numberOf BlockCount = 2
+numberOf NoDiskGuid = 3
+numberOf NeitherGood = 10
+numberOf NotTheSame = 11
+numberOf NoSuchSlot = 12
+numberOf SlotUnused = 13
+numberOf NoSize = 20
+numberOf NoType = 21
+numberOf NoUniqueGuid = 22
+numberOf BadName = 23
+numberOf NoUnusedSlot = 24
+numberOf NoRoom = 25
