@@ -32,7 +32,7 @@ fn entry_ok(e: &[u8], first: u64, last: u64) -> bool
     requires { ⌜ length (now e) ≡ entryBytes ⌝ }
     ensures { λ r. ⌜ r ≡ entryOk first last (now (e .entry)) ⌝ }
 {
-    if octets::is_zero(e) {
+    if crate::unused(e) {
         return true;
     }
     if octets::is_zero(&e[0..UNIQUE_AT]) {

@@ -4,15 +4,16 @@ use denote.Ref.{now}
 use borrow.Author.Needs.{needs}
 use Rattle.octets.specs.Bytes.{part}
 use Rattle.gpt_model.specs.Table.{bounded, spans}
-use Rattle.gpt_table.proofs.Good.{ok-unused, ok-type, ok-unique, ok-range}
+use Rattle.gpt_model.proofs.Entries.{unused-ok}
+use Rattle.gpt_table.proofs.Good.{ok-type, ok-unique, ok-range}
 use Rattle.gpt_table.proofs.rules.entry_ok.Statement.{statement}
 use Rattle.gpt_table.proofs.rules.entry_ok.Tie as tie
 
-is-zero-requires : tie.Need-is-zero-requires
-is-zero-requires c κs = search needs
+unused-requires : tie.Need-unused-requires
+unused-requires c κs = search needs
 
 returns : tie.Need-returns
-returns c = sym (ok-unused _ _ _ (sym (c .before .is-zero .ensures) ∙ c .if1 .taken))
+returns c = sym (unused-ok _ _ _ (sym (c .before .unused .ensures) ∙ c .if1 .taken))
 
 sub-is-zero : tie.Need-sub-is-zero
 sub-is-zero c = search needs
@@ -23,12 +24,12 @@ part-is-zero-start c = search needs
 part-is-zero-end : tie.Need-part-is-zero-end
 part-is-zero-end c = search needs
 
-is-zero-requires-2 : tie.Need-is-zero-requires-2
-is-zero-requires-2 c κs = search needs
+is-zero-requires : tie.Need-is-zero-requires
+is-zero-requires c κs = search needs
 
 returns-2 : tie.Need-returns-2
 unfolding part
-returns-2 c = sym (ok-type _ _ _ (sym (c .before .before .before .before .is-zero .ensures) ∙ c .before .before .before .if1 .left) (sym (c .before .is-zero2 .ensures) ∙ c .if2 .taken))
+returns-2 c = sym (ok-type _ _ _ (sym (c .before .before .before .before .unused .ensures) ∙ c .before .before .before .if1 .left) (sym (c .before .is-zero .ensures) ∙ c .if2 .taken))
 
 sub-is-zero-2 : tie.Need-sub-is-zero-2
 sub-is-zero-2 c = search needs
@@ -39,12 +40,12 @@ part-is-zero-start-2 c = search needs
 part-is-zero-end-2 : tie.Need-part-is-zero-end-2
 part-is-zero-end-2 c = search needs
 
-is-zero-requires-3 : tie.Need-is-zero-requires-3
-is-zero-requires-3 c κs = search needs
+is-zero-requires-2 : tie.Need-is-zero-requires-2
+is-zero-requires-2 c κs = search needs
 
 returns-3 : tie.Need-returns-3
 unfolding part
-returns-3 c = sym (ok-unique _ _ _ (sym (c .before .before .before .before .before .before .before .is-zero .ensures) ∙ c .before .before .before .before .before .before .if1 .left) (sym (c .before .before .before .before .is-zero2 .ensures) ∙ c .before .before .before .if2 .left) (sym (c .before .is-zero3 .ensures) ∙ c .if3 .taken))
+returns-3 c = sym (ok-unique _ _ _ (sym (c .before .before .before .before .before .before .before .unused .ensures) ∙ c .before .before .before .before .before .before .if1 .left) (sym (c .before .before .before .before .is-zero .ensures) ∙ c .before .before .before .if2 .left) (sym (c .before .is-zero2 .ensures) ∙ c .if3 .taken))
 
 load64-requires : tie.Need-load64-requires
 load64-requires c κs = search needs
@@ -60,23 +61,23 @@ unfolding part
 returns-4 c =
     let a = c .before .before .before .before .before .before .before .before .before .before .before .before .args in
     c .bounded .ensures ∙ ap₂ (λ (x y : ℕ). bounded (a .first) (a .last) (spans x y)) (c .before .before .load64 .ensures) (c .before .load642 .ensures)
-    ∙ sym (ok-range (a .first) (a .last) (now (a .e)) (sym (c .before .before .before .before .before .before .before .before .before .before .is-zero .ensures) ∙ c .before .before .before .before .before .before .before .before .before .if1 .left) (sym (c .before .before .before .before .before .before .before .is-zero2 .ensures) ∙ c .before .before .before .before .before .before .if2 .left) (sym (c .before .before .before .before .is-zero3 .ensures) ∙ c .before .before .before .if3 .left))
+    ∙ sym (ok-range (a .first) (a .last) (now (a .e)) (sym (c .before .before .before .before .before .before .before .before .before .before .unused .ensures) ∙ c .before .before .before .before .before .before .before .before .before .if1 .left) (sym (c .before .before .before .before .before .before .before .is-zero .ensures) ∙ c .before .before .before .before .before .before .if2 .left) (sym (c .before .before .before .before .is-zero2 .ensures) ∙ c .before .before .before .if3 .left))
 
 pub entry-ok-spec : {M : Type 1} → statement M
 entry-ok-spec =
     tie.close
     (tie.spec
-    is-zero-requires
+    unused-requires
     returns
     sub-is-zero
     part-is-zero-start
     part-is-zero-end
-    is-zero-requires-2
+    is-zero-requires
     returns-2
     sub-is-zero-2
     part-is-zero-start-2
     part-is-zero-end-2
-    is-zero-requires-3
+    is-zero-requires-2
     returns-3
     load64-requires
     load64-requires-2
