@@ -60,8 +60,8 @@ returns-4 : tie.Need-returns-4
 unfolding part
 returns-4 c =
     let a = c .before .before .before .before .before .before .before .before .before .before .before .before .args in
-    c .bounded .ensures ∙ ap₂ (λ (x y : ℕ). bounded (a .first) (a .last) (spans x y)) (c .before .before .load64 .ensures) (c .before .load642 .ensures)
-    ∙ sym (ok-range (a .first) (a .last) (now (a .e)) (sym (c .before .before .before .before .before .before .before .before .before .before .unused .ensures) ∙ c .before .before .before .before .before .before .before .before .before .if1 .left) (sym (c .before .before .before .before .before .before .before .is-zero .ensures) ∙ c .before .before .before .before .before .before .if2 .left) (sym (c .before .before .before .before .is-zero2 .ensures) ∙ c .before .before .before .if3 .left))
+    c .bounded .ensures ∙ ap₂ (λ (x y : ℕ). bounded (a .first .0) (a .last .0) (spans x y)) (c .before .before .load64 .ensures) (c .before .load642 .ensures)
+    ∙ sym (ok-range (a .first .0) (a .last .0) (now (a .e)) (sym (c .before .before .before .before .before .before .before .before .before .before .unused .ensures) ∙ c .before .before .before .before .before .before .before .before .before .if1 .left) (sym (c .before .before .before .before .before .before .before .is-zero .ensures) ∙ c .before .before .before .before .before .before .if2 .left) (sym (c .before .before .before .before .is-zero2 .ensures) ∙ c .before .before .before .if3 .left))
 
 pub entry-ok-spec : {M : Type 1} → statement M
 entry-ok-spec =
