@@ -49,7 +49,8 @@ loop-again : tie.Need-loop-again Inv-loop μ-loop
 loop-again c =
     let a = c .before .before .before .before .before .before .args in
     let l = c .before .before .before .before .before .loop in
-    (omega arith, next-over (now (a .firsts)) (now (a .lasts)) (a .count) (a .a .0) (l .j) (omega arith) (l .inv .1) (sym (c .before .reaches .ensures) ∙ c .if1 .left))
+    let no = sym (c .before .reaches .ensures) ∙ c .if1 .left in
+    (omega arith, next-over (now (a .firsts)) (now (a .lasts)) (a .count) (a .a .0) (l .j) (omega arith) (l .inv .1) no)
 
 returns-2 : tie.Need-returns-2 Inv-loop μ-loop
 returns-2 c =

@@ -23,7 +23,9 @@ sub-result : tie.Need-sub-result
 sub-result c = omega (arith, gap-of (c .before .before .before .before .before .look .ensures) (c .before .before .before .g .given .1) .past)
 
 returns-2 : tie.Need-returns-2
-returns-2 c = room-full _ _ _ _ (c .before .before .before .before .before .before .before .pre .1) (taken-of (c .before .before .look .ensures) (c .enum-told .given .1))
+returns-2 c =
+    let p = c .before .before .before .before .before .before .before .pre in
+    room-full _ _ _ _ (p .1) (taken-of (c .before .before .look .ensures) (c .enum-told .given .1))
 
 returns-3 : tie.Need-returns-3
 returns-3 c = room-gap _ _ _ _ (gap-of (c .before .before .before .before .before .look .ensures) (c .before .before .before .g .given .1))

@@ -52,7 +52,8 @@ loop-again c =
     let c8 = c4 .before .before .before .before in
     let w = taken-of (c4 .before .before .before .look .ensures) (c4 .before .x .given .1) in
     let v = w .from in
-    (tallied-over (c8 .before .before .before .before .loop .inv .0) (omega arith) w, c8 .next .ensures .most, passed-more (omega arith) (c8 .next .ensures .passed))
+    let t = c8 .next .ensures in
+    (tallied-over (c8 .before .before .before .before .loop .inv .0) (omega arith) w, t .most, passed-more (omega arith) (t .passed))
 
 enum-known-g : tie.Need-enum-known-g Inv-loop μ-loop
 enum-known-g c = search needs

@@ -34,7 +34,8 @@ returns c =
     let l = c .before .before .before .before .loop in
     let p = entryOk (a .first .0) (a .last .0) in
     let k = length-entries (now (a .t)) in
-    sym (sym (l .inv .1) ∙ all-stop p (entries (now (a .t))) [] (l .i) (omega arith) (sym (ap p (c .before .before .entry .ensures .0)) ∙ sym (c .before .entry-ok .ensures) ∙ not-true _ (c .if1 .taken)))
+    let r = sym (ap p (c .before .before .entry .ensures .0)) ∙ sym (c .before .entry-ok .ensures) in
+    sym (sym (l .inv .1) ∙ all-stop p (entries (now (a .t))) [] (l .i) (omega arith) (r ∙ not-true _ (c .if1 .taken)))
 
 add-i : tie.Need-add-i Inv-loop μ-loop
 add-i c = search needs
@@ -48,7 +49,8 @@ loop-again c =
     let l = c .before .before .before .before .loop in
     let p = entryOk (a .first .0) (a .last .0) in
     let k = length-entries (now (a .t)) in
-    (omega arith, sym (all-on p (entries (now (a .t))) [] (l .i) (omega arith) (sym (ap p (c .before .before .entry .ensures .0)) ∙ sym (c .before .entry-ok .ensures) ∙ not-false _ (c .if1 .left))) ∙ l .inv .1)
+    let r = sym (ap p (c .before .before .entry .ensures .0)) ∙ sym (c .before .entry-ok .ensures) in
+    (omega arith, sym (all-on p (entries (now (a .t))) [] (l .i) (omega arith) (r ∙ not-false _ (c .if1 .left))) ∙ l .inv .1)
 
 returns-2 : tie.Need-returns-2 Inv-loop μ-loop
 returns-2 c =

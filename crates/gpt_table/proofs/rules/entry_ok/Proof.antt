@@ -29,7 +29,9 @@ is-zero-requires c κs = search needs
 
 returns-2 : tie.Need-returns-2
 unfolding part
-returns-2 c = sym (ok-type _ _ _ (sym (c .before .before .before .before .unused .ensures) ∙ c .before .before .before .if1 .left) (sym (c .before .is-zero .ensures) ∙ c .if2 .taken))
+returns-2 c =
+    let c3 = c .before .before .before in
+    sym (ok-type _ _ _ (sym (c3 .before .unused .ensures) ∙ c3 .if1 .left) (sym (c .before .is-zero .ensures) ∙ c .if2 .taken))
 
 sub-is-zero-2 : tie.Need-sub-is-zero-2
 sub-is-zero-2 c = search needs
@@ -45,7 +47,12 @@ is-zero-requires-2 c κs = search needs
 
 returns-3 : tie.Need-returns-3
 unfolding part
-returns-3 c = sym (ok-unique _ _ _ (sym (c .before .before .before .before .before .before .before .unused .ensures) ∙ c .before .before .before .before .before .before .if1 .left) (sym (c .before .before .before .before .is-zero .ensures) ∙ c .before .before .before .if2 .left) (sym (c .before .is-zero2 .ensures) ∙ c .if3 .taken))
+returns-3 c =
+    let c3 = c .before .before .before in
+    let c6 = c3 .before .before .before in
+    let used = sym (c6 .before .unused .ensures) ∙ c6 .if1 .left in
+    let type = sym (c3 .before .is-zero .ensures) ∙ c3 .if2 .left in
+    sym (ok-unique _ _ _ used type (sym (c .before .is-zero2 .ensures) ∙ c .if3 .taken))
 
 load64-requires : tie.Need-load64-requires
 load64-requires c κs = search needs
@@ -59,9 +66,15 @@ bounded-requires c κs = search needs
 returns-4 : tie.Need-returns-4
 unfolding part
 returns-4 c =
-    let a = c .before .before .before .before .before .before .before .before .before .before .before .before .args in
+    let c3 = c .before .before .before in
+    let c6 = c3 .before .before .before in
+    let c9 = c6 .before .before .before in
+    let a = c9 .before .before .before .args in
+    let used = sym (c9 .before .unused .ensures) ∙ c9 .if1 .left in
+    let type = sym (c6 .before .is-zero .ensures) ∙ c6 .if2 .left in
+    let unique = sym (c3 .before .is-zero2 .ensures) ∙ c3 .if3 .left in
     c .bounded .ensures ∙ ap₂ (λ (x y : ℕ). bounded (a .first .0) (a .last .0) (spans x y)) (c .before .before .load64 .ensures) (c .before .load642 .ensures)
-    ∙ sym (ok-range (a .first .0) (a .last .0) (now (a .e)) (sym (c .before .before .before .before .before .before .before .before .before .before .unused .ensures) ∙ c .before .before .before .before .before .before .before .before .before .if1 .left) (sym (c .before .before .before .before .before .before .before .is-zero .ensures) ∙ c .before .before .before .before .before .before .if2 .left) (sym (c .before .before .before .before .is-zero2 .ensures) ∙ c .before .before .before .if3 .left))
+    ∙ sym (ok-range (a .first .0) (a .last .0) (now (a .e)) used type unique)
 
 pub entry-ok-spec : {M : Type 1} → statement M
 entry-ok-spec =
