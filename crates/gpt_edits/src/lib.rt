@@ -67,7 +67,7 @@ pub fn add(
         (edit (addCall (newPartition (now (kind .entry)) (now (unique .entry)) size attributes (now (name .entry))))) ⌝ }
 {
     let i = gpt_table::first_unused(gpt_places::entries_in(&head[..], Side::Primary));
-    let new = gpt_entry::added(kind, unique, first.0, size, attributes, name);
+    let new = gpt_entry::added(kind, unique, first, size, attributes, name);
     gpt_copies::writing::put_both(head, tail, n, i, &new);
     i as u64 + 1
 }

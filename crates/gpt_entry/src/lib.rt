@@ -1,5 +1,6 @@
 // The 128 bytes of the one entry that an edit writes: of a new partition, or of one with another size or name.
 // An inner crate: no user calls it, so its functions may have a `requires`, which each caller meets.
+use gpt_model::Block;
 use gpt_table::FIRST_AT;
 use gpt_table::LAST_AT;
 use gpt_table::UNIQUE_AT;
@@ -35,20 +36,20 @@ fn put_name(e: &mut [u8], name: &[u16])
 pub fn added(
     kind: &[u8],
     unique: &[u8],
-    first: u64,
+    first: Block,
     size: u64,
     attributes: u64,
     name: &[u16],
 ) -> [u8; ENTRY]
-    requires { ⌜ (length (now kind) ≡ 16) × (length (now unique) ≡ 16) × (length (now name) ≡ 36) × (0 < size) × (first + size < 18446744073709551616) ⌝ }
-    ensures { λ r. ⌜ (r ≡ newEntry (newPartition (now (kind .entry)) (now (unique .entry)) size attributes (now (name .entry))) first)
+    requires { ⌜ (length (now kind) ≡ 16) × (length (now unique) ≡ 16) × (length (now name) ≡ 36) × (0 < size) × (first .0 + size < 18446744073709551616) ⌝ }
+    ensures { λ r. ⌜ (r ≡ newEntry (newPartition (now (kind .entry)) (now (unique .entry)) size attributes (now (name .entry))) (first .0))
         × (length r ≡ entryBytes) ⌝ }
 {
     let mut e = [0u8; ENTRY];
     octets::copy(&mut e, 0, kind);
     octets::copy(&mut e, UNIQUE_AT, unique);
-    octets::store64(&mut e, FIRST_AT, first);
-    octets::store64(&mut e, LAST_AT, first + (size - 1));
+    octets::store64(&mut e, FIRST_AT, first.0);
+    octets::store64(&mut e, LAST_AT, first.0 + (size - 1));
     octets::store64(&mut e, ATTRIBUTES_AT, attributes);
     put_name(&mut e, name);
     e

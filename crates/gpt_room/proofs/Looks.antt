@@ -14,6 +14,7 @@ use borrow.Author.Tests.{lt-leb, le-leb, leb-true}
 use Rattle.octets.specs.Tests.{_and_}
 use Rattle.octets.proofs.Bools.{and-l, and-r, and-i, and-f, and-t, bool-cases, clash}
 use Rattle.octets.proofs.Tests.{any-make, any-false}
+use Rattle.gpt_model.specs.declared.Block.{Block}
 use Rattle.gpt_model.specs.Ranges.{blockIn, inSome, inNone, roomAt}
 use Rattle.gpt_model.specs.Table.{BlockRange, noBlocks, spans}
 use Rattle.gpt_model.proofs.Room.{Room, blockIn-make, blockIn-get, room-get, room-make}
@@ -113,17 +114,17 @@ module _ (f l : List ℕ) (n i a last : ℕ) (asc : Ascending 1 n f) (next : Nex
 
 -- ---- the two answers
 
-taken-gap : {x g : ℕ} → Taken x ≡ Gap g → ⊥
+taken-gap : {x g : Block} → Taken x ≡ Gap g → ⊥
 taken-gap e = let z : _≡_ {A = ℕ} 0 1 = cc in omega arith
 
 module _ {s : List BlockRange} {a last : ℕ} where
-  pub taken-of : {r : Ahead} {x : ℕ} → Stands s a last r → r ≡ Taken x → Full s a x
-  taken-of {x = y} (taken {x} w) e = let q : x ≡ y = cc in subst (λ (z : ℕ). Full s a z) q w
+  pub taken-of : {r : Ahead} {x : Block} → Stands s a last r → r ≡ Taken x → Full s a (x .0)
+  taken-of {x = y} (taken {x} w) e = let q : x ≡ y = cc in subst (λ (z : Block). Full s a (z .0)) q w
   taken-of (gap w) e = absurd (taken-gap (sym e))
 
-  pub gap-of : {r : Ahead} {g : ℕ} → Stands s a last r → r ≡ Gap g → Clear s a last g
+  pub gap-of : {r : Ahead} {g : Block} → Stands s a last r → r ≡ Gap g → Clear s a last (g .0)
   gap-of (taken w) e = absurd (taken-gap e)
-  gap-of {g = h} (gap {g} w) e = let q : g ≡ h = cc in subst (λ (z : ℕ). Clear s a last z) q w
+  gap-of {g = h} (gap {g} w) e = let q : g ≡ h = cc in subst (λ (z : Block). Clear s a last (z .0)) q w
 
 -- ---- room at a
 

@@ -4,6 +4,7 @@ use mathlib.Core.Bool.{true, false}
 use mathlib.Core.List.{List}
 use Prim.Native.Nat.{ℕ, _+_, _≤_, _<_}
 use lib.ListN.{getD}
+use Rattle.gpt_model.specs.declared.Block.{Block}
 use Rattle.gpt_model.specs.Ranges.{blockIn, inSome}
 use Rattle.gpt_model.specs.Table.{BlockRange, noBlocks}
 use Rattle.gpt_table.specs.Decoded.{ranges}
@@ -33,5 +34,5 @@ pub record Clear (s : List BlockRange) (a last g : ℕ) : Type 0 where
   pub stop : (g ≤ last → inSome s g ≡ true)
 
 pub data Stands (s : List BlockRange) (a last : ℕ) : Ahead → Type 0 where
-  taken : {x : ℕ} → Full s a x → Stands s a last (Taken x)
-  gap : {g : ℕ} → Clear s a last g → Stands s a last (Gap g)
+  taken : {x : Block} → Full s a (x .0) → Stands s a last (Taken x)
+  gap : {g : Block} → Clear s a last (g .0) → Stands s a last (Gap g)

@@ -30,28 +30,28 @@ pub struct Free {
 
 // What begins at a block: partitions up to and with block Taken, or a gap up to but without block Gap.
 enum Ahead {
-    Taken(u64),
-    Gap(u64),
+    Taken(Block),
+    Gap(Block),
 }
 
 // The range f to l has a block at a or behind it.
-fn reaches(f: u64, l: u64, a: u64) -> bool
-    ensures { λ r. ⌜ r ≡ (leb f l and leb a l) ⌝ }
+fn reaches(f: Block, l: Block, a: Block) -> bool
+    ensures { λ r. ⌜ r ≡ (leb (f .0) (l .0) and leb (a .0) (l .0)) ⌝ }
 {
-    if l < f {
+    if l.0 < f.0 {
         return false;
     }
-    a <= l
+    a.0 <= l.0
 }
 
 // The first range, from range i on, that has a block at a or behind it.
-fn next(firsts: &[u64; SLOTS], lasts: &[u64; SLOTS], count: usize, i: usize, a: u64) -> usize
-    requires { ⌜ (i ≤ count) × (count ≤ slotCount) × Passed (ranges (now firsts) (now lasts) count) a i ⌝ }
-    ensures { λ r. ⌜ Next (now (firsts .entry)) (now (lasts .entry)) count a r ⌝ }
+fn next(firsts: &[u64; SLOTS], lasts: &[u64; SLOTS], count: usize, i: usize, a: Block) -> usize
+    requires { ⌜ (i ≤ count) × (count ≤ slotCount) × Passed (ranges (now firsts) (now lasts) count) (a .0) i ⌝ }
+    ensures { λ r. ⌜ Next (now (firsts .entry)) (now (lasts .entry)) count (a .0) r ⌝ }
 {
     let mut j = i;
     while j < count {
-        if reaches(firsts[j], lasts[j], a) {
+        if reaches(Block(firsts[j]), Block(lasts[j]), a) {
             return j;
         }
         j += 1;
@@ -65,23 +65,23 @@ fn look(
     lasts: &[u64; SLOTS],
     count: usize,
     i: usize,
-    a: u64,
-    last: u64,
+    a: Block,
+    last: Block,
 ) -> Ahead
     requires { ⌜ (count ≤ slotCount) × Ascending 1 count (now firsts)
-        × Next (now firsts) (now lasts) count a i × (a ≤ last) × (last < 18446744073709551615) ⌝ }
-    ensures { λ r. ⌜ Stands (ranges (now (firsts .entry)) (now (lasts .entry)) count) a last r ⌝ }
+        × Next (now firsts) (now lasts) count (a .0) i × (a .0 ≤ last .0) × (last .0 < 18446744073709551615) ⌝ }
+    ensures { λ r. ⌜ Stands (ranges (now (firsts .entry)) (now (lasts .entry)) count) (a .0) (last .0) r ⌝ }
 {
     if i == count {
-        return Ahead::Gap(last + 1);
+        return Ahead::Gap(Block(last.0 + 1));
     }
-    if firsts[i] <= a {
-        return Ahead::Taken(lasts[i]);
+    if firsts[i] <= a.0 {
+        return Ahead::Taken(Block(lasts[i]));
     }
-    if last < firsts[i] {
-        return Ahead::Gap(last + 1);
+    if last.0 < firsts[i] {
+        return Ahead::Gap(Block(last.0 + 1));
     }
-    Ahead::Gap(firsts[i])
+    Ahead::Gap(Block(firsts[i]))
 }
 
 // From gap to gap, up to one that is long enough.
@@ -89,27 +89,27 @@ fn search(
     firsts: &[u64; SLOTS],
     lasts: &[u64; SLOTS],
     count: usize,
-    first: u64,
-    last: u64,
+    first: Block,
+    last: Block,
     size: u64,
 ) -> Place
-    requires { ⌜ (count ≤ slotCount) × (0 < size) × (last < 18446744073709551615) × Ascending 1 count (now firsts) ⌝ }
-    ensures { λ r. ⌜ placed r ≡ lowestStart (ranges (now (firsts .entry)) (now (lasts .entry)) count) first last size ⌝ }
+    requires { ⌜ (count ≤ slotCount) × (0 < size) × (last .0 < 18446744073709551615) × Ascending 1 count (now firsts) ⌝ }
+    ensures { λ r. ⌜ placed r ≡ lowestStart (ranges (now (firsts .entry)) (now (lasts .entry)) count) (first .0) (last .0) size ⌝ }
 {
     let mut a = first;
     let mut i = 0;
-    while a <= last {
+    while a.0 <= last.0 {
         i = next(firsts, lasts, count, i, a);
         match look(firsts, lasts, count, i, a, last) {
             Ahead::Taken(x) => {
-                if last <= x {
+                if last.0 <= x.0 {
                     return Place::None;
                 }
-                a = x + 1;
+                a = Block(x.0 + 1);
             }
             Ahead::Gap(g) => {
-                if size <= g - a {
-                    return Place::At(Block(a));
+                if size <= g.0 - a.0 {
+                    return Place::At(a);
                 }
                 a = g;
             }
@@ -126,7 +126,7 @@ pub fn lowest(t: &[u8], first: Block, last: Block, size: u64) -> Place
     let mut firsts = [0u64; SLOTS];
     let mut lasts = [0u64; SLOTS];
     let count = gpt_table::order::ranges(t, SLOTS, &mut firsts, &mut lasts);
-    search(&firsts, &lasts, count, first.0, last.0, size)
+    search(&firsts, &lasts, count, first, last, size)
 }
 
 fn larger(x: u64, y: u64) -> u64
@@ -139,26 +139,33 @@ fn larger(x: u64, y: u64) -> u64
 }
 
 // From gap to gap, each counted.
-fn tally(firsts: &[u64; SLOTS], lasts: &[u64; SLOTS], count: usize, first: u64, last: u64) -> Free
-    requires { ⌜ (count ≤ slotCount) × (last < 18446744073709551615) × Ascending 1 count (now firsts) ⌝ }
-    ensures { λ r. ⌜ r ≡ freeOf (ranges (now (firsts .entry)) (now (lasts .entry)) count) first last ⌝ }
+fn tally(
+    firsts: &[u64; SLOTS],
+    lasts: &[u64; SLOTS],
+    count: usize,
+    first: Block,
+    last: Block,
+) -> Free
+    requires { ⌜ (count ≤ slotCount) × (last .0 < 18446744073709551615) × Ascending 1 count (now firsts) ⌝ }
+    ensures { λ r. ⌜ r ≡ freeOf (ranges (now (firsts .entry)) (now (lasts .entry)) count) (first .0) (last .0) ⌝ }
 {
     let mut a = first;
     let mut i = 0;
     let mut blocks: u64 = 0;
     let mut longest: u64 = 0;
-    while a <= last {
+    while a.0 <= last.0 {
         i = next(firsts, lasts, count, i, a);
         match look(firsts, lasts, count, i, a, last) {
             Ahead::Taken(x) => {
-                if last <= x {
+                if last.0 <= x.0 {
                     return Free { blocks, longest };
                 }
-                a = x + 1;
+                a = Block(x.0 + 1);
             }
             Ahead::Gap(g) => {
-                blocks = blocks + (g - a);
-                longest = larger(longest, g - a);
+                let gap = g.0 - a.0;
+                blocks = blocks + gap;
+                longest = larger(longest, gap);
                 a = g;
             }
         }
@@ -173,27 +180,27 @@ pub fn free_counts(t: &[u8], first: Block, last: Block) -> Free
     let mut firsts = [0u64; SLOTS];
     let mut lasts = [0u64; SLOTS];
     let count = gpt_table::order::ranges(t, SLOTS, &mut firsts, &mut lasts);
-    tally(&firsts, &lasts, count, first.0, last.0)
+    tally(&firsts, &lasts, count, first, last)
 }
 
 fn room_at(
     firsts: &[u64; SLOTS],
     lasts: &[u64; SLOTS],
     count: usize,
-    a: u64,
-    last: u64,
+    a: Block,
+    last: Block,
     size: u64,
 ) -> bool
-    requires { ⌜ (count ≤ slotCount) × (0 < size) × (last < 18446744073709551615) × Ascending 1 count (now firsts) ⌝ }
-    ensures { λ r. ⌜ r ≡ roomAt (ranges (now (firsts .entry)) (now (lasts .entry)) count) last size a ⌝ }
+    requires { ⌜ (count ≤ slotCount) × (0 < size) × (last .0 < 18446744073709551615) × Ascending 1 count (now firsts) ⌝ }
+    ensures { λ r. ⌜ r ≡ roomAt (ranges (now (firsts .entry)) (now (lasts .entry)) count) (last .0) size (a .0) ⌝ }
 {
-    if last < a {
+    if last.0 < a.0 {
         return false;
     }
     let i = next(firsts, lasts, count, 0, a);
     match look(firsts, lasts, count, i, a, last) {
         Ahead::Taken(_) => false,
-        Ahead::Gap(g) => size <= g - a,
+        Ahead::Gap(g) => size <= g.0 - a.0,
     }
 }
 
@@ -203,9 +210,9 @@ pub fn fits_at(t: &[u8], k: usize, last: Block, size: u64) -> bool
     ensures { λ r. ⌜ r ≡ fitsAt (last .0) (now (t .entry)) k size ⌝ }
 {
     let i = k - 1;
-    let a = octets::load64(gpt_table::entry(t, i), FIRST_AT);
+    let a = Block(octets::load64(gpt_table::entry(t, i), FIRST_AT));
     let mut firsts = [0u64; SLOTS];
     let mut lasts = [0u64; SLOTS];
     let count = gpt_table::order::ranges(t, i, &mut firsts, &mut lasts);
-    room_at(&firsts, &lasts, count, a, last.0, size)
+    room_at(&firsts, &lasts, count, a, last, size)
 }

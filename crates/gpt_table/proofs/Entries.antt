@@ -19,6 +19,7 @@ use Rattle.gpt_model.specs.Table.{unused, uniqueOf, entries}
 use Rattle.gpt_model.specs.Calls.{carries}
 use Rattle.gpt_model.proofs.Entries.{zero-unused}
 
+-- the one law that knows what an unused entry is; all others hold whatever it is
 pub unused-is : (e : List ℕ) → unused e ≡ isZero e
 unfolding unused
 unused-is e = refl
@@ -56,12 +57,12 @@ some-unused t = some-found unused (entries t) ∙ ap (ltb (findIx unused (entrie
 
 -- ---- a used entry that carries a GUID
 
-pub carries-no : (unique e : List ℕ) → isZero e ≡ true → false ≡ carries unique e
-carries-no unique e q = sym (and-false-l _ _ (ap not (unused-is e ∙ q)))
+pub carries-no : (unique e : List ℕ) → unused e ≡ true → false ≡ carries unique e
+carries-no unique e q = sym (and-false-l _ _ (ap not q))
 
-pub carries-same : (unique e : List ℕ) → isZero e ≡ false → same (uniqueOf e) unique ≡ carries unique e
+pub carries-same : (unique e : List ℕ) → unused e ≡ false → same (uniqueOf e) unique ≡ carries unique e
 unfolding _and_
-carries-same unique e q = sym (rw (unused-is e ∙ q))
+carries-same unique e q = sym (rw q)
 
 -- ---- one entry left out
 

@@ -23,7 +23,7 @@ use Rattle.gpt_model.specs.Table.{BlockRange, noBlocks, spans, rangeOf, bounded
 use Rattle.gpt_model.proofs.Entries.{range-used, pair-make}
 use Rattle.gpt_table.specs.Decoded.{used, Decoded, differ, Guids, ranges}
 use Rattle.gpt_table.specs.Sorted.{Reordered, Ascending, InOrder}
-use Rattle.gpt_table.proofs.Entries.{unused-is, length-entries}
+use Rattle.gpt_table.proofs.Entries.{length-entries}
 use Rattle.gpt_table.proofs.Used.{used-yes, used-no, used-each, low-at, high-at, length-ranges, getD-ranges}
 use Rattle.gpt_table.proofs.Reorders.{eq-from, reordered-all, reordered-pairs}
 use Rattle.gpt_table.proofs.Exchanges.{ascends}
@@ -44,16 +44,10 @@ module _ (first last f l : ℕ) where
   bounded-last g h = rw (le-leb first f g, le-leb f l h)
 
 module _ (first last : ℕ) (e : List ℕ) where
-  pub ok-unused : isZero e ≡ true → entryOk first last e ≡ true
-  unfolding entryOk _or_
-  ok-unused q = rw (unused-is e ∙ q)
-
-  module _ (u : isZero e ≡ false) where
+  module _ (u : unused e ≡ false) where
     ok-used : entryOk first last e ≡ (not (isZero (typeOf e)) and not (isZero (uniqueOf e)) and bounded first last (spans (firstOf e) (lastOf e)))
     unfolding entryOk _or_
-    ok-used =
-        rw (unused-is e ∙ u)
-        (ap (λ (s : BlockRange). not (isZero (typeOf e)) and not (isZero (uniqueOf e)) and bounded first last s) (range-used e (unused-is e ∙ u)))
+    ok-used = rw u (ap (λ (s : BlockRange). not (isZero (typeOf e)) and not (isZero (uniqueOf e)) and bounded first last s) (range-used e u))
 
     pub ok-type : isZero (typeOf e) ≡ true → entryOk first last e ≡ false
     unfolding _and_

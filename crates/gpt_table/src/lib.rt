@@ -9,7 +9,7 @@ ghost use mathlib.Core.List.{[]};
 ghost use Prim.Native.Nat.{_+_, _*_, _≤_, _<_};
 ghost use lib.ListN.{length, getD, set};
 ghost use Rattle.octets.specs.Tests.{any, findIx};
-ghost use Rattle.gpt_model.specs.Table.{entryBytes, slotCount, tableBytes, unused, entries};
+ghost use Rattle.gpt_model.specs.Table.{entryBytes, slotCount, tableBytes, unused as unusedIn, entries};
 ghost use Rattle.gpt_model.specs.Calls.{carries as carriesIn, badName};
 ghost use Rattle.gpt_table.specs.Decoded.{used, Decoded};
 
@@ -34,17 +34,25 @@ pub fn entry<'a>(t: &'a [u8], i: usize) -> &'a [u8]
     &t[start..end]
 }
 
+// The only function that knows which bytes an unused entry has (D6).
+fn unused(e: &[u8]) -> bool
+    requires { ⌜ length (now e) ≡ entryBytes ⌝ }
+    ensures { λ r. ⌜ r ≡ unusedIn (now (e .entry)) ⌝ }
+{
+    octets::is_zero(e)
+}
+
 pub fn is_unused(t: &[u8], i: usize) -> bool
     requires { ⌜ (i < slotCount) × (length (now t) ≡ tableBytes) ⌝ }
-    ensures { λ r. ⌜ r ≡ unused (getD (entries (now (t .entry))) i []) ⌝ }
+    ensures { λ r. ⌜ r ≡ unusedIn (getD (entries (now (t .entry))) i []) ⌝ }
 {
-    octets::is_zero(entry(t, i))
+    unused(entry(t, i))
 }
 
 // The lowest unused entry, 128 where there is none.
 pub fn first_unused(t: &[u8]) -> usize
     requires { ⌜ length (now t) ≡ tableBytes ⌝ }
-    ensures { λ r. ⌜ (r ≡ findIx unused (entries (now (t .entry)))) × (r ≤ slotCount) ⌝ }
+    ensures { λ r. ⌜ (r ≡ findIx unusedIn (entries (now (t .entry)))) × (r ≤ slotCount) ⌝ }
 {
     let mut i = 0;
     while i < SLOTS {
@@ -60,7 +68,7 @@ fn carries(e: &[u8], unique: &[u8]) -> bool
     requires { ⌜ length (now e) ≡ entryBytes ⌝ }
     ensures { λ r. ⌜ r ≡ carriesIn (now (unique .entry)) (now (e .entry)) ⌝ }
 {
-    if octets::is_zero(e) {
+    if unused(e) {
         return false;
     }
     octets::same(&e[UNIQUE_AT..FIRST_AT], unique)
@@ -102,7 +110,7 @@ pub fn bad_name(name: &[u16]) -> bool
 // Entry i is used and not entry `but`.
 fn wanted(t: &[u8], but: usize, i: usize) -> bool
     requires { ⌜ (i < slotCount) × (length (now t) ≡ tableBytes) ⌝ }
-    ensures { λ r. ⌜ r ≡ not (unused (getD (set (entries (now (t .entry))) but []) i [])) ⌝ }
+    ensures { λ r. ⌜ r ≡ not (unusedIn (getD (set (entries (now (t .entry))) but []) i [])) ⌝ }
 {
     if i == but {
         return false;

@@ -16,23 +16,23 @@ ghost use Rattle.gpt_model.specs.Table.{spans, bounded as boundedIn, apart, ent
 ghost use Rattle.gpt_table.specs.Decoded.{differ, Guids, ranges};
 ghost use Rattle.gpt_table.specs.Sorted.{Ascending};
 
-fn bounded(f: u64, l: u64, first: u64, last: u64) -> bool
-    ensures { λ r. ⌜ r ≡ boundedIn first last (spans f l) ⌝ }
+fn bounded(f: Block, l: Block, first: Block, last: Block) -> bool
+    ensures { λ r. ⌜ r ≡ boundedIn (first .0) (last .0) (spans (f .0) (l .0)) ⌝ }
 {
-    if f < first {
+    if f.0 < first.0 {
         return false;
     }
-    if l < f {
+    if l.0 < f.0 {
         return false;
     }
-    l <= last
+    l.0 <= last.0
 }
 
-fn entry_ok(e: &[u8], first: u64, last: u64) -> bool
+fn entry_ok(e: &[u8], first: Block, last: Block) -> bool
     requires { ⌜ length (now e) ≡ entryBytes ⌝ }
-    ensures { λ r. ⌜ r ≡ entryOk first last (now (e .entry)) ⌝ }
+    ensures { λ r. ⌜ r ≡ entryOk (first .0) (last .0) (now (e .entry)) ⌝ }
 {
-    if octets::is_zero(e) {
+    if crate::unused(e) {
         return true;
     }
     if octets::is_zero(&e[0..UNIQUE_AT]) {
@@ -42,16 +42,16 @@ fn entry_ok(e: &[u8], first: u64, last: u64) -> bool
         return false;
     }
     bounded(
-        octets::load64(e, FIRST_AT),
-        octets::load64(e, LAST_AT),
+        Block(octets::load64(e, FIRST_AT)),
+        Block(octets::load64(e, LAST_AT)),
         first,
         last,
     )
 }
 
-fn entries_ok(t: &[u8], first: u64, last: u64) -> bool
+fn entries_ok(t: &[u8], first: Block, last: Block) -> bool
     requires { ⌜ length (now t) ≡ tableBytes ⌝ }
-    ensures { λ r. ⌜ r ≡ all (entryOk first last) (entries (now (t .entry))) ⌝ }
+    ensures { λ r. ⌜ r ≡ all (entryOk (first .0) (last .0)) (entries (now (t .entry))) ⌝ }
 {
     let mut i = 0;
     while i < SLOTS {
@@ -124,7 +124,7 @@ pub fn table_ok(t: &[u8], first: Block, last: Block) -> bool
     requires { ⌜ length (now t) ≡ tableBytes ⌝ }
     ensures { λ r. ⌜ r ≡ goodTable (first .0) (last .0) (now (t .entry)) ⌝ }
 {
-    if !entries_ok(t, first.0, last.0) {
+    if !entries_ok(t, first, last) {
         return false;
     }
     let mut lows = [0u64; SLOTS];

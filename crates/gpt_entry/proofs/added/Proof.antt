@@ -49,8 +49,15 @@ put-name-requires c κs = search needs
 
 returns : tie.Need-returns
 returns c =
-    let a = c .before .before .before .before .before .before .before .before .before .before .before .before .before .before .before .before .before .before .before .before .before .args in
-    six-writes (newPartition (now (a .kind)) (now (a .unique)) (a .size) (a .attributes) (now (a .name))) (a .first) _ _ _ _ _ _ (c .before .before .before .before .before .before .before .before .before .before .before .before .before .before .before .before .before .before .before .before .before .pre .3) (c .before .before .before .before .before .before .before .before .before .before .before .before .before .before .before .before .copy .ensures) (c .before .before .before .before .before .before .before .before .before .before .before .before .before .copy2 .ensures) (c .before .before .before .before .before .before .before .before .before .before .store64 .ensures) (c .before .before .before .before .before .before .before .store642 .ensures) (c .before .before .before .before .store643 .ensures) (c .before .put-name .ensures)
+    let c4 = c .before .before .before .before in
+    let c8 = c4 .before .before .before .before in
+    let c12 = c8 .before .before .before .before in
+    let c16 = c12 .before .before .before .before in
+    let c22 = c16 .before .before .before .before .before .before in
+    let a = c22 .args in
+    six-writes (newPartition (now (a .kind)) (now (a .unique)) (a .size) (a .attributes) (now (a .name))) (a .first .0) _ _ _ _ _ _ (c22 .pre .3)
+    (c16 .before .copy .ensures) (c12 .before .before .copy2 .ensures) (c8 .before .before .before .store64 .ensures)
+    (c4 .before .before .before .store642 .ensures) (c4 .store643 .ensures) (c .before .put-name .ensures)
 
 pub added-spec : {M : Type 1} → statement M
 added-spec =

@@ -26,10 +26,12 @@ room-at-requires c κs = search needs
 
 returns : tie.Need-returns
 returns c =
-    let a = c .before .before .before .before .before .before .before .before .before .args in
+    let c6 = c .before .before .before .before .before .before in
+    let a = c6 .before .before .before .args in
+    let free = free-but (now (a .t)) (a .k - 1) (c .before .before .before .ranges .ensures) in
     c .room-at .ensures
-    ∙ room-same _ (set (rangesOf (now (a .t))) (a .k - 1) noBlocks) (free-but (now (a .t)) (a .k - 1) (c .before .before .before .ranges .ensures)) (a .last .0) (a .size)
-    (c .before .before .before .before .before .before .load64 .ensures ∙ ap (field 32 8) (c .before .before .before .before .before .before .before .entry .ensures .0))
+    ∙ room-same _ (set (rangesOf (now (a .t))) (a .k - 1) noBlocks) free (a .last .0) (a .size)
+    (c6 .load64 .ensures ∙ ap (field 32 8) (c6 .before .entry .ensures .0))
 
 pub fits-at-spec : {M : Type 1} → statement M
 fits-at-spec =

@@ -13,7 +13,10 @@ tally-requires : tie.Need-tally-requires
 tally-requires c κs = search needs
 
 returns : tie.Need-returns
-returns c = let a = c .before .before .before .before .before .before .before .args in c .tally .ensures ∙ counts-same _ (rangesOf (now (a .t))) (free-all (now (a .t)) (c .before .before .before .ranges .ensures)) (a .last .0) (a .first .0)
+returns c =
+    let a = c .before .before .before .before .before .before .before .args in
+    let free = free-all (now (a .t)) (c .before .before .before .ranges .ensures) in
+    c .tally .ensures ∙ counts-same _ (rangesOf (now (a .t))) free (a .last .0) (a .first .0)
 
 pub free-counts-spec : {M : Type 1} → statement M
 free-counts-spec = tie.close (tie.spec ranges-requires tally-requires returns)

@@ -3,80 +3,64 @@ use denote.Ref.{now}
 use borrow.Author.Needs.{needs}
 use Rattle.gpt_room.specs.Gaps.{taken, gap}
 use Rattle.gpt_room.proofs.Looks.{clear-none, clear-far, full, clear-gap}
-use Rattle.gpt_room.proofs.look.Lts as lts
-use Rattle.gpt_room.proofs.look.Reads as reads
 use Rattle.gpt_room.proofs.look.Statement.{statement}
 use Rattle.gpt_room.proofs.look.Tie as tie
 
--- src/room.rt:68:27
 add-t8 : tie.Need-add-t8
 add-t8 c = search needs
 
--- src/room.rt:68:9
 returns : tie.Need-returns
 returns c =
-    let a = c .before .args in
-    let p = c .before .pre in
-    gap (clear-none (now (a .firsts)) (now (a .lasts)) (a .count) (a .i) (a .a) (a .last) (p .1) (p .2) (p .3) (omega arith))
+    let a = c .before .before .args in
+    let p = c .before .before .pre in
+    gap (clear-none (now (a .firsts)) (now (a .lasts)) (a .count) (a .i) (a .a .0) (a .last .0) (p .1) (p .2) (p .3) (omega arith))
 
--- src/room.rt:70:8
 mul-if2 : tie.Need-mul-if2
 mul-if2 c = search needs
 
--- src/room.rt:70:8
 element-copy-out-if2 : tie.Need-element-copy-out-if2
 element-copy-out-if2 c = search needs
 
--- src/room.rt:71:29
-mul-t13 : tie.Need-mul-t13
-mul-t13 c = search needs
+mul-t14 : tie.Need-mul-t14
+mul-t14 c = search needs
 
--- src/room.rt:71:29
-element-copy-out-t16 : tie.Need-element-copy-out-t16
-element-copy-out-t16 c = search needs
+element-copy-out-t17 : tie.Need-element-copy-out-t17
+element-copy-out-t17 c = search needs
 
--- src/room.rt:71:9
 returns-2 : tie.Need-returns-2
 returns-2 c =
-    let a = c .before .before .before .before .args in
-    let p = c .before .before .before .before .pre in
+    let a = c .before .before .before .before .before .args in
+    let p = c .before .before .before .before .before .pre in
     let m = p .2 .most in
-    taken (full (now (a .firsts)) (now (a .lasts)) (a .count) (a .i) (a .a) (a .last) (p .1) (p .2) (omega arith) (c .before .if2 .taken))
+    taken (full (now (a .firsts)) (now (a .lasts)) (a .count) (a .i) (a .a .0) (a .last .0) (p .1) (p .2) (omega arith) (c .before .if2 .taken))
 
--- src/room.rt:73:15
 mul-if3 : tie.Need-mul-if3
 mul-if3 c = search needs
 
--- src/room.rt:73:15
 element-copy-out-if3 : tie.Need-element-copy-out-if3
 element-copy-out-if3 c = search needs
 
--- src/room.rt:74:27
-add-t19 : tie.Need-add-t19
-add-t19 c = search needs
+add-t21 : tie.Need-add-t21
+add-t21 c = search needs
 
--- src/room.rt:74:9
 returns-3 : tie.Need-returns-3
 returns-3 c =
-    let a = c .before .before .before .before .before .args in
-    let p = c .before .before .before .before .before .pre in
-    gap (clear-far (now (a .firsts)) (now (a .lasts)) (a .count) (a .i) (a .a) (a .last) (p .1) (p .2) (p .3) (omega arith))
+    let a = c .before .before .before .before .before .before .before .before .args in
+    let p = c .before .before .before .before .before .before .before .before .pre in
+    gap (clear-far (now (a .firsts)) (now (a .lasts)) (a .count) (a .i) (a .a .0) (a .last .0) (p .1) (p .2) (p .3) (omega arith))
 
--- src/room.rt:76:16
-mul-t9 : tie.Need-mul-t9
-mul-t9 c = search needs
+mul-t10 : tie.Need-mul-t10
+mul-t10 c = search needs
 
--- src/room.rt:76:16
-element-copy-out-t12 : tie.Need-element-copy-out-t12
-element-copy-out-t12 c = search needs
+element-copy-out-t13 : tie.Need-element-copy-out-t13
+element-copy-out-t13 c = search needs
 
--- src/room.rt:63:1
 returns-4 : tie.Need-returns-4
 returns-4 c =
-    let a = c .before .before .before .before .before .before .args in
-    let p = c .before .before .before .before .before .before .pre in
+    let a = c .before .before .before .before .before .before .before .before .args in
+    let p = c .before .before .before .before .before .before .before .before .pre in
     let m = p .2 .most in
-    gap (clear-gap (now (a .firsts)) (now (a .lasts)) (a .count) (a .i) (a .a) (a .last) (p .1) (p .2) (omega arith) (omega arith) (omega arith))
+    gap (clear-gap (now (a .firsts)) (now (a .lasts)) (a .count) (a .i) (a .a .0) (a .last .0) (p .1) (p .2) (omega arith) (omega arith) (omega arith))
 
 pub look-spec : {M : Type 1} → statement M
 look-spec =
@@ -86,13 +70,13 @@ look-spec =
     returns
     mul-if2
     element-copy-out-if2
-    mul-t13
-    element-copy-out-t16
+    mul-t14
+    element-copy-out-t17
     returns-2
     mul-if3
     element-copy-out-if3
-    add-t19
+    add-t21
     returns-3
-    mul-t9
-    element-copy-out-t12
+    mul-t10
+    element-copy-out-t13
     returns-4)

@@ -1,44 +1,34 @@
 use native.Mathlib.Omega.{arith}
 use borrow.Author.Needs.{needs}
 use Rattle.gpt_room.proofs.Looks.{taken-of, gap-of, passed-none, room-past, room-full, room-gap}
-use Rattle.gpt_room.proofs.look.Reads as look-reads
-use Rattle.gpt_room.proofs.next.Reads as next-reads
-use Rattle.gpt_room.proofs.room_at.Lts as lts
-use Rattle.gpt_room.proofs.room_at.Reads as reads
 use Rattle.gpt_room.proofs.room_at.Statement.{statement}
 use Rattle.gpt_room.proofs.room_at.Tie as tie
 
--- src/room.rt:183:9
 returns : tie.Need-returns
-returns c = room-past _ _ _ _ (c .before .pre .1) (c .if1 .taken)
+returns c = room-past _ _ _ _ (c .before .before .before .pre .1) (c .if1 .taken)
 
--- src/room.rt:185:9
 next-requires : tie.Need-next-requires
-next-requires c κs = (omega arith, c .before .pre .0, passed-none)
+next-requires c κs = (omega arith, c .before .before .before .pre .0, passed-none)
 
--- src/room.rt:186:11
 look-requires : tie.Need-look-requires
-look-requires c κs = (c .before .before .pre .0, c .before .before .pre .3, c .next .ensures, omega arith, c .before .before .pre .2)
+look-requires c κs = let p = c .before .before .before .before .pre in (p .0, p .3, c .next .ensures, omega arith, p .2)
 
--- src/room.rt:187:28
 enum-told : tie.Need-enum-told
 enum-told c = search needs
 
--- src/room.rt:188:20
 enum-known-g : tie.Need-enum-known-g
 enum-known-g c = search needs
 
--- src/room.rt:188:34
 sub-result : tie.Need-sub-result
-sub-result c = omega (arith, gap-of (c .before .before .before .look .ensures) (c .before .g .given .1) .past)
+sub-result c = omega (arith, gap-of (c .before .before .before .before .before .look .ensures) (c .before .before .before .g .given .1) .past)
 
--- src/room.rt:171:1
 returns-2 : tie.Need-returns-2
-returns-2 c = room-full _ _ _ _ (c .before .before .before .before .before .pre .1) (taken-of (c .before .before .look .ensures) (c .enum-told .given .1))
+returns-2 c =
+    let p = c .before .before .before .before .before .before .before .pre in
+    room-full _ _ _ _ (p .1) (taken-of (c .before .before .look .ensures) (c .enum-told .given .1))
 
--- src/room.rt:171:1
 returns-3 : tie.Need-returns-3
-returns-3 c = room-gap _ _ _ _ (gap-of (c .before .before .before .look .ensures) (c .before .g .given .1))
+returns-3 c = room-gap _ _ _ _ (gap-of (c .before .before .before .before .before .look .ensures) (c .before .before .before .g .given .1))
 
 pub room-at-spec : {M : Type 1} → statement M
 room-at-spec =

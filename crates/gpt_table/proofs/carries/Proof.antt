@@ -5,11 +5,11 @@ use Rattle.gpt_table.proofs.Entries.{carries-no, carries-same}
 use Rattle.gpt_table.proofs.carries.Statement.{statement}
 use Rattle.gpt_table.proofs.carries.Tie as tie
 
-is-zero-requires : tie.Need-is-zero-requires
-is-zero-requires c κs = search needs
+unused-requires : tie.Need-unused-requires
+unused-requires c κs = search needs
 
 returns : tie.Need-returns
-returns c = carries-no _ _ (sym (c .before .is-zero .ensures) ∙ c .if1 .taken)
+returns c = carries-no _ _ (sym (c .before .unused .ensures) ∙ c .if1 .taken)
 
 sub-same : tie.Need-sub-same
 sub-same c = search needs
@@ -25,13 +25,13 @@ same-requires c κs = search needs
 
 returns-2 : tie.Need-returns-2
 unfolding part
-returns-2 c = c .same .ensures ∙ carries-same _ _ (sym (c .before .before .before .is-zero .ensures) ∙ c .before .before .if1 .left)
+returns-2 c = c .same .ensures ∙ carries-same _ _ (sym (c .before .before .before .unused .ensures) ∙ c .before .before .if1 .left)
 
 pub carries-spec : {M : Type 1} → statement M
 carries-spec =
     tie.close
     (tie.spec
-    is-zero-requires
+    unused-requires
     returns
     sub-same
     part-same-start

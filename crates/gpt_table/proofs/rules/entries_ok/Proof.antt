@@ -14,7 +14,7 @@ use Rattle.gpt_table.proofs.rules.entries_ok.Statement.{statement}
 use Rattle.gpt_table.proofs.rules.entries_ok.Tie as tie
 
 abbrev Inv-loop : tie.InvT-loop
-Inv-loop t first last i₀ i = (i ≤ 128) × (all (entryOk first last) (drop i (entries t)) ≡ all (entryOk first last) (entries t))
+Inv-loop t first last i₀ i = (i ≤ 128) × (all (entryOk (first .0) (last .0)) (drop i (entries t)) ≡ all (entryOk (first .0) (last .0)) (entries t))
 
 abbrev μ-loop : tie.MeasureT-loop
 μ-loop t first last i₀ i = 128 - i
@@ -32,9 +32,10 @@ returns : tie.Need-returns Inv-loop μ-loop
 returns c =
     let a = c .before .before .before .before .before .before .args in
     let l = c .before .before .before .before .loop in
-    let p = entryOk (a .first) (a .last) in
+    let p = entryOk (a .first .0) (a .last .0) in
     let k = length-entries (now (a .t)) in
-    sym (sym (l .inv .1) ∙ all-stop p (entries (now (a .t))) [] (l .i) (omega arith) (sym (ap p (c .before .before .entry .ensures .0)) ∙ sym (c .before .entry-ok .ensures) ∙ not-true _ (c .if1 .taken)))
+    let r = sym (ap p (c .before .before .entry .ensures .0)) ∙ sym (c .before .entry-ok .ensures) in
+    sym (sym (l .inv .1) ∙ all-stop p (entries (now (a .t))) [] (l .i) (omega arith) (r ∙ not-true _ (c .if1 .taken)))
 
 add-i : tie.Need-add-i Inv-loop μ-loop
 add-i c = search needs
@@ -46,16 +47,17 @@ loop-again : tie.Need-loop-again Inv-loop μ-loop
 loop-again c =
     let a = c .before .before .before .before .before .before .args in
     let l = c .before .before .before .before .loop in
-    let p = entryOk (a .first) (a .last) in
+    let p = entryOk (a .first .0) (a .last .0) in
     let k = length-entries (now (a .t)) in
-    (omega arith, sym (all-on p (entries (now (a .t))) [] (l .i) (omega arith) (sym (ap p (c .before .before .entry .ensures .0)) ∙ sym (c .before .entry-ok .ensures) ∙ not-false _ (c .if1 .left))) ∙ l .inv .1)
+    let r = sym (ap p (c .before .before .entry .ensures .0)) ∙ sym (c .before .entry-ok .ensures) in
+    (omega arith, sym (all-on p (entries (now (a .t))) [] (l .i) (omega arith) (r ∙ not-false _ (c .if1 .left))) ∙ l .inv .1)
 
 returns-2 : tie.Need-returns-2 Inv-loop μ-loop
 returns-2 c =
     let a = c .before .before .before .args in
     let l = c .before .loop in
     let k = length-entries (now (a .t)) in
-    sym (sym (l .inv .1) ∙ all-done (entryOk (a .first) (a .last)) (entries (now (a .t))) (l .i) (omega arith))
+    sym (sym (l .inv .1) ∙ all-done (entryOk (a .first .0) (a .last .0)) (entries (now (a .t))) (l .i) (omega arith))
 
 pub entries-ok-spec : {M : Type 1} → statement M
 entries-ok-spec =

@@ -4,15 +4,16 @@ use denote.Ref.{now}
 use borrow.Author.Needs.{needs}
 use Rattle.octets.specs.Bytes.{part}
 use Rattle.gpt_model.specs.Table.{bounded, spans}
-use Rattle.gpt_table.proofs.Good.{ok-unused, ok-type, ok-unique, ok-range}
+use Rattle.gpt_model.proofs.Entries.{unused-ok}
+use Rattle.gpt_table.proofs.Good.{ok-type, ok-unique, ok-range}
 use Rattle.gpt_table.proofs.rules.entry_ok.Statement.{statement}
 use Rattle.gpt_table.proofs.rules.entry_ok.Tie as tie
 
-is-zero-requires : tie.Need-is-zero-requires
-is-zero-requires c κs = search needs
+unused-requires : tie.Need-unused-requires
+unused-requires c κs = search needs
 
 returns : tie.Need-returns
-returns c = sym (ok-unused _ _ _ (sym (c .before .is-zero .ensures) ∙ c .if1 .taken))
+returns c = sym (unused-ok _ _ _ (sym (c .before .unused .ensures) ∙ c .if1 .taken))
 
 sub-is-zero : tie.Need-sub-is-zero
 sub-is-zero c = search needs
@@ -23,12 +24,14 @@ part-is-zero-start c = search needs
 part-is-zero-end : tie.Need-part-is-zero-end
 part-is-zero-end c = search needs
 
-is-zero-requires-2 : tie.Need-is-zero-requires-2
-is-zero-requires-2 c κs = search needs
+is-zero-requires : tie.Need-is-zero-requires
+is-zero-requires c κs = search needs
 
 returns-2 : tie.Need-returns-2
 unfolding part
-returns-2 c = sym (ok-type _ _ _ (sym (c .before .before .before .before .is-zero .ensures) ∙ c .before .before .before .if1 .left) (sym (c .before .is-zero2 .ensures) ∙ c .if2 .taken))
+returns-2 c =
+    let c3 = c .before .before .before in
+    sym (ok-type _ _ _ (sym (c3 .before .unused .ensures) ∙ c3 .if1 .left) (sym (c .before .is-zero .ensures) ∙ c .if2 .taken))
 
 sub-is-zero-2 : tie.Need-sub-is-zero-2
 sub-is-zero-2 c = search needs
@@ -39,12 +42,17 @@ part-is-zero-start-2 c = search needs
 part-is-zero-end-2 : tie.Need-part-is-zero-end-2
 part-is-zero-end-2 c = search needs
 
-is-zero-requires-3 : tie.Need-is-zero-requires-3
-is-zero-requires-3 c κs = search needs
+is-zero-requires-2 : tie.Need-is-zero-requires-2
+is-zero-requires-2 c κs = search needs
 
 returns-3 : tie.Need-returns-3
 unfolding part
-returns-3 c = sym (ok-unique _ _ _ (sym (c .before .before .before .before .before .before .before .is-zero .ensures) ∙ c .before .before .before .before .before .before .if1 .left) (sym (c .before .before .before .before .is-zero2 .ensures) ∙ c .before .before .before .if2 .left) (sym (c .before .is-zero3 .ensures) ∙ c .if3 .taken))
+returns-3 c =
+    let c3 = c .before .before .before in
+    let c6 = c3 .before .before .before in
+    let used = sym (c6 .before .unused .ensures) ∙ c6 .if1 .left in
+    let type = sym (c3 .before .is-zero .ensures) ∙ c3 .if2 .left in
+    sym (ok-unique _ _ _ used type (sym (c .before .is-zero2 .ensures) ∙ c .if3 .taken))
 
 load64-requires : tie.Need-load64-requires
 load64-requires c κs = search needs
@@ -58,25 +66,31 @@ bounded-requires c κs = search needs
 returns-4 : tie.Need-returns-4
 unfolding part
 returns-4 c =
-    let a = c .before .before .before .before .before .before .before .before .before .before .before .before .args in
-    c .bounded .ensures ∙ ap₂ (λ (x y : ℕ). bounded (a .first) (a .last) (spans x y)) (c .before .before .load64 .ensures) (c .before .load642 .ensures)
-    ∙ sym (ok-range (a .first) (a .last) (now (a .e)) (sym (c .before .before .before .before .before .before .before .before .before .before .is-zero .ensures) ∙ c .before .before .before .before .before .before .before .before .before .if1 .left) (sym (c .before .before .before .before .before .before .before .is-zero2 .ensures) ∙ c .before .before .before .before .before .before .if2 .left) (sym (c .before .before .before .before .is-zero3 .ensures) ∙ c .before .before .before .if3 .left))
+    let c3 = c .before .before .before in
+    let c6 = c3 .before .before .before in
+    let c9 = c6 .before .before .before in
+    let a = c9 .before .before .before .args in
+    let used = sym (c9 .before .unused .ensures) ∙ c9 .if1 .left in
+    let type = sym (c6 .before .is-zero .ensures) ∙ c6 .if2 .left in
+    let unique = sym (c3 .before .is-zero2 .ensures) ∙ c3 .if3 .left in
+    c .bounded .ensures ∙ ap₂ (λ (x y : ℕ). bounded (a .first .0) (a .last .0) (spans x y)) (c .before .before .load64 .ensures) (c .before .load642 .ensures)
+    ∙ sym (ok-range (a .first .0) (a .last .0) (now (a .e)) used type unique)
 
 pub entry-ok-spec : {M : Type 1} → statement M
 entry-ok-spec =
     tie.close
     (tie.spec
-    is-zero-requires
+    unused-requires
     returns
     sub-is-zero
     part-is-zero-start
     part-is-zero-end
-    is-zero-requires-2
+    is-zero-requires
     returns-2
     sub-is-zero-2
     part-is-zero-start-2
     part-is-zero-end-2
-    is-zero-requires-3
+    is-zero-requires-2
     returns-3
     load64-requires
     load64-requires-2
