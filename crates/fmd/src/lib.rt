@@ -191,7 +191,8 @@ fn fill<'a, 'b, 'c, 'd>(
 )
     requires { ⌜ (0 < n → Laid (now text) (now rows) (now spots) n) × (n ≤ length (now sections)) ⌝ }
     ensures { λ _. ⌜ now (sections .exit)
-        ≡ filled (map listRecord (layoutAreas (now (text .entry)) (sectionsIn n (now (rows .entry))) (placedIn n (now (spots .entry))))) (now (sections .entry)) ⌝ }
+        ≡ filled (map listRecord (layoutAreas (now (text .entry)) (sectionsIn n (now (rows .entry))) (placedIn n (now (spots .entry)))))
+        (now (sections .entry)) ⌝ }
 {
     let mut i: usize = 0;
     while i < n {

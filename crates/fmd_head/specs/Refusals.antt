@@ -1,7 +1,8 @@
 -- The number of each refusal of a layout text.
 use Prim.Native.Nat.{ℕ}
 use Rattle.fmd_head.specs.declared.Refusal.{Refusal}
-use Rattle.fmd_head.specs.declared.Refusal.the-variants.{TooLong, OutOfGrammar, BadNumber, BadName, NameTwice, TooMany, BadFlag, Undecided, Unfit, NoMapSection}
+use Rattle.fmd_head.specs.declared.Refusal.the-variants.{TooLong, OutOfGrammar, BadNumber, BadName, NameTwice}
+use Rattle.fmd_head.specs.declared.Refusal.the-variants.{TooMany, BadFlag, Undecided, Unfit, NoMapSection}
 
 abbrev pub numberOf : Refusal → ℕ
 -- R17: 50: layout text too long

@@ -30,7 +30,17 @@ pub record Named (s : List ℕ) (p n : ℕ) : Type 0 where
 
 -- what getD answers past the end of a list: the value that an index of the code has there
 abbrev pub blankSection : Section
-blankSection = record { offset = GivenOffset (record { 0 = 0 }); size = GivenSize 0; place = 0; length = 0; cbfs = false; preserve = false; parent = 0; level = 0 }
+blankSection =
+    record {
+      offset = GivenOffset (record { 0 = 0 });
+      size = GivenSize 0;
+      place = 0;
+      length = 0;
+      cbfs = false;
+      preserve = false;
+      parent = 0;
+      level = 0;
+    }
 
 -- the parent of a section of the level lv at the index k: the image at level 1, else an earlier section, one level above
 abbrev pub Under : List Section → ℕ → ℕ → ℕ → Type 0

@@ -22,7 +22,9 @@ IsParent n p = (p ≡ imageRow) ⊎ (p < n)
 
 -- section j's next sibling: none, or a later section with its parent
 abbrev pub NextIn : ℕ → List ℕ → ℕ → Type 0
-NextIn n rows j = (nextSiblingAt rows j ≡ imageRow) ⊎ ((j < nextSiblingAt rows j) × (nextSiblingAt rows j < n) × (parentAt rows (nextSiblingAt rows j) ≡ parentAt rows j))
+NextIn n rows j =
+    (nextSiblingAt rows j ≡ imageRow)
+    ⊎ ((j < nextSiblingAt rows j) × (nextSiblingAt rows j < n) × (parentAt rows (nextSiblingAt rows j) ≡ parentAt rows j))
 
 -- the last child of p: none, or a section with the parent p
 abbrev pub LastIn : ℕ → List ℕ → ℕ → Type 0

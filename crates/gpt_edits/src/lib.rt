@@ -10,7 +10,8 @@ ghost use Prim.Native.Nat.{_*_, _≤_};
 ghost use lib.ListN.{length};
 ghost use Rattle.octets.specs.Rows.{refusal};
 ghost use Rattle.gpt_model.specs.Disk.{disk512, lastUsable, primary, backup, lentBytes, guidIn, entriesIn, tableOf, withCopy};
-ghost use Rattle.gpt_model.specs.Calls.{accepted, outcome, startFor, step, rowsOf, edit, add as addCall, newPartition, delete as deleteCall, resize as resizeCall, rename as renameCall};
+ghost use Rattle.gpt_model.specs.Calls.{accepted, outcome, startFor, step, rowsOf, edit, newPartition};
+ghost use Rattle.gpt_model.specs.Calls.{add as addCall, delete as deleteCall, resize as resizeCall, rename as renameCall};
 
 pub fn delete(head: &mut [u8], tail: &mut [u8], n: u64, slot: u64)
     requires { ⌜ refusal (rowsOf disk512 n (now head) (now tail) (edit (deleteCall slot))) ≡ none ⌝ }

@@ -11,7 +11,8 @@ use Rattle.octets.specs.Bytes.{field, zeros}
 use Rattle.gpt_model.specs.Table.{spans}
 use Rattle.gpt_model.specs.Disk.{disk512, lastUsable, primary, backup, headerIn, headerBlock, entriesBlock, lentBytes}
 use Rattle.gpt_model.specs.Ranges.{taken, freeCount}
-use Rattle.gpt_model.specs.Calls.{Edit, add, newPartition, delete, resize, Call, read, freeCounts, repair, edit, Answer, refused, accepted, lengthsOf, step, format}
+use Rattle.gpt_model.specs.Calls.{Edit, add, newPartition, delete, resize, Call, read, freeCounts, repair, edit, Answer, refused, accepted}
+use Rattle.gpt_model.specs.Calls.{lengthsOf, step, format}
 use Rattle.gpt_model.specs.Lists.{Snapshot, afterAll, answers, startAfter, rangesIn}
 use Rattle.gpt_model.specs.Claims.{Formats}
 use Rattle.guid.specs.Calls.{readTypeOf}
