@@ -240,20 +240,14 @@ pub extern "C" fn usi_gpt_add(
     if name.len() != 36 {
         return 1;
     }
-    added(
-        gpt::add(
-            head,
-            tail,
-            n,
-            guid_of(kind),
-            guid_of(unique),
-            size,
-            attributes,
-            name_of(name),
-        ),
-        slot,
-        first,
-    )
+    let p = NewPartition {
+        kind: guid_of(kind),
+        unique: guid_of(unique),
+        size,
+        attributes,
+        name: name_of(name),
+    };
+    added(gpt::add(head, tail, n, p), slot, first)
 }
 
 #[no_mangle]

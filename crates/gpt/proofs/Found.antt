@@ -6,15 +6,14 @@ use mathlib.Core.List.{List, [], _∷_}
 use mathlib.Core.Option.{Option, none, some}
 use Prim.Native.Nat.{ℕ, _-_}
 use native.Mathlib.Omega.{arith}
-use lib.Dec.{eqb}
 use borrow.Author.Tests.{eq-eqb, ne-eqb}
 use Rattle.octets.specs.Bytes.{zeros}
-use Rattle.octets.specs.Rows.{row, refusal}
+use Rattle.octets.specs.Rows.{Row, refusal}
 use Rattle.octets.proofs.Rows.{pick-true, pick-false, refusal-append, refusal-first, refusal-before}
 use Rattle.gpt_model.specs.Ranges.{freeCount, longestFree}
 use Rattle.gpt_model.specs.Table.{rangesOf}
 use Rattle.gpt_model.specs.Disk.{disk512, primary, backup, entriesIn, usedSide, state, tableOf, freshHead, freshTail}
-use Rattle.gpt_model.specs.Calls.{Answer, refused, accepted, Outcome, outcome, read, freeCounts, repair, commonRows, repaired, step, formatRows, format}
+use Rattle.gpt_model.specs.Calls.{Answer, refused, accepted, Outcome, outcome, read, freeCounts, repair, lentRows, commonRows, repaired, step, formatRows, format}
 use Rattle.gpt_model.proofs.Outcomes.{step-refused, step-accepted, refused-row}
 use Rattle.gpt_model.proofs.Demand3.{format-accepted}
 use Rattle.gpt_model.proofs.States.{table-four, table-primary}
@@ -22,7 +21,7 @@ use Rattle.gpt_places.specs.Sides.{behind, entriesPlace}
 use Rattle.gpt_copies.specs.States.{stateNumber}
 use Rattle.gpt_copies.specs.declared.State.{State}
 use Rattle.gpt_copies.specs.declared.State.the-variants.{Neither}
-use Rattle.gpt_checks.specs.Checks.{lentRows}
+use Rattle.gpt_checks.proofs.Rows.{rowsFrom}
 use Rattle.gpt_checks.proofs.Judged.{Lent, lent-facts}
 use Rattle.gpt_checks.specs.Refusals.{numberOf}
 use Rattle.gpt_checks.specs.declared.Refusal.{Refusal}
@@ -33,21 +32,24 @@ use Rattle.gpt.specs.declared.Reading.the-variants.{Refused}
 module _ (n : ℕ) (h t : List ℕ) where
   -- ---- the rows of reading
 
-  pub rows-lent : (k : ℕ) → refusal (lentRows n h t) ≡ some k → refusal (commonRows disk512 n h t true) ≡ some k
-  rows-lent k e = refusal-first (lentRows n h t) (row (eqb (state disk512 n h t) 0) 10 ∷ []) k e
+  abbrev from10 : List Row
+  from10 = rowsFrom 10 (commonRows disk512 n h t true)
 
-  module _ (e : refusal (lentRows n h t) ≡ none) (s x : State) (p : s ≡ x) (q : stateNumber s ≡ state disk512 n h t) where
+  pub rows-lent : (k : ℕ) → refusal (lentRows disk512 n h t true) ≡ some k → refusal (commonRows disk512 n h t true) ≡ some k
+  rows-lent k e = refusal-first (lentRows disk512 n h t true) from10 k e
+
+  module _ (e : refusal (lentRows disk512 n h t true) ≡ none) (s x : State) (p : s ≡ x) (q : stateNumber s ≡ state disk512 n h t) where
     state-is : stateNumber x ≡ state disk512 n h t
     state-is = sym (ap stateNumber p) ∙ q
 
     pub found-neither : x ≡ Neither → outcome (refused 10) h t ≡ step disk512 n h t read
     found-neither z =
-        sym (step-refused disk512 n h t read 10 (refusal-append (lentRows n h t) (row (eqb (state disk512 n h t) 0) 10 ∷ []) e ∙ pick-true _ 10 _ (eq-eqb _ _ (sym state-is ∙ ap stateNumber z))))
+        sym (step-refused disk512 n h t read 10 (refusal-append (lentRows disk512 n h t true) from10 e ∙ pick-true _ 10 _ (eq-eqb _ _ (sym state-is ∙ ap stateNumber z))))
 
     pub found-state : stateNumber x ≢ 0 → outcome (accepted (stateNumber x ∷ [])) h t ≡ step disk512 n h t read
     found-state f =
         ap (λ (k : ℕ). outcome (accepted (k ∷ [])) h t) state-is
-        ∙ sym (step-accepted disk512 n h t read (refusal-append (lentRows n h t) (row (eqb (state disk512 n h t) 0) 10 ∷ []) e ∙ pick-false _ 10 _ (ne-eqb _ _ (λ z. f (state-is ∙ z)))))
+        ∙ sym (step-accepted disk512 n h t read (refusal-append (lentRows disk512 n h t true) from10 e ∙ pick-false _ 10 _ (ne-eqb _ _ (λ z. f (state-is ∙ z)))))
 
   -- ---- and back: what an answer of reading says of the rows and the state
 
@@ -85,7 +87,7 @@ module _ (n : ℕ) (h t : List ℕ) (r x : Reading) (e : outcome (readingOf r) h
     both = answer-found n h t s (sym (ap (λ (y : Answer). outcome y h t) v) ∙ this)
 
     pub found-lent : Lent n h t
-    found-lent = lent-facts n h t (refusal-before (lentRows n h t) (row (eqb (state disk512 n h t) 0) 10 ∷ []) (both .0) .0)
+    found-lent = lent-facts n h t (refusal-before (lentRows disk512 n h t true) (from10 n h t) (both .0) .0)
 
     pub repaired-is : repaired disk512 n h t s ≡ step disk512 n h t repair
     repaired-is = sym (step-accepted disk512 n h t repair (both .0) ∙ ap (repaired disk512 n h t) (both .1))

@@ -6,6 +6,7 @@ use gpt_checks::Refusal;
 use gpt_checks::Start;
 use gpt_copies::State;
 use gpt_model::Block;
+use gpt_model::NewPartition;
 use gpt_places::Side;
 ghost use mathlib.Core.Path.{_≡_};
 ghost use mathlib.Core.List.{[], _∷_};
@@ -15,7 +16,7 @@ ghost use Rattle.gpt_model.specs.Ranges.{freeCount, longestFree};
 ghost use Rattle.gpt_model.specs.Table.{tableBytes, rangesOf};
 ghost use Rattle.gpt_model.specs.Disk.{disk512, lastUsable};
 ghost use Rattle.gpt_model.specs.Calls.{accepted, outcome, step, format as formatOn, read as readCall, freeCounts, repair as repairCall, edit};
-ghost use Rattle.gpt_model.specs.Calls.{add as addCall, newPartition, delete as deleteCall, resize as resizeCall, rename as renameCall};
+ghost use Rattle.gpt_model.specs.Calls.{add as addCall, delete as deleteCall, resize as resizeCall, rename as renameCall};
 ghost use Rattle.gpt_checks.specs.Refusals.{numberOf};
 ghost use Rattle.gpt.specs.Answers.{doneOf, readingOf, addedOf, countedOf, handed, handedPart};
 
@@ -109,42 +110,14 @@ pub fn delete(head: &mut [u8], tail: &mut [u8], n: u64, slot: u64) -> Done
 }
 
 // Takes the lowest unused slot and the lowest start with enough free blocks.
-pub fn add(
-    head: &mut [u8],
-    tail: &mut [u8],
-    n: u64,
-    kind: [u8; 16],
-    unique: [u8; 16],
-    size: u64,
-    attributes: u64,
-    name: [u16; 36],
-) -> Added
+pub fn add(head: &mut [u8], tail: &mut [u8], n: u64, p: NewPartition) -> Added
     ensures { λ r. ⌜ outcome (addedOf r) (now (head .exit)) (now (tail .exit))
-        ≡ step disk512 n (now (head .entry)) (now (tail .entry)) (edit (addCall (newPartition kind unique size attributes name))) ⌝ }
+        ≡ step disk512 n (now (head .entry)) (now (tail .entry)) (edit (addCall p)) ⌝ }
 {
-    match gpt_checks::add(
-        &head[..],
-        &tail[..],
-        n,
-        &kind,
-        &unique,
-        size,
-        attributes,
-        &name,
-    ) {
+    match gpt_checks::add(&head[..], &tail[..], n, p) {
         Start::Stop(r) => Added::Refused(r),
         Start::At(first) => {
-            let slot = gpt_edits::add(
-                head,
-                tail,
-                n,
-                &kind,
-                &unique,
-                size,
-                attributes,
-                &name,
-                first,
-            );
+            let slot = gpt_edits::add(head, tail, n, p, first);
             Added::At { slot, first }
         }
     }

@@ -16,7 +16,8 @@ use Rattle.octets.proofs.Rows.{passes, pick-true, pick-false, refusal-append, r
 use Rattle.gpt_model.specs.Ranges.{lowestStart}
 use Rattle.gpt_model.specs.Table.{rangesOf}
 use Rattle.gpt_model.specs.Disk.{disk512, lastUsable, inRange, primary, entriesIn, state, tableOf}
-use Rattle.gpt_model.specs.Calls.{NewPartition, Edit, add, delete, resize, rename, edit, badName, slotRows, addRows, fitsAt, startFor, tableRows, isNone, lengthsOf, lengthsOk, commonRows, openRows, rowsOf, formatRows}
+use Rattle.gpt_model.specs.declared.NewPartition.{NewPartition}
+use Rattle.gpt_model.specs.Calls.{Edit, add, delete, resize, rename, edit, badName, slotRows, addRows, fitsAt, startFor, tableRows, isNone, lengthsOf, lengthsOk, lentRows, openRows, rowsOf, formatRows}
 use Rattle.gpt_model.proofs.Outcomes.{edit-decides, edit-stops}
 use Rattle.gpt_model.proofs.States.{one-primary}
 use Rattle.gpt_room.specs.Answers.{placed}
@@ -25,8 +26,8 @@ use Rattle.gpt_room.specs.declared.Place.{Place}
 use Rattle.gpt_room.specs.declared.Place.the-variants as found
 use Rattle.gpt_copies.specs.States.{stateNumber}
 use Rattle.gpt_copies.specs.declared.State.{State}
-use Rattle.gpt_checks.proofs.Rows.{slot-number}
-use Rattle.gpt_checks.specs.Checks.{stopOf, lentRows, openFor}
+use Rattle.gpt_checks.proofs.Rows.{rowsFrom, in-order, slot-number}
+use Rattle.gpt_checks.specs.Checks.{stopOf, rowAfter}
 use Rattle.gpt_checks.specs.Refusals.{numberOf}
 use Rattle.gpt_checks.specs.declared.Refusal.{Refusal}
 use Rattle.gpt_checks.specs.declared.Check.{Check}
@@ -54,8 +55,8 @@ module _ (n : ℕ) (h t : List ℕ) where
       let r = not-f _ q in
       record { head = eqb-true _ _ (and-l _ _ l); tail = eqb-true _ _ (and-r _ _ l); least = leb-true _ _ (and-l _ _ r); most = leb-true _ _ (and-r _ _ r) }
 
-  pub lent-facts : refusal (lentRows n h t) ≡ none → Lent
-  lent-facts e = lent-by true (passes 1 (lentRows n h t) e) (passes 2 (lentRows n h t) e)
+  pub lent-facts : refusal (lentRows disk512 n h t true) ≡ none → Lent
+  lent-facts e = lent-by true (passes 1 (lentRows disk512 n h t true) e) (passes 2 (lentRows disk512 n h t true) e)
 
   pub format-facts : (guid : List ℕ) → refusal (formatRows disk512 n guid h t) ≡ none → Lent
   format-facts guid e = lent-by (eqb (length guid) 16) (passes 1 (formatRows disk512 n guid h t) e) (passes 2 (formatRows disk512 n guid h t) e)
@@ -66,27 +67,27 @@ module _ (n : ℕ) (h t : List ℕ) where
   -- ---- rows 1, 2, 10, 11
 
   abbrev later : List Row
-  later = row (eqb (state disk512 n h t) 0) 10 ∷ row (not (eqb (state disk512 n h t) 1)) 11 ∷ []
+  later = rowsFrom 10 (openRows disk512 n h t true)
 
-  pub open-lent : (k : ℕ) → refusal (lentRows n h t) ≡ some k → some k ≡ refusal (openFor n h t)
-  open-lent k e = sym (refusal-first (lentRows n h t) later k e)
+  pub open-lent : (k : ℕ) → refusal (lentRows disk512 n h t true) ≡ some k → some k ≡ refusal (openRows disk512 n h t true)
+  open-lent k e = sym (refusal-first (lentRows disk512 n h t true) later k e)
 
-  pub open-found : refusal (lentRows n h t) ≡ none → (s x : State) → s ≡ x → stateNumber s ≡ state disk512 n h t
-      → pickRow (eqb (stateNumber x) 0) 10 (pickRow (not (eqb (stateNumber x) 1)) 11 none) ≡ refusal (openFor n h t)
+  pub open-found : refusal (lentRows disk512 n h t true) ≡ none → (s x : State) → s ≡ x → stateNumber s ≡ state disk512 n h t
+      → pickRow (eqb (stateNumber x) 0) 10 (pickRow (not (eqb (stateNumber x) 1)) 11 none) ≡ refusal (openRows disk512 n h t true)
   open-found e s x p q =
-      sym (refusal-append (lentRows n h t) later e ∙ ap (λ (k : ℕ). pickRow (eqb k 0) 10 (pickRow (not (eqb k 1)) 11 none)) (sym q ∙ ap stateNumber p))
+      sym (refusal-append (lentRows disk512 n h t true) later e ∙ ap (λ (k : ℕ). pickRow (eqb k 0) 10 (pickRow (not (eqb k 1)) 11 none)) (sym q ∙ ap stateNumber p))
 
   -- the rows before an edit's own, where GUIDs and name have the lengths of their types
-  open-is : (d : Edit) → lengthsOf d ≡ true → refusal (openRows disk512 n h t d) ≡ refusal (openFor n h t)
-  open-is d l = ap (λ (b : Bool). refusal (commonRows disk512 n h t b ++ (row (not (eqb (state disk512 n h t) 1)) 11 ∷ []))) l
+  open-is : (d : Edit) → lengthsOf d ≡ true → refusal (openRows disk512 n h t (lengthsOf d)) ≡ refusal (openRows disk512 n h t true)
+  open-is d l = ap (λ (b : Bool). refusal (openRows disk512 n h t b)) l
 
-  module _ (e : refusal (openFor n h t) ≡ none) where
+  module _ (e : refusal (openRows disk512 n h t true) ≡ none) where
     pub open-facts : Lent
-    open-facts = lent-facts (refusal-before (lentRows n h t) later e .0)
+    open-facts = lent-facts (refusal-before (lentRows disk512 n h t true) later e .0)
 
     -- the table that reading uses, as the code finds it in the head
     pub table-is : entriesIn disk512 primary h ≡ tableOf disk512 n h t
-    table-is = sym (one-primary disk512 n h t (eqb-true _ _ (not-f _ (passes 11 (openFor n h t) e))))
+    table-is = sym (one-primary disk512 n h t (eqb-true _ _ (not-f _ (passes 11 (openRows disk512 n h t true) e))))
 
     -- an edit's own rows, over a part tb of the head that holds the table
     pub own-rows : (d : Edit) → lengthsOf d ≡ true → (tb : List ℕ) → tb ≡ entriesIn disk512 primary h
@@ -98,7 +99,7 @@ module _ (n : ℕ) (h t : List ℕ) where
         → startFor 34 (lastUsable disk512 n) (tableOf disk512 n h t) p ≡ some s
     placed-in tb is p s q = sym (ap (λ (es : List ℕ). startFor 34 (lastUsable disk512 n) es p) (is ∙ table-is)) ∙ q
 
-  pub open-stops : (d : Edit) → lengthsOf d ≡ true → (k : ℕ) → refusal (openFor n h t) ≡ some k → some k ≡ refusal (rowsOf disk512 n h t (edit d))
+  pub open-stops : (d : Edit) → lengthsOf d ≡ true → (k : ℕ) → refusal (openRows disk512 n h t true) ≡ some k → some k ≡ refusal (rowsOf disk512 n h t (edit d))
   open-stops d l k e = sym (edit-stops disk512 n h t d k (open-is d l ∙ e))
 
   -- ---- R29: Rename the same, then 23. R30: Resize as delete, then 20, 25
@@ -107,36 +108,31 @@ module _ (n : ℕ) (h t : List ℕ) where
     abbrev slotted : List Row
     slotted = rowsOf disk512 n h t (edit (delete k))
 
-    pub delete-open : refusal slotted ≡ none → refusal (openFor n h t) ≡ none
-    delete-open e = refusal-before (openFor n h t) (slotRows (tableOf disk512 n h t) k) e .0
+    pub delete-open : refusal slotted ≡ none → refusal (openRows disk512 n h t true) ≡ none
+    delete-open e = refusal-before (openRows disk512 n h t true) (slotRows (tableOf disk512 n h t) k) e .0
 
     pub delete-slot : refusal slotted ≡ none → (1 ≤ k) × (k ≤ 128)
     delete-slot e = slot-number k (passes 12 slotted e)
 
-    module _ (name : List ℕ) (l : length name ≡ 36) where
-      rename-is : refusal (rowsOf disk512 n h t (edit (rename k name))) ≡ refusal (slotted ++ (row (badName name) 23 ∷ []))
-      rename-is =
-          ap (λ (b : Bool). refusal (commonRows disk512 n h t b ++ (row (not (eqb (state disk512 n h t) 1)) 11 ∷ slotRows (tableOf disk512 n h t) k ++ (row (badName name) 23 ∷ []))))
-          (eq-eqb (length name) 36 l)
-
-      pub rename-stops : (j : ℕ) → refusal slotted ≡ some j → some j ≡ refusal (rowsOf disk512 n h t (edit (rename k name)))
-      rename-stops j e = sym (rename-is ∙ refusal-first slotted (row (badName name) 23 ∷ []) j e)
-
-      pub rename-bad : refusal slotted ≡ none → badName name ≡ true → some 23 ≡ refusal (rowsOf disk512 n h t (edit (rename k name)))
-      rename-bad e q = sym (rename-is ∙ refusal-append slotted (row (badName name) 23 ∷ []) e ∙ pick-true _ 23 _ q)
-
-      pub rename-right : refusal slotted ≡ none → badName name ≡ false → none ≡ refusal (rowsOf disk512 n h t (edit (rename k name)))
-      rename-right e q = sym (rename-is ∙ refusal-append slotted (row (badName name) 23 ∷ []) e ∙ pick-false _ 23 _ q)
+    pub rename-is : (name : List ℕ) → length name ≡ 36
+        → rowAfter (refusal slotted) (row (badName name) 23) ≡ refusal (rowsOf disk512 n h t (edit (rename k name)))
+    rename-is name l =
+        in-order slotted (row (badName name) 23 ∷ [])
+        ∙ sym (ap (λ (b : Bool). refusal (openRows disk512 n h t b ++ tableRows 34 (lastUsable disk512 n) (tableOf disk512 n h t) (rename k name)))
+        (eq-eqb (length name) 36 l))
 
     module _ (size : ℕ) where
       abbrev own : List Row
-      own = row (eqb size 0) 20 ∷ row (not (fitsAt (lastUsable disk512 n) (tableOf disk512 n h t) k size)) 25 ∷ []
+      own = rowsFrom 20 (rowsOf disk512 n h t (edit (resize k size)))
 
-      pub resize-stops : (j : ℕ) → refusal slotted ≡ some j → some j ≡ refusal (rowsOf disk512 n h t (edit (resize k size)))
+      abbrev resized : Option ℕ
+      resized = refusal (rowsOf disk512 n h t (edit (resize k size)))
+
+      pub resize-stops : (j : ℕ) → refusal slotted ≡ some j → some j ≡ resized
       resize-stops j e = sym (refusal-first slotted own j e)
 
       module _ (e : refusal slotted ≡ none) where
-        pub resize-zero : size ≡ 0 → some 20 ≡ refusal (rowsOf disk512 n h t (edit (resize k size)))
+        pub resize-zero : size ≡ 0 → some 20 ≡ resized
         resize-zero q = sym (refusal-append slotted own e ∙ pick-true _ 20 _ (eq-eqb _ _ q))
 
         -- the room is asked of a part tb of the head that holds the table, up to block last
@@ -145,20 +141,23 @@ module _ (n : ℕ) (h t : List ℕ) where
           fits-is : fitsAt (lastUsable disk512 n) (tableOf disk512 n h t) k size ≡ b
           fits-is = sym (f ∙ rw (l, is ∙ table-is (delete-open e)))
 
-          pub resize-full : b ≡ false → some 25 ≡ refusal (rowsOf disk512 n h t (edit (resize k size)))
+          pub resize-full : b ≡ false → some 25 ≡ resized
           resize-full q = sym (refusal-append slotted own e ∙ pick-false _ 20 _ (ne-eqb _ _ a) ∙ pick-true _ 25 _ (ap not (fits-is ∙ q)))
 
-          pub resize-right : b ≡ true → none ≡ refusal (rowsOf disk512 n h t (edit (resize k size)))
+          pub resize-right : b ≡ true → none ≡ resized
           resize-right q = sym (refusal-append slotted own e ∙ pick-false _ 20 _ (ne-eqb _ _ a) ∙ pick-false _ 25 _ (ap not (fits-is ∙ q)))
 
 -- ---- adding, from row 20 on, over the table es
 
-pub add-lengths : (p : NewPartition) → length (p .type) ≡ 16 → length (p .unique) ≡ 16 → length (p .name) ≡ 36 → lengthsOf (add p) ≡ true
+pub add-lengths : (p : NewPartition) → length (p .kind) ≡ 16 → length (p .unique) ≡ 16 → length (p .name) ≡ 36 → lengthsOf (add p) ≡ true
 add-lengths p a b c = and-i _ _ (and-i _ _ (eq-eqb _ _ a) (eq-eqb _ _ b)) (eq-eqb _ _ c)
 
 module _ (n : ℕ) (es : List ℕ) (p : NewPartition) where
   abbrev before25 : List Row
   before25 = addRows es p
+
+  abbrev from25 : List Row
+  from25 = rowsFrom 25 (tableRows 34 (lastUsable disk512 n) es (add p))
 
   abbrev start : Option ℕ
   start = startFor 34 (lastUsable disk512 n) es p
@@ -170,7 +169,7 @@ module _ (n : ℕ) (es : List ℕ) (p : NewPartition) where
   add-size e = let w : p .size ≢ 0 = eqb-false (p .size) 0 (passes 20 before25 e) in omega arith
 
   pub start-stops : (k : ℕ) → refusal before25 ≡ some k → (some k ≡ rows) × ((b : ℕ) → none ≡ some b → start ≡ some b)
-  start-stops k e = (sym (refusal-first before25 (row (isNone start) 25 ∷ []) k e), λ b q. absurd (some-none (sym q)))
+  start-stops k e = (sym (refusal-first before25 from25 k e), λ b q. absurd (some-none (sym q)))
 
   -- what the search for a start answers, between the usable blocks f and l
   module _ (e : refusal before25 ≡ none) (q : Place) (f l : ℕ) (ef : f ≡ 34) (el : l ≡ lastUsable disk512 n)
@@ -180,9 +179,9 @@ module _ (n : ℕ) (es : List ℕ) (p : NewPartition) where
 
     pub start-full : q ≡ found.None → (some 25 ≡ rows) × ((b : ℕ) → none ≡ some b → start ≡ some b)
     start-full x =
-        (sym (refusal-append before25 (row (isNone start) 25 ∷ []) e ∙ pick-true _ 25 _ (ap isNone (sym placed-is ∙ ap placed x))), λ b z. absurd (some-none (sym z)))
+        (sym (refusal-append before25 from25 e ∙ pick-true _ 25 _ (ap isNone (sym placed-is ∙ ap placed x))), λ b z. absurd (some-none (sym z)))
 
     pub start-at : (b : Block) → q ≡ found.At b → (none ≡ rows) × ((c : ℕ) → some (b .0) ≡ some c → start ≡ some c)
     start-at b x =
         let w : start ≡ some (b .0) = sym placed-is ∙ ap placed x in
-        (sym (refusal-append before25 (row (isNone start) 25 ∷ []) e ∙ pick-false _ 25 _ (ap isNone w)), λ c z. w ∙ z)
+        (sym (refusal-append before25 from25 e ∙ pick-false _ 25 _ (ap isNone w)), λ c z. w ∙ z)

@@ -1,13 +1,8 @@
--- What a judge answers, and the rows that several calls share, where GUIDs and names have the lengths of their types. Definitions only.
-use mathlib.Core.Bool.{true, not}
-use mathlib.Core.List.{List, [], _∷_, _++_}
+-- What a judge answers. Definitions only.
+use mathlib.Core.List.{[], _∷_}
 use mathlib.Core.Option.{Option, none, some}
 use Prim.Native.Nat.{ℕ}
-use lib.Dec.{eqb}
-use Rattle.octets.specs.Tests.{_and_}
-use Rattle.octets.specs.Rows.{Row, row}
-use Rattle.gpt_model.specs.Disk.{disk512, inRange, state}
-use Rattle.gpt_model.specs.Calls.{lengthsOk, commonRows}
+use Rattle.octets.specs.Rows.{Row, refusal}
 use Rattle.gpt_checks.specs.Refusals.{numberOf}
 use Rattle.gpt_checks.specs.declared.Check.{Check}
 use Rattle.gpt_checks.specs.declared.Check.the-variants.{Pass, Stop}
@@ -19,6 +14,11 @@ abbrev pub stopOf : Check → Option ℕ
 stopOf Pass = none
 stopOf (Stop r) = some (numberOf r)
 
+-- R2: the number of a row before, or of this row where it is the first to hold
+unfoldable pub rowAfter : Option ℕ → Row → Option ℕ
+rowAfter none r = refusal (r ∷ [])
+rowAfter (some k) r = some k
+
 abbrev pub stopBy : Start → Option ℕ
 stopBy (start.At b) = none
 stopBy (start.Stop r) = some (numberOf r)
@@ -27,11 +27,3 @@ stopBy (start.Stop r) = some (numberOf r)
 abbrev pub startBy : Start → Option ℕ
 startBy (start.At b) = some (b .0)
 startBy (start.Stop r) = none
-
--- 1, 2
-abbrev pub lentRows : ℕ → List ℕ → List ℕ → List Row
-lentRows n h t = row (not (lengthsOk disk512 h t and true)) 1 ∷ row (not (inRange disk512 n)) 2 ∷ []
-
--- 1, 2, 10, 11
-abbrev pub openFor : ℕ → List ℕ → List ℕ → List Row
-openFor n h t = commonRows disk512 n h t true ++ (row (not (eqb (state disk512 n h t) 1)) 11 ∷ [])

@@ -2,21 +2,26 @@
 // An inner crate: no user calls it, so its functions may have a `requires`, which each caller meets.
 use gpt_copies::State;
 use gpt_model::Block;
+use gpt_model::NewPartition;
 use gpt_places::BLOCK;
 use gpt_places::SLOTS;
 use gpt_places::Side;
 use gpt_places::TABLE;
 use gpt_room::Place;
 ghost use mathlib.Core.Path.{_≡_};
+ghost use mathlib.Core.Bool.{true, not};
 ghost use mathlib.Core.Option.{some};
 ghost use Prim.Native.Nat.{ℕ, _*_, _≤_};
 ghost use lib.ListN.{length};
-ghost use Rattle.octets.specs.Rows.{refusal};
-ghost use Rattle.gpt_model.specs.Table.{tableBytes};
+ghost use Rattle.octets.specs.Tests.{_or_, any};
+ghost use Rattle.octets.specs.Bytes.{isZero};
+ghost use Rattle.octets.specs.Rows.{row, refusal};
+ghost use Rattle.gpt_model.specs.Table.{tableBytes, unused, entries};
 ghost use Rattle.gpt_model.specs.Disk.{disk512, lastUsable, tableOf};
-ghost use Rattle.gpt_model.specs.Calls.{formatRows, slotRows, addRows, startFor, tableRows, rowsOf, edit, add as addCall, newPartition, delete as deleteCall};
+ghost use Rattle.gpt_model.specs.Calls.{lentRows, openRows, formatRows, carries, slotRows, addRows, startFor, tableRows, rowsOf, edit, add as addCall, delete as deleteCall};
 ghost use Rattle.gpt_model.specs.Calls.{resize as resizeCall, rename as renameCall};
-ghost use Rattle.gpt_checks.specs.Checks.{stopOf, stopBy, startBy, lentRows, openFor};
+ghost use Rattle.gpt_checks.specs.Checks.{stopOf, rowAfter, stopBy, startBy};
+ghost use Rattle.gpt_checks.specs.Refusals.{numberOf};
 
 // Why a call is refused; specs/Refusals gives each its number.
 pub enum Refusal {
@@ -57,9 +62,24 @@ const HEAD: usize = 2 * BLOCK + TABLE;
 
 const TAIL: usize = TABLE + BLOCK;
 
+// One row more, after those that `before` judged.
+fn row_after(before: Check, holds: bool, r: Refusal) -> Check
+    ensures { λ c. ⌜ stopOf c ≡ rowAfter (stopOf before) (row holds (numberOf r)) ⌝ }
+{
+    match before {
+        Check::Stop(k) => Check::Stop(k),
+        Check::Pass => {
+            if holds {
+                return Check::Stop(r);
+            }
+            Check::Pass
+        }
+    }
+}
+
 // 1, 2.
 pub fn lent(head: &[u8], tail: &[u8], n: u64) -> Check
-    ensures { λ r. ⌜ stopOf r ≡ refusal (lentRows n (now (head .entry)) (now (tail .entry))) ⌝ }
+    ensures { λ r. ⌜ stopOf r ≡ refusal (lentRows disk512 n (now (head .entry)) (now (tail .entry)) true) ⌝ }
 {
     if head.len() != HEAD {
         return Check::Stop(Refusal::WrongLength);
@@ -81,20 +101,16 @@ pub fn format(head: &[u8], tail: &[u8], n: u64, guid: &[u8]) -> Check
     requires { ⌜ length (now guid) ≡ 16 ⌝ }
     ensures { λ r. ⌜ stopOf r ≡ refusal (formatRows disk512 n (now (guid .entry)) (now (head .entry)) (now (tail .entry))) ⌝ }
 {
-    match lent(head, tail, n) {
-        Check::Stop(r) => Check::Stop(r),
-        Check::Pass => {
-            if octets::is_zero(guid) {
-                return Check::Stop(Refusal::NoDiskGuid);
-            }
-            Check::Pass
-        }
-    }
+    row_after(
+        lent(head, tail, n),
+        octets::is_zero(guid),
+        Refusal::NoDiskGuid,
+    )
 }
 
 // 1, 2, 10, 11: the copies are both good and the same.
 fn opened(head: &[u8], tail: &[u8], n: u64) -> Check
-    ensures { λ r. ⌜ stopOf r ≡ refusal (openFor n (now (head .entry)) (now (tail .entry))) ⌝ }
+    ensures { λ r. ⌜ stopOf r ≡ refusal (openRows disk512 n (now (head .entry)) (now (tail .entry)) true) ⌝ }
 {
     match lent(head, tail, n) {
         Check::Stop(r) => Check::Stop(r),
@@ -140,15 +156,11 @@ pub fn rename(head: &[u8], tail: &[u8], n: u64, number: u64, name: &[u16]) -> Ch
     requires { ⌜ length (now name) ≡ 36 ⌝ }
     ensures { λ r. ⌜ stopOf r ≡ refusal (rowsOf disk512 n (now (head .entry)) (now (tail .entry)) (edit (renameCall number (now (name .entry))))) ⌝ }
 {
-    match delete(head, tail, n, number) {
-        Check::Stop(r) => Check::Stop(r),
-        Check::Pass => {
-            if gpt_table::bad_name(name) {
-                return Check::Stop(Refusal::BadName);
-            }
-            Check::Pass
-        }
-    }
+    row_after(
+        delete(head, tail, n, number),
+        gpt_table::bad_name(name),
+        Refusal::BadName,
+    )
 }
 
 // R30: Resize as delete, then 20, 25. The room is asked before a last block is formed, so no size is too large.
@@ -174,56 +186,50 @@ pub fn resize(head: &[u8], tail: &[u8], n: u64, number: u64, size: u64) -> Check
     }
 }
 
-// 20 to 24.
-fn new(table: &[u8], kind: &[u8], unique: &[u8], size: u64, attributes: u64, name: &[u16]) -> Check
+// 22: the unique GUID is zero, or some used entry has it.
+fn taken(table: &[u8], unique: &[u8]) -> bool
     requires { ⌜ length (now table) ≡ tableBytes ⌝ }
-    ensures { λ r. ⌜ stopOf r
-        ≡ refusal (addRows (now (table .entry)) (newPartition (now (kind .entry)) (now (unique .entry)) size attributes (now (name .entry)))) ⌝ }
+    ensures { λ r. ⌜ r ≡ (isZero (now (unique .entry)) or any (carries (now (unique .entry))) (entries (now (table .entry)))) ⌝ }
 {
-    if size == 0 {
-        return Check::Stop(Refusal::NoSize);
-    }
-    if octets::is_zero(kind) {
-        return Check::Stop(Refusal::NoType);
-    }
     if octets::is_zero(unique) {
-        return Check::Stop(Refusal::NoUniqueGuid);
+        return true;
     }
-    if gpt_table::carried(table, unique) {
-        return Check::Stop(Refusal::NoUniqueGuid);
-    }
-    if gpt_table::bad_name(name) {
-        return Check::Stop(Refusal::BadName);
-    }
-    if gpt_table::first_unused(table) == SLOTS {
-        return Check::Stop(Refusal::NoUnusedSlot);
-    }
-    Check::Pass
+    gpt_table::carried(table, unique)
+}
+
+// 24.
+fn full(table: &[u8]) -> bool
+    requires { ⌜ length (now table) ≡ tableBytes ⌝ }
+    ensures { λ r. ⌜ r ≡ not (any unused (entries (now (table .entry)))) ⌝ }
+{
+    gpt_table::first_unused(table) == SLOTS
+}
+
+// 20 to 24.
+fn new(table: &[u8], p: NewPartition) -> Check
+    requires { ⌜ length (now table) ≡ tableBytes ⌝ }
+    ensures { λ r. ⌜ stopOf r ≡ refusal (addRows (now (table .entry)) p) ⌝ }
+{
+    let c = row_after(Check::Pass, p.size == 0, Refusal::NoSize);
+    let c = row_after(c, octets::is_zero(&p.kind), Refusal::NoType);
+    let c = row_after(c, taken(table, &p.unique), Refusal::NoUniqueGuid);
+    let c = row_after(c, gpt_table::bad_name(&p.name), Refusal::BadName);
+    row_after(c, full(table), Refusal::NoUnusedSlot)
 }
 
 // 20 to 25.
-fn place(
-    table: &[u8],
-    n: u64,
-    kind: &[u8],
-    unique: &[u8],
-    size: u64,
-    attributes: u64,
-    name: &[u16],
-) -> Start
+fn place(table: &[u8], n: u64, p: NewPartition) -> Start
     requires { ⌜ (length (now table) ≡ tableBytes) × (2 * disk512 .first ≤ n) × (n ≤ 4294967296) ⌝ }
-    ensures { λ r. ⌜ (stopBy r ≡ refusal (tableRows (disk512 .first) (lastUsable disk512 n) (now (table .entry))
-        (addCall (newPartition (now (kind .entry)) (now (unique .entry)) size attributes (now (name .entry))))))
-        × ((b : ℕ) → startBy r ≡ some b → startFor (disk512 .first) (lastUsable disk512 n) (now (table .entry))
-        (newPartition (now (kind .entry)) (now (unique .entry)) size attributes (now (name .entry))) ≡ some b) ⌝ }
+    ensures { λ r. ⌜ (stopBy r ≡ refusal (tableRows (disk512 .first) (lastUsable disk512 n) (now (table .entry)) (addCall p)))
+        × ((b : ℕ) → startBy r ≡ some b → startFor (disk512 .first) (lastUsable disk512 n) (now (table .entry)) p ≡ some b) ⌝ }
 {
-    match new(table, kind, unique, size, attributes, name) {
+    match new(table, p) {
         Check::Stop(r) => Start::Stop(r),
         Check::Pass => match gpt_room::lowest(
             table,
             gpt_places::first_usable(),
             gpt_places::last_usable(n),
-            size,
+            p.size,
         ) {
             Place::None => Start::Stop(Refusal::NoRoom),
             Place::At(first) => Start::At(first),
@@ -232,32 +238,13 @@ fn place(
 }
 
 // R27: Add: 1, 2, 10, 11, 20, 21, 22, 23, 24, 25.
-pub fn add(
-    head: &[u8],
-    tail: &[u8],
-    n: u64,
-    kind: &[u8],
-    unique: &[u8],
-    size: u64,
-    attributes: u64,
-    name: &[u16],
-) -> Start
-    requires { ⌜ (length (now kind) ≡ 16) × (length (now unique) ≡ 16) × (length (now name) ≡ 36) ⌝ }
-    ensures { λ r. ⌜ (stopBy r ≡ refusal (rowsOf disk512 n (now (head .entry)) (now (tail .entry)) (edit (addCall
-        (newPartition (now (kind .entry)) (now (unique .entry)) size attributes (now (name .entry)))))))
-        × ((b : ℕ) → startBy r ≡ some b → startFor (disk512 .first) (lastUsable disk512 n) (tableOf disk512 n (now (head .entry)) (now (tail .entry)))
-        (newPartition (now (kind .entry)) (now (unique .entry)) size attributes (now (name .entry))) ≡ some b) ⌝ }
+pub fn add(head: &[u8], tail: &[u8], n: u64, p: NewPartition) -> Start
+    ensures { λ r. ⌜ (stopBy r ≡ refusal (rowsOf disk512 n (now (head .entry)) (now (tail .entry)) (edit (addCall p))))
+        × ((b : ℕ) → startBy r ≡ some b
+        → startFor (disk512 .first) (lastUsable disk512 n) (tableOf disk512 n (now (head .entry)) (now (tail .entry))) p ≡ some b) ⌝ }
 {
     match opened(head, tail, n) {
         Check::Stop(r) => Start::Stop(r),
-        Check::Pass => place(
-            gpt_places::entries_in(head, Side::Primary),
-            n,
-            kind,
-            unique,
-            size,
-            attributes,
-            name,
-        ),
+        Check::Pass => place(gpt_places::entries_in(head, Side::Primary), n, p),
     }
 }

@@ -12,13 +12,14 @@ use borrow.Author.Tests.{eqb-true, eqb-false}
 use Rattle.octets.specs.Tests.{findIx}
 use Rattle.octets.specs.Bytes.{le, put, putChunk}
 use Rattle.octets.specs.Rows.{refusal}
-use Rattle.octets.proofs.Bools.{and-l, and-r, not-f}
+use Rattle.octets.proofs.Bools.{not-f}
 use Rattle.octets.proofs.Chunks.{length-chunks}
 use Rattle.octets.proofs.Rows.{passes}
 use Rattle.octets.proofs.Tests.{findIx-get}
 use Rattle.gpt_model.specs.Table.{firstOf, nameBytes, unused, entries, rangesOf}
 use Rattle.gpt_model.specs.Disk.{disk512, lastUsable, primary, backup, guidIn, entriesIn, tableOf, withTable}
-use Rattle.gpt_model.specs.Calls.{NewPartition, Edit, add, delete, resize, rename, edit, newEntry, startFor, tableRows, orZero, Change, change, edited, lengthsOf, rowsOf, accepted, outcome, step}
+use Rattle.gpt_model.specs.declared.NewPartition.{NewPartition}
+use Rattle.gpt_model.specs.Calls.{Edit, add, delete, resize, rename, edit, newEntry, startFor, tableRows, orZero, Change, change, edited, lengthsOf, rowsOf, accepted, outcome, step}
 use Rattle.gpt_model.proofs.Room.{room-get, start-some}
 use Rattle.gpt_model.proofs.States.{one-primary, one-backup}
 use Rattle.gpt_model.proofs.Outcomes.{step-accepted, edit-open, edit-table, open-common, row1, row11}
@@ -104,22 +105,8 @@ module _ (n : ℕ) (h t : List ℕ) (p : NewPartition) (e : refusal (rowsOf disk
   abbrev es : List ℕ
   es = entriesIn disk512 primary h
 
-  pub record Fields : Type 0 where
-    pub type16 : length (p .type) ≡ 16
-    pub unique16 : length (p .unique) ≡ 16
-    pub name36 : length (p .name) ≡ 36
-    pub some : 0 < p .size
-
-  pub add-fields : Fields
-  add-fields =
-      let l = right-lengths n h t d e in
-      let z : p .size ≢ 0 = eqb-false (p .size) 0 (passes 20 (rowsOf disk512 n h t (edit d)) e) in
-      record {
-        type16 = eqb-true _ _ (and-l _ _ (and-l _ _ l));
-        unique16 = eqb-true _ _ (and-r _ _ (and-l _ _ l));
-        name36 = eqb-true _ _ (and-r _ _ l);
-        some = omega arith;
-      }
+  pub add-size : 0 < p .size
+  add-size = let z : p .size ≢ 0 = eqb-false (p .size) 0 (passes 20 (rowsOf disk512 n h t (edit d)) e) in omega arith
 
   placed-in : (s : ℕ) → startFor 34 (lastUsable disk512 n) (tableOf disk512 n h t) p ≡ some s → startFor 34 (lastUsable disk512 n) es p ≡ some s
   placed-in s r = sym (ap (λ (x : List ℕ). startFor 34 (lastUsable disk512 n) x p) (table-is n h t d e)) ∙ r

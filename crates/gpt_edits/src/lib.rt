@@ -1,6 +1,7 @@
 // The writers of the calls that change a disk, where none of the call's rows of refusals holds: one entry in both copies, or one copy from the other.
 // An inner crate: no user calls it, so its functions may have a `requires`, which each caller meets.
 use gpt_model::Block;
+use gpt_model::NewPartition;
 use gpt_places::ENTRY;
 use gpt_places::Side;
 ghost use mathlib.Core.Path.{_≡_};
@@ -10,7 +11,7 @@ ghost use Prim.Native.Nat.{_*_, _≤_};
 ghost use lib.ListN.{length};
 ghost use Rattle.octets.specs.Rows.{refusal};
 ghost use Rattle.gpt_model.specs.Disk.{disk512, lastUsable, primary, backup, lentBytes, guidIn, entriesIn, tableOf, withCopy};
-ghost use Rattle.gpt_model.specs.Calls.{accepted, outcome, startFor, step, rowsOf, edit, newPartition};
+ghost use Rattle.gpt_model.specs.Calls.{accepted, outcome, startFor, step, rowsOf, edit};
 ghost use Rattle.gpt_model.specs.Calls.{add as addCall, delete as deleteCall, resize as resizeCall, rename as renameCall};
 
 pub fn delete(head: &mut [u8], tail: &mut [u8], n: u64, slot: u64)
@@ -49,26 +50,14 @@ pub fn resize(head: &mut [u8], tail: &mut [u8], n: u64, slot: u64, size: u64)
 }
 
 // From a start with room; answers the slot that is taken.
-pub fn add(
-    head: &mut [u8],
-    tail: &mut [u8],
-    n: u64,
-    kind: &[u8],
-    unique: &[u8],
-    size: u64,
-    attributes: u64,
-    name: &[u16],
-    first: Block,
-) -> u64
-    requires { ⌜ (refusal (rowsOf disk512 n (now head) (now tail) (edit (addCall (newPartition (now kind) (now unique) size attributes (now name))))) ≡ none)
-        × (startFor (disk512 .first) (lastUsable disk512 n) (tableOf disk512 n (now head) (now tail))
-        (newPartition (now kind) (now unique) size attributes (now name)) ≡ some (first .0)) ⌝ }
+pub fn add(head: &mut [u8], tail: &mut [u8], n: u64, p: NewPartition, first: Block) -> u64
+    requires { ⌜ (refusal (rowsOf disk512 n (now head) (now tail) (edit (addCall p))) ≡ none)
+        × (startFor (disk512 .first) (lastUsable disk512 n) (tableOf disk512 n (now head) (now tail)) p ≡ some (first .0)) ⌝ }
     ensures { λ r. ⌜ outcome (accepted (r ∷ first .0 ∷ [])) (now (head .exit)) (now (tail .exit))
-        ≡ step disk512 n (now (head .entry)) (now (tail .entry))
-        (edit (addCall (newPartition (now (kind .entry)) (now (unique .entry)) size attributes (now (name .entry))))) ⌝ }
+        ≡ step disk512 n (now (head .entry)) (now (tail .entry)) (edit (addCall p)) ⌝ }
 {
     let i = gpt_table::first_unused(gpt_places::entries_in(&head[..], Side::Primary));
-    let new = gpt_entry::added(kind, unique, first, size, attributes, name);
+    let new = gpt_entry::added(p, first);
     gpt_copies::writing::put_both(head, tail, n, i, &new);
     i as u64 + 1
 }

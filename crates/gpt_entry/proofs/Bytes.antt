@@ -9,7 +9,8 @@ use lib.Seq.{take-suc, take-all, length-take-le}
 use Rattle.octets.specs.Bytes.{le, put, zeros}
 use Rattle.octets.proofs.Puts.{length-put, put-all, then}
 use Rattle.gpt_model.specs.Table.{firstOf, nameBytes}
-use Rattle.gpt_model.specs.Calls.{NewPartition, newEntry}
+use Rattle.gpt_model.specs.declared.NewPartition.{NewPartition}
+use Rattle.gpt_model.specs.Calls.{newEntry}
 use Rattle.gpt_model.proofs.Fields.{length-name, length-new}
 
 name-snoc : (us : List ℕ) (u : ℕ) → nameBytes (us ++ (u ∷ [])) ≡ nameBytes us ++ le 2 u
@@ -58,7 +59,7 @@ pub resized-is : (xs : List ℕ) (size : ℕ) (a b : List ℕ) (f : ℕ) → len
     → b ≡ put 40 (le 8 (f + (size - 1))) a → (b ≡ put 40 (le 8 (firstOf xs + size - 1)) xs) × (length b ≡ 128)
 resized-is xs size a b f l h p e q = one-write 40 xs (le 8 (firstOf xs + size - 1)) a b l p (q ∙ rw (last-of, e))
 
-pub six-writes : (p : NewPartition) (f : ℕ) (a b c d e r : List ℕ) → 0 < p .size → a ≡ put 0 (p .type) (replicate 128 0) → b ≡ put 16 (p .unique) a
+pub six-writes : (p : NewPartition) (f : ℕ) (a b c d e r : List ℕ) → 0 < p .size → a ≡ put 0 (p .kind) (replicate 128 0) → b ≡ put 16 (p .unique) a
     → c ≡ put 32 (le 8 f) b → d ≡ put 40 (le 8 (f + (p .size - 1))) c → e ≡ put 48 (le 8 (p .attributes)) d → r ≡ put 56 (nameBytes (p .name)) e
     → (r ≡ newEntry p f) × (length r ≡ 128)
 unfolding zeros

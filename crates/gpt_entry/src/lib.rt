@@ -1,6 +1,7 @@
 // The 128 bytes of the one entry that an edit writes: of a new partition, or of one with another size or name.
 // An inner crate: no user calls it, so its functions may have a `requires`, which each caller meets.
 use gpt_model::Block;
+use gpt_model::NewPartition;
 use gpt_table::FIRST_AT;
 use gpt_table::LAST_AT;
 use gpt_table::UNIQUE_AT;
@@ -9,7 +10,7 @@ ghost use Prim.Native.Nat.{_+_, _-_, _<_};
 ghost use lib.ListN.{length};
 ghost use Rattle.octets.specs.Bytes.{le, put};
 ghost use Rattle.gpt_model.specs.Table.{entryBytes, firstOf, nameBytes};
-ghost use Rattle.gpt_model.specs.Calls.{newPartition, newEntry};
+ghost use Rattle.gpt_model.specs.Calls.{newEntry};
 
 // D1: entry size 128
 const ENTRY: usize = 128;
@@ -32,26 +33,18 @@ fn put_name(e: &mut [u8], name: &[u16])
     }
 }
 
-// A new partition of that size from block `first` on.
-pub fn added(
-    kind: &[u8],
-    unique: &[u8],
-    first: Block,
-    size: u64,
-    attributes: u64,
-    name: &[u16],
-) -> [u8; ENTRY]
-    requires { ⌜ (length (now kind) ≡ 16) × (length (now unique) ≡ 16) × (length (now name) ≡ 36) × (0 < size) × (first .0 + size < 18446744073709551616) ⌝ }
-    ensures { λ r. ⌜ (r ≡ newEntry (newPartition (now (kind .entry)) (now (unique .entry)) size attributes (now (name .entry))) (first .0))
-        × (length r ≡ entryBytes) ⌝ }
+// A new partition from block `first` on.
+pub fn added(p: NewPartition, first: Block) -> [u8; ENTRY]
+    requires { ⌜ (0 < p .size) × (first .0 + p .size < 18446744073709551616) ⌝ }
+    ensures { λ r. ⌜ (r ≡ newEntry p (first .0)) × (length r ≡ entryBytes) ⌝ }
 {
     let mut e = [0u8; ENTRY];
-    octets::copy(&mut e, 0, kind);
-    octets::copy(&mut e, UNIQUE_AT, unique);
+    octets::copy(&mut e, 0, &p.kind);
+    octets::copy(&mut e, UNIQUE_AT, &p.unique);
     octets::store64(&mut e, FIRST_AT, first.0);
-    octets::store64(&mut e, LAST_AT, first.0 + (size - 1));
-    octets::store64(&mut e, ATTRIBUTES_AT, attributes);
-    put_name(&mut e, name);
+    octets::store64(&mut e, LAST_AT, first.0 + (p.size - 1));
+    octets::store64(&mut e, ATTRIBUTES_AT, p.attributes);
+    put_name(&mut e, &p.name);
     e
 }
 

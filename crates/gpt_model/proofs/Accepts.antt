@@ -22,14 +22,15 @@ use Rattle.octets.proofs.Chunks.{length-chunks}
 use Rattle.gpt_model.specs.Table.{uniqueOf, firstOf, unused, BlockRange, noBlocks, entries, rangesOf}
 use Rattle.gpt_model.specs.Disk.{Shape, lastUsable, tableOf}
 use Rattle.gpt_model.specs.Ranges.{blockIn}
-use Rattle.gpt_model.specs.Calls.{NewPartition, Edit, resize, rename, edit, accepted, Outcome, badName, entryOf, carries, slotRows, addRows, fitsAt, tableRows, change, openRows, rowsOf, step}
+use Rattle.gpt_model.specs.declared.NewPartition.{NewPartition}
+use Rattle.gpt_model.specs.Calls.{Edit, resize, rename, edit, accepted, Outcome, badName, entryOf, carries, slotRows, addRows, fitsAt, tableRows, change, lengthsOf, openRows, rowsOf, step}
 use Rattle.gpt_model.specs.Claims.{UsedSlot, NameOk, FitsAlone, NewOk}
 use Rattle.gpt_model.proofs.Room.{not-in-none, room-get, room-make}
 use Rattle.gpt_model.proofs.Entries.{length-rangesOf}
 use Rattle.gpt_model.proofs.Outcomes.{step-refused, step-accepted, edit-decides}
 
 -- where the rows before an edit's own do not hold, its own decide
-pub edit-accepted : (g : Shape) (n : ℕ) (h t : List ℕ) (d : Edit) → refusal (openRows g n h t d) ≡ none
+pub edit-accepted : (g : Shape) (n : ℕ) (h t : List ℕ) (d : Edit) → refusal (openRows g n h t (lengthsOf d)) ≡ none
     → {P : Type 0} → (refusal (tableRows (g .first) (lastUsable g n) (tableOf g n h t) d) ≡ none) ↔ P
     → (step g n h t (edit d) .answer ≡ accepted (change (g .first) (lastUsable g n) (tableOf g n h t) d .values)) ↔ P
 edit-accepted g n h t d e {P} w = (to (option-cases (refusal (rowsOf g n h t (edit d)))), λ p. ap (λ (o : Outcome). o .answer) (step-accepted g n h t (edit d) (edit-decides g n h t d e ∙ w .1 p)))
@@ -149,7 +150,7 @@ module _ (es : List ℕ) (p : NewPartition) where
       one i h (inl u) = and-false-l _ _ (ap not u)
       one i h (inr u) = sym (and-t (ap not u) (sym (same-false _ _ (λ e. f (suc i) (omega arith, omega arith, ap unused (at i) ∙ u) (ap uniqueOf (at i) ∙ e)))))
 
-  pub new-get : (length (p .type) ≡ 16) × (length (p .unique) ≡ 16) × (length (p .name) ≡ 36) → refusal (addRows es p) ≡ none → NewOk es p
+  pub new-get : (length (p .kind) ≡ 16) × (length (p .unique) ≡ 16) × (length (p .name) ≡ 36) → refusal (addRows es p) ≡ none → NewOk es p
   new-get l e = record {
     lengths = l;
     blocks = eqb-false _ _ (passes 20 rows e);

@@ -18,7 +18,8 @@ use Rattle.octets.proofs.Rows.{pick-false, passes, refusal-append, refusal-befo
 use Rattle.gpt_model.specs.Table.{noBlocks, apart, rangesOf, goodTable}
 use Rattle.gpt_model.specs.Disk.{Shape, disk512, lastUsable, inRange, state, tableOf, freshHead, freshTail}
 use Rattle.gpt_model.specs.Ranges.{blockIn, freeCount, longestFree, FreeFrom}
-use Rattle.gpt_model.specs.Calls.{NewPartition, Edit, add, delete, resize, rename, Call, read, freeCounts, repair, edit, refused, accepted, Outcome, outcome, unlessRefused, isNone, addRows, startFor, tableRows, change, edited, lengthsOf, commonRows, openRows, rowsOf, repaired, step, formatRows, format}
+use Rattle.gpt_model.specs.declared.NewPartition.{NewPartition}
+use Rattle.gpt_model.specs.Calls.{Edit, add, delete, resize, rename, Call, read, freeCounts, repair, edit, refused, accepted, Outcome, outcome, unlessRefused, isNone, addRows, startFor, tableRows, change, edited, lengthsOf, commonRows, openRows, rowsOf, repaired, step, formatRows, format}
 use Rattle.gpt_model.specs.Lists.{Snapshot, afterAll, answers, applied, startAfter, total, StartsAfresh}
 use Rattle.gpt_model.specs.Claims.{Passes, Sound, Formats, Demand3From, Demand3, Demand3At512, RefusedStays, BooksDifference, Numbers512, UsedSlot, NameOk, NewOk, Serves, NotEmpty, EditReadsBack, RepairReadsBack}
 use Rattle.gpt_model.proofs.Room.{start-none, start-some, start-is-none}
@@ -98,7 +99,7 @@ module _ (g : Shape) (n : ℕ) (r : Snapshot) (v : Kept g n r) where
     c = edit (add p)
 
     abbrev before : List Row
-    before = openRows g n (r .head) (r .tail) (add p) ++ addRows tab p
+    before = openRows g n (r .head) (r .tail) (lengthsOf (add p)) ++ addRows tab p
 
     abbrev start : Option ℕ
     start = startFor (g .first) (lastUsable g n) tab p
@@ -191,7 +192,7 @@ module _ (g : Shape) (n : ℕ) (r : Snapshot) (v : Kept g n r) where
       read-none =
           open-common g n (r .head) (r .tail) (delete 0) (open-none g n (r .head) (r .tail) (delete 0) (v .len-head) (v .len-tail) refl range (v .reads))
 
-      opens : (d : Edit) → lengthsOf d ≡ true → refusal (openRows g n (r .head) (r .tail) d) ≡ none
+      opens : (d : Edit) → lengthsOf d ≡ true → refusal (openRows g n (r .head) (r .tail) (lengthsOf d)) ≡ none
       opens d l = open-none g n (r .head) (r .tail) d (v .len-head) (v .len-tail) l range (v .reads)
 
       accepts : (d : Edit) → lengthsOf d ≡ true → {P : Type 0} → (refusal (tableRows (g .first) (lastUsable g n) tab d) ≡ none) ↔ P
@@ -209,7 +210,7 @@ module _ (g : Shape) (n : ℕ) (r : Snapshot) (v : Kept g n r) where
       new-passes : (p : NewPartition) → Passes g n r p → NewOk tab p
       new-passes p e =
           let d = add p in
-          let w = refusal-before (openRows g n (r .head) (r .tail) d) (addRows tab p) e in
+          let w = refusal-before (openRows g n (r .head) (r .tail) (lengthsOf d)) (addRows tab p) e in
           let l = row1 g n (r .head) (r .tail) (lengthsOf d) (open-common g n (r .head) (r .tail) d (w .0)) .2 in
           new-get tab p
           (eqb-true _ _ (and-l _ _ (and-l _ _ l)), eqb-true _ _ (and-r _ _ (and-l _ _ l)), eqb-true _ _ (and-r _ _ l)) (w .1)
@@ -218,7 +219,7 @@ module _ (g : Shape) (n : ℕ) (r : Snapshot) (v : Kept g n r) where
       passes-new p w =
           let d = add p in
           let l = w .lengths in
-          refusal-append (openRows g n (r .head) (r .tail) d) (addRows tab p)
+          refusal-append (openRows g n (r .head) (r .tail) (lengthsOf d)) (addRows tab p)
           (opens d (and-i _ _ (and-i _ _ (eq-eqb _ _ (l .0)) (eq-eqb _ _ (l .1))) (eq-eqb _ _ (l .2))))
           ∙ new-make tab p w
 

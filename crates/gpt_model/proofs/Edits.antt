@@ -19,7 +19,8 @@ use Rattle.octets.proofs.Parts.{length-zeros}
 use Rattle.octets.proofs.Rows.{passes}
 use Rattle.octets.proofs.Chunks.{length-chunks, length-chunk}
 use Rattle.gpt_model.specs.Table.{BlockRange, noBlocks, spans, rangeSize, bounded, apart, uniqueOf, firstOf, lastOf, unused, rangeOf, entryOk, entries, rangesOf, goodTable}
-use Rattle.gpt_model.specs.Calls.{NewPartition, Edit, add, delete, resize, rename, carries, isNone, orZero, lowestUnused, newEntry, startFor, tableRows, change, lengthsOf}
+use Rattle.gpt_model.specs.declared.NewPartition.{NewPartition}
+use Rattle.gpt_model.specs.Calls.{Edit, add, delete, resize, rename, carries, isNone, orZero, lowestUnused, newEntry, startFor, tableRows, change, lengthsOf}
 use Rattle.gpt_model.specs.Lists.{Ledger, bookEdit}
 use Rattle.gpt_model.proofs.Room.{Room, room-get, start-some}
 use Rattle.gpt_model.proofs.Fields.{length-new, new-type, new-unique, new-first, new-last, length-sized, sized-type, sized-unique, sized-first, sized-last, length-named, named-type, named-unique, named-first, named-last}
@@ -203,7 +204,7 @@ module _ (first last : ℕ) (small : last < 256 ^ 8) (es : List ℕ) (len : leng
   -- a new entry in an unused slot i, at a start s with room: for add, and for a start that is given
   pub new-fits : (i s : ℕ) (p : NewPartition)
       → i < 128 → unused (entryAt es i) ≡ true → 0 < p .size → first ≤ s → Room (rangesOf es) last (p .size) s
-      → length (p .type) ≡ 16 → length (p .unique) ≡ 16 → isZero (p .type) ≡ false → isZero (p .unique) ≡ false → any (carries (p .unique)) (entries es) ≡ false
+      → length (p .kind) ≡ 16 → length (p .unique) ≡ 16 → isZero (p .kind) ≡ false → isZero (p .unique) ≡ false → any (carries (p .unique)) (entries es) ≡ false
       → Fits first last es (add p) (suc i) i (newEntry p s)
   new-fits i s p hi u pos low room lt lu zt zu fresh = record {
     index = hi;

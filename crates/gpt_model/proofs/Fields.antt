@@ -15,7 +15,8 @@ use Rattle.octets.proofs.Numbers.{length-le, unle-le}
 use Rattle.octets.proofs.Parts.{length-zeros}
 use Rattle.octets.proofs.Puts.{length-put, put-comm, part-put-above, part-put-same}
 use Rattle.gpt_model.specs.Table.{writeAll, typeOf, uniqueOf, firstOf, lastOf, nameBytes}
-use Rattle.gpt_model.specs.Calls.{NewPartition, newFields, newEntry}
+use Rattle.gpt_model.specs.declared.NewPartition.{NewPartition}
+use Rattle.gpt_model.specs.Calls.{newFields, newEntry}
 
 pub part-put-at : (vs xs : List ℕ) (at k : ℕ) → length vs ≡ k → at + k ≤ length xs → part at k (put at vs xs) ≡ vs
 part-put-at vs xs at k e h =
@@ -69,9 +70,9 @@ module _ (p : NewPartition) (s : ℕ) where
   pub length-new : length (newEntry p s) ≡ 128
   length-new = length-writeAll fs (zeros 128) ∙ length-zeros 128
 
-  pub new-type : length (p .type) ≡ 16 → typeOf (newEntry p s) ≡ p .type
+  pub new-type : length (p .kind) ≡ 16 → typeOf (newEntry p s) ≡ p .kind
   unfolding _and_
-  new-type e = field-reads fs (zeros 128) 0 0 16 (p .type) (omega arith) refl refl e (omega (arith, length-zeros 128))
+  new-type e = field-reads fs (zeros 128) 0 0 16 (p .kind) (omega arith) refl refl e (omega (arith, length-zeros 128))
 
   pub new-unique : length (p .unique) ≡ 16 → uniqueOf (newEntry p s) ≡ p .unique
   unfolding _and_

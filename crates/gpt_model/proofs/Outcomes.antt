@@ -118,31 +118,31 @@ module _ (g : Shape) (n : ℕ) (h t : List ℕ) where
     pub row10 : state g n h t ≢ 0
     row10 = eqb-false _ _ (passes 10 (commonRows g n h t lengths) e)
 
-  module _ (d : Edit) (e : refusal (openRows g n h t d) ≡ none) where
+  module _ (d : Edit) (e : refusal (openRows g n h t (lengthsOf d)) ≡ none) where
     pub open-common : refusal (commonRows g n h t (lengthsOf d)) ≡ none
     open-common = refusal-before (commonRows g n h t (lengthsOf d)) (row (not (eqb (state g n h t) 1)) 11 ∷ []) e .0
 
     pub row11 : state g n h t ≡ 1
-    row11 = eqb-true _ _ (not-f _ (passes 11 (openRows g n h t d) e))
+    row11 = eqb-true _ _ (not-f _ (passes 11 (openRows g n h t (lengthsOf d)) e))
 
   module _ (d : Edit) (e : refusal (rowsOf g n h t (edit d)) ≡ none) where
-    pub edit-open : refusal (openRows g n h t d) ≡ none
-    edit-open = refusal-before (openRows g n h t d) (tableRows (g .first) (lastUsable g n) (tableOf g n h t) d) e .0
+    pub edit-open : refusal (openRows g n h t (lengthsOf d)) ≡ none
+    edit-open = refusal-before (openRows g n h t (lengthsOf d)) (tableRows (g .first) (lastUsable g n) (tableOf g n h t) d) e .0
 
     pub edit-table : refusal (tableRows (g .first) (lastUsable g n) (tableOf g n h t) d) ≡ none
-    edit-table = refusal-before (openRows g n h t d) (tableRows (g .first) (lastUsable g n) (tableOf g n h t) d) e .1
+    edit-table = refusal-before (openRows g n h t (lengthsOf d)) (tableRows (g .first) (lastUsable g n) (tableOf g n h t) d) e .1
 
 -- an edit's own rows decide where those before them do not hold; else those before them do
 module _ (g : Shape) (n : ℕ) (h t : List ℕ) (d : Edit) where
-  pub edit-decides : refusal (openRows g n h t d) ≡ none → refusal (rowsOf g n h t (edit d)) ≡ refusal (tableRows (g .first) (lastUsable g n) (tableOf g n h t) d)
-  edit-decides e = refusal-append (openRows g n h t d) (tableRows (g .first) (lastUsable g n) (tableOf g n h t) d) e
+  pub edit-decides : refusal (openRows g n h t (lengthsOf d)) ≡ none → refusal (rowsOf g n h t (edit d)) ≡ refusal (tableRows (g .first) (lastUsable g n) (tableOf g n h t) d)
+  edit-decides e = refusal-append (openRows g n h t (lengthsOf d)) (tableRows (g .first) (lastUsable g n) (tableOf g n h t) d) e
 
-  pub edit-stops : (k : ℕ) → refusal (openRows g n h t d) ≡ some k → refusal (rowsOf g n h t (edit d)) ≡ some k
-  edit-stops k e = refusal-first (openRows g n h t d) (tableRows (g .first) (lastUsable g n) (tableOf g n h t) d) k e
+  pub edit-stops : (k : ℕ) → refusal (openRows g n h t (lengthsOf d)) ≡ some k → refusal (rowsOf g n h t (edit d)) ≡ some k
+  edit-stops k e = refusal-first (openRows g n h t (lengthsOf d)) (tableRows (g .first) (lastUsable g n) (tableOf g n h t) d) k e
 
 -- where lengths and N are right and the disk reads as state 1, the rows before an edit's own do not hold
 pub open-none : (g : Shape) (n : ℕ) (h t : List ℕ) (d : Edit) → length h ≡ lentBytes g primary → length t ≡ lentBytes g backup
-    → lengthsOf d ≡ true → inRange g n ≡ true → state g n h t ≡ 1 → refusal (openRows g n h t d) ≡ none
+    → lengthsOf d ≡ true → inRange g n ≡ true → state g n h t ≡ 1 → refusal (openRows g n h t (lengthsOf d)) ≡ none
 open-none g n h t d lh lt ld range s =
     pick-false _ _ _ (ap not (and-i _ _ (and-i _ _ (eq-eqb _ _ lh) (eq-eqb _ _ lt)) ld))
     ∙ pick-false _ _ _ (ap not range)

@@ -21,7 +21,8 @@ use Rattle.octets.proofs.Tests.{findIx-get}
 use Rattle.octets.proofs.Chunks.{length-chunks, putChunk-put}
 use Rattle.gpt_model.specs.Table.{firstOf, nameBytes, unused, entries, rangesOf}
 use Rattle.gpt_model.specs.Disk.{Shape, lastUsable, tableOf}
-use Rattle.gpt_model.specs.Calls.{NewPartition, Edit, add, delete, resize, rename, edit, accepted, Outcome, orZero, newEntry, startFor, tableRows, change, edited, lengthsOf}
+use Rattle.gpt_model.specs.declared.NewPartition.{NewPartition}
+use Rattle.gpt_model.specs.Calls.{Edit, add, delete, resize, rename, edit, accepted, Outcome, orZero, newEntry, startFor, tableRows, change, edited, lengthsOf}
 use Rattle.gpt_model.specs.Stored.{Outside, entryFirst, EntryName, StaysBut, AddSays, EditSays}
 use Rattle.gpt_model.specs.Claims.{EditWrites}
 use Rattle.gpt_model.proofs.Room.{start-some}
@@ -109,7 +110,7 @@ module _ (g : Shape) (n : ℕ) (es : List ℕ) (long : length es ≡ 16384) wher
       subst (λ (x : List ℕ). (accepted [] ≡ accepted []) × EntryName x (k - 1) name × StaysBut at 72 es x) (sym q)
       (refl, named es long (k - 1) h name _ ln (part-put-at v es at 72 lv (omega arith)), stays es v at 72 lv)
 
-  add-says : (p : NewPartition) → length (p .type) ≡ 16 → length (p .unique) ≡ 16 → length (p .name) ≡ 36
+  add-says : (p : NewPartition) → length (p .kind) ≡ 16 → length (p .unique) ≡ 16 → length (p .name) ≡ 36
       → refusal (tableRows (g .first) (lastUsable g n) es (add p)) ≡ none → Says (add p)
   add-says p lt lu ln e =
       let rows = tableRows (g .first) (lastUsable g n) es (add p) in

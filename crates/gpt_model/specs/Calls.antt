@@ -11,19 +11,12 @@ use Rattle.octets.specs.Bytes.{le, put, zeros, isZero, same, putChunk}
 use Rattle.gpt_model.specs.Table.{writeAll, noBlocks, entryBytes, slotCount, tableBytes, uniqueOf, firstOf, nameBytes, unused, entries, rangesOf}
 use Rattle.gpt_model.specs.Disk.{Shape, lastUsable, inRange, primary, backup, lentBytes, guidIn, entriesIn, state, tableOf}
 use Rattle.gpt_model.specs.Disk.{withTable, withCopy, freshHead, freshTail}
+use Rattle.gpt_model.specs.declared.NewPartition.{NewPartition}
 use Rattle.gpt_model.specs.Ranges.{roomAt, lowestStart, freeCount, longestFree}
 
 -- D15: Add is given type, unique GUID (16 stored bytes each), size in blocks, attributes and name (36 units)
-pub record NewPartition : Type 0 where
-  pub type : List ℕ
-  pub unique : List ℕ
-  pub size : ℕ
-  pub attributes : ℕ
-  pub name : List ℕ
-
--- the same from a function's parameters
 abbrev pub newPartition : List ℕ → List ℕ → ℕ → ℕ → List ℕ → NewPartition
-newPartition type unique size attributes name = record { type = type; unique = unique; size = size; attributes = attributes; name = name }
+newPartition kind unique size attributes name = record { kind = kind; unique = unique; size = size; attributes = attributes; name = name }
 
 -- a slot is named by its number, from 1 on
 pub data Edit : Type 0 where
@@ -91,7 +84,7 @@ slotRows es k = row (not (leb 1 k and leb k slotCount)) 12 ∷ row (unused (entr
 abbrev pub addRows : List ℕ → NewPartition → List Row
 addRows es p =
     row (eqb (p .size) 0) 20
-    ∷ row (isZero (p .type)) 21
+    ∷ row (isZero (p .kind)) 21
     ∷ row (isZero (p .unique) or any (carries (p .unique)) (entries es)) 22
     ∷ row (badName (p .name)) 23
     ∷ row (not (any unused (entries es))) 24
@@ -109,7 +102,7 @@ lowestUnused es = findIx unused (entries es)
 -- D5: type GUID 0, unique GUID 16, first block 32, last block (inclusive) 40, attributes 48, name 56 as 36 16-bit units.
 abbrev pub newFields : NewPartition → ℕ → List (ℕ × List ℕ)
 newFields p s =
-    (0, p .type)
+    (0, p .kind)
     ∷ (16, p .unique)
     ∷ (32, le 8 s)
     ∷ (40, le 8 (s + p .size - 1))
@@ -152,7 +145,7 @@ module _ (first last : ℕ) (es : List ℕ) where
 
 -- R4: a lent buffer has a wrong length. Right ones: of what an edit is lent besides head and tail; of head and tail.
 abbrev pub lengthsOf : Edit → Bool
-lengthsOf (add p) = eqb (length (p .type)) 16 and eqb (length (p .unique)) 16 and eqb (length (p .name)) 36
+lengthsOf (add p) = eqb (length (p .kind)) 16 and eqb (length (p .unique)) 16 and eqb (length (p .name)) 36
 lengthsOf (delete k) = true
 lengthsOf (resize k size) = true
 lengthsOf (rename k name) = eqb (length name) 36
@@ -161,19 +154,23 @@ abbrev pub lengthsOk : Shape → List ℕ → List ℕ → Bool
 lengthsOk g h t = eqb (length h) (lentBytes g primary) and eqb (length t) (lentBytes g backup)
 
 module _ (g : Shape) (n : ℕ) (h t : List ℕ) where
-  -- what every call but formatting is refused for first. R26: Read, repair, free counts: 1, 2, 10. R5: 2: N outside its range. R7: 10: neither GPT copy is good
+  -- what every call is refused for first; `lengths`: what it is lent besides head and tail has the right lengths. R5: 2: N outside its range
+  abbrev pub lentRows : Bool → List Row
+  lentRows lengths = row (not (lengthsOk g h t and lengths)) 1 ∷ row (not (inRange g n)) 2 ∷ []
+
+  -- what every call but formatting is refused for first. R26: Read, repair, free counts: 1, 2, 10. R7: 10: neither GPT copy is good
   abbrev pub commonRows : Bool → List Row
-  commonRows lengths = row (not (lengthsOk g h t and lengths)) 1 ∷ row (not (inRange g n)) 2 ∷ row (eqb (state g n h t) 0) 10 ∷ []
+  commonRows lengths = lentRows lengths ++ (row (eqb (state g n h t) 0) 10 ∷ [])
 
   -- R8: 11: an edit, and the copies are not both good and the same
-  abbrev pub openRows : Edit → List Row
-  openRows d = commonRows (lengthsOf d) ++ (row (not (eqb (state g n h t) 1)) 11 ∷ [])
+  abbrev pub openRows : Bool → List Row
+  openRows lengths = commonRows lengths ++ (row (not (eqb (state g n h t) 1)) 11 ∷ [])
 
   abbrev pub rowsOf : Call → List Row
   rowsOf read = commonRows true
   rowsOf freeCounts = commonRows true
   rowsOf repair = commonRows true
-  rowsOf (edit d) = openRows d ++ tableRows (g .first) (lastUsable g n) (tableOf g n h t) d
+  rowsOf (edit d) = openRows (lengthsOf d) ++ tableRows (g .first) (lastUsable g n) (tableOf g n h t) d
 
   -- D24: Repair in state 1 changes nothing; otherwise it writes the other copy's 33 blocks from the good one (state 2: from the primary), header tail zero.
   abbrev pub repaired : ℕ → Outcome
@@ -200,7 +197,7 @@ module _ (g : Shape) (n : ℕ) (h t : List ℕ) where
 
 -- R25: Order: format 1, 2, 3. R6: 3: disk GUID all zero (formatting)
 abbrev pub formatRows : Shape → ℕ → List ℕ → List ℕ → List ℕ → List Row
-formatRows g n guid h t = row (not (lengthsOk g h t and eqb (length guid) 16)) 1 ∷ row (not (inRange g n)) 2 ∷ row (isZero guid) 3 ∷ []
+formatRows g n guid h t = lentRows g n h t (eqb (length guid) 16) ++ (row (isZero guid) 3 ∷ [])
 
 -- D13: Formatting writes both copies with no entries and block 0
 unfoldable pub format : Shape → ℕ → List ℕ → List ℕ → List ℕ → Outcome

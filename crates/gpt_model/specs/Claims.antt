@@ -12,8 +12,9 @@ use Rattle.gpt_model.specs.Table.{entryBytes, uniqueOf, firstOf, lastOf,
 use Rattle.gpt_model.specs.Disk.{Shape, disk512, lastUsable, usable, inRange, Side, primary, backup, entriesBlock, lentBytes, headerAt, entriesAt}
 use Rattle.gpt_model.specs.Disk.{headerBytes, goodCopy, state, lent, tableOf}
 use Rattle.gpt_model.specs.Ranges.{blockIn, inSome, FreeFrom, taken}
-use Rattle.gpt_model.specs.Calls.{NewPartition, Edit, add, delete, resize, rename, Call, read, freeCounts, repair, edit, refused, accepted, outcome}
-use Rattle.gpt_model.specs.Calls.{entryOf, addRows, change, edited, openRows, rowsOf, step, format}
+use Rattle.gpt_model.specs.declared.NewPartition.{NewPartition}
+use Rattle.gpt_model.specs.Calls.{Edit, add, delete, resize, rename, Call, read, freeCounts, repair, edit, refused, accepted, outcome}
+use Rattle.gpt_model.specs.Calls.{entryOf, addRows, change, edited, lengthsOf, openRows, rowsOf, step, format}
 use Rattle.gpt_model.specs.Lists.{Ledger, sizeWas, bookEdit, Snapshot, afterAll, answers, applied, startAfter, rangesIn, StartsAfresh}
 use Rattle.gpt_model.specs.Stored.{EntryHolds, HeadGood, TailGood, SizesOk, ReadSays, FormatSays, Outside, EditSays, RepairSays}
 
@@ -21,7 +22,7 @@ use Rattle.gpt_model.specs.Stored.{EntryHolds, HeadGood, TailGood, Sizes
 
 -- an add that comes next passes its checks before the one for room
 abbrev pub Passes : Shape → ℕ → Snapshot → NewPartition → Type 0
-Passes g n r p = refusal (openRows g n (r .head) (r .tail) (add p) ++ addRows (tableOf g n (r .head) (r .tail)) p) ≡ none
+Passes g n r p = refusal (openRows g n (r .head) (r .tail) (lengthsOf (add p)) ++ addRows (tableOf g n (r .head) (r .tail)) p) ≡ none
 
 pub record Sound (g : Shape) (n : ℕ) (r : Snapshot) : Type 0 where
   -- No usable block lies in two partitions.
@@ -96,9 +97,9 @@ FitsAlone last es k size =
 
 -- what an add is given is right, and the table has a slot for it: each line denies one row
 pub record NewOk (es : List ℕ) (p : NewPartition) : Type 0 where
-  pub lengths : (length (p .type) ≡ 16) × (length (p .unique) ≡ 16) × (length (p .name) ≡ 36)
+  pub lengths : (length (p .kind) ≡ 16) × (length (p .unique) ≡ 16) × (length (p .name) ≡ 36)
   pub blocks : p .size ≢ 0
-  pub typed : isZero (p .type) ≡ false
+  pub typed : isZero (p .kind) ≡ false
   pub own : (isZero (p .unique) ≡ false) × ((k : ℕ) → UsedSlot es k → uniqueOf (entryOf es k) ≢ p .unique)
   pub named : NameOk (p .name)
   pub slot : (k : ℕ) × (1 ≤ k) × (k ≤ slotCount) × (unused (entryOf es k) ≡ true)

@@ -12,7 +12,8 @@ use Rattle.crc_lanes.specs.Crc.{crc32}
 use Rattle.gpt_model.specs.Table.{rangesOf}
 use Rattle.gpt_model.specs.Disk.{Shape}
 use Rattle.gpt_model.specs.Ranges.{FreeFrom}
-use Rattle.gpt_model.specs.Calls.{NewPartition, Edit, add, delete, resize, rename, Answer, refused, accepted, Outcome}
+use Rattle.gpt_model.specs.declared.NewPartition.{NewPartition}
+use Rattle.gpt_model.specs.Calls.{Edit, add, delete, resize, rename, Answer, refused, accepted, Outcome}
 
 -- ---- a table: 128 entries of 128 bytes, counted from 0
 
@@ -146,7 +147,7 @@ pub record AddSays (g : Shape) (n : ℕ) (p : NewPartition) (es es′ : List ℕ
   -- and the lowest start with enough free blocks
   pub start : FreeFrom g n (rangesOf es) (p .size) s × ((b : ℕ) → b < s → ¬ FreeFrom g n (rangesOf es) (p .size) b)
   -- D15: Add is given type, unique GUID (16 stored bytes each), size in blocks, attributes and name (36 units)
-  pub typeGuid : entryType es′ i ≡ p .type
+  pub typeGuid : entryType es′ i ≡ p .kind
   pub uniqueGuid : entryUnique es′ i ≡ p .unique
   pub first : part (i * 128 + 32) 8 es′ ≡ le 8 s
   pub last : part (i * 128 + 40) 8 es′ ≡ le 8 (s + p .size - 1)

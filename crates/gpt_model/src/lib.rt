@@ -3,3 +3,12 @@
 
 // A block's number; never a byte position.
 pub struct Block(pub u64);
+
+// D15: what an add is given: type and unique GUID as they are stored, size in blocks, attributes and name.
+pub struct NewPartition {
+    pub kind: [u8; 16],
+    pub unique: [u8; 16],
+    pub size: u64,
+    pub attributes: u64,
+    pub name: [u16; 36],
+}

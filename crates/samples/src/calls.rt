@@ -2,6 +2,7 @@
 use crate::ledger::SumChange;
 use gpt::Added;
 use gpt::Done;
+use gpt_model::NewPartition;
 
 pub fn format(head: &mut [u8], tail: &mut [u8], n: u64) -> SumChange {
     sample_lines::begin(n, b"format");
@@ -30,16 +31,14 @@ fn name(letter: u16) -> [u16; 36] {
 pub fn add(head: &mut [u8], tail: &mut [u8], n: u64, k: u8, size: u64) -> SumChange {
     sample_lines::begin(n, b"add ");
     print_out::decimal(size);
-    let answer = gpt::add(
-        head,
-        tail,
-        n,
-        linux(),
-        [k; 16],
+    let p = NewPartition {
+        kind: linux(),
+        unique: [k; 16],
         size,
-        0,
-        name(64 + k as u16),
-    );
+        attributes: 0,
+        name: name(64 + k as u16),
+    };
+    let answer = gpt::add(head, tail, n, p);
     sample_lines::added(answer);
     match answer {
         Added::At { slot, .. } => SumChange::Size { slot, size },

@@ -1,20 +1,11 @@
-use mathlib.Core.Path.{sym, ap, _∙_}
-use denote.Ref.{now}
-use Rattle.gpt.proofs.Refusals.{stop-step}
+use Rattle.gpt_model.specs.Calls.{edit, add}
 use Rattle.gpt_checks.specs.Checks.{stopBy, startBy}
-use Rattle.gpt_model.specs.Calls.{edit, add, newPartition}
+use Rattle.gpt.proofs.Refusals.{stop-step}
+use denote.Ref.{now}
+use mathlib.Core.Path.{sym, ap, _∙_}
 use borrow.Author.Needs.{needs}
 use Rattle.gpt.proofs.add.Statement.{statement}
 use Rattle.gpt.proofs.add.Tie as tie
-
-slice-aggregate-add : tie.Need-slice-aggregate-add
-slice-aggregate-add c = search needs
-
-slice-aggregate-add-2 : tie.Need-slice-aggregate-add-2
-slice-aggregate-add-2 c = search needs
-
-slice-aggregate-add-3 : tie.Need-slice-aggregate-add-3
-slice-aggregate-add-3 c = search needs
 
 add-requires : tie.Need-add-requires
 add-requires c κs = search needs
@@ -25,23 +16,11 @@ enum-known-r c = search needs
 enum-known-first : tie.Need-enum-known-first
 enum-known-first c = search needs
 
-slice-aggregate-add-4 : tie.Need-slice-aggregate-add-4
-slice-aggregate-add-4 c = search needs
-
-slice-aggregate-add-5 : tie.Need-slice-aggregate-add-5
-slice-aggregate-add-5 c = search needs
-
-slice-aggregate-add-6 : tie.Need-slice-aggregate-add-6
-slice-aggregate-add-6 c = search needs
-
 add-requires-2 : tie.Need-add-requires-2
 add-requires-2 c κs =
     let c4 = c .before .before .before .before in
-    let c8 = c4 .before .before .before .before in
-    let c12 = c8 .before .before .before .before in
-    let c16 = c12 .before .before .before .before in
-    let e = c8 .add .ensures in
-    let p = c4 .before .before .first .given .1 in
+    let e = c4 .before .add .ensures in
+    let p = c .before .before .before .first .given .1 in
     (sym (e .0) ∙ ap stopBy p, e .1 _ (ap startBy p))
 
 same-length : tie.Need-same-length
@@ -52,11 +31,11 @@ same-length-2 c = search needs
 
 returns : tie.Need-returns
 returns c =
-    let c4 = c .before .before .before in
+    let c4 = c .before .before .before .before in
     let c8 = c4 .before .before .before .before in
-    let c12 = c8 .before .before .before .before in
-    let a = c12 .args in
-    stop-step (a .n) (now (a .head)) (now (a .tail)) (edit (add (newPartition (a .t4) (a .t5) (a .size) (a .attributes) (a .t8)))) _ (sym (c4 .add .ensures .0) ∙ ap stopBy (c .before .r .given .1))
+    let a = c8 .args in
+    stop-step (a .n) (now (a .head)) (now (a .tail)) (edit (add (a .p))) _
+    (sym (c .before .before .before .add .ensures .0) ∙ ap stopBy (c .before .r .given .1))
 
 same-length-3 : tie.Need-same-length-3
 same-length-3 c = search needs
@@ -71,15 +50,9 @@ pub add-spec : {M : Type 1} → statement M
 add-spec =
     tie.close
     (tie.spec
-    slice-aggregate-add
-    slice-aggregate-add-2
-    slice-aggregate-add-3
     add-requires
     enum-known-r
     enum-known-first
-    slice-aggregate-add-4
-    slice-aggregate-add-5
-    slice-aggregate-add-6
     add-requires-2
     same-length
     same-length-2

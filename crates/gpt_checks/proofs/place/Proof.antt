@@ -1,8 +1,7 @@
-use native.Mathlib.Omega.{arith}
-use denote.Ref.{now}
 use Rattle.gpt_checks.proofs.Judged.{passed, stopped, add-size, start-stops, start-full, start-at}
+use denote.Ref.{now}
+use native.Mathlib.Omega.{arith}
 use borrow.Author.Needs.{needs}
-use Rattle.gpt_model.specs.Calls.{newPartition}
 use Rattle.gpt_checks.proofs.place.Statement.{statement}
 use Rattle.gpt_checks.proofs.place.Tie as tie
 
@@ -24,11 +23,10 @@ last-usable-requires c κs = search needs
 lowest-requires : tie.Need-lowest-requires
 lowest-requires c κs =
     let c4 = c .before .before .before .before in
-    let c8 = c4 .before .before .before .before in
-    let a = c8 .before .args in
+    let a = c4 .before .before .args in
     let e = c .last-usable .ensures in
-    let m = c8 .before .pre .2 in
-    (c8 .before .pre .0, add-size (a .n) (now (a .table)) (newPartition (now (a .kind)) (now (a .unique)) (a .size) (a .attributes) (now (a .name))) (passed _ (c .before .before .enum-told .given .1) (c4 .new .ensures)), omega arith)
+    let m = c4 .before .before .pre .2 in
+    (c4 .before .before .pre .0, add-size (a .n) (now (a .table)) (a .p) (passed _ (c .before .before .enum-told .given .1) (c4 .new .ensures)), omega arith)
 
 enum-told-2 : tie.Need-enum-told-2
 enum-told-2 c = search needs
@@ -38,34 +36,25 @@ enum-known-first c = search needs
 
 returns : tie.Need-returns
 returns c =
-    let a = c .before .before .before .before .before .before .before .before .args in
-    start-stops (a .n) (now (a .table)) (newPartition (now (a .kind)) (now (a .unique)) (a .size) (a .attributes) (now (a .name))) _ (stopped _ _ (c .before .r .given .1) (c .before .before .before .new .ensures))
+    let c4 = c .before .before .before .before in
+    let a = c4 .before .args in
+    start-stops (a .n) (now (a .table)) (a .p) _ (stopped _ _ (c .before .r .given .1) (c .before .before .before .new .ensures))
 
 returns-2 : tie.Need-returns-2
 returns-2 c =
     let c4 = c .before .before .before .before in
     let c8 = c4 .before .before .before .before in
-    let c12 = c8 .before .before .before .before in
-    let a = c12 .args in
-    start-full (a .n) (now (a .table)) (newPartition (now (a .kind)) (now (a .unique)) (a .size) (a .attributes) (now (a .name)))
-    (passed _ (c4 .before .enum-told .given .1) (c4 .before .before .before .new .ensures)) _ _ _
-    (c4 .first-usable .ensures)
-    (c .before .before .before .last-usable .ensures)
-    (c .before .before .lowest .ensures)
-    (c .enum-told2 .given .1)
+    let a = c8 .before .args in
+    start-full (a .n) (now (a .table)) (a .p) (passed _ (c4 .before .enum-told .given .1) (c4 .before .before .before .new .ensures)) _ _ _
+    (c4 .first-usable .ensures) (c .before .before .before .last-usable .ensures) (c .before .before .lowest .ensures) (c .enum-told2 .given .1)
 
 returns-3 : tie.Need-returns-3
 returns-3 c =
     let c4 = c .before .before .before .before in
     let c8 = c4 .before .before .before .before in
-    let c12 = c8 .before .before .before .before in
-    let a = c12 .before .args in
-    start-at (a .n) (now (a .table)) (newPartition (now (a .kind)) (now (a .unique)) (a .size) (a .attributes) (now (a .name)))
-    (passed _ (c4 .before .before .enum-told .given .1) (c8 .new .ensures)) _ _ _
-    (c4 .before .first-usable .ensures)
-    (c4 .last-usable .ensures)
-    (c .before .before .before .lowest .ensures) _
-    (c .before .first .given .1)
+    let a = c8 .before .before .args in
+    start-at (a .n) (now (a .table)) (a .p) (passed _ (c4 .before .before .enum-told .given .1) (c8 .new .ensures)) _ _ _
+    (c4 .before .first-usable .ensures) (c4 .last-usable .ensures) (c .before .before .before .lowest .ensures) _ (c .before .first .given .1)
 
 pub place-spec : {M : Type 1} → statement M
 place-spec =

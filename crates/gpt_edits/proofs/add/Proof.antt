@@ -1,15 +1,15 @@
 use denote.Ref.{now}
 use Rattle.gpt_checks.proofs.Judged.{edit-facts}
-use Rattle.gpt_edits.proofs.Outcomes.{same-tables, edit-made, add-fields, add-index, add-is, add-bound}
-use Rattle.gpt_model.specs.Calls.{add, newPartition}
+use Rattle.gpt_edits.proofs.Outcomes.{same-tables, edit-made, add-size, add-index, add-is, add-bound}
+use Rattle.gpt_model.specs.Calls.{add}
 use borrow.Author.Needs.{needs}
 use Rattle.gpt_edits.proofs.add.Statement.{statement}
 use Rattle.gpt_edits.proofs.add.Tie as tie
 
 entries-in-requires : tie.Need-entries-in-requires
 entries-in-requires c κs =
-    let a = c .before .before .before .before .before .before .args in
-    edit-facts (a .n) (now (a .head)) (now (a .tail)) (add (newPartition (now (a .kind)) (now (a .unique)) (a .size) (a .attributes) (now (a .name)))) (c .before .before .before .before .before .before .pre .0) .head
+    let a = c .before .before .before .args in
+    edit-facts (a .n) (now (a .head)) (now (a .tail)) (add (a .p)) (c .before .before .before .pre .0) .head
 
 first-unused-requires : tie.Need-first-unused-requires
 first-unused-requires c κs = search needs
@@ -17,10 +17,8 @@ first-unused-requires c κs = search needs
 added-requires : tie.Need-added-requires
 added-requires c κs =
     let c4 = c .before .before .before .before in
-    let c8 = c4 .before .before .before .before in
-    let a = c8 .args in
-    let f = add-fields (a .n) (now (a .head)) (now (a .tail)) (newPartition (now (a .kind)) (now (a .unique)) (a .size) (a .attributes) (now (a .name))) (c8 .pre .0) in
-    (f .type16, f .unique16, f .name36, f .some, add-bound (a .n) (now (a .head)) (now (a .tail)) (newPartition (now (a .kind)) (now (a .unique)) (a .size) (a .attributes) (now (a .name))) (c8 .pre .0) _ (c8 .pre .1))
+    let a = c4 .before .args in
+    (add-size (a .n) (now (a .head)) (now (a .tail)) (a .p) (c4 .before .pre .0), add-bound (a .n) (now (a .head)) (now (a .tail)) (a .p) (c4 .before .pre .0) _ (c4 .before .pre .1))
 
 slice-aggregate-put-both : tie.Need-slice-aggregate-put-both
 slice-aggregate-put-both c = search needs
@@ -29,10 +27,9 @@ put-both-requires : tie.Need-put-both-requires
 put-both-requires c κs =
     let c4 = c .before .before .before .before in
     let c8 = c4 .before .before .before .before in
-    let c12 = c8 .before .before .before .before in
-    let a = c12 .args in
-    let o = edit-facts (a .n) (now (a .head)) (now (a .tail)) (add (newPartition (now (a .kind)) (now (a .unique)) (a .size) (a .attributes) (now (a .name)))) (c12 .pre .0) in
-    (o .head, o .tail, o .least, add-index (a .n) (now (a .head)) (now (a .tail)) (newPartition (now (a .kind)) (now (a .unique)) (a .size) (a .attributes) (now (a .name))) (c12 .pre .0) _ _ (c4 .before .entries-in .ensures .0) (c4 .first-unused .ensures .0), c .before .before .before .added .ensures .1, same-tables (a .n) (now (a .head)) (now (a .tail)) (add (newPartition (now (a .kind)) (now (a .unique)) (a .size) (a .attributes) (now (a .name)))) (c12 .pre .0))
+    let a = c8 .before .args in
+    let o = edit-facts (a .n) (now (a .head)) (now (a .tail)) (add (a .p)) (c8 .before .pre .0) in
+    (o .head, o .tail, o .least, add-index (a .n) (now (a .head)) (now (a .tail)) (a .p) (c8 .before .pre .0) _ _ (c4 .before .entries-in .ensures .0) (c4 .first-unused .ensures .0), c .before .before .before .added .ensures .1, same-tables (a .n) (now (a .head)) (now (a .tail)) (add (a .p)) (c8 .before .pre .0))
 
 add-result : tie.Need-add-result
 add-result c = search needs
@@ -48,10 +45,9 @@ returns c =
     let c4 = c .before .before .before .before in
     let c8 = c4 .before .before .before .before in
     let c12 = c8 .before .before .before .before in
-    let c16 = c12 .before .before .before .before in
-    let a = c16 .before .args in
-    edit-made (a .n) (now (a .head)) (now (a .tail)) (add (newPartition (now (a .kind)) (now (a .unique)) (a .size) (a .attributes) (now (a .name)))) (c16 .before .pre .0) _ _ _
-    (add-is (a .n) (now (a .head)) (now (a .tail)) (newPartition (now (a .kind)) (now (a .unique)) (a .size) (a .attributes) (now (a .name))) (c16 .before .pre .0) _ _ (c8 .before .before .entries-in .ensures .0) (c8 .before .first-unused .ensures .0) _ _ (c16 .before .pre .1) (c8 .added .ensures .0))
+    let a = c12 .before .before .args in
+    edit-made (a .n) (now (a .head)) (now (a .tail)) (add (a .p)) (c12 .before .before .pre .0) _ _ _
+    (add-is (a .n) (now (a .head)) (now (a .tail)) (a .p) (c12 .before .before .pre .0) _ _ (c8 .before .before .entries-in .ensures .0) (c8 .before .first-unused .ensures .0) _ _ (c12 .before .before .pre .1) (c8 .added .ensures .0))
     (c4 .put-both .ensures .0) (c4 .put-both .ensures .1)
 
 pub add-spec : {M : Type 1} → statement M

@@ -1,5 +1,6 @@
-use denote.Ref.{now}
-use Rattle.gpt_model.specs.Calls.{newPartition}
+use mathlib.Core.Path.{_≡_}
+use native.Mathlib.Omega.{arith}
+use lib.ListN.{length}
 use Rattle.gpt_entry.proofs.Bytes.{six-writes}
 use borrow.Author.Needs.{needs}
 use Rattle.gpt_entry.proofs.added.Statement.{statement}
@@ -9,13 +10,17 @@ slice-aggregate-copy : tie.Need-slice-aggregate-copy
 slice-aggregate-copy c = search needs
 
 copy-requires : tie.Need-copy-requires
-copy-requires c κs = search needs
+copy-requires c κs = let long : length (c .before .before .before .before .args .t1 .kind) ≡ 16 = search needs in omega arith
 
 slice-aggregate-copy-2 : tie.Need-slice-aggregate-copy-2
 slice-aggregate-copy-2 c = search needs
 
 copy-requires-2 : tie.Need-copy-requires-2
-copy-requires-2 c κs = search needs
+copy-requires-2 c κs =
+    let c4 = c .before .before .before .before in
+    let c8 = c4 .before .before .before .before in
+    let long : length (c8 .before .before .args .t1 .unique) ≡ 16 = search needs in
+    omega arith
 
 slice-aggregate-store64 : tie.Need-slice-aggregate-store64
 slice-aggregate-store64 c = search needs
@@ -45,7 +50,15 @@ slice-aggregate-put-name : tie.Need-slice-aggregate-put-name
 slice-aggregate-put-name c = search needs
 
 put-name-requires : tie.Need-put-name-requires
-put-name-requires c κs = search needs
+put-name-requires c κs =
+    let c4 = c .before .before .before .before in
+    let c8 = c4 .before .before .before .before in
+    let c12 = c8 .before .before .before .before in
+    let c16 = c12 .before .before .before .before in
+    let c20 = c16 .before .before .before .before in
+    let c24 = c20 .before .before .before .before in
+    let long : length (c24 .before .before .args .t1 .name) ≡ 36 = search needs in
+    (search needs, long)
 
 returns : tie.Need-returns
 returns c =
@@ -53,11 +66,13 @@ returns c =
     let c8 = c4 .before .before .before .before in
     let c12 = c8 .before .before .before .before in
     let c16 = c12 .before .before .before .before in
-    let c22 = c16 .before .before .before .before .before .before in
-    let a = c22 .args in
-    six-writes (newPartition (now (a .kind)) (now (a .unique)) (a .size) (a .attributes) (now (a .name))) (a .first .0) _ _ _ _ _ _ (c22 .pre .3)
-    (c16 .before .copy .ensures) (c12 .before .before .copy2 .ensures) (c8 .before .before .before .store64 .ensures)
-    (c4 .before .before .before .store642 .ensures) (c4 .store643 .ensures) (c .before .put-name .ensures)
+    let c20 = c16 .before .before .before .before in
+    let c24 = c20 .before .before .before .before in
+    let c28 = c24 .before .before .before .before in
+    let a = c28 .args in
+    six-writes (a .t1) (a .first .0) _ _ _ _ _ _ (c28 .pre .0) (c20 .before .before .before .copy .ensures) (c16 .before .copy2 .ensures)
+    (c12 .before .before .store64 .ensures) (c8 .before .before .store642 .ensures) (c4 .before .before .before .store643 .ensures)
+    (c .before .put-name .ensures)
 
 pub added-spec : {M : Type 1} → statement M
 added-spec =
