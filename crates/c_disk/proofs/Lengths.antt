@@ -4,14 +4,14 @@ use mathlib.Core.Logic.{_≢_}
 use mathlib.Core.Bool.{Bool, true, false, not}
 use mathlib.Core.List.{List, []}
 use Prim.Native.Nat.{ℕ}
-use lib.Dec.{eqb}
 use lib.ListN.{length}
 use borrow.Author.Tests.{ne-eqb}
 use Rattle.octets.specs.Tests.{_and_}
 use Rattle.octets.proofs.Bools.{and-false-l}
 use Rattle.octets.proofs.Rows.{pick-true}
 use Rattle.gpt_model.specs.Disk.{disk512}
-use Rattle.gpt_model.specs.Calls.{Edit, add, newPartition, rename, edit, Outcome, outcome, refused, format, lengthsOf, step}
+use Rattle.gpt_model.specs.declared.NewPartition.{NewPartition}
+use Rattle.gpt_model.specs.Calls.{Edit, add, rename, edit, Outcome, refused, format, lengthsOf, step}
 use Rattle.gpt_model.proofs.Outcomes.{step-refused}
 use Rattle.gpt_model.proofs.Demand3.{format-refused}
 use Rattle.c_disk.specs.Effects.{GptEffect, gptEffect}
@@ -37,18 +37,18 @@ module _ (n : ℕ) (h t : List ℕ) where
   pub rename-wrong : (slot : ℕ) (name : List ℕ) → length name ≢ 36 → unmade [] h t ≡ gptEffect [] (step disk512 n h t (edit (rename slot name)))
   rename-wrong slot name q = edit-wrong [] (rename slot name) (ne-eqb _ _ q)
 
-  module _ (old kind unique : List ℕ) (size attributes : ℕ) (name : List ℕ) where
-    abbrev adding : Edit
-    adding = add (newPartition kind unique size attributes name)
+  module _ (old : List ℕ) (p : NewPartition) where
+    abbrev added : GptEffect
+    added = gptEffect old (step disk512 n h t (edit (add p)))
 
-    pub kind-wrong : length kind ≢ 16 → unmade old h t ≡ gptEffect old (step disk512 n h t (edit adding))
-    kind-wrong q = edit-wrong old adding (and-false-l _ _ (and-false-l _ _ (ne-eqb _ _ q)))
+    pub kind-wrong : length (p .kind) ≢ 16 → unmade old h t ≡ added
+    kind-wrong q = edit-wrong old (add p) (and-false-l _ _ (and-false-l _ _ (ne-eqb _ _ q)))
 
-    pub unique-wrong : length unique ≢ 16 → unmade old h t ≡ gptEffect old (step disk512 n h t (edit adding))
-    unique-wrong q = edit-wrong old adding (and-false-l _ _ (and-false-r _ _ (ne-eqb _ _ q)))
+    pub unique-wrong : length (p .unique) ≢ 16 → unmade old h t ≡ added
+    unique-wrong q = edit-wrong old (add p) (and-false-l _ _ (and-false-r _ _ (ne-eqb _ _ q)))
 
-    pub name-wrong : length name ≢ 36 → unmade old h t ≡ gptEffect old (step disk512 n h t (edit adding))
-    name-wrong q = edit-wrong old adding (and-false-r _ _ (ne-eqb _ _ q))
+    pub name-wrong : length (p .name) ≢ 36 → unmade old h t ≡ added
+    name-wrong q = edit-wrong old (add p) (and-false-r _ _ (ne-eqb _ _ q))
 
   pub format-on : (g guid : List ℕ) {o : Outcome} → g ≡ guid → o ≡ format disk512 n g h t → o ≡ format disk512 n guid h t
   format-on g guid p e = e ∙ ap (λ (x : List ℕ). format disk512 n x h t) p
@@ -56,6 +56,6 @@ module _ (n : ℕ) (h t : List ℕ) where
   pub rename-on : (slot : ℕ) (m name : List ℕ) {o : Outcome} → m ≡ name → o ≡ step disk512 n h t (edit (rename slot m)) → o ≡ step disk512 n h t (edit (rename slot name))
   rename-on slot m name p e = e ∙ ap (λ (x : List ℕ). step disk512 n h t (edit (rename slot x))) p
 
-  pub add-on : (size attributes : ℕ) (k kind u unique m name : List ℕ) {o : Outcome} → k ≡ kind → u ≡ unique → m ≡ name
-      → o ≡ step disk512 n h t (edit (add (newPartition k u size attributes m))) → o ≡ step disk512 n h t (edit (add (newPartition kind unique size attributes name)))
-  add-on size attributes k kind u unique m name p q r e = rw (← p, ← q, ← r) e
+  -- what the code adds, and what was given
+  pub add-on : (q p : NewPartition) {o : Outcome} → q ≡ p → o ≡ step disk512 n h t (edit (add q)) → o ≡ step disk512 n h t (edit (add p))
+  add-on q p w e = e ∙ ap (λ (x : NewPartition). step disk512 n h t (edit (add x))) w

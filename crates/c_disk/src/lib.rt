@@ -3,6 +3,7 @@ use gpt::Added;
 use gpt::Counted;
 use gpt::Done;
 use gpt::Reading;
+use gpt_model::NewPartition;
 ghost use mathlib.Core.Path.{_≡_};
 ghost use mathlib.Core.List.{[], _∷_};
 ghost use lib.ListN.{length};

@@ -1,17 +1,17 @@
-use Rattle.c_disk.proofs.Lengths.{kind-wrong, unique-wrong, name-wrong, add-on}
 use Rattle.c_disk.proofs.Effects.{gpt-tells}
+use Rattle.c_disk.proofs.Lengths.{kind-wrong, unique-wrong, name-wrong, add-on}
 use borrow.Author.Needs.{needs}
 use Rattle.c_disk.proofs.usi_gpt_add.Statement.{statement}
 use Rattle.c_disk.proofs.usi_gpt_add.Tie as tie
 
 returns : tie.Need-returns
-returns c = kind-wrong _ _ _ _ _ _ _ _ _ (c .if1 .taken)
+returns c = kind-wrong _ _ _ _ _ (c .if1 .taken)
 
 returns-2 : tie.Need-returns-2
-returns-2 c = unique-wrong _ _ _ _ _ _ _ _ _ (c .if2 .taken)
+returns-2 c = unique-wrong _ _ _ _ _ (c .if2 .taken)
 
 returns-3 : tie.Need-returns-3
-returns-3 c = name-wrong _ _ _ _ _ _ _ _ _ (c .if3 .taken)
+returns-3 c = name-wrong _ _ _ _ _ (c .if3 .taken)
 
 guid-of-requires : tie.Need-guid-of-requires
 guid-of-requires c κs = search needs
@@ -35,7 +35,13 @@ same-length-2 : tie.Need-same-length-2
 same-length-2 c = search needs
 
 returns-4 : tie.Need-returns-4
-returns-4 c = gpt-tells _ _ _ _ _ _ _ (add-on _ _ _ _ _ _ _ _ _ _ _ (c .before .before .before .before .before .before .before .before .before .before .guid-of .ensures) (c .before .before .before .before .before .before .before .before .before .guid-of2 .ensures) (c .before .before .before .before .before .before .before .before .name-of .ensures) (c .before .before .before .before .before .before .before .add .ensures)) (c .added .ensures .0) (c .added .ensures .1)
+returns-4 c =
+    let c4 = c .before .before .before .before in
+    let c8 = c4 .before .before .before .before in
+    let c12 = c8 .before .before .before .before in
+    gpt-tells _ _ _ _ _ _ _
+    (add-on _ _ _ _ _ (rw (c12 .guid-of .ensures, c8 .before .before .before .guid-of2 .ensures, c8 .before .before .name-of .ensures)) (c4 .before .before .before .add .ensures))
+    (c .added .ensures .0) (c .added .ensures .1)
 
 pub usi-gpt-add-spec : {M : Type 1} → statement M
 usi-gpt-add-spec =
