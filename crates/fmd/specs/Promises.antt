@@ -14,7 +14,7 @@ use Rattle.fmd_table.specs.declared.Placed.{Placed}
 use Rattle.fmd_head.specs.declared.TextImage.{TextImage}
 use Rattle.fmd_check.specs.Fitted.{Fitted}
 use Rattle.fmd_check.specs.Check.{good, checkText}
-use Rattle.fmd_areas.specs.Nested.{startAt, Nested, AreaStands}
+use Rattle.fmd_check.specs.Nested.{startAt, Nested, AreaStands}
 use Rattle.fmd.specs.Calls.{numberOf, layoutIn, listText, recordText, writeText}
 use Rattle.fmd.specs.declared.Answer.{Answer}
 use Rattle.fmd.specs.declared.SectionRecord.{SectionRecord as Listed}

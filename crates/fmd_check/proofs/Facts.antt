@@ -17,10 +17,10 @@ use Rattle.fmd_table.specs.Table.{blankPlaced}
 use Rattle.fmd_table.specs.declared.Section.{Section}
 use Rattle.fmd_head.specs.declared.TextImage.{TextImage}
 use Rattle.fmd_parse.proofs.Trees.{layout-facts}
-use Rattle.fmd_rows.specs.Rows.{foundFrom, repeats, firstRepeat, holdsCbfs, firstCbfs, undecided, firstUndecided, isFmap, fmapIn, hasChild}
-use Rattle.fmd_rows.specs.declared.Found.{Found}
-use Rattle.fmd_rows.specs.declared.Found.the-variants.{At, Nowhere}
-use Rattle.fmd_rows.proofs.Rows.{FirstFacts, first-facts}
+use Rattle.fmd_parse.specs.Rows.{foundFrom, repeats, firstRepeat, holdsCbfs, firstCbfs, undecided, firstUndecided, isFmap, fmapIn, hasChild}
+use Rattle.fmd_parse.specs.declared.rows.Found.{Found}
+use Rattle.fmd_parse.specs.declared.rows.Found.the-variants.{At, Nowhere}
+use Rattle.fmd_parse.proofs.RowLoops.{FirstFacts, first-facts}
 use Rattle.fmd_check.specs.Plans.{Resolved, unfit, unsized, plan, resolveFrom}
 use Rattle.fmd_check.specs.Fitted.{Fitted, ResolvedFacts}
 use Rattle.fmd_table.specs.declared.Placed.{Placed}

@@ -8,7 +8,7 @@ use Rattle.fmap_rules.specs.Map.{mapSize}
 use Rattle.fmd_parse.specs.Trees.{Tree, Imaged}
 use Rattle.fmd_table.specs.declared.Section.{Section}
 use Rattle.fmd_head.specs.declared.TextImage.{TextImage}
-use Rattle.fmd_rows.specs.Rows.{isFmap, hasChild, repeats}
+use Rattle.fmd_parse.specs.Rows.{isFmap, hasChild, repeats}
 use Rattle.fmd_table.specs.Table.{blankPlaced}
 use Rattle.fmd_check.specs.Fitted.{Fitted}
 use Rattle.fmd_table.specs.declared.Placed.{Placed}

@@ -13,7 +13,7 @@ use Rattle.fmd_table.specs.Table.{blankPlaced}
 use Rattle.fmd_table.specs.declared.Section.{Section}
 use Rattle.fmd_table.specs.declared.Placed.{Placed}
 use Rattle.fmd_check.specs.Plans.{placedEnd, roomOf, Resolved, unfit, unsized, plan}
-use Rattle.fmd_rows.specs.Rows.{undecided}
+use Rattle.fmd_parse.specs.Rows.{undecided}
 
 -- sections j and k of the list l have the same parent
 abbrev pub Siblings : List Section → ℕ → ℕ → Type 0
