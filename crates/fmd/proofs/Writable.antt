@@ -19,7 +19,7 @@ use Rattle.fmd_parse.specs.Trees.{blankSection}
 use Rattle.fmd_table.specs.declared.Section.{Section}
 use Rattle.fmd_head.specs.declared.TextImage.{TextImage}
 use Rattle.fmd_table.specs.declared.Placed.{Placed}
-use Rattle.fmd_check.specs.Facts.{Accepted}
+use Rattle.fmd_check.specs.Claims.{Accepted}
 use Rattle.fmd_check.specs.Areas.{storedName, flagsOf, areaFrom, areaAt, layoutAreas}
 use Rattle.fmd_check.specs.Nested.{Nested}
 use Rattle.fmd_check.proofs.Shape.{length-areas, area-at}

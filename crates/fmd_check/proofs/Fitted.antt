@@ -22,7 +22,8 @@ use Rattle.fmd_table.specs.declared.Size.the-variants.{Given as GivenSize, Omit
 use Rattle.fmd_table.specs.declared.Section.{Section}
 use Rattle.fmd_table.specs.declared.Placed.{Placed}
 use Rattle.fmd_check.specs.Plans.{placedEnd, endWith, siblingEnd, roomOf, startOf, fits, spotOf, spotBy, spotIn, spotFor, Resolved, afterSpot, resolveFrom}
-use Rattle.fmd_check.specs.Fitted.{Siblings, Neighbours, BeginsAt, EndsAt, Lies, Sized, ResolvedFacts}
+use Rattle.fmd_check.specs.Fitted.{Siblings, Neighbours, BeginsAt, EndsAt, Lies, Sized}
+use Rattle.fmd_check.specs.Claims.{ResolvedFacts}
 use Rattle.fmd_parse.specs.Rows.{siblingIn, reachOf, isUndecided, undecided}
 use Rattle.fmd_parse.specs.declared.rows.Reach.{Reach}
 use Rattle.fmd_parse.specs.declared.rows.Reach.the-variants.{OfSize, UpTo, ToParentEnd, Undecided}

@@ -20,7 +20,7 @@ use Rattle.fmd_table.specs.Table.{blankPlaced}
 use Rattle.fmd_check.specs.Fitted.{Fitted}
 use Rattle.fmd_table.specs.declared.Placed.{Placed}
 use Rattle.fmd_check.specs.Areas.{positionIn, areaFrom, areaAt, layoutAreas}
-use Rattle.fmd_check.specs.Nested.{AreasNested}
+use Rattle.fmd_check.specs.Claims.{AreasNested}
 use Rattle.fmd_check.proofs.Places.{Top, Child, above, ends}
 use Rattle.fmd_check.proofs.Shape.{length-areas, area-at}
 

@@ -19,7 +19,8 @@ use Rattle.fmd_table.specs.declared.Section.{Section}
 use Rattle.fmd_table.specs.declared.Placed.{Placed}
 use Rattle.fmd_check.specs.Fitted.{Fitted}
 use Rattle.fmd_check.specs.Areas.{positionIn, storedName, flagsOf, areaFrom, areaAt, layoutAreas}
-use Rattle.fmd_check.specs.Nested.{startAt, AreaStands, AreasStand}
+use Rattle.fmd_check.specs.Nested.{startAt, AreaStands}
+use Rattle.fmd_check.specs.Claims.{AreasStand}
 use Rattle.fmd_check.proofs.Places.{Top, Child, above}
 use Rattle.fmd_check.proofs.Shape.{area-at}
 use Rattle.fmd_check.proofs.Names.{name-short, area-name-length}

@@ -2,7 +2,7 @@
 pub mod Plans
 pub mod Fitted
 pub mod Check
-pub mod Facts
 pub mod Areas
 pub mod Nested
+pub mod Claims
 pub mod Invariants

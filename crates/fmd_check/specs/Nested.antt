@@ -1,4 +1,4 @@
--- What holds of the areas of every layout, in positions and bytes: the statements of theorems (proofs/Nested: areas-nested, proofs/Stands: areas-stand).
+-- The areas of a layout, said in positions and bytes and not by how they are made. Definitions only.
 use mathlib.Core.Path.{_≡_}
 use mathlib.Core.Logic.{_⊎_}
 use mathlib.Core.Bool.{true, false}
@@ -7,12 +7,10 @@ use Prim.Native.Nat.{ℕ, _+_, _≤_, _<_}
 use lib.ListN.{length, getD}
 use Rattle.fmap_rules.specs.Map.{blankArea}
 use Rattle.fmap_rules.specs.declared.Area.{Area}
-use Rattle.fmd_parse.specs.Trees.{Tree, blankSection}
+use Rattle.fmd_parse.specs.Trees.{blankSection}
 use Rattle.fmd_table.specs.Table.{blankPlaced}
 use Rattle.fmd_table.specs.declared.Section.{Section}
-use Rattle.fmd_check.specs.Fitted.{Fitted}
 use Rattle.fmd_table.specs.declared.Placed.{Placed}
-use Rattle.fmd_check.specs.Areas.{layoutAreas}
 
 -- where area k begins, and the first position behind it
 abbrev pub startAt : List Area → ℕ → ℕ
@@ -38,9 +36,6 @@ pub record Nested (z : ℕ) (l : List Section) (areas : List Area) : Type 0 wher
       (j k : ℕ) → j < length areas → k < length areas
       → ((endAt areas j ≤ startAt areas k) ⊎ (endAt areas k ≤ startAt areas j)) ⊎ (LiesIn areas j k ⊎ LiesIn areas k j)
 
-abbrev pub AreasNested : Type 0
-AreasNested = (s : List ℕ) (z : ℕ) (l : List Section) (ps : List Placed) → Tree s l → Fitted z l ps → Nested z l (layoutAreas s l ps)
-
 -- what area k says of section k of the list l, whose offset and size are those of ps
 pub record AreaStands (s : List ℕ) (l : List Section) (ps : List Placed) (areas : List Area) (k : ℕ) : Type 0 where
   -- L15: A section's position in the image is its offset plus its parent's position.
@@ -56,9 +51,3 @@ pub record AreaStands (s : List ℕ) (l : List Section) (ps : List Placed) (area
   pub letters :
       (j : ℕ) → j < getD l k blankSection .length → getD (getD areas k blankArea .name) j 0 ≡ getD s (getD l k blankSection .place + j) 0
   pub zeros-after : (j : ℕ) → getD l k blankSection .length ≤ j → getD (getD areas k blankArea .name) j 0 ≡ 0
-
--- L17: The map lists sections in text order
-abbrev pub AreasStand : Type 0
-AreasStand =
-    (s : List ℕ) (z : ℕ) (l : List Section) (ps : List Placed) → Tree s l → Fitted z l ps
-    → (k : ℕ) → k < length l → AreaStands s l ps (layoutAreas s l ps) k

@@ -9,7 +9,7 @@ use Rattle.octets.specs.Ascii.{ascii}
 use Rattle.octets.specs.Bytes.{flat}
 use Rattle.octets.specs.Rows.{codeOf}
 use Rattle.fmd_check.specs.Check.{Checked, fault, good, checkText}
-use Rattle.fmd_check.specs.Facts.{CheckedFacts}
+use Rattle.fmd_check.specs.Claims.{CheckedFacts}
 use Rattle.fmd_check.proofs.Facts.{check-facts}
 use Rattle.fmd_check.proofs.Shape.{length-areas}
 use Rattle.fmd.specs.Calls.{Listed, numberOf, imageOf, saidBy, layoutIn, listRecord, listBy, layoutFor, listText, listOf}

@@ -3,4 +3,5 @@
 pub mod Layouts
 pub mod Trees
 pub mod Rows
+pub mod Claims
 pub mod Invariants

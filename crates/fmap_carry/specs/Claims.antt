@@ -1,4 +1,4 @@
--- What an accepted carry leaves. Statements only.
+-- What is claimed of an accepted carry: what it leaves (proofs/Accepted).
 use mathlib.Core.Path.{_≡_}
 use mathlib.Core.Logic.{_⊎_}
 use mathlib.Core.Bool.{true}

@@ -1,4 +1,4 @@
--- The promises of specs/Promises.antt, proved.
+-- The claims of specs/Claims.antt, proved.
 use mathlib.Core.Path.{_≡_, refl, sym, ap, _∙_}
 use mathlib.Core.Bool.{true}
 use mathlib.Core.List.{List, _++_, map, reverse}
@@ -19,7 +19,7 @@ use Rattle.octets.proofs.Tests.{all-append, all-take, all-drop, all-reverse}
 use Rattle.guid.specs.Hex.{isHexDigit, bytesOf, digitsOf, upper}
 use Rattle.guid.specs.Text.{digitsIn, isGuidText, grouped, reordered, storedOf, textOf}
 use Rattle.guid.specs.Calls.{unlessRefused, readTextRows, readOf, writeRows, writeOf}
-use Rattle.guid.specs.Promises.{areBytes, WrittenReadsBack, ReadWritesUpper, RefusedStays}
+use Rattle.guid.specs.Claims.{areBytes, WrittenReadsBack, ReadWritesUpper, RefusedStays}
 use Rattle.guid.proofs.Hex.{length-digits, digits-are, bytes-digits, length-bytes, digits-bytes}
 use Rattle.guid.proofs.Text.{length-reordered, reordered-twice, digits-grouped, dashes-grouped, length-grouped, upper-grouped, length-digitsIn, grouped-digits}
 use Rattle.guid.proofs.Calls.{text-length, text-dashes, text-all, length-stored, length-text, read-done, write-done}
@@ -107,7 +107,7 @@ module _ (g t : List ℕ) (e : writeOf g t .number ≡ none) where
   unfolding writeOf
   write-buffer = buffer-is (refusal (writeRows g t)) (textOf g) t write-rows
 
--- ---- the promises
+-- ---- the claims
 
 stays : (r : Option ℕ) (new old : List ℕ) (k : ℕ) → unlessRefused r new old .number ≡ some k → unlessRefused r new old .buffer ≡ old
 unfolding unlessRefused

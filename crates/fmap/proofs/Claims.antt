@@ -19,13 +19,13 @@ use Rattle.fmap_rules.specs.Written.{mapBytes}
 use Rattle.fmap_rules.proofs.Good.{good-within, good-header, header-signed}
 use Rattle.fmap_rules.proofs.Written.{written-is-good}
 use Rattle.fmap_carry.specs.Carry.{Outcome, unlessRefused, carried}
-use Rattle.fmap_carry.specs.Arrived.{Arrived}
+use Rattle.fmap_carry.specs.Claims.{Arrived}
 use Rattle.fmap_carry.proofs.Passed.{good-ends-of}
 use Rattle.fmap_carry.proofs.Accepted.{accepted as accepted-areas}
 use Rattle.fmap.specs.Lowest.{firstFrom, lowest, someBelow}
 use Rattle.fmap.specs.Find.{Reply, accepted, refused, signedAt, findMap}
 use Rattle.fmap.specs.Carry.{carryAtRows, carryAt, carryTo, carryFrom, carryImages}
-use Rattle.fmap.specs.Promises.{FindsLowest, CarriedOver, CarryArrives, WrittenIsFound, RefusedCarryStays, RefusedImagesStay}
+use Rattle.fmap.specs.Claims.{FindsLowest, CarriedOver, CarryArrives, WrittenIsFound, RefusedCarryStays, RefusedImagesStay}
 use Rattle.fmap.proofs.Lowest.{first-skip, first-stop, first-before}
 use Rattle.fmap.proofs.Finding.{found-length, found-good, found-lowest, finds}
 use Rattle.fmap.proofs.Places.{old-good, new-good, by-the-areas}

@@ -1,4 +1,4 @@
--- What users rely on besides the equations of the calls. Statements only.
+-- What is claimed besides the equations of the calls: the statements of the theorems. Users rely on these.
 use mathlib.Core.Path.{_≡_}
 use mathlib.Core.List.{List, []}
 use mathlib.Core.Option.{none, some}

@@ -17,14 +17,14 @@ use Rattle.fmd_parse.specs.Trees.{AddressFits}
 use Rattle.fmd_head.specs.declared.Address.{Address}
 use Rattle.fmd_head.specs.declared.Address.the-variants.{Given, Omitted}
 use Rattle.fmd_check.specs.Check.{Checked, fault, good, checkText}
-use Rattle.fmd_check.specs.Facts.{CheckedFacts}
+use Rattle.fmd_check.specs.Claims.{CheckedFacts}
 use Rattle.fmd_check.proofs.Facts.{check-facts}
 use Rattle.fmd_check.proofs.Shape.{area-at}
 use Rattle.fmd_check.specs.Areas.{areaFrom, areaAt}
 use Rattle.fmd_check.proofs.Nested.{areas-nested}
 use Rattle.fmd_check.proofs.Stands.{areas-stand}
 use Rattle.fmd.specs.Calls.{Said, addressOf, imageOf, saidBy, layoutIn, Written, withMap, writeBy, writeText}
-use Rattle.fmd.specs.Promises.{SectionsFitted, SectionsNested, SectionsInOrder, SaidIsWritable, WrittenHolds, WrittenAtFmap, RefusedStays}
+use Rattle.fmd.specs.Claims.{SectionsFitted, SectionsNested, SectionsInOrder, SaidIsWritable, WrittenHolds, WrittenAtFmap, RefusedStays}
 use Rattle.fmd.proofs.Writable.{writable}
 
 -- ---- what an accepted text says
