@@ -31,7 +31,8 @@ use Rattle.fmap.specs.declared.MapFault.the-variants as fault
 use Rattle.fmap.specs.declared.Lookup.the-variants as lookup
 use Rattle.fmap.specs.declared.AreaIndex.the-variants as index
 use Rattle.fmap.specs.declared.Carried.the-variants as carried
-use Rattle.c_flash.specs.Effects.{BufferEffect, positionOf, faultEffect, answerEffect, lookedEffect, areaEffect, carryEffect, NoneIsZero}
+use Rattle.c_flash.specs.Effects.{BufferEffect, positionOf, faultEffect, answerEffect, lookedEffect, areaEffect, carryEffect}
+use Rattle.c_flash.specs.Claims.{NoneIsZero}
 
 -- an answer a that is x, and whose reply is r
 pub tells : {A B C : Type 0} (effect : B → C) (reply : A → B) {a x : A} {r : B} → a ≡ x → reply a ≡ r → effect (reply x) ≡ effect r

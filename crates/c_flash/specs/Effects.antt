@@ -1,5 +1,4 @@
--- What C gets of a flash map call. Definitions, and the statement that an accepted call can't be taken for a refused one.
-use mathlib.Core.Path.{_≡_}
+-- What C gets of a flash map call. Definitions only.
 use mathlib.Core.Bool.{Bool, true, false, cond}
 use mathlib.Core.List.{List}
 use mathlib.Core.Option.{Option, none, some}
@@ -11,15 +10,8 @@ use Rattle.fmap_rules.specs.declared.ImagePosition.{ImagePosition}
 use Rattle.fmap_rules.specs.declared.Area.{Area}
 use Rattle.fmap_rules.specs.Written.{areaBytes}
 use Rattle.fmap_carry.specs.Carry.{Outcome}
-use Rattle.fmap.specs.Find.{Reply, accepted, refused, foundReply}
-use Rattle.fmap.specs.Faults.{faultReply, faultAt}
-use Rattle.fmap.specs.Areas.{Looked, lookupReply, indexReply}
-use Rattle.fmap.specs.Carry.{carriedNumber}
-use Rattle.fmap.specs.declared.MapFound.{MapFound}
-use Rattle.fmap.specs.declared.MapFault.{MapFault}
-use Rattle.fmap.specs.declared.Lookup.{Lookup}
-use Rattle.fmap.specs.declared.AreaIndex.{AreaIndex}
-use Rattle.fmap.specs.declared.Carried.{Carried}
+use Rattle.fmap.specs.Find.{Reply, accepted, refused}
+use Rattle.fmap.specs.Areas.{Looked}
 
 -- the result, and the number behind the pointer for the answer afterwards
 pub record NumberEffect : Type 0 where
@@ -69,12 +61,3 @@ namedEffect old (refused n) = record { result = n; value = old }
 -- ---- carrying: the new image
 abbrev pub carryEffect : Outcome → BufferEffect
 carryEffect o = record { result = codeOf (o .answer); buffer = o .image }
-
--- no refusal's number is 0, and no rule's
-pub record NoneIsZero : Type 0 where
-  pub find : (f : MapFound) → foundReply f ≡ refused 0 → ⊥
-  pub fault : (f : MapFault) → faultReply f ≡ refused 0 → ⊥
-  pub rule : (image : List ℕ) (at : ℕ) → faultAt image at ≡ accepted (some 0) → ⊥
-  pub area : (a : Lookup) → lookupReply a ≡ refused 0 → ⊥
-  pub named : (a : AreaIndex) → indexReply a ≡ refused 0 → ⊥
-  pub carry : (c : Carried) → codeOf (carriedNumber c) ≡ 0 → carriedNumber c ≡ none

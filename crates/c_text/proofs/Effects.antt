@@ -8,7 +8,8 @@ use Rattle.octets.specs.Rows.{codeOf}
 use Rattle.guid.specs.Calls.{Outcome, numberOf}
 use Rattle.guid.specs.declared.Answer.{Answer}
 use Rattle.guid.specs.declared.Answer.the-variants.{Done, WrongLength, NotGuidText}
-use Rattle.c_text.specs.Effects.{Effect, effect, ZeroIsAccepted}
+use Rattle.c_text.specs.Effects.{Effect, effect}
+use Rattle.c_text.specs.Claims.{ZeroIsAccepted}
 
 -- an answer given by its code, with the buffer that the call left
 pub tells : (n : Option ℕ) (r : ℕ) (b : List ℕ) (o : Outcome) → record { number = n; buffer = b } ≡ o → r ≡ codeOf n

@@ -24,10 +24,11 @@ use Rattle.fmap_carry.specs.Carry.{preserved, withName, target, missing, otherS
 use Rattle.fmap_carry.proofs.Passed.{size-same, all-apart, judge-free}
 use Rattle.fmap.specs.Find.{Reply, accepted, refused, findMap}
 use Rattle.fmap.specs.Carry.{placeRows, carryAt, carryTo, carryFrom, carryImages}
-use Rattle.fmap.specs.InBytes.{recordOf, countIn, startIn, sizeIn, nameIn, Goes, MayCarry, AcceptedByBytes, ImagesAcceptedByBytes}
+use Rattle.fmap.specs.InBytes.{recordOf, countIn, startIn, sizeIn, nameIn, Goes, MayCarry}
+use Rattle.fmap.specs.Claims.{AcceptedByBytes, ImagesAcceptedByBytes}
 use Rattle.fmap.proofs.Finding.{in-range, within}
 use Rattle.fmap.proofs.Places.{place-good, old-stands, new-stands, old-good, new-good, rows-pass, both-stand}
-use Rattle.fmap.proofs.Promises.{is-signed}
+use Rattle.fmap.proofs.Claims.{is-signed}
 use Rattle.fmap.proofs.InBytes.{there, back, start-is, size-is, name-is, marked, unmarked, only, goes-to, good-is-map, carries-bytes}
 use Rattle.fmap.proofs.FromBytes.{map-is-good}
 

@@ -22,7 +22,8 @@ use Rattle.fmap_rules.specs.declared.Area.{Area}
 use Rattle.fmap_rules.specs.Map.{areasOf, blankArea, nameLength, legalName, goodMap}
 use Rattle.fmap.specs.Find.{accepted, findMap}
 use Rattle.fmap.specs.Areas.{called, indexBy, indexNamed}
-use Rattle.fmap.specs.InBytes.{recordOf, countIn, nameIn, CalledAt, NamedByBytes}
+use Rattle.fmap.specs.InBytes.{recordOf, countIn, nameIn, CalledAt}
+use Rattle.fmap.specs.Claims.{NamedByBytes}
 use Rattle.fmap.proofs.Finding.{found-good}
 use Rattle.fmap.proofs.Named.{first-passes, picked}
 use Rattle.fmap.proofs.NameBytes.{wide, few, letter, nothing}

@@ -25,7 +25,8 @@ use Rattle.fmap_rules.proofs.Rules.{none-holds}
 use Rattle.fmap_rules.proofs.Good.{areas-good, map-good}
 use Rattle.fmap_rules.proofs.Signature.{signed-part}
 use Rattle.fmap_rules.proofs.Records.{start-at, size-at, name-at, count-in, count-whole, record-whole}
-use Rattle.fmap.specs.InBytes.{recordOf, countIn, startIn, sizeIn, nameIn, NameAt, endIn, Apart, MapAt, MapIsGood}
+use Rattle.fmap.specs.InBytes.{recordOf, countIn, startIn, sizeIn, nameIn, NameAt, endIn, Apart, MapAt}
+use Rattle.fmap.specs.Claims.{MapIsGood}
 
 first-stops : (xs : List ℕ) (k : ℕ) → ((i : ℕ) → i < k → stops (getD xs i 0) ≡ false) → k < length xs → stops (getD xs k 0) ≡ true → findIx stops xs ≡ k
 first-stops [] k f h e = absurd (not-suc-le-zero h)

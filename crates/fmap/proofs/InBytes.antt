@@ -26,13 +26,14 @@ use Rattle.fmap_rules.proofs.Good.{good-header, good-areas, good-fits, good-wit
 use Rattle.fmap_rules.proofs.Signature.{signed-part}
 use Rattle.fmap_rules.proofs.Records.{start-at, size-at, name-at, flags-at, count-at, areas-count, record-at}
 use Rattle.fmap_carry.specs.Carry.{preserved, withName, target, carryRows}
-use Rattle.fmap_carry.specs.Arrived.{Arrived}
+use Rattle.fmap_carry.specs.Claims.{Arrived}
 use Rattle.fmap_carry.proofs.Passed.{present, size-same}
 use Rattle.fmap.specs.Carry.{carryAt}
-use Rattle.fmap.specs.InBytes.{recordOf, countIn, startIn, sizeIn, nameIn, NameAt, endIn, Apart, MapAt, GoodIsMap, Goes, CarriedBytes, CarriesBytes}
+use Rattle.fmap.specs.InBytes.{recordOf, countIn, startIn, sizeIn, nameIn, NameAt, endIn, Apart, MapAt, Goes, CarriedBytes}
+use Rattle.fmap.specs.Claims.{GoodIsMap, CarriesBytes}
 use Rattle.fmap.proofs.NameBytes.{name-at as name-by-bytes}
 use Rattle.fmap.proofs.Places.{old-good, new-good, rows-pass}
-use Rattle.fmap.proofs.Promises.{arrives}
+use Rattle.fmap.proofs.Claims.{arrives}
 
 -- ---- the areas of a good map by its records
 

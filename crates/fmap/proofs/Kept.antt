@@ -25,14 +25,14 @@ use Rattle.fmap_rules.specs.Written.{areaBytes}
 use Rattle.fmap_rules.proofs.Good.{good-within}
 use Rattle.fmap_rules.proofs.Records.{count-at, areas-count, record-at, area-is-its-bytes, same-map}
 use Rattle.fmap_carry.specs.Carry.{preserved, withName, target, onMap, carryRows}
-use Rattle.fmap_carry.specs.Arrived.{Arrived}
+use Rattle.fmap_carry.specs.Claims.{Arrived}
 use Rattle.fmap.specs.Find.{Reply, accepted, refused, outOfRange, findMap}
 use Rattle.fmap.specs.Areas.{Looked, areaIn, areaBy, areaNumbered}
 use Rattle.fmap.specs.Carry.{placeRows, carryAt}
-use Rattle.fmap.specs.Promises.{AreaBytesAreTheMaps, MapKept, CarryKeepsMap}
+use Rattle.fmap.specs.Claims.{AreaBytesAreTheMaps, MapKept, CarryKeepsMap}
 use Rattle.fmap.proofs.Finding.{found-good}
 use Rattle.fmap.proofs.Places.{old-good, new-good, new-stands, rows-pass}
-use Rattle.fmap.proofs.Promises.{arrives, found-there}
+use Rattle.fmap.proofs.Claims.{arrives, found-there}
 use Rattle.fmap.proofs.InBytes.{held, only}
 
 -- ---- an area's bytes

@@ -4,7 +4,7 @@ pub mod Finding
 pub mod Places
 pub mod Reading
 pub mod Letters
-pub mod Promises
+pub mod Claims
 pub mod Written
 pub mod Named
 pub mod NameBytes

@@ -20,7 +20,7 @@ use Rattle.fmap_rules.specs.Map.{areasOf, blankArea, nameLength, legalName}
 use Rattle.fmap_rules.proofs.Good.{good-areas, legal}
 use Rattle.fmap.specs.Find.{Reply, accepted, refused, findMap}
 use Rattle.fmap.specs.Areas.{called, areaIn, areaBy, areaNumbered, areaNamed, indexBy, indexNamed}
-use Rattle.fmap.specs.Promises.{LongNameIsNothing, IndexIsNamed}
+use Rattle.fmap.specs.Claims.{LongNameIsNothing, IndexIsNamed}
 use Rattle.fmap.proofs.Finding.{found-good}
 
 -- where the first is in range, the test holds there

@@ -5,8 +5,8 @@ use lib.ListN.{length}
 use Rattle.octets.proofs.Puts.{length-put, getD-put-out}
 use Rattle.fmap_rules.specs.Written.{mapBytes}
 use Rattle.fmap_rules.proofs.Written.{bytes-length, written-is-good, written-header}
-use Rattle.fmap.specs.Written.{MapHolds}
-use Rattle.fmap.proofs.Promises.{written-is-found}
+use Rattle.fmap.specs.Claims.{MapHolds}
+use Rattle.fmap.proofs.Claims.{written-is-found}
 
 pub map-holds : MapHolds
 map-holds image at name base minor areas w b low high =

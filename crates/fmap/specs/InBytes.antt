@@ -1,18 +1,11 @@
--- What a good map and a carry are by the image's bytes alone, record by record: no word of the code. Statements only.
+-- What a good map and a carry are by the image's bytes alone, record by record: no word of the code. Definitions only.
 use mathlib.Core.Path.{_≡_}
-use mathlib.Core.Logic.{_↔_, _⊎_}
-use mathlib.Core.Bool.{true}
+use mathlib.Core.Logic.{_⊎_}
 use mathlib.Core.List.{List, _++_}
-use mathlib.Core.Option.{none, some}
 use Prim.Native.Nat.{ℕ, _+_, _*_, _/_, _%_, _≤_, _<_}
 use lib.ListN.{length, getD}
 use Rattle.octets.specs.Ascii.{ascii}
 use Rattle.octets.specs.Bytes.{part, field, zeros}
-use Rattle.fmap_rules.specs.declared.ImagePosition.{ImagePosition}
-use Rattle.fmap_rules.specs.Map.{goodMap}
-use Rattle.fmap.specs.Find.{accepted, findMap}
-use Rattle.fmap.specs.Areas.{indexNamed}
-use Rattle.fmap.specs.Carry.{carryAt, carryImages}
 
 -- (M1), (M2) where record k of a map begins, 56 bytes behind the map's position and 42 a record
 abbrev pub recordOf : ℕ → ℕ → ℕ
@@ -70,24 +63,11 @@ pub record MapAt (image : List ℕ) (at : ℕ) : Type 0 where
   pub own-start : startIn image (recordOf at own-area) ≡ at
   pub own-size : 56 + 42 * countIn image at ≤ sizeIn image (recordOf at own-area)
 
-abbrev pub GoodIsMap : Type 0
-GoodIsMap = (image : List ℕ) (at : ℕ) → goodMap image at ≡ true → MapAt image at
-
--- (M9) and nothing else is asked of a map: flags are not judged
-abbrev pub MapIsGood : Type 0
-MapIsGood = (image : List ℕ) (at : ℕ) → MapAt image at → goodMap image at ≡ true
-
 -- the record that begins at r has this name: its bytes, none of them zero, then a zero
 pub record CalledAt (image : List ℕ) (r : ℕ) (name : List ℕ) : Type 0 where
   pub letters : part (r + 8) (length name) image ≡ name
   pub no-zero : (i : ℕ) → i < length name → getD name i 0 ≡ 0 → ⊥
   pub then-zero : getD image (r + 8 + length name) 0 ≡ 0
-
--- in the map that is found, k is the number of a name exactly when record k has it
-abbrev pub NamedByBytes : Type 0
-NamedByBytes =
-    (image name : List ℕ) (p : ImagePosition) (k : ℕ) → findMap image ≡ accepted p
-    → (indexNamed image name ≡ accepted (some k)) ↔ ((k < countIn image (p .0)) × CalledAt image (recordOf (p .0) k) name)
 
 -- (M11) record i of the old map is marked PRESERVE, and record j of the new map has its name
 pub record Goes (old : List ℕ) (at : ℕ) (new : List ℕ) (bt i j : ℕ) : Type 0 where
@@ -117,17 +97,6 @@ pub record MayCarry (old : List ℕ) (at : ℕ) (new : List ℕ) (bt : ℕ) : Ty
   pub off-map : (i j f : ℕ) → Goes old at new bt i j → f < countIn new bt → nameIn new (recordOf bt f) ≡ ascii "FMAP" ++ zeros 28
       → ShareNone new (recordOf bt j) (recordOf bt f)
 
--- it is accepted exactly then
-abbrev pub AcceptedByBytes : Type 0
-AcceptedByBytes = (old : List ℕ) (at : ℕ) (new : List ℕ) (bt : ℕ) → (carryAt old at new bt .answer ≡ none) ↔ MayCarry old at new bt
-
--- (M13) and a carry with the search exactly when it is by the maps that are found
-abbrev pub ImagesAcceptedByBytes : Type 0
-ImagesAcceptedByBytes =
-    (old new : List ℕ)
-    → (carryImages old new .answer ≡ none)
-    ↔ ((p : ImagePosition) × (q : ImagePosition) × (findMap old ≡ accepted p) × (findMap new ≡ accepted q) × MayCarry old (p .0) new (q .0))
-
 -- (M11), (M12) the bytes that record i says go where record j says, and every other byte stays
 pub record CarriedBytes (old : List ℕ) (at : ℕ) (new : List ℕ) (bt : ℕ) (image : List ℕ) : Type 0 where
   pub same-length : length image ≡ length new
@@ -138,8 +107,3 @@ pub record CarriedBytes (old : List ℕ) (at : ℕ) (new : List ℕ) (bt : ℕ) 
       → ((i j : ℕ) → Goes old at new bt i j
       → (x < startIn new (recordOf bt j)) ⊎ (startIn new (recordOf bt j) + sizeIn new (recordOf bt j) ≤ x))
       → getD image x 0 ≡ getD new x 0
-
-abbrev pub CarriesBytes : Type 0
-CarriesBytes =
-    (old : List ℕ) (at : ℕ) (new : List ℕ) (bt : ℕ) (image : List ℕ) → carryAt old at new bt ≡ record { answer = none; image = image }
-    → CarriedBytes old at new bt image

@@ -4,6 +4,6 @@ pub mod Find
 pub mod Faults
 pub mod Areas
 pub mod Carry
-pub mod Promises
 pub mod Written
 pub mod InBytes
+pub mod Claims

@@ -1,14 +1,14 @@
--- What an image holds after a map was written into it, whatever was listed in the map. Statements only.
+-- What an image holds after a map was written into it, whatever was listed in the map. Definitions only.
 use mathlib.Core.Path.{_≡_}
 use mathlib.Core.Logic.{_⊎_}
 use mathlib.Core.Bool.{true, false}
 use mathlib.Core.List.{List}
-use Prim.Native.Nat.{ℕ, _+_, _≤_, _<_, _^_}
+use Prim.Native.Nat.{ℕ, _+_, _≤_, _<_}
 use lib.ListN.{length, getD}
-use Rattle.octets.specs.Bytes.{rest, put}
+use Rattle.octets.specs.Bytes.{rest}
 use Rattle.fmap_rules.specs.declared.Area.{Area}
 use Rattle.fmap_rules.specs.Map.{position, mapSize, areasOf, goodMap}
-use Rattle.fmap_rules.specs.Written.{mapBytes, Writable, Headed}
+use Rattle.fmap_rules.specs.Written.{Headed}
 use Rattle.fmap.specs.Find.{accepted, findMap}
 
 -- new has the map of these areas at a position, version 1.minor, and is image elsewhere
@@ -22,9 +22,3 @@ pub record Holds (at : ℕ) (name : List ℕ) (base minor : ℕ) (areas : List A
   pub elsewhere : (k : ℕ) → (k < at) ⊎ (at + mapSize (length areas) ≤ k) → getD new k 0 ≡ getD image k 0
   -- L19: A search finds it unless a lower good map exists.
   pub found : ((j : ℕ) → j < at → goodMap new j ≡ false) → findMap new ≡ accepted (position at)
-
-abbrev pub MapHolds : Type 0
-MapHolds =
-    (image : List ℕ) (at : ℕ) (name : List ℕ) (base minor : ℕ) (areas : List Area) → Writable (length image) at name minor areas
-    → base < 256 ^ 8 → 98 ≤ length image → length image ≤ 16777216
-    → Holds at name base minor areas image (put at (mapBytes (length image) name base minor areas) image)

@@ -16,7 +16,7 @@ use Rattle.fmap_rules.specs.declared.Area.{Area}
 use Rattle.fmap_rules.specs.Map.{blankArea, endOf}
 use Rattle.fmap_carry.specs.Carry.{target, carryRows, carried, Outcome, unlessRefused, carryAreas}
 use Rattle.fmap_carry.specs.Invariants.{endsIn}
-use Rattle.fmap_carry.specs.Arrived.{Arrived}
+use Rattle.fmap_carry.specs.Claims.{Arrived}
 use Rattle.fmap_carry.proofs.Passed.{all-apart, fitting}
 use Rattle.fmap_carry.proofs.Carrying.{length-carried, part-carried, arrives}
 

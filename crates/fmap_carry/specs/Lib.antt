@@ -1,4 +1,4 @@
 -- What carrying preserved areas by two given maps does.
 pub mod Carry
 pub mod Invariants
-pub mod Arrived
+pub mod Claims

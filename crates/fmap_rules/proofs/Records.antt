@@ -14,7 +14,8 @@ use Rattle.octets.proofs.Rows.{passes, pick-false}
 use Rattle.octets.proofs.Parts.{length-part, length-rest, getD-part, part-on, part-part, part-of-rest}
 use Rattle.fmap_rules.specs.declared.Area.{Area}
 use Rattle.fmap_rules.specs.Map.{signature, signed, majorOf, minorOf, sizeOf, nameOf, countOf, mapSize, areaOf, areasIn, areasOf, blankArea, legalName, headerRows, goodMapHeader, goodAreas, goodMap}
-use Rattle.fmap_rules.specs.Written.{areaBytes, AreaIsItsBytes}
+use Rattle.fmap_rules.specs.Written.{areaBytes}
+use Rattle.fmap_rules.specs.Claims.{AreaIsItsBytes}
 use Rattle.fmap_rules.proofs.Areas.{length-areas, area-part}
 use Rattle.fmap_rules.proofs.Rules.{holds-none, none-holds}
 use Rattle.fmap_rules.proofs.Good.{good-header, good-areas, good-fits, map-good}

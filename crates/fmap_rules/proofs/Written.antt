@@ -19,7 +19,8 @@ use Rattle.octets.proofs.Puts.{put-eq, length-put}
 use Rattle.octets.proofs.Equal.{same-refl}
 use Rattle.fmap_rules.specs.declared.Area.{Area}
 use Rattle.fmap_rules.specs.Map.{signature, signed, majorOf, minorOf, baseOf, sizeOf, nameOf, countOf, mapSize, areaOf, areasIn, areasOf, blankArea, legalName, headerRows, goodMapHeader, goodAreas, goodMap, holdsMap}
-use Rattle.fmap_rules.specs.Written.{areaBytes, mapBytes, Stored, Writable, WrittenIsGood, WrittenHeader}
+use Rattle.fmap_rules.specs.Written.{areaBytes, mapBytes, Stored, Writable}
+use Rattle.fmap_rules.specs.Claims.{WrittenIsGood, WrittenHeader}
 use Rattle.fmap_rules.proofs.Good.{ends-in, holder, map-good}
 use Rattle.fmap_rules.proofs.Rules.{none-holds}
 

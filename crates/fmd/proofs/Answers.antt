@@ -6,7 +6,7 @@ use native.Mathlib.Omega.{arith}
 use Rattle.octets.specs.Rows.{codeOf}
 use Rattle.fmd_head.proofs.Refusals.{in-range}
 use Rattle.fmd.specs.Calls.{numberOf}
-use Rattle.fmd.specs.Promises.{ZeroIsAccepted}
+use Rattle.fmd.specs.Claims.{ZeroIsAccepted}
 use Rattle.fmd.specs.declared.Answer.{Answer}
 use Rattle.fmd.specs.declared.Answer.the-variants.{Accepted, WrongLength, Refused}
 

@@ -18,11 +18,11 @@ use Rattle.fmd_table.proofs.Spots.{length-placed, none-placed}
 use Rattle.fmd_check.specs.Check.{fault, good, checkText}
 use Rattle.fmd_check.specs.declared.FaultPlace.{FaultPlace}
 use Rattle.fmd_check.proofs.Facts.{check-facts}
-use Rattle.fmd_areas.specs.Areas.{areaFrom, areaAt, areasFrom, layoutAreas}
-use Rattle.fmd_areas.specs.Invariants.{Laid}
-use Rattle.fmd_areas.proofs.Names.{name-short, length-stored}
-use Rattle.fmd_areas.proofs.Places.{ends}
-use Rattle.fmd_areas.proofs.Shape.{length-areas}
+use Rattle.fmd_check.specs.Areas.{areaFrom, areaAt, areasFrom, layoutAreas}
+use Rattle.fmd_check.specs.Invariants.{Laid}
+use Rattle.fmd_check.proofs.Names.{name-short, length-stored}
+use Rattle.fmd_check.proofs.Places.{ends}
+use Rattle.fmd_check.proofs.Shape.{length-areas}
 use Rattle.fmd.specs.Calls.{blankImage, imageOf, saidBy, layoutIn, layoutFor, Said, refusedWith, Read, reading, Written, withMap, writeBy}
 use Rattle.fmd.specs.Invariants.{Held, ReadFor}
 use Rattle.fmd.specs.declared.Image.{Image as SaidImage}

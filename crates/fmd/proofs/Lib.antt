@@ -4,5 +4,5 @@ pub mod Records
 pub mod Layouts
 pub mod Tables
 pub mod Writable
-pub mod Promises
+pub mod Claims
 pub mod Listings

@@ -16,9 +16,9 @@ use Rattle.fmap_rules.specs.Written.{areaBytes}
 use Rattle.fmap_rules.specs.declared.Area.{Area}
 use Rattle.fmd_check.specs.Check.{Checked, fault, good, checkText}
 use Rattle.fmd.specs.Calls.{Said, saidBy, layoutIn, layoutFor, listRecord, filled, listBy, listText, Recorded, recordBy, recordText}
-use Rattle.fmd.specs.Promises.{blankListed, Fills, ListedFills, RefusedListStays, RefusedRecordsStay}
+use Rattle.fmd.specs.Claims.{blankListed, Fills, ListedFills, RefusedListStays, RefusedRecordsStay}
 use Rattle.fmd.specs.declared.SectionRecord.{SectionRecord}
-use Rattle.fmd.proofs.Promises.{said}
+use Rattle.fmd.proofs.Claims.{said}
 
 -- ---- a refusal
 

@@ -19,12 +19,12 @@ use Rattle.fmd_parse.specs.Trees.{blankSection}
 use Rattle.fmd_table.specs.declared.Section.{Section}
 use Rattle.fmd_head.specs.declared.TextImage.{TextImage}
 use Rattle.fmd_table.specs.declared.Placed.{Placed}
-use Rattle.fmd_check.specs.Facts.{Accepted}
-use Rattle.fmd_areas.specs.Areas.{storedName, flagsOf, areaFrom, areaAt, layoutAreas}
-use Rattle.fmd_areas.specs.Nested.{Nested}
-use Rattle.fmd_areas.proofs.Shape.{length-areas, area-at}
-use Rattle.fmd_areas.proofs.Nested.{areas-nested, apart-test}
-use Rattle.fmd_areas.proofs.Names.{length-stored, stored-legal, area-legal, area-name-length, area-fmap, area-names-differ}
+use Rattle.fmd_check.specs.Claims.{Accepted}
+use Rattle.fmd_check.specs.Areas.{storedName, flagsOf, areaFrom, areaAt, layoutAreas}
+use Rattle.fmd_check.specs.Nested.{Nested}
+use Rattle.fmd_check.proofs.Shape.{length-areas, area-at}
+use Rattle.fmd_check.proofs.Nested.{areas-nested, apart-test}
+use Rattle.fmd_check.proofs.Names.{length-stored, stored-legal, area-legal, area-name-length, area-fmap, area-names-differ}
 
 flags-small : (b : Bool) → flagsOf b < 256 ^ 2
 flags-small true = omega arith

@@ -15,7 +15,7 @@ use Rattle.fmd_head.specs.declared.Address.{Address}
 use Rattle.fmd_head.specs.declared.Address.the-variants.{Given, Omitted}
 use Rattle.fmd_head.specs.declared.TextImage.{TextImage}
 use Rattle.fmd_check.specs.Check.{Checked, fault, good, checkText}
-use Rattle.fmd_areas.specs.Areas.{storedName, areaAt, layoutAreas}
+use Rattle.fmd_check.specs.Areas.{storedName, areaAt, layoutAreas}
 use Rattle.fmd.specs.declared.Answer.{Answer}
 use Rattle.fmd.specs.declared.Answer.the-variants.{Accepted, WrongLength, Refused}
 use Rattle.fmd.specs.declared.Image.{Image}

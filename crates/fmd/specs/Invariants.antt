@@ -4,9 +4,9 @@ use mathlib.Core.Path.{_≡_}
 use Prim.Native.Nat.{ℕ, _≤_, _<_}
 use Rattle.fmd_head.specs.declared.TextImage.{TextImage}
 use Rattle.fmd_table.specs.Table.{sectionsIn, placedIn, HasRows, HasSpots}
-use Rattle.fmd_check.specs.Facts.{Accepted}
-use Rattle.fmd_areas.specs.Areas.{layoutAreas}
-use Rattle.fmd_areas.specs.Invariants.{Laid}
+use Rattle.fmd_check.specs.Claims.{Accepted}
+use Rattle.fmd_check.specs.Areas.{layoutAreas}
+use Rattle.fmd_check.specs.Invariants.{Laid}
 use Rattle.fmd.specs.Calls.{numberOf, layoutFor}
 use Rattle.fmd.specs.declared.Counted.{Counted}
 

@@ -8,14 +8,14 @@ ghost use Rattle.octets.specs.Rows.{codeOf};
 ghost use Rattle.fmap_rules.specs.Map.{position};
 ghost use Rattle.fmd_table.specs.Table.{sectionsIn, placedIn, HasRows, HasSpots};
 ghost use Rattle.fmd_check.specs.Check.{good};
-ghost use Rattle.fmd_areas.specs.Areas.{areaAt, layoutAreas};
-ghost use Rattle.fmd_areas.specs.Invariants.{Laid};
+ghost use Rattle.fmd_check.specs.Areas.{areaAt, layoutAreas};
+ghost use Rattle.fmd_check.specs.Invariants.{Laid};
 ghost use Rattle.fmd.specs.Calls.{numberOf, blankImage, addressOf, imageOf, saidBy, reading, readText, listRecord, filled, listOf};
 ghost use Rattle.fmd.specs.Calls.{listText, recorded, recordText, written, writeBy, writeText};
 ghost use Rattle.fmd.specs.Invariants.{Held, ReadFor};
 use fmap_rules::ImagePosition;
-use fmd_areas::area_at;
 use fmd_check::Verdict;
+use fmd_check::areas::area_at;
 use fmd_head::Address;
 use fmd_head::Refusal;
 use fmd_head::TextImage;
@@ -104,7 +104,7 @@ fn image_of(text: &[u8], i: TextImage, count: usize) -> Image
     ensures { λ r. ⌜ r ≡ imageOf (now (text .entry)) i count ⌝ }
 {
     let address = i.address;
-    let name = fmd_areas::stored_name(text, i.place as u32, i.length as u32);
+    let name = fmd_check::areas::stored_name(text, i.place as u32, i.length as u32);
     Image {
         name: name,
         size: i.size,
@@ -223,7 +223,7 @@ pub fn put_records(text: &[u8], records: &mut [u8]) -> LayoutReading
     let mut spots = [0u32; SPOTS];
     match fmd_check::check(text, &mut rows, &mut spots) {
         Verdict::Good(i, n, _) => {
-            fmd_areas::put_areas(text, &rows, &spots, n, records, 0);
+            fmd_check::areas::put_areas(text, &rows, &spots, n, records, 0);
             let image = image_of(text, i, n);
             LayoutReading {
                 answer: Answer::Accepted,
@@ -268,7 +268,7 @@ fn put_layout(
     let x = image_of(text, i, n);
     let name = x.name;
     fmap_write::put_header(image, start, x.size, name, x.address as u64, 1, n as u16);
-    fmd_areas::put_areas(text, rows, spots, n, image, start + 56);
+    fmd_check::areas::put_areas(text, rows, spots, n, image, start + 56);
     Writing {
         answer: Answer::Accepted,
         at: at,

@@ -11,24 +11,25 @@ use borrow.Author.Tests.{ltb-true, ltb-false, leb-true, eqb-true}
 use Rattle.octets.specs.Tests.{_and_, _or_, all, any}
 use Rattle.octets.proofs.Bools.{choice, and-l, and-r, or-cases, or-false-l, or-false-r, clash}
 use Rattle.fmap_rules.specs.Map.{mapSize}
-use Rattle.fmd_parse.specs.Trees.{blankSection, Tree, Imaged, LayoutFacts}
+use Rattle.fmd_parse.specs.Trees.{blankSection, Tree, Imaged}
+use Rattle.fmd_parse.specs.Claims.{LayoutFacts}
 use Rattle.fmd_parse.specs.Layouts.{Layout, layout, refused, layoutOf}
 use Rattle.fmd_table.specs.Table.{blankPlaced}
 use Rattle.fmd_table.specs.declared.Section.{Section}
 use Rattle.fmd_head.specs.declared.TextImage.{TextImage}
 use Rattle.fmd_parse.proofs.Trees.{layout-facts}
-use Rattle.fmd_rows.specs.Rows.{foundFrom, repeats, firstRepeat, holdsCbfs, firstCbfs, undecided, firstUndecided, isFmap, fmapIn, hasChild}
-use Rattle.fmd_rows.specs.declared.Found.{Found}
-use Rattle.fmd_rows.specs.declared.Found.the-variants.{At, Nowhere}
-use Rattle.fmd_rows.proofs.Rows.{FirstFacts, first-facts}
+use Rattle.fmd_parse.specs.Rows.{foundFrom, repeats, firstRepeat, holdsCbfs, firstCbfs, undecided, firstUndecided, isFmap, fmapIn, hasChild}
+use Rattle.fmd_parse.specs.declared.rows.Found.{Found}
+use Rattle.fmd_parse.specs.declared.rows.Found.the-variants.{At, Nowhere}
+use Rattle.fmd_parse.proofs.RowLoops.{FirstFacts, first-facts}
 use Rattle.fmd_check.specs.Plans.{Resolved, unfit, unsized, plan, resolveFrom}
-use Rattle.fmd_check.specs.Fitted.{Fitted, ResolvedFacts}
+use Rattle.fmd_check.specs.Fitted.{Fitted}
+use Rattle.fmd_check.specs.Claims.{ResolvedFacts, LayoutNumber, CheckedFacts}
 use Rattle.fmd_table.specs.declared.Placed.{Placed}
 use Rattle.fmd_check.proofs.Fitted.{resolve-facts}
 use Rattle.fmd_check.specs.Check.{Checked, fault, noMap, checkLayout, checkText}
 use Rattle.fmd_check.specs.Invariants.{checkFrom}
 use Rattle.fmd_check.proofs.Stages.{named, whole, at-54, on-54, at-56, on-56, at-57, at-58, on-58, no-map, bad-map, good-map}
-use Rattle.fmd_check.specs.Facts.{LayoutNumber, CheckedFacts}
 
 -- the numbers of a list lie between two
 between : (a b n : ℕ) (xs : List ℕ) → all (λ x. leb a x and leb x b) xs ≡ true → any (eqb n) xs ≡ true → (a ≤ n) × (n ≤ b)

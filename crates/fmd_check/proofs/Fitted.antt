@@ -22,12 +22,13 @@ use Rattle.fmd_table.specs.declared.Size.the-variants.{Given as GivenSize, Omit
 use Rattle.fmd_table.specs.declared.Section.{Section}
 use Rattle.fmd_table.specs.declared.Placed.{Placed}
 use Rattle.fmd_check.specs.Plans.{placedEnd, endWith, siblingEnd, roomOf, startOf, fits, spotOf, spotBy, spotIn, spotFor, Resolved, afterSpot, resolveFrom}
-use Rattle.fmd_check.specs.Fitted.{Siblings, Neighbours, BeginsAt, EndsAt, Lies, Sized, ResolvedFacts}
-use Rattle.fmd_rows.specs.Rows.{siblingIn, reachOf, isUndecided, undecided}
-use Rattle.fmd_rows.specs.declared.Reach.{Reach}
-use Rattle.fmd_rows.specs.declared.Reach.the-variants.{OfSize, UpTo, ToParentEnd, Undecided}
-use Rattle.fmd_rows.specs.declared.Sibling.{Sibling}
-use Rattle.fmd_rows.specs.declared.Sibling.the-variants.{Next, Last}
+use Rattle.fmd_check.specs.Fitted.{Siblings, Neighbours, BeginsAt, EndsAt, Lies, Sized}
+use Rattle.fmd_check.specs.Claims.{ResolvedFacts}
+use Rattle.fmd_parse.specs.Rows.{siblingIn, reachOf, isUndecided, undecided}
+use Rattle.fmd_parse.specs.declared.rows.Reach.{Reach}
+use Rattle.fmd_parse.specs.declared.rows.Reach.the-variants.{OfSize, UpTo, ToParentEnd, Undecided}
+use Rattle.fmd_parse.specs.declared.rows.Sibling.{Sibling}
+use Rattle.fmd_parse.specs.declared.rows.Sibling.the-variants.{Next, Last}
 use Rattle.fmd_check.specs.declared.plan.Spot.{Spot}
 use Rattle.fmd_check.specs.declared.plan.Spot.the-variants.{Fits, Unfit, NoSize}
 

@@ -20,7 +20,8 @@ use Rattle.fmd_table.specs.declared.Size.the-variants.{Given as GivenSize, Omit
 use Rattle.fmd_table.specs.declared.Section.{Section}
 use Rattle.fmd_table.specs.declared.Placed.{Placed}
 use Rattle.fmd_check.specs.Plans.{placedEnd, roomOf}
-use Rattle.fmd_check.specs.Fitted.{Siblings, Neighbours, BeginsAt, EndsAt, Fitted, FittedOnce}
+use Rattle.fmd_check.specs.Fitted.{Siblings, Neighbours, BeginsAt, EndsAt, Fitted}
+use Rattle.fmd_check.specs.Claims.{FittedOnce}
 
 -- ---- a section has a previous sibling or none, and a next one or none
 

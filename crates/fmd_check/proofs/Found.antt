@@ -8,15 +8,16 @@ use lib.ListN.{length}
 use Rattle.fmd_table.specs.Table.{sectionsIn}
 use Rattle.fmd_table.proofs.Table.{length-sections}
 use Rattle.fmd_parse.specs.Layouts.{layout, layoutOf}
-use Rattle.fmd_parse.specs.Trees.{LayoutFacts}
+use Rattle.fmd_parse.specs.Claims.{LayoutFacts}
 use Rattle.fmd_head.specs.declared.TextImage.{TextImage}
 use Rattle.fmd_parse.proofs.Trees.{layout-facts}
-use Rattle.fmd_rows.specs.Rows.{foundFrom, firstUndecided}
-use Rattle.fmd_rows.specs.Invariants.{Inside}
-use Rattle.fmd_rows.specs.declared.Found.the-variants.{At, Nowhere}
-use Rattle.fmd_rows.proofs.Rows.{FirstFacts, first-facts, inside}
+use Rattle.fmd_parse.specs.Rows.{foundFrom, firstUndecided}
+use Rattle.fmd_parse.specs.Invariants.{Inside}
+use Rattle.fmd_parse.specs.declared.rows.Found.the-variants.{At, Nowhere}
+use Rattle.fmd_parse.proofs.RowLoops.{FirstFacts, first-facts, inside}
 use Rattle.fmd_check.specs.Plans.{unfit, unsized, plan, resolveFrom}
-use Rattle.fmd_check.specs.Fitted.{Sized, ResolvedFacts}
+use Rattle.fmd_check.specs.Fitted.{Sized}
+use Rattle.fmd_check.specs.Claims.{ResolvedFacts}
 use Rattle.fmd_check.proofs.Fitted.{resolve-facts}
 use Rattle.fmd_table.specs.declared.Placed.{Placed}
 use Rattle.fmd_check.proofs.Stages.{unsized-here, all-sized}

@@ -4,3 +4,9 @@ pub mod FittedOnce
 pub mod Stages
 pub mod Found
 pub mod Facts
+pub mod Places
+pub mod Shape
+pub mod Nested
+pub mod Names
+pub mod Listed
+pub mod Stands

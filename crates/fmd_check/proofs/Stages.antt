@@ -11,10 +11,10 @@ use Rattle.fmd_table.specs.declared.Section.{Section}
 use Rattle.fmd_table.specs.declared.Placed.{Placed}
 use Rattle.fmd_parse.specs.Trees.{blankSection}
 use Rattle.fmd_head.specs.declared.TextImage.{TextImage}
-use Rattle.fmd_rows.specs.Rows.{foundFrom, firstRepeat, firstCbfs, undecided, firstUndecided, fmapIn}
-use Rattle.fmd_rows.specs.declared.Found.{Found}
-use Rattle.fmd_rows.specs.declared.Found.the-variants.{At, Nowhere}
-use Rattle.fmd_rows.proofs.Rows.{first-stop, first-done, first-from}
+use Rattle.fmd_parse.specs.Rows.{foundFrom, firstRepeat, firstCbfs, undecided, firstUndecided, fmapIn}
+use Rattle.fmd_parse.specs.declared.rows.Found.{Found}
+use Rattle.fmd_parse.specs.declared.rows.Found.the-variants.{At, Nowhere}
+use Rattle.fmd_parse.proofs.RowLoops.{first-stop, first-done, first-from}
 use Rattle.fmd_check.specs.Plans.{Resolved, unfit, plan, resolveFrom}
 use Rattle.fmd_check.specs.Fitted.{Sized}
 use Rattle.fmd_check.specs.Check.{fault, good, noMap, faultPlace, indexOf, checkList}

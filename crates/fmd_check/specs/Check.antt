@@ -16,9 +16,9 @@ use Rattle.fmd_parse.specs.Trees.{blankSection}
 use Rattle.fmd_parse.specs.Layouts.{Layout, layout, refused, layoutOf}
 use Rattle.fmd_head.specs.Refusals.{numberOf}
 use Rattle.fmd_head.specs.declared.TextImage.{TextImage}
-use Rattle.fmd_rows.specs.Rows.{isFound, firstRepeat, firstCbfs, firstUndecided, fmapIn, hasChild}
-use Rattle.fmd_rows.specs.declared.Found.{Found}
-use Rattle.fmd_rows.specs.declared.Found.the-variants.{At, Nowhere}
+use Rattle.fmd_parse.specs.Rows.{isFound, firstRepeat, firstCbfs, firstUndecided, fmapIn, hasChild}
+use Rattle.fmd_parse.specs.declared.rows.Found.{Found}
+use Rattle.fmd_parse.specs.declared.rows.Found.the-variants.{At, Nowhere}
 use Rattle.fmd_check.specs.Plans.{Resolved, unfit, unsized, plan, resolveFrom}
 use Rattle.fmd_check.specs.declared.FaultPlace.{FaultPlace}
 use Rattle.fmd_check.specs.declared.FaultPlace.the-variants.{Byte, NoPlace}

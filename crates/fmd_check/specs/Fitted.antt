@@ -1,8 +1,8 @@
--- What holds of every resolution: the statements of theorems (proofs/Fitted: resolve-facts, proofs/FittedOnce: fitted-once).
+-- Offsets and sizes of a section list, said by siblings and parents and not by how they are found. Definitions only.
 use mathlib.Core.List.{List}
 use mathlib.Core.Path.{_≡_}
-use mathlib.Core.Bool.{true, false}
-use Prim.Native.Nat.{ℕ, _+_, _≤_, _<_}
+use mathlib.Core.Bool.{false}
+use Prim.Native.Nat.{ℕ, _≤_, _<_}
 use lib.ListN.{length, getD, take}
 use Rattle.fmd_table.specs.declared.Offset.{Offset}
 use Rattle.fmd_table.specs.declared.Offset.the-variants.{Given as GivenOffset, Omitted as OmittedOffset}
@@ -12,8 +12,8 @@ use Rattle.fmd_parse.specs.Trees.{blankSection}
 use Rattle.fmd_table.specs.Table.{blankPlaced}
 use Rattle.fmd_table.specs.declared.Section.{Section}
 use Rattle.fmd_table.specs.declared.Placed.{Placed}
-use Rattle.fmd_check.specs.Plans.{placedEnd, roomOf, Resolved, unfit, unsized, plan}
-use Rattle.fmd_rows.specs.Rows.{undecided}
+use Rattle.fmd_check.specs.Plans.{placedEnd, roomOf}
+use Rattle.fmd_parse.specs.Rows.{undecided}
 
 -- sections j and k of the list l have the same parent
 abbrev pub Siblings : List Section → ℕ → ℕ → Type 0
@@ -53,15 +53,6 @@ pub record Fitted (z : ℕ) (l : List Section) (ps : List Placed) : Type 0 where
   pub parent : (k : ℕ) → k < length ps → getD ps k blankPlaced .parent ≡ getD l k blankSection .parent
   pub level : (k : ℕ) → k < length ps → getD ps k blankPlaced .level ≡ getD l k blankSection .level
 
--- nothing else is open: the image's size and the sections decide the places
-abbrev pub FittedOnce : Type 0
-FittedOnce = (z : ℕ) (l : List Section) (ps qs : List Placed) → Fitted z l ps → Fitted z l qs → ps ≡ qs
-
 -- (L13) below k every size is decided
 abbrev pub Sized : List Section → ℕ → Type 0
 Sized l k = (j : ℕ) → j < k → undecided l j ≡ false
-
-abbrev pub ResolvedFacts : ℕ → List Section → Resolved → Type 0
-ResolvedFacts z l (unfit k) = (k < length l) × Sized l (k + 1)
-ResolvedFacts z l (unsized k) = (k < length l) × Sized l k × (undecided l k ≡ true)
-ResolvedFacts z l (plan ps) = Fitted z l ps × Sized l (length l)

@@ -10,9 +10,9 @@ use Rattle.fmd_table.specs.declared.Offset.{Offset}
 use Rattle.fmd_table.specs.declared.Offset.the-variants.{Given as GivenOffset, Omitted as OmittedOffset}
 use Rattle.fmd_table.specs.declared.Section.{Section}
 use Rattle.fmd_table.specs.declared.Placed.{Placed}
-use Rattle.fmd_rows.specs.Rows.{siblingIn, reachOf}
-use Rattle.fmd_rows.specs.declared.Reach.{Reach}
-use Rattle.fmd_rows.specs.declared.Reach.the-variants.{OfSize, UpTo, ToParentEnd, Undecided}
+use Rattle.fmd_parse.specs.Rows.{siblingIn, reachOf}
+use Rattle.fmd_parse.specs.declared.rows.Reach.{Reach}
+use Rattle.fmd_parse.specs.declared.rows.Reach.the-variants.{OfSize, UpTo, ToParentEnd, Undecided}
 use Rattle.fmd_check.specs.declared.plan.Spot.{Spot}
 use Rattle.fmd_check.specs.declared.plan.Spot.the-variants.{Fits, Unfit, NoSize}
 use Rattle.fmd_check.specs.declared.plan.Resolution.{Resolution}

@@ -1,4 +1,4 @@
-// All refusals of a layout text, in their order: 50, the first fault in the text, then 54, 56, 57, 58 and 59 over the whole list.
+// All refusals of a layout text, in their order: 50, the first fault in the text, then 54, 56, 57, 58 and 59 over the whole list; the sections as areas.
 // The sections and their places stand in two lent tables, in the first n rows.
 // An inner crate: no user calls it, so its functions may have a `requires`, which each caller meets.
 ghost use mathlib.Core.List.{List, []};
@@ -8,7 +8,7 @@ ghost use lib.ListN.{getD};
 ghost use Rattle.fmd_table.specs.Table.{sectionsIn, placedIn, HasRows, HasSpots};
 ghost use Rattle.fmd_table.specs.Invariants.{Linked};
 ghost use Rattle.fmd_parse.specs.Trees.{blankSection};
-ghost use Rattle.fmd_rows.specs.Invariants.{Inside};
+ghost use Rattle.fmd_parse.specs.Invariants.{Inside};
 ghost use Rattle.fmd_check.specs.Plans.{unfit, plan, resolveFrom};
 ghost use Rattle.fmd_check.specs.Fitted.{Sized};
 ghost use Rattle.fmd_check.specs.Check.{verdictOf, noMap, checkText};
@@ -17,9 +17,10 @@ use crate::plan::Resolution;
 use fmd_head::Refusal;
 use fmd_head::TextImage;
 use fmd_parse::LayoutAnswer;
-use fmd_rows::Found;
+use fmd_parse::rows::Found;
 use fmd_table::row_at;
 
+pub mod areas; // areas.rt: the sections as areas of a map
 mod plan; // plan.rt: offsets and sizes of the sections
 
 // Where a fault stands in the text, if it does.
@@ -48,7 +49,7 @@ fn no_map(rows: &[u32], spots: &[u32], n: usize, k: usize) -> bool
     requires { ⌜ HasRows n (now rows) × HasSpots n (now spots) × Linked n (now rows) × (k < n) ⌝ }
     ensures { λ r. ⌜ r ≡ noMap (sectionsIn n (now (rows .entry))) (placedIn n (now (spots .entry))) (Found.At k) ⌝ }
 {
-    if fmd_rows::has_child(rows, n, k) {
+    if fmd_parse::rows::has_child(rows, n, k) {
         return true;
     }
     let q = fmd_table::placed_at(spots, k);
@@ -61,7 +62,7 @@ fn check_map(text: &[u8], i: TextImage, rows: &[u32], spots: &[u32], n: usize) -
     ensures { λ r. ⌜ verdictOf r (now (rows .entry)) (now (spots .entry))
         ≡ checkFrom 4 (now (text .entry)) i (sectionsIn n (now (rows .entry))) (plan (placedIn n (now (spots .entry)))) ⌝ }
 {
-    match fmd_rows::find_fmap(text, rows, n) {
+    match fmd_parse::rows::find_fmap(text, rows, n) {
         Found::Nowhere => Verdict::Fault(Refusal::NoMapSection, FaultPlace::NoPlace),
         Found::At(k) => {
             if no_map(rows, spots, n, k) {
@@ -78,7 +79,7 @@ fn unfit_at(rows: &[u32], n: usize, k: usize) -> Verdict
     ensures { λ r. ⌜ ((s : List ℕ) (i : TextImage) (spots : List ℕ) → verdictOf r (now (rows .entry)) spots
         ≡ checkFrom 2 s i (sectionsIn n (now (rows .entry))) (unfit k)) ⌝ }
 {
-    match fmd_rows::first_undecided(rows, n, k + 1) {
+    match fmd_parse::rows::first_undecided(rows, n, k + 1) {
         Found::At(j) => fault_at(Refusal::Undecided, rows, n, j),
         Found::Nowhere => fault_at(Refusal::Unfit, rows, n, k),
     }
@@ -103,7 +104,7 @@ fn check_marks(text: &[u8], i: TextImage, rows: &[u32], spots: &mut [u32], n: us
     ensures { λ r. ⌜ verdictOf r (now (rows .entry)) (now (spots .exit))
         ≡ checkFrom 1 (now (text .entry)) i (sectionsIn n (now (rows .entry))) (resolveFrom (i .size) [] (sectionsIn n (now (rows .entry)))) ⌝ }
 {
-    match fmd_rows::first_cbfs(rows, n) {
+    match fmd_parse::rows::first_cbfs(rows, n) {
         Found::At(k) => fault_at(Refusal::BadFlag, rows, n, k),
         Found::Nowhere => check_places(text, i, rows, spots, n),
     }
@@ -115,7 +116,7 @@ fn check_list(text: &[u8], i: TextImage, rows: &[u32], spots: &mut [u32], n: usi
     ensures { λ r. ⌜ verdictOf r (now (rows .entry)) (now (spots .exit))
         ≡ checkFrom 0 (now (text .entry)) i (sectionsIn n (now (rows .entry))) (resolveFrom (i .size) [] (sectionsIn n (now (rows .entry)))) ⌝ }
 {
-    match fmd_rows::first_repeat(text, rows, n) {
+    match fmd_parse::rows::first_repeat(text, rows, n) {
         Found::At(k) => fault_at(Refusal::NameTwice, rows, n, k),
         Found::Nowhere => check_marks(text, i, rows, spots, n),
     }

@@ -7,7 +7,7 @@ ghost use Rattle.fmd_table.specs.Table.{sectionsIn, placedIn, HasRows, HasSpots
 ghost use Rattle.fmd_table.specs.Invariants.{Linked};
 ghost use Rattle.fmd_parse.specs.Trees.{blankSection};
 ghost use Rattle.fmd_check.specs.Plans.{siblingEnd, roomOf, startOf, spotOf, spotIn, spotFor, resolveFrom, resolvedBy};
-use fmd_rows::Reach;
+use fmd_parse::rows::Reach;
 use fmd_table::Offset;
 use fmd_table::ParentOffset;
 use fmd_table::Placed;
@@ -123,7 +123,7 @@ fn place_at(rows: &[u32], n: usize, k: usize, spots: &[u32], size: u32) -> Spot
     let h = row_at(rows, k);
     let e = end_in(spots, k, h.parent);
     let room = room_of(spots, k, h.parent, size);
-    let reach = fmd_rows::reach_of(rows, n, k, h);
+    let reach = fmd_parse::rows::reach_of(rows, n, k, h);
     spot_in(h, e, room, reach)
 }
 

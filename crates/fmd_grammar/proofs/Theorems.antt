@@ -8,7 +8,7 @@ use native.Mathlib.Omega.{arith}
 use lib.ListN.{length}
 use Rattle.octets.proofs.Bools.{choice, clash}
 use Rattle.octets.specs.Tests.{_or_}
-use Rattle.fmd_parse.specs.Trees.{LayoutFacts}
+use Rattle.fmd_parse.specs.Claims.{LayoutFacts}
 use Rattle.fmd_parse.proofs.Trees.{layout-facts}
 use Rattle.fmd_lex.specs.Tokens.{endKind, tokenAt}
 use Rattle.fmd_lex.specs.Numbers.{numberIn}

@@ -9,9 +9,9 @@ use Rattle.octets.specs.Ascii.{ascii}
 use Rattle.octets.specs.Bytes.{flat}
 use Rattle.octets.specs.Rows.{codeOf}
 use Rattle.fmd_check.specs.Check.{Checked, fault, good, checkText}
-use Rattle.fmd_check.specs.Facts.{CheckedFacts}
+use Rattle.fmd_check.specs.Claims.{CheckedFacts}
 use Rattle.fmd_check.proofs.Facts.{check-facts}
-use Rattle.fmd_areas.proofs.Shape.{length-areas}
+use Rattle.fmd_check.proofs.Shape.{length-areas}
 use Rattle.fmd.specs.Calls.{Listed, numberOf, imageOf, saidBy, layoutIn, listRecord, listBy, layoutFor, listText, listOf}
 use Rattle.fmd.specs.declared.LayoutReading.{LayoutReading}
 use Rattle.fmd.specs.declared.SectionRecord.{SectionRecord}

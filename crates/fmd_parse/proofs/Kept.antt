@@ -26,7 +26,8 @@ use Rattle.fmd_lex.proofs.Places.{token-within, word-bytes}
 use Rattle.fmd_head.specs.Refusals.{numberOf as refusalNumber}
 use Rattle.fmd_head.specs.Heads.{next, isKind, counted, amountAt, onward, namedAt, marked, markAt, lastAt, otherAt, flagsAt, withOffset}
 use Rattle.fmd_head.specs.Heads.{offsetAt, withSize, sizeAt, headAt}
-use Rattle.fmd_parse.specs.Trees.{FaultNumber, Named}
+use Rattle.fmd_parse.specs.Trees.{Named}
+use Rattle.fmd_parse.specs.Claims.{FaultNumber}
 use Rattle.fmd_table.specs.declared.Section.{Section}
 use Rattle.fmd_head.specs.declared.Amount.{Amount}
 use Rattle.fmd_head.specs.declared.Amount.the-variants.{Counted, Uncounted}

@@ -19,7 +19,8 @@ use Rattle.fmd_head.specs.Refusals.{numberOf}
 use Rattle.fmd_head.specs.Heads.{next, isKind, amountAt, headAt}
 use Rattle.fmd_head.specs.Images.{onward, titleAt, withAddress, addressAt, withLength, lengthAt, openAt, imageAt}
 use Rattle.fmd_parse.specs.Layouts.{Parsed, fault, parsed, afterHead, afterSection, sectionFrom, listFrom, afterImage, afterList, endedBy, layoutOf}
-use Rattle.fmd_parse.specs.Trees.{Named, blankSection, Under, Standing, Tree, AddressFits, Imaged, LayoutFacts}
+use Rattle.fmd_parse.specs.Trees.{Named, blankSection, Under, Standing, Tree, AddressFits, Imaged}
+use Rattle.fmd_parse.specs.Claims.{LayoutFacts}
 use Rattle.fmd_table.specs.declared.Section.{Section}
 use Rattle.fmd_head.specs.declared.Refusal.{Refusal}
 use Rattle.fmd_head.specs.declared.HeadPart.{HeadPart}

@@ -1,26 +1,20 @@
--- What holds of every fault, and of the sections of every text that is accepted: the statement of a theorem (proofs/Trees: layout-facts).
+-- What image and sections of a text are: their names lie in it, and children stand after their parents. Definitions only.
 use mathlib.Core.Path.{_≡_}
 use mathlib.Core.Logic.{_⊎_}
 use mathlib.Core.Bool.{true, false}
-use mathlib.Core.List.{List, [], _∷_}
+use mathlib.Core.List.{List}
 use Prim.Native.Nat.{ℕ, _+_, _≤_, _<_}
-use lib.Dec.{eqb}
 use lib.ListN.{length, getD}
-use Rattle.octets.specs.Tests.{all, any}
+use Rattle.octets.specs.Tests.{all}
 use Rattle.octets.specs.Bytes.{part}
 use Rattle.fmd_lex.specs.Chars.{isWord}
 use Rattle.fmd_lex.specs.Names.{goodName}
-use Rattle.fmd_parse.specs.Layouts.{Layout, layout, refused}
 use Rattle.fmd_table.specs.declared.Offset.the-variants.{Given as GivenOffset}
 use Rattle.fmd_table.specs.declared.Size.the-variants.{Given as GivenSize}
 use Rattle.fmd_head.specs.declared.Address.{Address}
 use Rattle.fmd_head.specs.declared.Address.the-variants.{Given, Omitted}
 use Rattle.fmd_table.specs.declared.Section.{Section}
 use Rattle.fmd_head.specs.declared.TextImage.{TextImage}
-
--- R33: the first fault in the text (51, 52, 53, 55, unknown or repeated flag 56)
-abbrev pub FaultNumber : ℕ → Type 0
-FaultNumber n = any (eqb n) (51 ∷ 52 ∷ 53 ∷ 55 ∷ 56 ∷ []) ≡ true
 
 -- a name of n bytes at the place p: in the text, of bytes of a word, as L6 says
 pub record Named (s : List ℕ) (p n : ℕ) : Type 0 where
@@ -68,8 +62,3 @@ pub record Imaged (s : List ℕ) (i : TextImage) : Type 0 where
   pub address : AddressFits (i .address)
   pub low : 98 ≤ i .size
   pub high : i .size ≤ 16777216
-
--- L3: Braces hold at least one section.
-abbrev pub LayoutFacts : List ℕ → Layout → Type 0
-LayoutFacts s (refused n p) = FaultNumber n × (p ≤ length s)
-LayoutFacts s (layout i l) = Imaged s i × Tree s l × (0 < length l)

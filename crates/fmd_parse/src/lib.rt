@@ -1,4 +1,4 @@
-// Image and sections of a layout text, or its first fault.
+// Image and sections of a layout text, or its first fault; the rows of the whole section list that the text alone decides.
 // An inner crate: no user calls it, so its functions may have a `requires`, which each caller meets.
 ghost use mathlib.Core.List.{List};
 ghost use mathlib.Core.Path.{_≡_};
@@ -13,6 +13,7 @@ use fmd_head::TextImage;
 use fmd_lex::Token;
 use fmd_lex::next_token;
 
+pub mod rows; // rows.rt: the rows of the whole section list
 mod braces; // braces.rt: a section, and the sections in braces
 
 // The token after what was read, and how many sections the table then has; or a fault and its place.

@@ -12,7 +12,7 @@ use Rattle.octets.specs.Tests.{_and_, all}
 use Rattle.octets.proofs.Bools.{and-l, and-r, and-i, and-false-l, bool-cases}
 use Rattle.octets.proofs.Tests.{all-get}
 use Rattle.octets.proofs.Filled.{Filled, filled-on}
-use Rattle.guid.specs.Promises.{areBytes}
+use Rattle.guid.specs.Claims.{areBytes}
 use Rattle.guid.specs.Hex.{hexValue, isHexDigit, bytesOf, hexDigitOf, digitsOf, upper}
 
 -- ---- ranges

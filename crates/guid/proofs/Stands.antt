@@ -22,10 +22,11 @@ use Rattle.guid.specs.Hex.{hexValue, isHexDigit, bytesOf, upper}
 use Rattle.guid.specs.Text.{digitsIn, dashesIn, isGuidText, reordered, storedOf, textOf}
 use Rattle.guid.specs.Types.{shortAt, expand}
 use Rattle.guid.specs.Calls.{Outcome, readTextRows, readOf, writeRows}
-use Rattle.guid.specs.Promises.{areBytes, Digit, inText, inBytes, StandsFor, ReadsText, WritesText, ReadsTypes}
+use Rattle.guid.specs.Claims.{areBytes, ReadsText, WritesText, ReadsTypes}
+use Rattle.guid.specs.Stands.{Digit, inText, inBytes, StandsFor}
 use Rattle.guid.proofs.Hex.{inside, value-decimal, value-upper, value-lower, value-none}
 use Rattle.guid.proofs.Calls.{text-length, text-dashes, text-all, length-stored, read-done, write-done}
-use Rattle.guid.proofs.Promises.{text-is, stored-text, text-stored, read-rows, read-is-text, read-buffer, write-rows, write-length, write-buffer}
+use Rattle.guid.proofs.Claims.{text-is, stored-text, text-stored, read-rows, read-is-text, read-buffer, write-rows, write-length, write-buffer}
 
 -- ---- a digit
 

@@ -4,4 +4,5 @@ pub mod Text
 pub mod Types
 pub mod Table
 pub mod Calls
-pub mod Promises
+pub mod Stands
+pub mod Claims

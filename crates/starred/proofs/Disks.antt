@@ -27,7 +27,7 @@ use Rattle.gpt_model.proofs.Copies.{header-reads, written-header}
 use Rattle.gpt_model.proofs.Outcomes.{step-refused, step-accepted, edit-decides, open-none}
 use Rattle.gpt_model.proofs.Steps.{Kept, keeps}
 use Rattle.gpt_model.proofs.Demand3.{format-refused, formatted, format-starts, starts-kept, notEmpty}
-use Rattle.starred.specs.Starred.{After, lengthsIn, edits2, edits4, edits5, Sample1, Sample2, Sample3, Sample4, Sample5}
+use Rattle.starred.specs.Claims.{After, lengthsIn, edits2, edits4, edits5, Sample1, Sample2, Sample3, Sample4, Sample5}
 
 -- ---- answers on the table alone
 

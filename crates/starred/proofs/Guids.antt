@@ -7,7 +7,7 @@ use Rattle.guid.specs.Hex.{hexValue, bytesOf}
 use Rattle.guid.specs.Text.{digitsIn, dashesIn, isGuidText, reordered, storedOf}
 use Rattle.guid.specs.Types.{shortAt, expand}
 use Rattle.guid.specs.Calls.{unlessRefused, readOf}
-use Rattle.starred.specs.Starred.{Sample6}
+use Rattle.starred.specs.Claims.{Sample6}
 
 pub sample6 : Sample6
 unfolding zeros part rest same _and_ pickRow hexValue bytesOf digitsIn dashesIn isGuidText reordered storedOf shortAt expand unlessRefused readOf

@@ -11,7 +11,7 @@ use Rattle.fmd_lex.specs.Names.{goodName}
 use Rattle.fmd_head.specs.Heads.{amountAt, namedAt, flagsAt, offsetAt, sizeAt, headAt}
 use Rattle.fmd_head.specs.Images.{titleAt, addressAt, lengthAt, openAt, imageAt}
 use Rattle.fmd_parse.specs.Layouts.{sectionFrom, listFrom, layoutOf}
-use Rattle.starred.specs.Starred.{Sample7, Sample8}
+use Rattle.starred.specs.Claims.{Sample7, Sample8}
 
 pub sample7 : Sample7
 unfolding layoutOf imageAt titleAt addressAt lengthAt openAt listFrom sectionFrom headAt namedAt flagsAt offsetAt sizeAt amountAt numberIn scaled capped numeralOf someDigits digitsFrom upTo digitOf goodName isDigit tokenAt tokenHere skipFrom wordFrom isBlank isSign isWord part _and_ _or_

@@ -1,4 +1,4 @@
 pub mod Disks
 pub mod Guids
 pub mod Layouts
-pub mod Starred
+pub mod Claims

@@ -58,10 +58,10 @@ use Rattle.fmap_rules.specs.Map.{blankArea, position}
 use Rattle.fmap_rules.specs.declared.Area.{Area}
 use Rattle.fmd_table.specs.Table.{sectionsIn, placedIn}
 use Rattle.fmd_table.proofs.Spots.{length-placed}
-use Rattle.fmd_areas.specs.Areas.{areaAt, layoutAreas}
-use Rattle.fmd_areas.specs.Invariants.{Laid}
-use Rattle.fmd_areas.proofs.Shape.{length-areas}
-use Rattle.fmd_areas.proofs.Listed.{area-in}
+use Rattle.fmd_check.specs.Areas.{areaAt, layoutAreas}
+use Rattle.fmd_check.specs.Invariants.{Laid}
+use Rattle.fmd_check.proofs.Shape.{length-areas}
+use Rattle.fmd_check.proofs.Listed.{area-in}
 use Rattle.fmd.specs.Calls.{listRecord, filled}
 use Rattle.fmd.specs.declared.SectionRecord.{SectionRecord}
 use Rattle.fmd.proofs.SectionRecord as T

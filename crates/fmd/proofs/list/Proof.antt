@@ -51,8 +51,8 @@ use denote.Exit.{yes}
 use Rattle.fmd.specs.Calls.{listRecord, filled, listOf, listText}
 use Rattle.fmd.specs.Invariants.{ReadFor}
 use Rattle.fmd_table.specs.Table.{sectionsIn, placedIn, HasRows, HasSpots}
-use Rattle.fmd_areas.specs.Areas.{layoutAreas}
-use Rattle.fmd_areas.specs.Invariants.{Laid}
+use Rattle.fmd_check.specs.Areas.{layoutAreas}
+use Rattle.fmd_check.specs.Invariants.{Laid}
 use Rattle.fmd.specs.declared.SectionRecord.{SectionRecord}
 use Rattle.fmd.specs.declared.Counted.{Counted}
 use Rattle.fmd.proofs.SectionRecord as T

@@ -1,6 +1,6 @@
 use Rattle.fmd.proofs.Records.{records-wrong, records-good, records-fault}
 use Rattle.fmd.proofs.Layouts.{held, laid, named, read-is}
-use Rattle.fmd_areas.proofs.Listed.{few}
+use Rattle.fmd_check.proofs.Listed.{few}
 use native.Mathlib.Omega.{arith}
 use borrow.Author.Needs.{needs}
 use Rattle.fmd.proofs.put_records.Statement.{statement}

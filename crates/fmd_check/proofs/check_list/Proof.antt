@@ -1,6 +1,6 @@
 use Rattle.fmd_check.proofs.Found.{found-below}
 use Rattle.fmd_check.proofs.Stages.{at-54, on-54}
-use Rattle.fmd_rows.specs.Rows.{firstRepeat}
+use Rattle.fmd_parse.specs.Rows.{firstRepeat}
 use mathlib.Core.Path.{sym, _∙_}
 use borrow.Author.Needs.{needs}
 use Rattle.fmd_check.proofs.check_list.Statement.{statement}

@@ -1,6 +1,6 @@
 use Rattle.fmd_check.proofs.Found.{found-below}
 use Rattle.fmd_check.proofs.Stages.{no-map, bad-map, good-map}
-use Rattle.fmd_rows.specs.Rows.{fmapIn}
+use Rattle.fmd_parse.specs.Rows.{fmapIn}
 use mathlib.Core.Path.{sym, _∙_}
 use borrow.Author.Needs.{needs}
 use Rattle.fmd_check.proofs.check_map.Statement.{statement}

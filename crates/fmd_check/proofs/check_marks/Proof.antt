@@ -1,6 +1,6 @@
 use Rattle.fmd_check.proofs.Found.{found-below}
 use Rattle.fmd_check.proofs.Stages.{at-56, on-56}
-use Rattle.fmd_rows.specs.Rows.{firstCbfs}
+use Rattle.fmd_parse.specs.Rows.{firstCbfs}
 use mathlib.Core.Path.{sym, _∙_}
 use borrow.Author.Needs.{needs}
 use Rattle.fmd_check.proofs.check_marks.Statement.{statement}

@@ -1,4 +1,4 @@
-use Rattle.fmd_rows.proofs.Rows.{item}
+use Rattle.fmd_parse.proofs.RowLoops.{item}
 use mathlib.Core.Path.{sym}
 use borrow.Author.Needs.{needs}
 use Rattle.fmd_check.proofs.fault_at.Statement.{statement}

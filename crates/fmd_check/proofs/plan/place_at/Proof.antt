@@ -1,4 +1,4 @@
-use Rattle.fmd_rows.proofs.Rows.{item}
+use Rattle.fmd_parse.proofs.RowLoops.{item}
 use Rattle.fmd_check.specs.Plans.{spotFor}
 use mathlib.Core.Path.{sym}
 use borrow.Author.Needs.{needs}
