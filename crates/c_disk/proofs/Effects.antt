@@ -9,7 +9,8 @@ use Rattle.gpt.specs.declared.Done.{Done}
 use Rattle.gpt.specs.declared.Done.the-variants as done
 use Rattle.gpt.specs.declared.Reading.{Reading}
 use Rattle.gpt_checks.specs.declared.Refusal.the-variants.{WrongLength, BlockCount, NoDiskGuid, NeitherGood, NotTheSame, NoSuchSlot, SlotUnused, NoSize, NoType, NoUniqueGuid, BadName, NoUnusedSlot, NoRoom}
-use Rattle.c_disk.specs.Effects.{GptEffect, resultOf, valuesOf, gptEffect, tablePlace, NoRefusalIsZero}
+use Rattle.c_disk.specs.Effects.{GptEffect, resultOf, valuesOf, gptEffect, tablePlace}
+use Rattle.c_disk.specs.Claims.{NoRefusalIsZero}
 
 -- an answer a given by its number and values, with the buffers that the call left
 pub gpt-tells : (a : Answer) (r : ℕ) (old new h t : List ℕ) (o : Outcome) → outcome a h t ≡ o → r ≡ resultOf a → new ≡ valuesOf old a

@@ -1,13 +1,13 @@
 -- A GPT call that is lent a GUID or a name: refused with 1 where a length is wrong, else made on the arrays that hold the same.
-use mathlib.Core.Path.{_≡_, refl, sym, ap, _∙_}
+use mathlib.Core.Path.{_≡_, sym, ap, _∙_}
 use mathlib.Core.Logic.{_≢_}
-use mathlib.Core.Bool.{Bool, true, false, not}
+use mathlib.Core.Bool.{false, not}
 use mathlib.Core.List.{List, []}
 use Prim.Native.Nat.{ℕ}
 use lib.ListN.{length}
 use borrow.Author.Tests.{ne-eqb}
 use Rattle.octets.specs.Tests.{_and_}
-use Rattle.octets.proofs.Bools.{and-false-l}
+use Rattle.octets.proofs.Bools.{and-false-l, and-false-r}
 use Rattle.octets.proofs.Rows.{pick-true}
 use Rattle.gpt_model.specs.Disk.{disk512}
 use Rattle.gpt_model.specs.declared.NewPartition.{NewPartition}
@@ -15,11 +15,6 @@ use Rattle.gpt_model.specs.Calls.{Edit, add, rename, edit, Outcome, refused, fo
 use Rattle.gpt_model.proofs.Outcomes.{step-refused}
 use Rattle.gpt_model.proofs.Demand3.{format-refused}
 use Rattle.c_disk.specs.Effects.{GptEffect, gptEffect}
-
-and-false-r : (a b : Bool) → b ≡ false → (a and b) ≡ false
-unfolding _and_
-and-false-r true b e = e
-and-false-r false b e = refl
 
 -- what C gets where a length is wrong
 abbrev pub unmade : List ℕ → List ℕ → List ℕ → GptEffect

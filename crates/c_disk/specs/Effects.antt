@@ -1,13 +1,9 @@
--- What C gets of a GPT call: the result, head and tail afterwards, and the number answers afterwards. Definitions, and the statement that an
--- accepted call can't be taken for a refused one.
-use mathlib.Core.Path.{_≡_}
+-- What C gets of a GPT call: the result, head and tail afterwards, and the number answers afterwards. Definitions only.
 use mathlib.Core.List.{List, [], _∷_}
 use Prim.Native.Nat.{ℕ}
 use lib.ListN.{getD}
 use Rattle.gpt_model.specs.Disk.{disk512, Side, primary, backup, usedSide, entriesAt}
 use Rattle.gpt_model.specs.Calls.{Answer, refused, accepted, Outcome, outcome}
-use Rattle.gpt_checks.specs.Refusals.{numberOf}
-use Rattle.gpt_checks.specs.declared.Refusal.{Refusal}
 
 -- R1: A refusal returns its number alone. Accepted is 0
 abbrev pub resultOf : Answer → ℕ
@@ -40,7 +36,3 @@ tablePlace (accepted vs) = accepted (sideNumber (usedSide (getD vs 0 0)) ∷ ent
 
 abbrev pub withTablePlace : Outcome → Outcome
 withTablePlace o = outcome (tablePlace (o .answer)) (o .head) (o .tail)
-
--- no refusal's number is 0
-abbrev pub NoRefusalIsZero : Type 0
-NoRefusalIsZero = (r : Refusal) → numberOf r ≡ 0 → ⊥

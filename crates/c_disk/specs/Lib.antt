@@ -1,2 +1,3 @@
 -- What C gets of each answer.
 pub mod Effects
+pub mod Claims

@@ -1,19 +1,21 @@
 -- Reading, and what follows from the state that it answers: repair, the part that is handed back, free counts.
 use mathlib.Core.Path.{_≡_, refl, sym, ap, ap₂, _∙_}
-use mathlib.Core.Logic.{_≢_}
-use mathlib.Core.Bool.{true}
+use mathlib.Core.Logic.{_≢_, _⊎_, inl, inr}
+use mathlib.Core.Bool.{Bool, true, false, cond}
 use mathlib.Core.List.{List, [], _∷_}
 use mathlib.Core.Option.{Option, none, some}
 use Prim.Native.Nat.{ℕ, _-_}
 use native.Mathlib.Omega.{arith}
+use lib.ListN.{length}
 use borrow.Author.Tests.{eq-eqb, ne-eqb}
+use Rattle.octets.proofs.Bools.{and-i, and-false-l, and-false-r, bool-cases}
 use Rattle.octets.specs.Bytes.{zeros}
 use Rattle.octets.specs.Rows.{Row, refusal}
 use Rattle.octets.proofs.Rows.{pick-true, pick-false, refusal-append, refusal-first, refusal-before}
 use Rattle.gpt_model.specs.Ranges.{freeCount, longestFree}
 use Rattle.gpt_model.specs.Table.{rangesOf}
-use Rattle.gpt_model.specs.Disk.{disk512, primary, backup, entriesIn, usedSide, state, tableOf, freshHead, freshTail}
-use Rattle.gpt_model.specs.Calls.{Answer, refused, accepted, Outcome, outcome, read, freeCounts, repair, lentRows, commonRows, repaired, step, formatRows, format}
+use Rattle.gpt_model.specs.Disk.{disk512, Side, primary, backup, entriesIn, usedSide, state, tableOf, freshHead, freshTail}
+use Rattle.gpt_model.specs.Calls.{Answer, refused, accepted, Outcome, outcome, read, freeCounts, repair, lengthsOk, lentRows, commonRows, repaired, step, formatRows, format}
 use Rattle.gpt_model.proofs.Outcomes.{step-refused, step-accepted, refused-row}
 use Rattle.gpt_model.proofs.Demand3.{format-accepted}
 use Rattle.gpt_model.proofs.States.{table-four, table-primary}
@@ -25,9 +27,10 @@ use Rattle.gpt_checks.proofs.Rows.{rowsFrom}
 use Rattle.gpt_checks.proofs.Judged.{Lent, lent-facts}
 use Rattle.gpt_checks.specs.Refusals.{numberOf}
 use Rattle.gpt_checks.specs.declared.Refusal.{Refusal}
-use Rattle.gpt.specs.Answers.{readingOf, handed, handedBy, handedPart}
+use Rattle.gpt.specs.Answers.{readingOf, Handed, handed, nothing, entriesOf, entriesBy, handedBy, handedPart}
 use Rattle.gpt.specs.declared.Reading.{Reading}
 use Rattle.gpt.specs.declared.Reading.the-variants.{Refused}
+use Rattle.gpt.specs.declared.Reading.the-variants as reading
 
 module _ (n : ℕ) (h t : List ℕ) where
   -- ---- the rows of reading
@@ -101,7 +104,7 @@ module _ (n : ℕ) (h t : List ℕ) (r x : Reading) (e : outcome (readingOf r) h
 
     pub handed-is : (bs : List ℕ) (p hp tp : ℕ × ℕ) → bs ≡ tableOf disk512 n h t → p ≡ entriesPlace (usedSide s) hp tp → handed bs p ≡ handedPart n h t hp tp
     handed-is bs p hp tp a b =
-        ap₂ handed a (b ∙ sym (ap (λ (k : ℕ). entriesPlace (usedSide k) hp tp) (both .1))) ∙ sym (ap (handedBy n h t hp tp) (both .0))
+        ap₂ handed a (b ∙ sym (ap (λ (k : ℕ). entriesPlace (usedSide k) hp tp) (both .1))) ∙ sym (ap (handedBy h t hp tp n) (both .0))
 
     pub counts-are : (tb : List ℕ) (a : Answer) → tb ≡ tableOf disk512 n h t → a ≡ accepted (freeCount (rangesOf tb) 34 (n - 34) ∷ longestFree (rangesOf tb) 34 (n - 34) ∷ [])
         → outcome a h t ≡ step disk512 n h t freeCounts
@@ -112,7 +115,50 @@ module _ (n : ℕ) (h t : List ℕ) (r x : Reading) (e : outcome (readingOf r) h
 -- a refused part is empty and lies at the head's start
 pub handed-nothing : (n : ℕ) (h t bs : List ℕ) (p hp tp : ℕ × ℕ) (k : ℕ) → refusal (commonRows disk512 n h t true) ≡ some k → bs ≡ [] → p ≡ behind 0 hp
     → handed bs p ≡ handedPart n h t hp tp
-handed-nothing n h t bs p hp tp k e a b = ap₂ handed a b ∙ sym (ap (handedBy n h t hp tp) e)
+handed-nothing n h t bs p hp tp k e a b = ap₂ handed a b ∙ sym (ap (handedBy h t hp tp n) e)
+
+-- ---- the part by a reading
+
+module _ (h t : List ℕ) (hp tp : ℕ × ℕ) (r : Reading) where
+  lengths-wrong : lengthsOk disk512 h t ≡ false → nothing h t hp tp ≡ entriesBy h t hp tp r
+  lengths-wrong e = rw e
+
+  pub head-wrong : length h ≢ 17408 → (p : ℕ × ℕ) → p ≡ behind 0 hp → handed [] p ≡ entriesBy h t hp tp r
+  head-wrong d p e = ap (handed []) e ∙ lengths-wrong (and-false-l _ _ (ne-eqb _ _ d))
+
+  pub tail-wrong : length t ≢ 16896 → (p : ℕ × ℕ) → p ≡ behind 0 hp → handed [] p ≡ entriesBy h t hp tp r
+  tail-wrong d p e = ap (handed []) e ∙ lengths-wrong (and-false-r _ _ (ne-eqb _ _ d))
+
+  pub entries-are : length h ≡ 17408 → length t ≡ 16896 → (x : Reading) → r ≡ x → (a : Handed) → a ≡ entriesOf h t hp tp x → a ≡ entriesBy h t hp tp r
+  entries-are lh lt x e a w =
+      w ∙ sym (ap (entriesOf h t hp tp) e)
+      ∙ sym (ap (λ (b : Bool). cond b (entriesOf h t hp tp r) (nothing h t hp tp)) (and-i _ _ (eq-eqb _ _ lh) (eq-eqb _ _ lt)))
+
+-- the part by what reading answered is the part that reading hands back
+module _ (n : ℕ) (h t : List ℕ) (hp tp : ℕ × ℕ) where
+  in-head : (r : Reading) (s : ℕ) → readingOf r ≡ accepted (s ∷ []) → s ≢ 4 → usedSide s ≡ primary → outcome (readingOf r) h t ≡ step disk512 n h t read
+      → entriesOf h t hp tp r ≡ handed (entriesIn disk512 primary h) (entriesPlace primary hp tp) → entriesBy h t hp tp r ≡ handedPart n h t hp tp
+  in-head r s v f u e w =
+      let l = found-lent n h t r r e refl s v in
+      sym (entries-are h t hp tp r (l .head) (l .tail) r refl _ (sym w))
+      ∙ handed-is n h t r r e refl s v _ _ hp tp (table-in-head n h t r r e refl s v f) (ap (λ (k : Side). entriesPlace k hp tp) (sym u))
+
+  pub read-entries : (r : Reading) → outcome (readingOf r) h t ≡ step disk512 n h t read → entriesBy h t hp tp r ≡ handedPart n h t hp tp
+  read-entries reading.Same e = in-head reading.Same 1 refl (λ z. omega (arith, z)) refl e refl
+  read-entries reading.Different e = in-head reading.Different 2 refl (λ z. omega (arith, z)) refl e refl
+  read-entries reading.PrimaryOnly e = in-head reading.PrimaryOnly 3 refl (λ z. omega (arith, z)) refl e refl
+  read-entries reading.BackupOnly e =
+      let l = found-lent n h t reading.BackupOnly reading.BackupOnly e refl 4 refl in
+      sym (entries-are h t hp tp reading.BackupOnly (l .head) (l .tail) reading.BackupOnly refl _ refl)
+      ∙ handed-is n h t reading.BackupOnly reading.BackupOnly e refl 4 refl _ _ hp tp (table-in-tail n h t reading.BackupOnly reading.BackupOnly e refl 4 refl refl) refl
+  read-entries (reading.Refused q) e = go (bool-cases (lengthsOk disk512 h t))
+    where
+      nothing-is : nothing h t hp tp ≡ handedPart n h t hp tp
+      nothing-is = handed-nothing n h t [] (behind 0 hp) hp tp (numberOf q) (refused-rows n h t (reading.Refused q) (reading.Refused q) e refl q refl) refl refl
+
+      go : (lengthsOk disk512 h t ≡ true) ⊎ (lengthsOk disk512 h t ≡ false) → entriesBy h t hp tp (reading.Refused q) ≡ handedPart n h t hp tp
+      go (inl b) = ap (λ (x : Bool). cond x (nothing h t hp tp) (nothing h t hp tp)) b ∙ nothing-is
+      go (inr b) = ap (λ (x : Bool). cond x (nothing h t hp tp) (nothing h t hp tp)) b ∙ nothing-is
 
 -- ---- formatting
 

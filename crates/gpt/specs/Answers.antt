@@ -1,10 +1,11 @@
 -- W15: When an answer is an enum, a definition states this paper's number and values for each enum case. Definitions only.
+use mathlib.Core.Bool.{cond}
 use mathlib.Core.List.{List, [], _∷_}
 use mathlib.Core.Option.{Option, none, some}
 use Prim.Native.Nat.{ℕ}
 use Rattle.octets.specs.Rows.{refusal}
-use Rattle.gpt_model.specs.Disk.{disk512, usedSide, state, tableOf}
-use Rattle.gpt_model.specs.Calls.{Answer, refused, accepted, read, rowsOf}
+use Rattle.gpt_model.specs.Disk.{disk512, primary, backup, usedSide, entriesIn, state, tableOf}
+use Rattle.gpt_model.specs.Calls.{Answer, refused, accepted, read, lengthsOk, rowsOf}
 use Rattle.gpt_places.specs.Sides.{behind, entriesPlace}
 use Rattle.gpt_checks.specs.Refusals.{numberOf}
 use Rattle.gpt.specs.declared.Done.{Done}
@@ -50,10 +51,27 @@ handed bs p = record { bytes = bs; place = p }
 
 -- D11: It hands back the 16,384 entry bytes inside whichever of the two lent buffers was used, by where head and tail begin.
 -- R1: an empty part where a part is returned; it lies at the head's start.
-module _ (n : ℕ) (h t : List ℕ) (head tail : ℕ × ℕ) where
-  abbrev pub handedBy : Option ℕ → Handed
-  handedBy none = handed (tableOf disk512 n h t) (entriesPlace (usedSide (state disk512 n h t)) head tail)
-  handedBy (some k) = handed [] (behind 0 head)
+module _ (h t : List ℕ) (head tail : ℕ × ℕ) where
+  abbrev pub nothing : Handed
+  nothing = handed [] (behind 0 head)
 
-  abbrev pub handedPart : Handed
-  handedPart = handedBy (refusal (rowsOf disk512 n h t read))
+  abbrev primaryEntries : Handed
+  primaryEntries = handed (entriesIn disk512 primary h) (entriesPlace primary head tail)
+
+  -- (D10) by what reading answered
+  abbrev pub entriesOf : Reading → Handed
+  entriesOf reading.Same = primaryEntries
+  entriesOf reading.Different = primaryEntries
+  entriesOf reading.PrimaryOnly = primaryEntries
+  entriesOf reading.BackupOnly = handed (entriesIn disk512 backup t) (entriesPlace backup head tail)
+  entriesOf (reading.Refused r) = nothing
+
+  abbrev pub entriesBy : Reading → Handed
+  entriesBy r = cond (lengthsOk disk512 h t) (entriesOf r) nothing
+
+  abbrev pub handedBy : ℕ → Option ℕ → Handed
+  handedBy n none = handed (tableOf disk512 n h t) (entriesPlace (usedSide (state disk512 n h t)) head tail)
+  handedBy n (some k) = nothing
+
+abbrev pub handedPart : ℕ → List ℕ → List ℕ → ℕ × ℕ → ℕ × ℕ → Handed
+handedPart n h t head tail = handedBy h t head tail n (refusal (rowsOf disk512 n h t read))

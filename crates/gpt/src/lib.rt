@@ -2,8 +2,10 @@
 // Every call takes any buffers and any numbers; its contract is one equation with `format` or `step` of gpt_model for its answer and both buffers afterwards.
 // A call asks its judge of gpt_checks first, and writes after, by gpt_edits or gpt_copies.
 use gpt_checks::Check;
+use gpt_checks::HEAD;
 use gpt_checks::Refusal;
 use gpt_checks::Start;
+use gpt_checks::TAIL;
 use gpt_copies::State;
 use gpt_model::Block;
 use gpt_model::NewPartition;
@@ -18,7 +20,7 @@ ghost use Rattle.gpt_model.specs.Disk.{disk512, lastUsable};
 ghost use Rattle.gpt_model.specs.Calls.{accepted, outcome, step, format as formatOn, read as readCall, freeCounts, repair as repairCall, edit};
 ghost use Rattle.gpt_model.specs.Calls.{add as addCall, delete as deleteCall, resize as resizeCall, rename as renameCall};
 ghost use Rattle.gpt_checks.specs.Refusals.{numberOf};
-ghost use Rattle.gpt.specs.Answers.{doneOf, readingOf, addedOf, countedOf, handed, handedPart};
+ghost use Rattle.gpt.specs.Answers.{doneOf, readingOf, addedOf, countedOf, handed, entriesBy, handedPart};
 
 pub enum Done {
     Accepted,
@@ -173,17 +175,31 @@ pub fn repair(head: &mut [u8], tail: &mut [u8], n: u64) -> Reading
     }
 }
 
-// The 16,384 entry bytes inside the buffer whose copy is used; empty on a refusal.
-pub fn table<'a>(head: &'a [u8], tail: &'a [u8], n: u64) -> &'a [u8]
-    ensures { λ r. ⌜ handed (now r) (r .ptr) ≡ handedPart n (now (head .entry)) (now (tail .entry)) (head .entry .ptr) (tail .entry .ptr) ⌝ }
+// The 16,384 entry bytes inside the buffer whose copy a reading of head and tail uses, so that the disk is judged once for state and part.
+// Empty where the reading was refused, or where head or tail has a wrong length.
+pub fn entries<'a>(head: &'a [u8], tail: &'a [u8], found: Reading) -> &'a [u8]
+    ensures { λ r. ⌜ handed (now r) (r .ptr) ≡ entriesBy (now (head .entry)) (now (tail .entry)) (head .entry .ptr) (tail .entry .ptr) found ⌝ }
 {
-    match read(head, tail, n) {
+    if head.len() != HEAD {
+        return &head[0..0];
+    }
+    if tail.len() != TAIL {
+        return &head[0..0];
+    }
+    match found {
         Reading::Same => gpt_places::entries_in(head, Side::Primary),
         Reading::Different => gpt_places::entries_in(head, Side::Primary),
         Reading::PrimaryOnly => gpt_places::entries_in(head, Side::Primary),
         Reading::BackupOnly => gpt_places::entries_in(tail, Side::Backup),
         Reading::Refused(_) => &head[0..0],
     }
+}
+
+// Reading and its part in one: the 16,384 entry bytes inside the buffer whose copy is used; empty on a refusal.
+pub fn table<'a>(head: &'a [u8], tail: &'a [u8], n: u64) -> &'a [u8]
+    ensures { λ r. ⌜ handed (now r) (r .ptr) ≡ handedPart n (now (head .entry)) (now (tail .entry)) (head .entry .ptr) (tail .entry .ptr) ⌝ }
+{
+    entries(head, tail, read(head, tail, n))
 }
 
 fn count_in(table: &[u8], n: u64) -> Counted

@@ -58,9 +58,9 @@ const LEAST_BLOCKS: u64 = 68;
 const MOST_BLOCKS: u64 = 4294967296;
 
 // Q3: the head, blocks 0 to 33 (17,408 bytes), and the tail, the last 33 blocks (16,896 bytes).
-const HEAD: usize = 2 * BLOCK + TABLE;
+pub const HEAD: usize = 2 * BLOCK + TABLE;
 
-const TAIL: usize = TABLE + BLOCK;
+pub const TAIL: usize = TABLE + BLOCK;
 
 // One row more, after those that `before` judged.
 fn row_after(before: Check, holds: bool, r: Refusal) -> Check

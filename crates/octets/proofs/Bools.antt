@@ -62,6 +62,11 @@ unfolding _and_
 and-false-l true b p = absurd (true≢false p)
 and-false-l false b p = refl
 
+pub and-false-r : (a b : Bool) → b ≡ false → (a and b) ≡ false
+unfolding _and_
+and-false-r true b e = e
+and-false-r false b e = refl
+
 pub and-skip : (a b : Bool) → a ≡ true → (a and b) ≡ false → b ≡ false
 unfolding _and_
 and-skip true b p q = q
