@@ -28,6 +28,7 @@ use Rattle.gpt_checks.proofs.Judged.{Lent, lent-facts}
 use Rattle.gpt_checks.specs.Refusals.{numberOf}
 use Rattle.gpt_checks.specs.declared.Refusal.{Refusal}
 use Rattle.gpt.specs.Answers.{readingOf, Handed, handed, nothing, entriesOf, entriesBy, handedBy, handedPart}
+use Rattle.gpt.specs.Claims.{EntriesOfReading}
 use Rattle.gpt.specs.declared.Reading.{Reading}
 use Rattle.gpt.specs.declared.Reading.the-variants.{Refused}
 use Rattle.gpt.specs.declared.Reading.the-variants as reading
@@ -143,15 +144,15 @@ module _ (n : ℕ) (h t : List ℕ) (hp tp : ℕ × ℕ) where
       sym (entries-are h t hp tp r (l .head) (l .tail) r refl _ (sym w))
       ∙ handed-is n h t r r e refl s v _ _ hp tp (table-in-head n h t r r e refl s v f) (ap (λ (k : Side). entriesPlace k hp tp) (sym u))
 
-  pub read-entries : (r : Reading) → outcome (readingOf r) h t ≡ step disk512 n h t read → entriesBy h t hp tp r ≡ handedPart n h t hp tp
-  read-entries reading.Same e = in-head reading.Same 1 refl (λ z. omega (arith, z)) refl e refl
-  read-entries reading.Different e = in-head reading.Different 2 refl (λ z. omega (arith, z)) refl e refl
-  read-entries reading.PrimaryOnly e = in-head reading.PrimaryOnly 3 refl (λ z. omega (arith, z)) refl e refl
-  read-entries reading.BackupOnly e =
+  by-reading : (r : Reading) → outcome (readingOf r) h t ≡ step disk512 n h t read → entriesBy h t hp tp r ≡ handedPart n h t hp tp
+  by-reading reading.Same e = in-head reading.Same 1 refl (λ z. omega (arith, z)) refl e refl
+  by-reading reading.Different e = in-head reading.Different 2 refl (λ z. omega (arith, z)) refl e refl
+  by-reading reading.PrimaryOnly e = in-head reading.PrimaryOnly 3 refl (λ z. omega (arith, z)) refl e refl
+  by-reading reading.BackupOnly e =
       let l = found-lent n h t reading.BackupOnly reading.BackupOnly e refl 4 refl in
       sym (entries-are h t hp tp reading.BackupOnly (l .head) (l .tail) reading.BackupOnly refl _ refl)
       ∙ handed-is n h t reading.BackupOnly reading.BackupOnly e refl 4 refl _ _ hp tp (table-in-tail n h t reading.BackupOnly reading.BackupOnly e refl 4 refl refl) refl
-  read-entries (reading.Refused q) e = go (bool-cases (lengthsOk disk512 h t))
+  by-reading (reading.Refused q) e = go (bool-cases (lengthsOk disk512 h t))
     where
       nothing-is : nothing h t hp tp ≡ handedPart n h t hp tp
       nothing-is = handed-nothing n h t [] (behind 0 hp) hp tp (numberOf q) (refused-rows n h t (reading.Refused q) (reading.Refused q) e refl q refl) refl refl
@@ -159,6 +160,9 @@ module _ (n : ℕ) (h t : List ℕ) (hp tp : ℕ × ℕ) where
       go : (lengthsOk disk512 h t ≡ true) ⊎ (lengthsOk disk512 h t ≡ false) → entriesBy h t hp tp (reading.Refused q) ≡ handedPart n h t hp tp
       go (inl b) = ap (λ (x : Bool). cond x (nothing h t hp tp) (nothing h t hp tp)) b ∙ nothing-is
       go (inr b) = ap (λ (x : Bool). cond x (nothing h t hp tp) (nothing h t hp tp)) b ∙ nothing-is
+
+pub entries-of-reading : EntriesOfReading
+entries-of-reading = by-reading
 
 -- ---- formatting
 

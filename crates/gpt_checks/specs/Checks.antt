@@ -14,7 +14,7 @@ abbrev pub stopOf : Check → Option ℕ
 stopOf Pass = none
 stopOf (Stop r) = some (numberOf r)
 
--- R2: the number of a row before, or of this row where it is the first to hold
+-- (R2) the number of a row before, or of this row where it is the first to hold
 unfoldable pub rowAfter : Option ℕ → Row → Option ℕ
 rowAfter none r = refusal (r ∷ [])
 rowAfter (some k) r = some k

@@ -4,7 +4,7 @@
 // A block's number; never a byte position.
 pub struct Block(pub u64);
 
-// D15: what an add is given: type and unique GUID as they are stored, size in blocks, attributes and name.
+// (D15) What an add is given: type and unique GUID as they are stored, size in blocks, attributes and name.
 pub struct NewPartition {
     pub kind: [u8; 16],
     pub unique: [u8; 16],
