@@ -11,7 +11,7 @@ use borrow.Author.Tests.{eq-eqb, ne-eqb}
 use Rattle.octets.proofs.Bools.{and-i, and-false-l, and-false-r, bool-cases}
 use Rattle.octets.specs.Bytes.{zeros}
 use Rattle.octets.specs.Rows.{Row, refusal}
-use Rattle.octets.proofs.Rows.{pick-true, pick-false, refusal-append, refusal-first, refusal-before}
+use Rattle.octets.proofs.Rows.{rowsFrom, pick-true, pick-false, refusal-append, refusal-first, refusal-before}
 use Rattle.gpt_model.specs.Ranges.{freeCount, longestFree}
 use Rattle.gpt_model.specs.Table.{rangesOf}
 use Rattle.gpt_model.specs.Disk.{disk512, Side, primary, backup, entriesIn, usedSide, state, tableOf, freshHead, freshTail}
@@ -23,7 +23,6 @@ use Rattle.gpt_places.specs.Sides.{behind, entriesPlace}
 use Rattle.gpt_copies.specs.States.{stateNumber}
 use Rattle.gpt_copies.specs.declared.State.{State}
 use Rattle.gpt_copies.specs.declared.State.the-variants.{Neither}
-use Rattle.gpt_checks.proofs.Rows.{rowsFrom}
 use Rattle.gpt_checks.proofs.Judged.{Lent, lent-facts}
 use Rattle.gpt_checks.specs.Refusals.{numberOf}
 use Rattle.gpt_checks.specs.declared.Refusal.{Refusal}

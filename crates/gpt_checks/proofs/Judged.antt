@@ -2,7 +2,7 @@
 use mathlib.Core.Path.{_≡_, sym, ap, _∙_}
 use mathlib.Core.Logic.{_≢_}
 use mathlib.Core.Bool.{Bool, true, false, not}
-use mathlib.Core.List.{List, [], _∷_, _++_}
+use mathlib.Core.List.{List, _++_}
 use mathlib.Core.Option.{Option, none, some}
 use Prim.Native.Nat.{ℕ, _≤_, _<_}
 use native.Mathlib.Omega.{arith}
@@ -12,12 +12,12 @@ use borrow.Author.Tests.{eqb-true, eqb-false, leb-true, eq-eqb, ne-eqb}
 use Rattle.octets.specs.Tests.{_and_}
 use Rattle.octets.specs.Rows.{Row, row, pickRow, refusal}
 use Rattle.octets.proofs.Bools.{and-l, and-r, and-i, not-f, some-none}
-use Rattle.octets.proofs.Rows.{passes, pick-true, pick-false, refusal-append, refusal-first, refusal-before}
+use Rattle.octets.proofs.Rows.{rowsFrom, passes, pick-true, pick-false, refusal-append, refusal-first, refusal-before}
 use Rattle.gpt_model.specs.Ranges.{lowestStart}
 use Rattle.gpt_model.specs.Table.{rangesOf}
 use Rattle.gpt_model.specs.Disk.{disk512, lastUsable, inRange, primary, entriesIn, state, tableOf}
 use Rattle.gpt_model.specs.declared.NewPartition.{NewPartition}
-use Rattle.gpt_model.specs.Calls.{Edit, add, delete, resize, rename, edit, badName, slotRows, addRows, fitsAt, startFor, tableRows, isNone, lengthsOf, lengthsOk, lentRows, openRows, rowsOf, formatRows}
+use Rattle.gpt_model.specs.Calls.{Edit, add, delete, resize, rename, edit, slotRows, addRows, fitsAt, startFor, tableRows, isNone, lengthsOf, lengthsOk, lentRows, openRows, rowsOf, formatRows}
 use Rattle.gpt_model.proofs.Outcomes.{edit-decides, edit-stops}
 use Rattle.gpt_model.proofs.States.{one-primary}
 use Rattle.gpt_room.specs.Answers.{placed}
@@ -26,8 +26,8 @@ use Rattle.gpt_room.specs.declared.Place.{Place}
 use Rattle.gpt_room.specs.declared.Place.the-variants as found
 use Rattle.gpt_copies.specs.States.{stateNumber}
 use Rattle.gpt_copies.specs.declared.State.{State}
-use Rattle.gpt_checks.proofs.Rows.{rowsFrom, in-order, slot-number}
-use Rattle.gpt_checks.specs.Checks.{stopOf, rowAfter}
+use Rattle.gpt_checks.proofs.Rows.{rowsAfter, in-order, slot-number}
+use Rattle.gpt_checks.specs.Checks.{stopOf}
 use Rattle.gpt_checks.specs.Refusals.{numberOf}
 use Rattle.gpt_checks.specs.declared.Refusal.{Refusal}
 use Rattle.gpt_checks.specs.declared.Check.{Check}
@@ -114,10 +114,11 @@ module _ (n : ℕ) (h t : List ℕ) where
     pub delete-slot : refusal slotted ≡ none → (1 ≤ k) × (k ≤ 128)
     delete-slot e = slot-number k (passes 12 slotted e)
 
+    -- where the name has its length, the rows of renaming are those of a delete, then its own
     pub rename-is : (name : List ℕ) → length name ≡ 36
-        → rowAfter (refusal slotted) (row (badName name) 23) ≡ refusal (rowsOf disk512 n h t (edit (rename k name)))
+        → rowsAfter (refusal slotted) (rowsFrom 23 (rowsOf disk512 n h t (edit (rename k name)))) ≡ refusal (rowsOf disk512 n h t (edit (rename k name)))
     rename-is name l =
-        in-order slotted (row (badName name) 23 ∷ [])
+        in-order slotted (rowsFrom 23 (rowsOf disk512 n h t (edit (rename k name))))
         ∙ sym (ap (λ (b : Bool). refusal (openRows disk512 n h t b ++ tableRows 34 (lastUsable disk512 n) (tableOf disk512 n h t) (rename k name)))
         (eq-eqb (length name) 36 l))
 

@@ -1,6 +1,6 @@
 -- The rows that come before a call's work, from the tests of the code.
 use mathlib.Core.Path.{_≡_, refl, sym, ap, _∙_}
-use mathlib.Core.Bool.{Bool, true, false, not, cond}
+use mathlib.Core.Bool.{Bool, true, false, not}
 use mathlib.Core.List.{List, [], _∷_, _++_}
 use mathlib.Core.Option.{Option, none, some}
 use Prim.Native.Nat.{ℕ, _≤_, _<_}
@@ -10,10 +10,9 @@ use lib.ListN.{length}
 use borrow.Author.Tests.{eq-eqb, ne-eqb, eqb-true, eqb-false, le-leb, lt-leb, leb-true, le-ltb, lt-ltb}
 use mathlib.Core.Logic.{_≢_, _⊎_, inl, inr}
 use Rattle.octets.specs.Tests.{_and_, _or_, any, findIx}
-use Rattle.octets.specs.Bytes.{isZero}
 use Rattle.octets.specs.Rows.{Row, row, pickRow, refusal}
 use Rattle.octets.proofs.Bools.{and-l, and-r, and-i, not-f, bool-cases}
-use Rattle.octets.proofs.Rows.{pick-true, pick-false, refusal-append, refusal-first}
+use Rattle.octets.proofs.Rows.{rowsFrom, pick-true, pick-false, refusal-append, refusal-first}
 use Rattle.gpt_model.specs.Disk.{disk512, inRange}
 use Rattle.gpt_model.specs.Table.{unused, entries}
 use Rattle.gpt_model.specs.Calls.{lengthsOk, lentRows, formatRows, entryOf, slotRows}
@@ -50,11 +49,6 @@ module _ (n : ℕ) (h t : List ℕ) where
 
     pub lent-right : 68 ≤ n → n ≤ 4294967296 → none ≡ refusal (lentRows disk512 n h t true)
     lent-right l k = sym (pick-false _ 1 _ lent ∙ pick-false _ 2 _ (ap not (in-range l k)))
-
--- the rows from that of the number k on
-abbrev pub rowsFrom : ℕ → List Row → List Row
-rowsFrom k [] = []
-rowsFrom k (r ∷ rs) = cond (eqb k (r .number)) (r ∷ rs) (rowsFrom k rs)
 
 -- ---- rows one after another
 
@@ -101,12 +95,12 @@ module _ (b : Check) (h : Bool) (r : Refusal) where
   unfolding rowAfter pickRow
   after-passes e f = rw (e, f)
 
--- rows 1, 2, 3 of formatting
+-- where the GUID has its length, the rows of formatting are the first ones of every call, then its own
 pub format-is : (n : ℕ) (guid h t : List ℕ) → length guid ≡ 16
-    → rowAfter (refusal (lentRows disk512 n h t true)) (row (isZero guid) 3) ≡ refusal (formatRows disk512 n guid h t)
+    → rowsAfter (refusal (lentRows disk512 n h t true)) (rowsFrom 3 (formatRows disk512 n guid h t)) ≡ refusal (formatRows disk512 n guid h t)
 format-is n guid h t l =
-    in-order (lentRows disk512 n h t true) (row (isZero guid) 3 ∷ [])
-    ∙ sym (ap (λ (b : Bool). refusal (lentRows disk512 n h t b ++ (row (isZero guid) 3 ∷ []))) (eq-eqb (length guid) 16 l))
+    in-order (lentRows disk512 n h t true) (rowsFrom 3 (formatRows disk512 n guid h t))
+    ∙ sym (ap (λ (b : Bool). refusal (lentRows disk512 n h t b ++ rowsFrom 3 (formatRows disk512 n guid h t))) (eq-eqb (length guid) 16 l))
 
 -- ---- rows 12, 13 of a slot
 

@@ -17,7 +17,7 @@ use Rattle.octets.specs.Bytes.{isZero, same}
 use Rattle.octets.proofs.Bools.{and-l, and-r, and-i, and-false-l, and-skip, and-t, or-false-l, or-false-r, or-false-i, bool-cases, not-f, clash, option-cases}
 use Rattle.octets.proofs.Tests.{all-make, any-none, any-false, any-make, findIx-get}
 use Rattle.octets.proofs.Equal.{same-refl, same-false}
-use Rattle.octets.proofs.Rows.{pick-false, passes, refusal-append, refusal-before}
+use Rattle.octets.proofs.Rows.{rowsFrom, pick-false, passes, refusal-append, refusal-before}
 use Rattle.octets.proofs.Chunks.{length-chunks}
 use Rattle.gpt_model.specs.Table.{uniqueOf, firstOf, unused, BlockRange, noBlocks, entries, rangesOf}
 use Rattle.gpt_model.specs.Disk.{Shape, lastUsable, tableOf}
@@ -91,7 +91,7 @@ module _ (es : List ℕ) (k : ℕ) where
 
   pub rename-rows : (first last : ℕ) (name : List ℕ) → (refusal (tableRows first last es (rename k name)) ≡ none) ↔ (UsedSlot es k × NameOk name)
   rename-rows first last name =
-      let rows : List Row = row (badName name) 23 ∷ [] in
+      let rows : List Row = rowsFrom 23 (tableRows first last es (rename k name)) in
       then-rows rows (λ e. name-get name (passes 23 rows e), λ f. pick-false _ 23 _ (name-make name f))
 
   fits-alone : (last size : ℕ) → (fitsAt last es k size ≡ true) ↔ FitsAlone last es k size
@@ -120,7 +120,7 @@ module _ (es : List ℕ) (k : ℕ) where
   pub resize-rows : (first last size : ℕ)
       → (refusal (tableRows first last es (resize k size)) ≡ none) ↔ (UsedSlot es k × ((0 < size) × FitsAlone last es k size))
   resize-rows first last size =
-      let rows : List Row = row (eqb size 0) 20 ∷ row (not (fitsAt last es k size)) 25 ∷ [] in
+      let rows : List Row = rowsFrom 20 (tableRows first last es (resize k size)) in
       then-rows rows (
         λ e. (let w : size ≢ 0 = eqb-false size 0 (passes 20 rows e) in omega arith, fits-alone last size .0 (not-f _ (passes 25 rows e))),
         λ w. pick-false _ 20 _ (let p = w .0 in ne-eqb size 0 (λ z. omega arith)) ∙ pick-false _ 25 _ (ap not (fits-alone last size .1 (w .1))),

@@ -14,7 +14,7 @@ use Rattle.octets.specs.Bytes.{zeros}
 use Rattle.octets.proofs.Bools.{and-l, and-r, and-i, option-cases}
 use Rattle.octets.proofs.Tests.{pairs-get}
 use Rattle.octets.proofs.Parts.{length-zeros}
-use Rattle.octets.proofs.Rows.{pick-false, passes, refusal-append, refusal-before}
+use Rattle.octets.proofs.Rows.{rowsFrom, pick-false, passes, refusal-append, refusal-before}
 use Rattle.gpt_model.specs.Table.{noBlocks, apart, rangesOf, goodTable}
 use Rattle.gpt_model.specs.Disk.{Shape, disk512, lastUsable, inRange, state, tableOf, freshHead, freshTail}
 use Rattle.gpt_model.specs.Ranges.{blockIn, freeCount, longestFree, FreeFrom}
@@ -109,7 +109,7 @@ module _ (g : Shape) (n : ℕ) (r : Snapshot) (v : Kept g n r) where
 
     -- only the row for room is left
     add-row : (b : Bool) → isNone start ≡ b → refusal (rowsOf g n (r .head) (r .tail) c) ≡ pickRow b 25 none
-    add-row b q = refusal-append before (row (isNone start) 25 ∷ []) e ∙ ap (λ (x : Bool). pickRow x 25 none) q
+    add-row b q = refusal-append before (rowsFrom 25 (rowsOf g n (r .head) (r .tail) c)) e ∙ ap (λ (x : Bool). pickRow x 25 none) q
 
     add-no : start ≡ none → step g n (r .head) (r .tail) c .answer ≡ refused 25
     unfolding pickRow

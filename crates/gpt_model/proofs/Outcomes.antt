@@ -12,7 +12,7 @@ use borrow.Author.Tests.{eqb-true, eqb-false, eq-eqb}
 use Rattle.octets.specs.Tests.{_and_, _or_, any}
 use Rattle.octets.specs.Rows.{row, refusal}
 use Rattle.octets.proofs.Bools.{and-l, and-r, and-i, clash, not-f}
-use Rattle.octets.proofs.Rows.{passes, pick-false, refusal-append, refusal-first, refusal-before, refusal-holds}
+use Rattle.octets.proofs.Rows.{rowsFrom, passes, pick-false, refusal-append, refusal-first, refusal-before, refusal-holds}
 use Rattle.gpt_model.specs.Disk.{Shape, lastUsable, inRange, primary, backup, lentBytes, guidIn, entriesIn, state, tableOf, withCopy}
 use Rattle.gpt_model.specs.Calls.{Edit, add, delete, resize, rename, Call, read, freeCounts, repair, edit, Answer, refused, accepted, Outcome, outcome, unlessRefused, tableRows, lengthsOf, commonRows, openRows, rowsOf, acceptedOutcome, step}
 
@@ -120,7 +120,7 @@ module _ (g : Shape) (n : ℕ) (h t : List ℕ) where
 
   module _ (d : Edit) (e : refusal (openRows g n h t (lengthsOf d)) ≡ none) where
     pub open-common : refusal (commonRows g n h t (lengthsOf d)) ≡ none
-    open-common = refusal-before (commonRows g n h t (lengthsOf d)) (row (not (eqb (state g n h t) 1)) 11 ∷ []) e .0
+    open-common = refusal-before (commonRows g n h t (lengthsOf d)) (rowsFrom 11 (openRows g n h t (lengthsOf d))) e .0
 
     pub row11 : state g n h t ≡ 1
     row11 = eqb-true _ _ (not-f _ (passes 11 (openRows g n h t (lengthsOf d)) e))

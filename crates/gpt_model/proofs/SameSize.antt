@@ -7,15 +7,15 @@ use mathlib.Core.Option.{none}
 use Prim.Native.Nat.{ℕ, suc, _+_, _-_, _*_, _/_, _%_, _≤_, _<_}
 use native.Mathlib.Decide.{decLt, ℕ-discrete}
 use native.Mathlib.Omega.{arith}
-use lib.Dec.{ltb, eqb}
+use lib.Dec.{ltb}
 use lib.ListN.{length, getD, set, length-set, List·getD-eq-default}
 use lib.Seq.{getD-set-same, getD-set-other}
 use borrow.Author.Tests.{leb-true, ltb-true, ne-eqb}
 use Rattle.octets.specs.Tests.{_and_}
-use Rattle.octets.specs.Rows.{row, refusal}
+use Rattle.octets.specs.Rows.{refusal}
 use Rattle.octets.specs.Bytes.{le, unle, part, put, putChunk}
 use Rattle.octets.proofs.Bools.{and-l, and-r, or-cases, bool-cases, not-f}
-use Rattle.octets.proofs.Rows.{pick-false, passes, refusal-append}
+use Rattle.octets.proofs.Rows.{rowsFrom, pick-false, passes, refusal-append}
 use Rattle.octets.proofs.Tests.{any-false}
 use Rattle.octets.proofs.Parts.{length-part, getD-part}
 use Rattle.octets.proofs.Puts.{put-self}
@@ -144,7 +144,7 @@ resizeToSame g n h t k wide bytes e =
     let m = u .mid in
     let positive : size ≢ 0 = λ z. omega arith in
     let rows : refusal (rowsOf g n h t (edit (resize k size))) ≡ none =
-    refusal-append (rowsOf g n h t (edit (delete k))) (row (eqb size 0) 20 ∷ row (not (fitsAt last es k size)) 25 ∷ []) e
+    refusal-append (rowsOf g n h t (edit (delete k))) (rowsFrom 20 (rowsOf g n h t (edit (resize k size)))) e
     ∙ pick-false _ 20 _ (ne-eqb _ _ positive) ∙ pick-false _ 25 _ (ap not (own-room first last es good k lo hi used)) in
     let same : edited first last es (resize k size) ≡ es =
     written-same first last es good k lo hi used long

@@ -31,6 +31,11 @@ abbrev pub testOf : ℕ → List Row → Bool
 testOf k [] = false
 testOf k (r ∷ rs) = cond (eqb k (r .number)) (r .holds) (testOf k rs)
 
+-- the rows from that of the number k on
+abbrev pub rowsFrom : ℕ → List Row → List Row
+rowsFrom k [] = []
+rowsFrom k (r ∷ rs) = cond (eqb k (r .number)) (r ∷ rs) (rowsFrom k rs)
+
 -- where no row holds, the row of each number does not: read off by number, whatever stands around it
 pub passes : (k : ℕ) (rs : List Row) → refusal rs ≡ none → testOf k rs ≡ false
 passes k [] e = refl
