@@ -18,9 +18,8 @@ use Rattle.gpt_model.specs.declared.Block.{Block}
 use Rattle.gpt_model.specs.Ranges.{blockIn, inSome, inNone, roomAt}
 use Rattle.gpt_model.specs.Table.{BlockRange, noBlocks, spans}
 use Rattle.gpt_model.proofs.Room.{Room, blockIn-make, blockIn-get, room-get, room-make}
-use Rattle.gpt_room.specs.Gaps.{Passed, Next, Full, Clear, Stands, taken, gap}
-use Rattle.gpt_table.specs.Decoded.{ranges}
-use Rattle.gpt_table.specs.Sorted.{Ascending}
+use Rattle.gpt_room.specs.Invariants.{Passed, Next, Full, Clear, Stands, taken, gap}
+use Rattle.gpt_table.specs.Invariants.{ranges, Ascending}
 use Rattle.gpt_table.proofs.Used.{length-ranges, getD-ranges}
 use Rattle.gpt_table.proofs.Exchanges.{ascends}
 use Rattle.gpt_room.specs.declared.Ahead.{Ahead}

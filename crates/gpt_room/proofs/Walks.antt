@@ -14,12 +14,11 @@ use Rattle.gpt_model.specs.Ranges.{blockIn, inNone, allFrom, lowestFrom, roomAt
 use Rattle.gpt_model.specs.Table.{BlockRange, noBlocks, rangeOf, entries, rangesOf}
 use Rattle.gpt_model.proofs.Entries.{map-set, length-rangesOf}
 use Rattle.gpt_model.proofs.Walk.{Low, low-start, low-over, low-gap, low-found, low-none, Counted, Longest, counted-start, longest-start, counted-over, longest-over, counted-gap, longest-step, counted-end, longest-end}
-use Rattle.gpt_table.specs.Decoded.{ranges}
-use Rattle.gpt_table.specs.Sorted.{InOrder}
+use Rattle.gpt_table.specs.Invariants.{ranges, InOrder}
 use Rattle.gpt_table.proofs.Used.{lies-used, slot-nil}
 use Rattle.gpt_table.proofs.Reorders.{reordered-any}
 use Rattle.gpt_room.specs.Answers.{freeOf}
-use Rattle.gpt_room.specs.Gaps.{Full, Clear}
+use Rattle.gpt_room.specs.Invariants.{Full, Clear}
 
 -- ---- the same blocks are free
 

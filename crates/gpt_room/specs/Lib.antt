@@ -1,3 +1,3 @@
 -- Room for partitions in the words of gpt_model.
 pub mod Answers
-pub mod Gaps
+pub mod Invariants

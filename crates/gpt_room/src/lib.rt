@@ -11,10 +11,9 @@ ghost use Rattle.octets.specs.Tests.{_and_};
 ghost use Rattle.gpt_model.specs.Ranges.{roomAt, lowestStart};
 ghost use Rattle.gpt_model.specs.Table.{slotCount, tableBytes, rangesOf};
 ghost use Rattle.gpt_model.specs.Calls.{fitsAt};
-ghost use Rattle.gpt_table.specs.Decoded.{ranges};
+ghost use Rattle.gpt_table.specs.Invariants.{ranges, Ascending};
 ghost use Rattle.gpt_room.specs.Answers.{placed, freeOf};
-ghost use Rattle.gpt_room.specs.Gaps.{Passed, Next, Stands};
-ghost use Rattle.gpt_table.specs.Sorted.{Ascending};
+ghost use Rattle.gpt_room.specs.Invariants.{Passed, Next, Stands};
 
 // Where a partition can start.
 pub enum Place {

@@ -21,8 +21,7 @@ use Rattle.octets.proofs.Equal.{same-true, same-refl, field-same}
 use Rattle.octets.proofs.Chunks.{chunk-part, length-chunk}
 use Rattle.gpt_model.specs.Table.{BlockRange, noBlocks, spans, rangeOf, bounded, apart, typeOf, uniqueOf, firstOf, lastOf, unused, entryOk, pairOk, entries, goodTable}
 use Rattle.gpt_model.proofs.Entries.{range-used, pair-make}
-use Rattle.gpt_table.specs.Decoded.{used, Decoded, differ, Guids, ranges}
-use Rattle.gpt_table.specs.Sorted.{Reordered, Ascending, InOrder}
+use Rattle.gpt_table.specs.Invariants.{used, Decoded, differ, Guids, ranges, Reordered, Ascending, InOrder}
 use Rattle.gpt_table.proofs.Entries.{length-entries}
 use Rattle.gpt_table.proofs.Used.{used-yes, used-no, used-each, low-at, high-at, length-ranges, getD-ranges}
 use Rattle.gpt_table.proofs.Reorders.{eq-from, reordered-all, reordered-pairs}

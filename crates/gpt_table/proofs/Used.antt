@@ -16,7 +16,7 @@ use Rattle.gpt_model.specs.Ranges.{blockIn, inSome}
 use Rattle.gpt_model.specs.Table.{noBlocks, spans, unused, rangeOf}
 use Rattle.gpt_model.proofs.Walk.{getD-map}
 use Rattle.gpt_model.proofs.Entries.{zero-unused, range-unused, range-used}
-use Rattle.gpt_table.specs.Decoded.{used, Decoded, ranges}
+use Rattle.gpt_table.specs.Invariants.{used, Decoded, ranges}
 
 -- ---- the used ones of a list
 

@@ -11,7 +11,7 @@ ghost use lib.ListN.{length, getD, set};
 ghost use Rattle.octets.specs.Tests.{any, findIx};
 ghost use Rattle.gpt_model.specs.Table.{entryBytes, slotCount, tableBytes, unused as unusedIn, entries};
 ghost use Rattle.gpt_model.specs.Calls.{carries as carriesIn, badName};
-ghost use Rattle.gpt_table.specs.Decoded.{used, Decoded};
+ghost use Rattle.gpt_table.specs.Invariants.{used, Decoded};
 
 pub const SLOTS: usize = 128;
 

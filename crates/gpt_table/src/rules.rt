@@ -13,8 +13,7 @@ ghost use lib.Dec.{eqb};
 ghost use lib.ListN.{length, getD, drop};
 ghost use Rattle.octets.specs.Tests.{_and_, all, pairs};
 ghost use Rattle.gpt_model.specs.Table.{spans, bounded as boundedIn, apart, entryBytes, slotCount, tableBytes, entries, entryOk, goodTable};
-ghost use Rattle.gpt_table.specs.Decoded.{differ, Guids, ranges};
-ghost use Rattle.gpt_table.specs.Sorted.{Ascending};
+ghost use Rattle.gpt_table.specs.Invariants.{differ, Guids, ranges, Ascending};
 
 fn bounded(f: Block, l: Block, first: Block, last: Block) -> bool
     ensures { λ r. ⌜ r ≡ boundedIn (first .0) (last .0) (spans (f .0) (l .0)) ⌝ }

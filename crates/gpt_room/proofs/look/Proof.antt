@@ -1,7 +1,7 @@
 use native.Mathlib.Omega.{arith}
 use denote.Ref.{now}
 use borrow.Author.Needs.{needs}
-use Rattle.gpt_room.specs.Gaps.{taken, gap}
+use Rattle.gpt_room.specs.Invariants.{taken, gap}
 use Rattle.gpt_room.proofs.Looks.{clear-none, clear-far, full, clear-gap}
 use Rattle.gpt_room.proofs.look.Statement.{statement}
 use Rattle.gpt_room.proofs.look.Tie as tie

@@ -3,8 +3,8 @@ use Prim.Native.Nat.{_-_, _≤_}
 use native.Mathlib.Omega.{arith}
 use denote.Ref.{now}
 use borrow.Author.Needs.{needs}
-use Rattle.gpt_table.specs.Decoded.{ranges}
-use Rattle.gpt_room.specs.Gaps.{Passed}
+use Rattle.gpt_table.specs.Invariants.{ranges}
+use Rattle.gpt_room.specs.Invariants.{Passed}
 use Rattle.gpt_room.proofs.Looks.{next-over, next-found, next-none}
 use Rattle.gpt_room.proofs.next.Statement.{statement}
 use Rattle.gpt_room.proofs.next.Tie as tie

@@ -1,8 +1,8 @@
 use Prim.Native.Nat.{_+_, _-_, _≤_}
 use native.Mathlib.Omega.{arith}
 use borrow.Author.Needs.{needs}
-use Rattle.gpt_table.specs.Decoded.{ranges}
-use Rattle.gpt_room.specs.Gaps.{Passed}
+use Rattle.gpt_table.specs.Invariants.{ranges}
+use Rattle.gpt_room.specs.Invariants.{Passed}
 use Rattle.gpt_room.proofs.Looks.{taken-of, gap-of, passed-more, passed-none}
 use Rattle.gpt_room.proofs.Walks.{Tallied, tallied-start, tallied-over, tallied-gap, tallied-end, tallied-full}
 use Rattle.gpt_room.proofs.tally.Statement.{statement}

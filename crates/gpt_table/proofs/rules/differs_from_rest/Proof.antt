@@ -6,7 +6,7 @@ use lib.Dec.{eqb}
 use lib.ListN.{getD, drop}
 use borrow.Author.Needs.{needs}
 use Rattle.octets.specs.Tests.{_and_, all}
-use Rattle.gpt_table.specs.Decoded.{differ, Guids}
+use Rattle.gpt_table.specs.Invariants.{differ, Guids}
 use Rattle.gpt_table.proofs.Good.{differ-at, none-on, none-done}
 use Rattle.gpt_table.proofs.rules.differs_from_rest.Statement.{statement}
 use Rattle.gpt_table.proofs.rules.differs_from_rest.Tie as tie

@@ -7,7 +7,7 @@ use borrow.Author.Needs.{needs}
 use borrow.Author.Tests.{not-true, not-false}
 use Rattle.octets.specs.Tests.{pairs}
 use Rattle.octets.proofs.Tests.{pairs-on, pairs-stop, pairs-done}
-use Rattle.gpt_table.specs.Decoded.{differ, Guids}
+use Rattle.gpt_table.specs.Invariants.{differ, Guids}
 use Rattle.gpt_table.proofs.rules.guids_differ.Statement.{statement}
 use Rattle.gpt_table.proofs.rules.guids_differ.Tie as tie
 

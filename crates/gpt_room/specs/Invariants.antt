@@ -1,4 +1,4 @@
--- What a look ahead from block a finds among the ranges s. Definitions only.
+-- What a look ahead from block a finds among the ranges s: what only contracts and proofs cite.
 use mathlib.Core.Path.{_≡_}
 use mathlib.Core.Bool.{true, false}
 use mathlib.Core.List.{List}
@@ -7,7 +7,7 @@ use lib.ListN.{getD}
 use Rattle.gpt_model.specs.declared.Block.{Block}
 use Rattle.gpt_model.specs.Ranges.{blockIn, inSome}
 use Rattle.gpt_model.specs.Table.{BlockRange, noBlocks}
-use Rattle.gpt_table.specs.Decoded.{ranges}
+use Rattle.gpt_table.specs.Invariants.{ranges}
 use Rattle.gpt_room.specs.declared.Ahead.{Ahead}
 use Rattle.gpt_room.specs.declared.Ahead.the-variants.{Taken, Gap}
 
