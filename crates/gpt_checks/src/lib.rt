@@ -18,8 +18,8 @@ ghost use Rattle.octets.specs.Bytes.{isZero};
 ghost use Rattle.octets.specs.Rows.{row, refusal};
 ghost use Rattle.gpt_model.specs.Table.{tableBytes, unused, entries};
 ghost use Rattle.gpt_model.specs.Disk.{disk512, lastUsable, tableOf};
-ghost use Rattle.gpt_model.specs.Calls.{lentRows, openRows, formatRows, carries, slotRows, addRows, startFor, tableRows, rowsOf, edit, add as addCall, delete as deleteCall};
-ghost use Rattle.gpt_model.specs.Calls.{resize as resizeCall, rename as renameCall};
+ghost use Rattle.gpt_model.specs.Calls.{lentRows, openRows, formatRows, carries, slotRows, addRows, startFor, tableRows, rowsOf, edit};
+ghost use Rattle.gpt_model.specs.Calls.{add as addCall, delete as deleteCall, resize as resizeCall, rename as renameCall};
 ghost use Rattle.gpt_checks.specs.Checks.{stopOf, rowAfter, stopBy, startBy};
 ghost use Rattle.gpt_checks.specs.Refusals.{numberOf};
 
