@@ -31,7 +31,8 @@ pub fn of_edit(edit: &Edit, edited: &BTreeMap<String, String>) -> Option<String>
     text(format!("{folder}/.log")).filter(|_| tried && refused)
 }
 
-/// The first error of the log of an edit; where a function has no proof of its own, the first need that the prover could not meet, at its place in the source.
+/// The first error of the log of an edit that does not merely follow from another one; where a function has no proof of its own, the first need that the
+/// prover could not meet, at its place in the source.
 pub fn first_error(log: &str, name: &str) -> Option<Fact> {
     let lines: Vec<&str> = log.lines().collect();
     in_a_proof(&lines, name).or_else(|| lines.iter().find_map(|line| in_the_source(line, name)))
@@ -43,10 +44,13 @@ fn file_of(place: &str, name: &str) -> Option<String> {
     Some(place.split(':').next()?.to_string())
 }
 
+/// How an error ends that follows from another one.
+const FOLLOWS: &str = "so this cannot be checked";
+
 /// `PLACE: error: `NAME`: MESSAGE`, with the lines below it that are indented.
 fn in_a_proof(lines: &[&str], name: &str) -> Option<Fact> {
     let is_error = |line: &&str| line.split_once(": error").is_some_and(|(place, _)| !place.contains(' '));
-    let at = lines.iter().position(|line| is_error(&line))?;
+    let at = lines.iter().position(|line| is_error(line) && !line.ends_with(FOLLOWS))?;
     let (place, said) = lines[at].split_once(": error: ")?;
     let more = lines[at + 1..].iter().take_while(|line| line.starts_with("  "));
     let whole = [said].into_iter().chain(more.map(|line| line.trim())).collect::<Vec<_>>().join(" ");
@@ -163,6 +167,14 @@ mod tests {
             fact.shown(),
             "`src/lib.rt`, `f-requires`: it is not proved that what `f` requires holds at this call"
         );
+    }
+
+    #[test]
+    fn passes_over_what_follows_from_another_error() {
+        let log = "/r/target/must-fail/k/far/proofs/g/Proof.antt:9:1: error: `g-spec`: `close` was not admitted (it has holes), so this cannot be checked\n\
+            note: /r/target/must-fail/k/far/src/lib.rt:16:1: it is not proved that what the function ensures holds when it returns (`returns-2`)\n";
+        let fact = first_error(log, "k/far").unwrap();
+        assert_eq!((fact.file.as_str(), fact.name.as_str()), ("src/lib.rt", "returns-2"));
     }
 
     #[test]

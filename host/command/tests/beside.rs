@@ -131,7 +131,9 @@ fn spawned(words: &[&OsStr]) -> Child {
     command.args(words).stdin(Stdio::null()).stdout(Stdio::null()).stderr(Stdio::null());
     let heeded = || {
         // Safety: it may be called between fork and exec.
-        [SIGINT, SIGTERM, SIGHUP].map(|number| unsafe { signal(number, SIG_DFL) });
+        for number in [SIGINT, SIGTERM, SIGHUP] {
+            unsafe { signal(number, SIG_DFL) };
+        }
         Ok(())
     };
     // Safety: the closure calls nothing else.
