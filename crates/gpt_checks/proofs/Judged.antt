@@ -10,7 +10,7 @@ use lib.Dec.{eqb}
 use lib.ListN.{length}
 use borrow.Author.Tests.{eqb-true, eqb-false, leb-true, eq-eqb, ne-eqb}
 use Rattle.octets.specs.Tests.{_and_}
-use Rattle.octets.specs.Rows.{Row, row, pickRow, refusal}
+use Rattle.octets.specs.Rows.{Row, row, refusal}
 use Rattle.octets.proofs.Bools.{and-l, and-r, and-i, not-f, some-none}
 use Rattle.octets.proofs.Rows.{rowsFrom, passes, pick-true, pick-false, refusal-append, refusal-first, refusal-before}
 use Rattle.gpt_model.specs.Ranges.{lowestStart}
@@ -72,10 +72,25 @@ module _ (n : ℕ) (h t : List ℕ) where
   pub open-lent : (k : ℕ) → refusal (lentRows disk512 n h t true) ≡ some k → some k ≡ refusal (openRows disk512 n h t true)
   open-lent k e = sym (refusal-first (lentRows disk512 n h t true) later k e)
 
-  pub open-found : refusal (lentRows disk512 n h t true) ≡ none → (s x : State) → s ≡ x → stateNumber s ≡ state disk512 n h t
-      → pickRow (eqb (stateNumber x) 0) 10 (pickRow (not (eqb (stateNumber x) 1)) 11 none) ≡ refusal (openRows disk512 n h t true)
-  open-found e s x p q =
-      sym (refusal-append (lentRows disk512 n h t true) later e ∙ ap (λ (k : ℕ). pickRow (eqb k 0) 10 (pickRow (not (eqb k 1)) 11 none)) (sym q ∙ ap stateNumber p))
+  -- by the state x that the code finds
+  module _ (e : refusal (lentRows disk512 n h t true) ≡ none) (s x : State) (p : s ≡ x) (q : stateNumber s ≡ state disk512 n h t) where
+    abbrev opening : Option ℕ
+    opening = refusal (openRows disk512 n h t true)
+
+    state-is : state disk512 n h t ≡ stateNumber x
+    state-is = sym q ∙ ap stateNumber p
+
+    pub open-neither : stateNumber x ≡ 0 → some 10 ≡ opening
+    open-neither z = sym (refusal-append (lentRows disk512 n h t true) later e ∙ pick-true _ 10 _ (eq-eqb _ _ (state-is ∙ z)))
+
+    to11 : stateNumber x ≢ 0 → opening ≡ refusal (rowsFrom 11 (openRows disk512 n h t true))
+    to11 f = refusal-append (lentRows disk512 n h t true) later e ∙ pick-false _ 10 _ (ne-eqb _ _ (λ z. f (sym state-is ∙ z)))
+
+    pub open-other : stateNumber x ≢ 0 → stateNumber x ≢ 1 → some 11 ≡ opening
+    open-other f g = sym (to11 f ∙ pick-true _ 11 _ (ap not (ne-eqb _ _ (λ z. g (sym state-is ∙ z)))))
+
+    pub open-both : stateNumber x ≡ 1 → none ≡ opening
+    open-both z = sym (to11 (λ w. omega (arith, w, z)) ∙ pick-false _ 11 _ (ap not (eq-eqb _ _ (state-is ∙ z))))
 
   -- the rows before an edit's own, where GUIDs and name have the lengths of their types
   open-is : (d : Edit) → lengthsOf d ≡ true → refusal (openRows disk512 n h t (lengthsOf d)) ≡ refusal (openRows disk512 n h t true)

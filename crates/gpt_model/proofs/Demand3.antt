@@ -1,7 +1,7 @@
 -- Demand 3 over the whole list of calls, that it is not empty, and that what is written reads back.
 use mathlib.Core.Path.{_≡_, refl, sym, ap, subst, _∙_}
 use mathlib.Core.Logic.{_⊎_, inl, inr, _≢_, _↔_}
-use mathlib.Core.Bool.{Bool, true, false, not}
+use mathlib.Core.Bool.{true, not}
 use mathlib.Core.List.{List, [], _∷_, _++_}
 use mathlib.Core.Option.{Option, none, some}
 use Prim.Native.Nat.{ℕ, suc, _+_, _*_, _≤_, _<_}
@@ -9,12 +9,12 @@ use native.Mathlib.Decide.{decLt}
 use native.Mathlib.Omega.{arith}
 use lib.ListN.{length, getD}
 use borrow.Author.Tests.{eqb-true, eqb-false, eq-eqb, leb-true, le-leb}
-use Rattle.octets.specs.Rows.{Row, row, pickRow, refusal}
+use Rattle.octets.specs.Rows.{Row, row, refusal}
 use Rattle.octets.specs.Bytes.{zeros}
 use Rattle.octets.proofs.Bools.{and-l, and-r, and-i, option-cases}
 use Rattle.octets.proofs.Tests.{pairs-get}
 use Rattle.octets.proofs.Parts.{length-zeros}
-use Rattle.octets.proofs.Rows.{rowsFrom, pick-false, passes, refusal-append, refusal-before}
+use Rattle.octets.proofs.Rows.{rowsFrom, pick-true, pick-false, passes, refusal-append, refusal-before}
 use Rattle.gpt_model.specs.Table.{noBlocks, apart, rangesOf, goodTable}
 use Rattle.gpt_model.specs.Disk.{Shape, disk512, lastUsable, inRange, state, tableOf, freshHead, freshTail}
 use Rattle.gpt_model.specs.Ranges.{blockIn, freeCount, longestFree, FreeFrom}
@@ -108,17 +108,15 @@ module _ (g : Shape) (n : ℕ) (r : Snapshot) (v : Kept g n r) where
     add-size = let w : p .size ≢ 0 = eqb-false (p .size) 0 (passes 20 before e) in omega arith
 
     -- only the row for room is left
-    add-row : (b : Bool) → isNone start ≡ b → refusal (rowsOf g n (r .head) (r .tail) c) ≡ pickRow b 25 none
-    add-row b q = refusal-append before (rowsFrom 25 (rowsOf g n (r .head) (r .tail) c)) e ∙ ap (λ (x : Bool). pickRow x 25 none) q
+    from25 : refusal (rowsOf g n (r .head) (r .tail) c) ≡ refusal (rowsFrom 25 (rowsOf g n (r .head) (r .tail) c))
+    from25 = refusal-append before (rowsFrom 25 (rowsOf g n (r .head) (r .tail) c)) e
 
     add-no : start ≡ none → step g n (r .head) (r .tail) c .answer ≡ refused 25
-    unfolding pickRow
-    add-no q = ap (λ (o : Outcome). o .answer) (step-refused g n (r .head) (r .tail) c 25 (add-row true (ap isNone q)))
+    add-no q = ap (λ (o : Outcome). o .answer) (step-refused g n (r .head) (r .tail) c 25 (from25 ∙ pick-true _ 25 _ (ap isNone q)))
 
     add-yes : (s : ℕ) → start ≡ some s
         → step g n (r .head) (r .tail) c .answer ≡ accepted (change (g .first) (lastUsable g n) tab (add p) .values)
-    unfolding pickRow
-    add-yes s q = ap (λ (o : Outcome). o .answer) (step-accepted g n (r .head) (r .tail) c (add-row false (ap isNone q)))
+    add-yes s q = ap (λ (o : Outcome). o .answer) (step-accepted g n (r .head) (r .tail) c (from25 ∙ pick-false _ 25 _ (ap isNone q)))
 
     abbrev NoRun : Type 0
     NoRun = (s : ℕ) → ¬ FreeFrom g n (rangesOf tab) (p .size) s

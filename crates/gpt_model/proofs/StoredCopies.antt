@@ -3,19 +3,17 @@ use mathlib.Core.Path.{_≡_, refl, sym, ap, subst, _∙_}
 use mathlib.Core.Logic.{_≢_, _↔_}
 use mathlib.Core.Bool.{Bool, true, false, not}
 use mathlib.Core.List.{List, [], _∷_}
-use mathlib.Core.Option.{none}
 use Prim.Native.Nat.{ℕ, zero, suc, _+_, _-_, _≤_}
 use native.Mathlib.Decide.{ℕ-discrete}
 use native.Mathlib.Omega.{arith}
-use lib.Dec.{eqb}
 use lib.ListN.{length, getD}
 use borrow.Author.Tests.{eq-eqb, ne-eqb, le-leb}
-use Rattle.octets.specs.Rows.{pickRow, refusal}
+use Rattle.octets.specs.Rows.{refusal}
 use Rattle.octets.specs.Bytes.{part, same}
 use Rattle.octets.proofs.Bools.{and-l, and-r, and-i, clash}
 use Rattle.octets.proofs.Parts.{length-part, part-part}
 use Rattle.octets.proofs.Equal.{same-true, same-refl}
-use Rattle.octets.proofs.Rows.{pick-false, pick-true}
+use Rattle.octets.proofs.Rows.{rowsFrom, pick-false, pick-true}
 use Rattle.gpt_model.specs.Disk.{Shape, lastUsable, Side, primary, backup, other, headerBlock, entriesBlock, lentBytes, headerAt, headerIn, guidIn, entriesIn, goodCopy, stateOf, sameCopies, state}
 use Rattle.gpt_model.specs.Calls.{read, Answer, refused, accepted, Outcome, commonRows, step}
 use Rattle.gpt_model.specs.Stored.{TableRules, HeaderSays, HeadGood, TailGood, Alike, SizesOk}
@@ -76,7 +74,8 @@ reply-read zero ne = absurd (ne refl)
 reply-read (suc s) ne = refl
 
 -- only row 10 can hold
-pub sizes-rows : (g : Shape) (n : ℕ) (h t : List ℕ) → SizesOk g n h t → refusal (commonRows g n h t true) ≡ pickRow (eqb (state g n h t) 0) 10 none
+pub sizes-rows : (g : Shape) (n : ℕ) (h t : List ℕ) → SizesOk g n h t
+    → refusal (commonRows g n h t true) ≡ refusal (rowsFrom 10 (commonRows g n h t true))
 sizes-rows g n h t l =
     pick-false _ 1 _ (ap not (and-i _ _ (and-i _ _ (eq-eqb _ _ (l .head)) (eq-eqb _ _ (l .tail))) refl))
     ∙ pick-false _ 2 _ (ap not (and-i _ _ (le-leb _ _ (l .low)) (le-leb _ _ (l .high))))

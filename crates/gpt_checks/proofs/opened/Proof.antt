@@ -1,7 +1,8 @@
 use denote.Ref.{now}
-use Rattle.gpt_checks.proofs.Judged.{passed, stopped, lent-facts, open-lent, open-found}
+use Rattle.gpt_checks.proofs.Judged.{passed, stopped, lent-facts, open-lent, open-neither, open-other, open-both}
 use Rattle.gpt_copies.specs.declared.State.the-variants.{Both, Differ, PrimaryOnly, BackupOnly, Neither}
-use Rattle.octets.specs.Rows.{pickRow}
+use mathlib.Core.Path.{refl}
+use native.Mathlib.Omega.{arith}
 use borrow.Author.Needs.{needs}
 use Rattle.gpt_checks.proofs.opened.Statement.{statement}
 use Rattle.gpt_checks.proofs.opened.Tie as tie
@@ -42,34 +43,29 @@ returns c =
     open-lent (a .n) (now (a .head)) (now (a .tail)) _ (stopped _ _ (c .before .r .given .1) (c .before .before .before .lent .ensures))
 
 returns-2 : tie.Need-returns-2
-unfolding pickRow
 returns-2 c =
     let a = c .before .before .before .before .before .before .before .before .args in
-    open-found (a .n) (now (a .head)) (now (a .tail)) (passed _ (c .before .before .before .enum-told .given .1) (c .before .before .before .before .before .lent .ensures)) _ Both (c .enum-told2 .given .1) (c .before .before .state .ensures)
+    open-both (a .n) (now (a .head)) (now (a .tail)) (passed _ (c .before .before .before .enum-told .given .1) (c .before .before .before .before .before .lent .ensures)) _ Both (c .enum-told2 .given .1) (c .before .before .state .ensures) refl
 
 returns-3 : tie.Need-returns-3
-unfolding pickRow
 returns-3 c =
     let a = c .before .before .before .before .before .before .before .before .args in
-    open-found (a .n) (now (a .head)) (now (a .tail)) (passed _ (c .before .before .before .enum-told .given .1) (c .before .before .before .before .before .lent .ensures)) _ Differ (c .enum-told3 .given .1) (c .before .before .state .ensures)
+    open-other (a .n) (now (a .head)) (now (a .tail)) (passed _ (c .before .before .before .enum-told .given .1) (c .before .before .before .before .before .lent .ensures)) _ Differ (c .enum-told3 .given .1) (c .before .before .state .ensures) (λ z. omega (arith, z)) (λ z. omega (arith, z))
 
 returns-4 : tie.Need-returns-4
-unfolding pickRow
 returns-4 c =
     let a = c .before .before .before .before .before .before .before .before .args in
-    open-found (a .n) (now (a .head)) (now (a .tail)) (passed _ (c .before .before .before .enum-told .given .1) (c .before .before .before .before .before .lent .ensures)) _ PrimaryOnly (c .enum-told4 .given .1) (c .before .before .state .ensures)
+    open-other (a .n) (now (a .head)) (now (a .tail)) (passed _ (c .before .before .before .enum-told .given .1) (c .before .before .before .before .before .lent .ensures)) _ PrimaryOnly (c .enum-told4 .given .1) (c .before .before .state .ensures) (λ z. omega (arith, z)) (λ z. omega (arith, z))
 
 returns-5 : tie.Need-returns-5
-unfolding pickRow
 returns-5 c =
     let a = c .before .before .before .before .before .before .before .before .args in
-    open-found (a .n) (now (a .head)) (now (a .tail)) (passed _ (c .before .before .before .enum-told .given .1) (c .before .before .before .before .before .lent .ensures)) _ BackupOnly (c .enum-told5 .given .1) (c .before .before .state .ensures)
+    open-other (a .n) (now (a .head)) (now (a .tail)) (passed _ (c .before .before .before .enum-told .given .1) (c .before .before .before .before .before .lent .ensures)) _ BackupOnly (c .enum-told5 .given .1) (c .before .before .state .ensures) (λ z. omega (arith, z)) (λ z. omega (arith, z))
 
 returns-6 : tie.Need-returns-6
-unfolding pickRow
 returns-6 c =
     let a = c .before .before .before .before .before .before .before .before .args in
-    open-found (a .n) (now (a .head)) (now (a .tail)) (passed _ (c .before .before .before .enum-told .given .1) (c .before .before .before .before .before .lent .ensures)) _ Neither (c .enum-told6 .given .1) (c .before .before .state .ensures)
+    open-neither (a .n) (now (a .head)) (now (a .tail)) (passed _ (c .before .before .before .enum-told .given .1) (c .before .before .before .before .before .lent .ensures)) _ Neither (c .enum-told6 .given .1) (c .before .before .state .ensures) refl
 
 pub opened-spec : {M : Type 1} → statement M
 opened-spec =
