@@ -15,10 +15,12 @@ use Rattle.octets.proofs.Chunks.{length-putChunk, putChunk-put}
 use Rattle.crc_lanes.specs.Crc.{crcUpdate, crc32}
 use Rattle.crc_lanes.proofs.Parts.{crc-parts}
 use Rattle.gpt_model.specs.Table.{writeAll}
-use Rattle.gpt_model.specs.Disk.{disk512, Side, primary, backup, lentBytes, headerAt, entriesAt, guidIn, entriesIn, header, withTable, withCopy, block0, freshHead, freshTail}
+use Rattle.gpt_model.specs.Disk.{Shape, Side, primary, backup, lentBytes, headerAt, entriesAt, guidIn, entriesIn, header, withTable, withCopy}
+use Rattle.gpt_model.specs.Disk.{block0, freshHead, freshTail}
 use Rattle.gpt_model.proofs.Copies.{length-header, places-apart, length-guid, length-entries}
 use Rattle.gpt_model.proofs.Writes.{entry-written, fresh-head, fresh-tail}
-use Rattle.gpt_places.proofs.Places.{header-end, block-end, length-cut}
+use Rattle.gpt_places.specs.Shapes.{Legal}
+use Rattle.gpt_places.proofs.Places.{wide, header-end, block-end, length-cut}
 
 -- a list filled with zeros
 pub filled : (xs : List ℕ) (k : ℕ) → length xs ≡ k → replicate (length xs) 0 ≡ zeros k
@@ -32,62 +34,62 @@ back xs ys at a k e p q h l =
     let w : e - at ≡ k = omega arith in
     ap₂ (λ (m i : ℕ). take i xs ++ (ys ++ drop m (drop i xs))) w p ∙ put-back xs ys a k h l
 
-module _ (side : Side) (b : List ℕ) (lb : length b ≡ lentBytes disk512 side) where
+module _ (g : Shape) (ok : Legal g) (side : Side) (b : List ℕ) (lb : length b ≡ lentBytes g side) where
   -- ---- the header
 
-  pub header-back : (n : ℕ) (guid es hdr : List ℕ) (at : ℕ) → at ≡ headerAt disk512 side → hdr ≡ header disk512 n side guid es
-      → take at b ++ (hdr ++ drop (at + 92 - at) (drop at b)) ≡ put (headerAt disk512 side) (header disk512 n side guid es) b
+  pub header-back : (n : ℕ) (guid es hdr : List ℕ) (at : ℕ) → at ≡ headerAt g side → hdr ≡ header g n side guid es
+      → take at b ++ (hdr ++ drop (at + 92 - at) (drop at b)) ≡ put (headerAt g side) (header g n side guid es) b
   header-back n guid es hdr at p q =
       ap (λ (x : List ℕ). take at b ++ (x ++ drop (at + 92 - at) (drop at b))) q
-      ∙ back b (header disk512 n side guid es) at _ 92 _ p refl (let h = header-end side in omega arith) (length-header disk512 n side guid es)
+      ∙ back b (header g n side guid es) at _ 92 _ p refl (let h = header-end g ok side in omega arith) (length-header g n side guid es)
 
   -- its block set to zero
-  pub block-cleared : (zs : List ℕ) (at : ℕ) → at ≡ headerAt disk512 side → zs ≡ replicate (length (take (at + 512 - at) (drop at b))) 0
-      → take at b ++ (zs ++ drop (at + 512 - at) (drop at b)) ≡ put (headerAt disk512 side) (zeros 512) b
+  pub block-cleared : (zs : List ℕ) (at : ℕ) → at ≡ headerAt g side → zs ≡ replicate (length (take (at + g .block - at) (drop at b))) 0
+      → take at b ++ (zs ++ drop (at + g .block - at) (drop at b)) ≡ put (headerAt g side) (zeros (g .block)) b
   block-cleared zs at p q =
-      let h = block-end side in
-      let w : zs ≡ zeros 512 = q ∙ filled (take (at + 512 - at) (drop at b)) 512 (length-cut b at 512 (at + 512) refl (omega arith)) in
-      ap (λ (x : List ℕ). take at b ++ (x ++ drop (at + 512 - at) (drop at b))) w ∙ back b (zeros 512) at _ 512 _ p refl (omega arith) (length-zeros 512)
+      let h = block-end g ok side in
+      let w : zs ≡ zeros (g .block) = q ∙ filled (take (at + g .block - at) (drop at b)) (g .block) (length-cut b at (g .block) (at + g .block) refl (omega arith)) in
+      ap (λ (x : List ℕ). take at b ++ (x ++ drop (at + g .block - at) (drop at b))) w ∙ back b (zeros (g .block)) at _ (g .block) _ p refl (omega arith) (length-zeros (g .block))
 
   -- its disk GUID, copied into an array first
-  pub header-renewed : (n : ℕ) (old copied es b1 : List ℕ) (g : List ℕ) → length g ≡ 16 → old ≡ guidIn disk512 side b → copied ≡ put 0 old g
-      → b1 ≡ put (headerAt disk512 side) (header disk512 n side copied es) b
-      → b1 ≡ put (headerAt disk512 side) (header disk512 n side (guidIn disk512 side b) es) b
-  header-renewed n old copied es b1 g l p q r =
-      let w : length (guidIn disk512 side b) ≡ 16 = length-guid disk512 (omega arith) side b lb in
-      r ∙ ap (λ (x : List ℕ). put (headerAt disk512 side) (header disk512 n side x es) b) (q ∙ put-all old g (ap length p ∙ w ∙ sym l) ∙ p)
+  pub header-renewed : (n : ℕ) (old copied es b1 : List ℕ) (d : List ℕ) → length d ≡ 16 → old ≡ guidIn g side b → copied ≡ put 0 old d
+      → b1 ≡ put (headerAt g side) (header g n side copied es) b
+      → b1 ≡ put (headerAt g side) (header g n side (guidIn g side b) es) b
+  header-renewed n old copied es b1 d l p q r =
+      let w : length (guidIn g side b) ≡ 16 = length-guid g (wide g ok) side b lb in
+      r ∙ ap (λ (x : List ℕ). put (headerAt g side) (header g n side x es) b) (q ∙ put-all old d (ap length p ∙ w ∙ sym l) ∙ p)
 
   -- ---- the table
 
-  pub entry-put : (i at : ℕ) (e : List ℕ) → i < 128 → length e ≡ 128 → at ≡ entriesAt disk512 side
-      → put (at + i * 128) e b ≡ put (entriesAt disk512 side) (putChunk 128 i e (entriesIn disk512 side b)) b
-  entry-put i at e hi le′ p = ap (λ (a : ℕ). put (a + i * 128) e b) p ∙ sym (entry-written disk512 (omega arith) side b lb i hi e le′)
+  pub entry-put : (i at : ℕ) (e : List ℕ) → i < 128 → length e ≡ 128 → at ≡ entriesAt g side
+      → put (at + i * 128) e b ≡ put (entriesAt g side) (putChunk 128 i e (entriesIn g side b)) b
+  entry-put i at e hi le′ p = ap (λ (a : ℕ). put (a + i * 128) e b) p ∙ sym (entry-written g (wide g ok) side b lb i hi e le′)
 
-  pub guid-kept : (es : List ℕ) → length es ≡ 16384 → guidIn disk512 side (put (entriesAt disk512 side) es b) ≡ guidIn disk512 side b
-  guid-kept es l = ap (part 56 16) (part-put-out es b (headerAt disk512 side) 92 (entriesAt disk512 side) (clear (places-apart disk512 (omega arith) side)))
+  pub guid-kept : (es : List ℕ) → length es ≡ 16384 → guidIn g side (put (entriesAt g side) es b) ≡ guidIn g side b
+  guid-kept es l = ap (part 56 16) (part-put-out es b (headerAt g side) 92 (entriesAt g side) (clear (places-apart g (wide g ok) side)))
     where
-      clear : (headerAt disk512 side + 92 ≤ entriesAt disk512 side) ⊎ (entriesAt disk512 side + 16384 ≤ headerAt disk512 side)
-          → (entriesAt disk512 side + length es ≤ headerAt disk512 side) ⊎ (headerAt disk512 side + 92 ≤ entriesAt disk512 side)
+      clear : (headerAt g side + 92 ≤ entriesAt g side) ⊎ (entriesAt g side + 16384 ≤ headerAt g side)
+          → (entriesAt g side + length es ≤ headerAt g side) ⊎ (headerAt g side + 92 ≤ entriesAt g side)
       clear (inl h) = inr h
       clear (inr h) = inl (omega arith)
 
-  pub length-changed : (i : ℕ) (e : List ℕ) → i < 128 → length e ≡ 128 → length (putChunk 128 i e (entriesIn disk512 side b)) ≡ 16384
-  length-changed i e hi le′ = length-putChunk 128 128 i e (entriesIn disk512 side b) le′ hi (length-entries disk512 (omega arith) side b lb)
+  pub length-changed : (i : ℕ) (e : List ℕ) → i < 128 → length e ≡ 128 → length (putChunk 128 i e (entriesIn g side b)) ≡ 16384
+  length-changed i e hi le′ = length-putChunk 128 128 i e (entriesIn g side b) le′ hi (length-entries g (wide g ok) side b lb)
 
   -- a table set, and the header anew
-  pub table-put : (n : ℕ) (es b1 b2 : List ℕ) → length es ≡ 16384 → b1 ≡ put (entriesAt disk512 side) es b
-      → b2 ≡ put (headerAt disk512 side) (header disk512 n side (guidIn disk512 side b1) es) b1 → b2 ≡ withTable disk512 n side (guidIn disk512 side b) es b
+  pub table-put : (n : ℕ) (es b1 b2 : List ℕ) → length es ≡ 16384 → b1 ≡ put (entriesAt g side) es b
+      → b2 ≡ put (headerAt g side) (header g n side (guidIn g side b1) es) b1 → b2 ≡ withTable g n side (guidIn g side b) es b
   unfolding withTable
   table-put n es b1 b2 l p q =
       q
-      ∙ ap (λ (x : List ℕ). put (headerAt disk512 side) (header disk512 n side (guidIn disk512 side x) es) x) p
-      ∙ ap (λ (g : List ℕ). put (headerAt disk512 side) (header disk512 n side g es) (put (entriesAt disk512 side) es b)) (guid-kept es l)
+      ∙ ap (λ (x : List ℕ). put (headerAt g side) (header g n side (guidIn g side x) es) x) p
+      ∙ ap (λ (d : List ℕ). put (headerAt g side) (header g n side d es) (put (entriesAt g side) es b)) (guid-kept es l)
 
-  pub copy-put : (n : ℕ) (guid es b1 b2 b3 : List ℕ) (at : ℕ) → b1 ≡ put (headerAt disk512 side) (zeros 512) b → at ≡ entriesAt disk512 side → b2 ≡ put at es b1
-      → b3 ≡ put (headerAt disk512 side) (header disk512 n side guid es) b2 → b3 ≡ withCopy disk512 n side guid es b
+  pub copy-put : (n : ℕ) (guid es b1 b2 b3 : List ℕ) (at : ℕ) → b1 ≡ put (headerAt g side) (zeros (g .block)) b → at ≡ entriesAt g side → b2 ≡ put at es b1
+      → b3 ≡ put (headerAt g side) (header g n side guid es) b2 → b3 ≡ withCopy g n side guid es b
   unfolding withTable
   copy-put n guid es b1 b2 b3 at p a q r =
-      r ∙ ap (put (headerAt disk512 side) (header disk512 n side guid es)) (q ∙ ap₂ (λ (k : ℕ) (x : List ℕ). put k es x) a p)
+      r ∙ ap (put (headerAt g side) (header g n side guid es)) (q ∙ ap₂ (λ (k : ℕ) (x : List ℕ). put k es x) a p)
 
 -- ---- the CRC of a table with one entry replaced
 
@@ -117,21 +119,21 @@ block0-put n h h1 h2 h3 h4 p q r s =
     s ∙ ap (put 510 (0x55 ∷ 0xAA ∷ [])) (w ∙ ap (λ (v : List ℕ). put 446 v h) (append-assoc head (le 4 1) (le 4 (n - 1))))
 
 -- zeros, block 0, the header
-pub head-fresh : (n : ℕ) (guid h1 h2 h3 es : List ℕ) (crc : ℕ) → h1 ≡ zeros 17408 → es ≡ entriesIn disk512 primary h1 → crc ≡ crc32 es → h2 ≡ writeAll (block0 n) h1
-    → ((es : List ℕ) → crc ≡ crc32 es → h3 ≡ put (headerAt disk512 primary) (header disk512 n primary guid es) h2)
-    → h3 ≡ freshHead disk512 n guid (zeros 16384)
-head-fresh n guid h1 h2 h3 es crc p r c q f =
-    let z : es ≡ zeros 16384 = r ∙ ap (entriesIn disk512 primary) p ∙ part-zeros 1024 16384 17408 (omega arith) in
+pub head-fresh : (g : Shape) (ok : Legal g) (n : ℕ) (guid h1 h2 h3 es : List ℕ) (crc : ℕ) → h1 ≡ zeros (lentBytes g primary) → es ≡ entriesIn g primary h1 → crc ≡ crc32 es → h2 ≡ writeAll (block0 n) h1
+    → ((es : List ℕ) → crc ≡ crc32 es → h3 ≡ put (headerAt g primary) (header g n primary guid es) h2)
+    → h3 ≡ freshHead g n guid (zeros 16384)
+head-fresh g ok n guid h1 h2 h3 es crc p r c q f =
+    let z : es ≡ zeros 16384 = r ∙ ap (entriesIn g primary) p ∙ part-zeros (entriesAt g primary) 16384 (lentBytes g primary) (omega arith) in
     f (zeros 16384) (c ∙ ap crc32 z)
-    ∙ ap (put (headerAt disk512 primary) (header disk512 n primary guid (zeros 16384))) (q ∙ ap (writeAll (block0 n)) p)
-    ∙ sym (fresh-head disk512 (omega arith) n guid (omega arith))
+    ∙ ap (put (headerAt g primary) (header g n primary guid (zeros 16384))) (q ∙ ap (writeAll (block0 n)) p)
+    ∙ sym (fresh-head g (wide g ok) n guid (omega arith))
 
 -- zeros, the header
-pub tail-fresh : (n : ℕ) (guid t1 t2 es : List ℕ) (crc : ℕ) → t1 ≡ zeros 16896 → es ≡ entriesIn disk512 backup t1 → crc ≡ crc32 es
-    → ((es : List ℕ) → crc ≡ crc32 es → t2 ≡ put (headerAt disk512 backup) (header disk512 n backup guid es) t1)
-    → t2 ≡ freshTail disk512 n guid (zeros 16384)
-tail-fresh n guid t1 t2 es crc p r c f =
-    let z : es ≡ zeros 16384 = r ∙ ap (entriesIn disk512 backup) p ∙ part-zeros 0 16384 16896 (omega arith) in
+pub tail-fresh : (g : Shape) (ok : Legal g) (n : ℕ) (guid t1 t2 es : List ℕ) (crc : ℕ) → t1 ≡ zeros (lentBytes g backup) → es ≡ entriesIn g backup t1 → crc ≡ crc32 es
+    → ((es : List ℕ) → crc ≡ crc32 es → t2 ≡ put (headerAt g backup) (header g n backup guid es) t1)
+    → t2 ≡ freshTail g n guid (zeros 16384)
+tail-fresh g ok n guid t1 t2 es crc p r c f =
+    let z : es ≡ zeros 16384 = r ∙ ap (entriesIn g backup) p ∙ part-zeros 0 16384 (lentBytes g backup) (omega arith) in
     f (zeros 16384) (c ∙ ap crc32 z)
-    ∙ ap (put (headerAt disk512 backup) (header disk512 n backup guid (zeros 16384))) p
-    ∙ sym (fresh-tail disk512 (omega arith) n guid)
+    ∙ ap (put (headerAt g backup) (header g n backup guid (zeros 16384))) p
+    ∙ sym (fresh-tail g (wide g ok) n guid)

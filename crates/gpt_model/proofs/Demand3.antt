@@ -8,7 +8,7 @@ use Prim.Native.Nat.{ℕ, suc, _+_, _*_, _≤_, _<_}
 use native.Mathlib.Decide.{decLt}
 use native.Mathlib.Omega.{arith}
 use lib.ListN.{length, getD}
-use borrow.Author.Tests.{eqb-true, eqb-false, eq-eqb, leb-true, le-leb}
+use borrow.Author.Tests.{eqb-true, eqb-false, eq-eqb, leb-true}
 use Rattle.octets.specs.Rows.{Row, row, refusal}
 use Rattle.octets.specs.Bytes.{zeros}
 use Rattle.octets.proofs.Bools.{and-l, and-r, and-i, option-cases}
@@ -16,12 +16,12 @@ use Rattle.octets.proofs.Tests.{pairs-get}
 use Rattle.octets.proofs.Parts.{length-zeros}
 use Rattle.octets.proofs.Rows.{rowsFrom, pick-true, pick-false, passes, refusal-append, refusal-before}
 use Rattle.gpt_model.specs.Table.{noBlocks, apart, rangesOf, goodTable}
-use Rattle.gpt_model.specs.Disk.{Shape, disk512, lastUsable, inRange, state, tableOf, freshHead, freshTail}
+use Rattle.gpt_model.specs.Disk.{Shape, lastUsable, inRange, state, tableOf, freshHead, freshTail}
 use Rattle.gpt_model.specs.Ranges.{blockIn, freeCount, longestFree, FreeFrom}
 use Rattle.gpt_model.specs.declared.NewPartition.{NewPartition}
 use Rattle.gpt_model.specs.Calls.{Edit, add, delete, resize, rename, Call, read, freeCounts, repair, edit, refused, accepted, Outcome, outcome, unlessRefused, isNone, addRows, startFor, tableRows, change, edited, lengthsOf, commonRows, openRows, rowsOf, repaired, step, formatRows, format}
 use Rattle.gpt_model.specs.Lists.{Snapshot, afterAll, answers, applied, startAfter, total, StartsAfresh}
-use Rattle.gpt_model.specs.Claims.{Passes, Sound, Formats, Demand3From, Demand3, Demand3At512, RefusedStays, BooksDifference, Numbers512, UsedSlot, NameOk, NewOk, Serves, NotEmpty, EditReadsBack, RepairReadsBack}
+use Rattle.gpt_model.specs.Claims.{Passes, Sound, Formats, Demand3From, Demand3, RefusedStays, BooksDifference, UsedSlot, NameOk, NewOk, Serves, NotEmpty, EditReadsBack, RepairReadsBack}
 use Rattle.gpt_model.proofs.Room.{start-none, start-some, start-is-none}
 use Rattle.gpt_model.proofs.Counts.{apart-get, taken-total, total-zeros, taken-free}
 use Rattle.gpt_model.proofs.Longest.{room-fits, longest-room}
@@ -224,7 +224,7 @@ module _ (g : Shape) (n : ℕ) (r : Snapshot) (v : Kept g n r) where
 -- ---- the theorems
 
 pub demand3From : Demand3From
-demand3From g wide n es r s cs = sound g n (afterAll g n cs r) (keeps-all g wide n cs r (starts-kept g n es r s) .0)
+demand3From g wide n es r s cs = sound g n (afterAll (step g n) cs r) (keeps-all g wide n cs r (starts-kept g n es r s) .0)
 
 pub demand3 : Demand3
 demand3 g n guid h t f cs = (
@@ -232,18 +232,14 @@ demand3 g n guid h t f cs = (
   demand3From g (f .wide) n (zeros 16384) (startAfter (format g n guid h t)) (format-starts g n guid h t f) cs,
 )
 
-pub demand3At512 : Demand3At512
-demand3At512 n guid h t lo hi lg z lh lt =
-    demand3 disk512 n guid h t (record { wide = omega arith; range = and-i _ _ (le-leb _ _ lo) (le-leb _ _ hi); len-guid = lg; nonzero = z; len-head = lh; len-tail = lt })
-
 pub notEmpty : NotEmpty
 notEmpty g n guid h t f cs =
     let r = startAfter (format g n guid h t) in
     let s = format-starts g n guid h t f in
     let k = keeps-all g (f .wide) n cs r (starts-kept g n (zeros 16384) r s) in
-    subst (λ (es : List ℕ). Serves g n es (afterAll g n cs r))
-    (k .1 ∙ ap (λ (es : List ℕ). applied (g .first) (lastUsable g n) es cs (answers g n cs r)) (s .table))
-    (serves g n (afterAll g n cs r) (k .0) (f .range))
+    subst (λ (es : List ℕ). Serves g n es (afterAll (step g n) cs r))
+    (k .1 ∙ ap (λ (es : List ℕ). applied (g .first) (lastUsable g n) es cs (answers (step g n) cs r)) (s .table))
+    (serves g n (afterAll (step g n) cs r) (k .0) (f .range))
 
 pub refusedStays : RefusedStays
 refusedStays g n k guid h t c = (λ a. step-refused g n h t c k (refused-row g n h t c k a), formats (option-cases (refusal (formatRows g n guid h t))))
@@ -258,15 +254,6 @@ refusedStays g n k guid h t c = (λ a. step-refused g n h t c k (refused-row g n
 
 pub booksDifference : BooksDifference
 booksDifference l k size reply = (λ h. (omega arith, omega arith), λ h. (omega arith, omega arith))
-
-pub numbers512 : Numbers512
-numbers512 = record {
-  head = refl;
-  tail = refl;
-  range = λ n. (λ e. (leb-true _ _ (and-l _ _ e), leb-true _ _ (and-r _ _ e)), λ w. and-i _ _ (le-leb _ _ (w .0)) (le-leb _ _ (w .1)));
-  first = refl;
-  blocks = λ n h. (omega arith, omega arith, omega arith);
-}
 
 pub editReadsBack : EditReadsBack
 editReadsBack g n h t d wide e =

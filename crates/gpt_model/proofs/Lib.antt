@@ -1,4 +1,4 @@
--- Laws that the crates above cite, and the theorems (Demand3, Touches, SameSize; over bytes StoredTable to StoredRepair).
+-- Laws that the crates above cite, and the theorems (Demand3, Sizes, Touches, SameSize; over bytes StoredTable to StoredRepair).
 pub mod Room
 pub mod Counts
 pub mod Longest
@@ -13,6 +13,7 @@ pub mod Outcomes
 pub mod Accepts
 pub mod Steps
 pub mod Demand3
+pub mod Sizes
 pub mod Touches
 pub mod SameSize
 pub mod StoredTable

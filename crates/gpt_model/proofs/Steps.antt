@@ -135,11 +135,11 @@ module _ (g : Shape) (wide : 92 ≤ g .block) (n : ℕ) (r : Snapshot) (v : Kept
 
 -- after a list
 pub keeps-all : (g : Shape) → 92 ≤ g .block → (n : ℕ) (cs : List Call) (r : Snapshot) → Kept g n r
-    → Kept g n (afterAll g n cs r)
-    × (tableOf g n (afterAll g n cs r .head) (afterAll g n cs r .tail)
-    ≡ applied (g .first) (lastUsable g n) (tableOf g n (r .head) (r .tail)) cs (answers g n cs r))
+    → Kept g n (afterAll (step g n) cs r)
+    × (tableOf g n (afterAll (step g n) cs r .head) (afterAll (step g n) cs r .tail)
+    ≡ applied (g .first) (lastUsable g n) (tableOf g n (r .head) (r .tail)) cs (answers (step g n) cs r))
 keeps-all g wide n [] r v = (v, refl)
 keeps-all g wide n (c ∷ cs) r v =
     let w = keeps g wide n r v c in
-    let k = keeps-all g wide n cs (afterOne g n c r) (w .0) in
-    (k .0, k .1 ∙ ap (λ (x : List ℕ). applied (g .first) (lastUsable g n) x cs (answers g n cs (afterOne g n c r))) (w .1))
+    let k = keeps-all g wide n cs (afterOne (step g n) c r) (w .0) in
+    (k .0, k .1 ∙ ap (λ (x : List ℕ). applied (g .first) (lastUsable g n) x cs (answers (step g n) cs (afterOne (step g n) c r))) (w .1))

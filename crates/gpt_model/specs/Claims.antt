@@ -3,18 +3,19 @@ use mathlib.Core.Path.{_≡_}
 use mathlib.Core.Logic.{_≢_, _↔_}
 use mathlib.Core.Bool.{true, false}
 use mathlib.Core.List.{List, [], _∷_, _++_}
-use mathlib.Core.Option.{none}
+use mathlib.Core.Option.{none, some}
 use Prim.Native.Nat.{ℕ, suc, _+_, _-_, _*_, _≤_, _<_}
 use lib.ListN.{length, getD}
 use Rattle.octets.specs.Rows.{refusal}
 use Rattle.octets.specs.Bytes.{zeros, isZero}
 use Rattle.gpt_model.specs.Table.{entryBytes, uniqueOf, firstOf, lastOf, unused, noBlocks, slotCount, tableBytes, rangesOf}
-use Rattle.gpt_model.specs.Disk.{Shape, disk512, lastUsable, usable, inRange, Side, primary, backup, entriesBlock, lentBytes, headerAt, entriesAt}
-use Rattle.gpt_model.specs.Disk.{headerBytes, goodCopy, state, lent, tableOf}
+use Rattle.gpt_model.specs.Disk.{Shape, disk512, disk4096, lastUsable, usable, inRange, Side, primary, backup, entriesBlock, lentBytes}
+use Rattle.gpt_model.specs.Disk.{headerAt, entriesAt, headerBytes, goodCopy, state, lent, tableOf}
 use Rattle.gpt_model.specs.Ranges.{blockIn, inSome, FreeFrom, taken}
 use Rattle.gpt_model.specs.declared.NewPartition.{NewPartition}
 use Rattle.gpt_model.specs.Calls.{Edit, add, delete, resize, rename, Call, read, freeCounts, repair, edit, refused, accepted, outcome}
 use Rattle.gpt_model.specs.Calls.{entryOf, addRows, change, edited, lengthsOf, openRows, rowsOf, step, format}
+use Rattle.gpt_model.specs.Sizes.{shapeOf, stepBy, formatBy}
 use Rattle.gpt_model.specs.Lists.{Ledger, sizeWas, bookEdit, Snapshot, afterAll, answers, applied, startAfter, rangesIn, StartsAfresh}
 use Rattle.gpt_model.specs.Stored.{EntryHolds, HeadGood, TailGood, SizesOk, ReadSays, FormatSays, Outside, EditSays, RepairSays}
 
@@ -47,29 +48,28 @@ pub record Formats (g : Shape) (n : ℕ) (guid h t : List ℕ) : Type 0 where
 -- from every start afresh
 abbrev pub Demand3From : Type 0
 Demand3From =
-    (g : Shape) → headerBytes ≤ g .block → (n : ℕ) (es : List ℕ) (r : Snapshot) → StartsAfresh g n es r → (cs : List Call) → Sound g n (afterAll g n cs r)
+    (g : Shape) → headerBytes ≤ g .block → (n : ℕ) (es : List ℕ) (r : Snapshot) → StartsAfresh g n es r → (cs : List Call) → Sound g n (afterAll (step g n) cs r)
 
 -- D19: Demand 3 is one claim about the whole list, not one for each call.
 abbrev pub Demand3 : Type 0
 Demand3 =
     (g : Shape) (n : ℕ) (guid h t : List ℕ) → Formats g n guid h t
-    → (cs : List Call) → (format g n guid h t .answer ≡ accepted []) × Sound g n (afterAll g n cs (startAfter (format g n guid h t)))
+    → (cs : List Call) → (format g n guid h t .answer ≡ accepted []) × Sound g n (afterAll (step g n) cs (startAfter (format g n guid h t)))
 
--- The same on a disk of 512-byte blocks, in the numbers of the rules.
-abbrev pub Demand3At512 : Type 0
-Demand3At512 =
-    (n : ℕ) (guid h t : List ℕ) → 68 ≤ n → n ≤ 4294967296 → length guid ≡ 16 → isZero guid ≡ false → length h ≡ 17408 → length t ≡ 16896
+-- The same of the calls that name that block size, for a disk of that shape with N from least on and head and tail of those lengths.
+abbrev pub Demand3At : ℕ → Shape → ℕ → ℕ → ℕ → Type 0
+Demand3At size g least head tail =
+    (n : ℕ) (guid h t : List ℕ) → least ≤ n → n ≤ 4294967296 → length guid ≡ 16 → isZero guid ≡ false → length h ≡ head → length t ≡ tail
     → (cs : List Call)
-    → (format disk512 n guid h t .answer ≡ accepted []) × Sound disk512 n (afterAll disk512 n cs (startAfter (format disk512 n guid h t)))
+    → (formatBy size n guid h t .answer ≡ accepted []) × Sound g n (afterAll (stepBy size n) cs (startAfter (formatBy size n guid h t)))
 
--- The numbers of such a disk. Q2: N .. is 68 to 4,294,967,296. Q3: the head .. (17,408 bytes), and the tail .. (16,896 bytes).
--- D1: first usable 34, last usable N−34. D2: entries from N−33. So N−67 blocks are usable.
-pub record Numbers512 : Type 0 where
-  pub head : lentBytes disk512 primary ≡ 17408
-  pub tail : lentBytes disk512 backup ≡ 16896
-  pub range : (n : ℕ) → (inRange disk512 n ≡ true) ↔ ((68 ≤ n) × (n ≤ 4294967296))
-  pub first : disk512 .first ≡ 34
-  pub blocks : (n : ℕ) → 68 ≤ n → (lastUsable disk512 n ≡ n - 34) × (entriesBlock disk512 backup n ≡ n - 33) × (usable disk512 n ≡ n - 67)
+-- Q2: N .. is 68 to 4,294,967,296. Q3: the head .. (17,408 bytes), and the tail .. (16,896 bytes).
+abbrev pub Demand3At512 : Type 0
+Demand3At512 = Demand3At 512 disk512 68 17408 16896
+
+-- l1: the head is 6 blocks (24,576 bytes), the tail 5 (20,480); .. and N is 12 to 4,294,967,296.
+abbrev pub Demand3At4096 : Type 0
+Demand3At4096 = Demand3At 4096 disk4096 12 24576 20480
 
 -- D22: a resize grants or gives back the difference from it: what it grants gives nothing back, and what it gives back grants nothing
 abbrev pub BooksDifference : Type 0
@@ -140,7 +140,7 @@ abbrev pub NotEmpty : Type 0
 NotEmpty =
     (g : Shape) (n : ℕ) (guid h t : List ℕ) → Formats g n guid h t → (cs : List Call)
     → let r = startAfter (format g n guid h t) in
-    Serves g n (applied (g .first) (lastUsable g n) (zeros tableBytes) cs (answers g n cs r)) (afterAll g n cs r)
+    Serves g n (applied (g .first) (lastUsable g n) (zeros tableBytes) cs (answers (step g n) cs r)) (afterAll (step g n) cs r)
 
 -- ---- demand 1. R1: A refusal returns its number alone .. and changes no lent byte.
 
@@ -216,3 +216,44 @@ abbrev pub RepairWrites : Type 0
 RepairWrites =
     (g : Shape) (n : ℕ) (h t : List ℕ) → SizesOk g n h t
     → let o = step g n h t repair in (o .answer ≡ step g n h t read .answer) × RepairSays g n h t o
+
+-- ---- the two block sizes. Every claim above is over every shape; a call that names a block size is the call on a disk of its shape
+
+-- 512 and 4,096 have a shape, and no other number
+abbrev pub ShapesBySize : Type 0
+ShapesBySize = (shapeOf 512 ≡ some disk512) × (shapeOf 4096 ≡ some disk4096) × ((size : ℕ) → size ≢ 512 → size ≢ 4096 → shapeOf size ≡ none)
+
+abbrev pub OnItsShape : Type 0
+OnItsShape =
+    (size n : ℕ) (h t : List ℕ) (g : Shape) → shapeOf size ≡ some g
+    → ((c : Call) → stepBy size n h t c ≡ step g n h t c) × ((guid : List ℕ) → formatBy size n guid h t ≡ format g n guid h t)
+
+-- l7: 6 for another block size, before all others: whatever the call, its lengths and N
+abbrev pub OtherSizeRefused : Type 0
+OtherSizeRefused =
+    (size n : ℕ) (h t : List ℕ) → size ≢ 512 → size ≢ 4096
+    → ((c : Call) → stepBy size n h t c ≡ outcome (refused 6) h t) × ((guid : List ℕ) → formatBy size n guid h t ≡ outcome (refused 6) h t)
+
+-- head and tail are whole blocks: all before the first usable block, and one less
+abbrev pub WholeBlocks : Type 0
+WholeBlocks =
+    (size : ℕ) (g : Shape) → shapeOf size ≡ some g
+    → (size ≡ g .block) × (lentBytes g primary ≡ g .first * g .block) × (lentBytes g backup ≡ (g .first - 1) * g .block)
+
+-- The numbers of a disk of 512-byte blocks. Q2: N .. is 68 to 4,294,967,296. Q3: the head .. (17,408 bytes), and the tail .. (16,896 bytes).
+-- D1: first usable 34, last usable N−34. D2: entries from N−33. So N−67 blocks are usable.
+pub record Numbers512 : Type 0 where
+  pub head : lentBytes disk512 primary ≡ 17408
+  pub tail : lentBytes disk512 backup ≡ 16896
+  pub range : (n : ℕ) → (inRange disk512 n ≡ true) ↔ ((68 ≤ n) × (n ≤ 4294967296))
+  pub first : disk512 .first ≡ 34
+  pub blocks : (n : ℕ) → 68 ≤ n → (lastUsable disk512 n ≡ n - 34) × (entriesBlock disk512 backup n ≡ n - 33) × (usable disk512 n ≡ n - 67)
+
+-- l1: In the next delivery the head is 6 blocks (24,576 bytes), the tail 5 (20,480); usable blocks run from 6 to N−6, backup entries start at N−5,
+-- and N is 12 to 4,294,967,296. So N−11 blocks are usable.
+pub record Numbers4096 : Type 0 where
+  pub head : lentBytes disk4096 primary ≡ 24576
+  pub tail : lentBytes disk4096 backup ≡ 20480
+  pub range : (n : ℕ) → (inRange disk4096 n ≡ true) ↔ ((12 ≤ n) × (n ≤ 4294967296))
+  pub first : disk4096 .first ≡ 6
+  pub blocks : (n : ℕ) → 12 ≤ n → (lastUsable disk4096 n ≡ n - 6) × (entriesBlock disk4096 backup n ≡ n - 5) × (usable disk4096 n ≡ n - 11)

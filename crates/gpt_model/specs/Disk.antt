@@ -6,30 +6,37 @@ use lib.Dec.{leb, eqb}
 use Rattle.octets.specs.Tests.{_and_}
 use Rattle.octets.specs.Bytes.{le, part, put, zeros, same}
 use Rattle.crc_lanes.specs.Crc.{crc32}
+use Rattle.gpt_model.specs.declared.Shape as declared
 use Rattle.gpt_model.specs.Table.{writeAll, entryBytes, slotCount, tableBytes, goodTable}
 
 -- ---- quantities
 
--- the bytes of a block, and the first usable block; all definitions and theorems are over these two
-pub record Shape : Type 0 where
-  pub block : ℕ
-  pub first : ℕ
+-- the bytes of a block, and the first usable block (src/lib.rt); all definitions and theorems are over these two
+abbrev pub Shape : Type 0
+Shape = declared.Shape
 
--- Q1: A disk has 512-byte blocks. D1: first usable 34. These two numbers stand nowhere else.
+-- Q1: A disk has 512-byte blocks. D1: first usable 34
 abbrev pub disk512 : Shape
 disk512 = record { block = 512; first = 34 }
 
--- D1: last usable N−34
+-- l1: usable blocks run from 6 to N−6. The numbers of the two shapes stand nowhere else.
+abbrev pub disk4096 : Shape
+disk4096 = record { block = 4096; first = 6 }
+
+-- D1: last usable N−34. l1: usable blocks run from 6 to N−6
 abbrev pub lastUsable : Shape → ℕ → ℕ
 lastUsable g n = n - g .first
 
--- how many blocks are usable: those from 34 to N−34
+-- how many blocks are usable: those from the first to the last
 abbrev pub usable : Shape → ℕ → ℕ
 usable g n = suc (lastUsable g n) - g .first
 
--- Q2: N, its block count, is 68 to 4,294,967,296.
+-- Q2: N, its block count, is 68 to 4,294,967,296. l1: N is 12 to 4,294,967,296
+abbrev pub mostBlocks : ℕ
+mostBlocks = 4294967296
+
 abbrev pub inRange : Shape → ℕ → Bool
-inRange g n = leb (2 * g .first) n and leb n 4294967296
+inRange g n = leb (2 * g .first) n and leb n mostBlocks
 
 -- D2: The primary header is block 1 with entries from 2; the backup header is block N−1 with entries from N−33.
 pub data Side : Type 0 where
@@ -48,7 +55,8 @@ abbrev pub entriesBlock : Shape → Side → ℕ → ℕ
 entriesBlock g primary n = 2
 entriesBlock g backup n = suc (lastUsable g n)
 
--- Q3: Callers lend the head, blocks 0 to 33 (17,408 bytes), and the tail, the last 33 blocks (16,896 bytes).
+-- Q3: Callers lend the head, blocks 0 to 33 (17,408 bytes), and the tail, the last 33 blocks (16,896 bytes). l1: the head is 6 blocks (24,576 bytes),
+-- the tail 5 (20,480)
 -- The head is block 0, the header's block, the entries; the tail is the entries, the header's block.
 abbrev pub lentBytes : Shape → Side → ℕ
 lentBytes g primary = 2 * g .block + tableBytes
@@ -153,6 +161,7 @@ abbrev pub withCopy : Shape → ℕ → Side → List ℕ → List ℕ → List 
 withCopy g n side guid es b = withTable g n side guid es (put (headerAt g side) (zeros (g .block)) b)
 
 -- D13: block 0: zeros, except at 446 the record 00, 00 02 00, EE, FF FF FF, 1, N−1 (last two 32-bit), and 55 AA at 510.
+-- l2: Block 0 is as before in its first 512 bytes and zero after.
 abbrev pub block0 : ℕ → List (ℕ × List ℕ)
 block0 n = (446, (0 ∷ 0 ∷ 2 ∷ 0 ∷ 0xEE ∷ 0xFF ∷ 0xFF ∷ 0xFF ∷ []) ++ (le 4 1 ++ le 4 (n - 1))) ∷ (510, 0x55 ∷ 0xAA ∷ []) ∷ []
 

@@ -6,7 +6,7 @@ use lib.ListN.{length, getD, set, replicate}
 use Rattle.gpt_model.specs.Table.{BlockRange, rangeSize, slotCount, rangesOf}
 use Rattle.gpt_model.specs.Disk.{Shape, primary, backup, lentBytes, state, tableOf}
 use Rattle.gpt_model.specs.Calls.{Edit, add, delete, resize, rename, Call, read, freeCounts, repair, edit, Answer, refused, accepted, Outcome}
-use Rattle.gpt_model.specs.Calls.{edited, step}
+use Rattle.gpt_model.specs.Calls.{edited}
 
 -- ---- D22: The sums come from calls and replies alone
 
@@ -44,17 +44,18 @@ pub record Snapshot : Type 0 where
   pub tail : List ℕ
   pub ledger : Ledger
 
-abbrev pub afterOne : Shape → ℕ → Call → Snapshot → Snapshot
-afterOne g n c r =
-    let o = step g n (r .head) (r .tail) c in record { head = o .head; tail = o .tail; ledger = book (r .ledger) c (o .answer) }
+-- `does` says what a call does to head and tail: `step` of a shape and N, or `stepBy` of a block size and N
+module _ (does : List ℕ → List ℕ → Call → Outcome) where
+  abbrev pub afterOne : Call → Snapshot → Snapshot
+  afterOne c r = let o = does (r .head) (r .tail) c in record { head = o .head; tail = o .tail; ledger = book (r .ledger) c (o .answer) }
 
-abbrev pub afterAll : Shape → ℕ → List Call → Snapshot → Snapshot
-afterAll g n [] r = r
-afterAll g n (c ∷ cs) r = afterAll g n cs (afterOne g n c r)
+  abbrev pub afterAll : List Call → Snapshot → Snapshot
+  afterAll [] r = r
+  afterAll (c ∷ cs) r = afterAll cs (afterOne c r)
 
-abbrev pub answers : Shape → ℕ → List Call → Snapshot → List Answer
-answers g n [] r = []
-answers g n (c ∷ cs) r = step g n (r .head) (r .tail) c .answer ∷ answers g n cs (afterOne g n c r)
+  abbrev pub answers : List Call → Snapshot → List Answer
+  answers [] r = []
+  answers (c ∷ cs) r = does (r .head) (r .tail) c .answer ∷ answers cs (afterOne c r)
 
 -- the table es after the call c was answered a: an accepted edit writes its one entry
 abbrev pub tableNext : ℕ → ℕ → List ℕ → Call → Answer → List ℕ

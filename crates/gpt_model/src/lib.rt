@@ -4,6 +4,12 @@
 // A block's number; never a byte position.
 pub struct Block(pub u64);
 
+// The shape of a disk: the bytes of a block, and the first usable block. Definitions, theorems and code are over these two numbers.
+pub struct Shape {
+    pub block: usize,
+    pub first: u64,
+}
+
 // (D15) What an add is given: type and unique GUID as they are stored, size in blocks, attributes and name.
 pub struct NewPartition {
     pub kind: [u8; 16],

@@ -7,22 +7,23 @@ use lib.ListN.{length, take, drop}
 use borrow.Rule.Slice.Shared.{byByte}
 use Rattle.octets.specs.Bytes.{part}
 use Rattle.octets.proofs.Parts.{length-part, part-part}
-use Rattle.gpt_model.specs.Disk.{disk512, Side, primary, backup, lentBytes, headerAt, entriesAt, guidIn}
+use Rattle.gpt_model.specs.Disk.{Shape, Side, primary, backup, lentBytes, headerAt, entriesAt, guidIn}
 use Rattle.gpt_model.proofs.Copies.{header-inside, block-inside, entries-inside}
+use Rattle.gpt_places.specs.Shapes.{Legal}
 use Rattle.gpt_places.specs.Sides.{behind}
 
-pub header-end : (side : Side) → headerAt disk512 side + 92 ≤ lentBytes disk512 side
-header-end side = header-inside disk512 (omega arith) side
+module _ (g : Shape) (ok : Legal g) where
+  pub wide : 92 ≤ g .block
+  wide = omega arith
 
-pub block-end : (side : Side) → headerAt disk512 side + 512 ≤ lentBytes disk512 side
-block-end side = block-inside disk512 (omega arith) side
+  pub header-end : (side : Side) → headerAt g side + 92 ≤ lentBytes g side
+  header-end side = header-inside g wide side
 
-pub entries-end : (side : Side) → entriesAt disk512 side + 16384 ≤ lentBytes disk512 side
-entries-end side = entries-inside disk512 (omega arith) side
+  pub block-end : (side : Side) → headerAt g side + g .block ≤ lentBytes g side
+  block-end side = block-inside g wide side
 
-pub lent-fits : (side : Side) → lentBytes disk512 side ≤ 17408
-lent-fits primary = omega arith
-lent-fits backup = omega arith
+  pub entries-end : (side : Side) → entriesAt g side + 16384 ≤ lentBytes g side
+  entries-end side = entries-inside g wide side
 
 -- ---- a part that is cut out by a start and an end
 
@@ -32,8 +33,8 @@ cut xs at a k e p q =
     let w : e - at ≡ k = omega arith in
     ap₂ (λ (m i : ℕ). take m (drop i xs)) w p
 
-pub cut-guid : (xs : List ℕ) (side : Side) (at e : ℕ) → at ≡ headerAt disk512 side + 56 → e ≡ at + 16 → take (e - at) (drop at xs) ≡ guidIn disk512 side xs
-cut-guid xs side at e p q = cut xs at _ 16 e p q ∙ sym (part-part 56 16 (headerAt disk512 side) 92 xs (omega arith))
+pub cut-guid : (g : Shape) (xs : List ℕ) (side : Side) (at e : ℕ) → at ≡ headerAt g side + 56 → e ≡ at + 16 → take (e - at) (drop at xs) ≡ guidIn g side xs
+cut-guid g xs side at e p q = cut xs at _ 16 e p q ∙ sym (part-part 56 16 (headerAt g side) 92 xs (omega arith))
 
 pub length-cut : (xs : List ℕ) (at k e : ℕ) → e ≡ at + k → e ≤ length xs → length (take (e - at) (drop at xs)) ≡ k
 length-cut xs at k e q h = ap length (cut xs at at k e refl q) ∙ length-part xs at k (omega arith)

@@ -1,2 +1,3 @@
--- Where the header and the table of a copy lie, in the words of gpt_model.
+-- What the code relies on in a shape, and the sides of a disk in the words of gpt_model.
+pub mod Shapes
 pub mod Sides

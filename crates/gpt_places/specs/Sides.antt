@@ -12,16 +12,14 @@ sideOf Primary = disk.primary
 sideOf Backup = disk.backup
 
 -- D8: A copy is good when every named header field, both CRCs [..] hold: what `goodCopy` asks of the header
-abbrev pub goodHeader : ℕ → disk.Side → List ℕ → Bool
-goodHeader n side b =
-    same (disk.headerIn disk.disk512 side b)
-    (disk.header disk.disk512 n side (disk.guidIn disk.disk512 side b) (disk.entriesIn disk.disk512 side b))
+abbrev pub goodHeader : disk.Shape → ℕ → disk.Side → List ℕ → Bool
+goodHeader g n side b = same (disk.headerIn g side b) (disk.header g n side (disk.guidIn g side b) (disk.entriesIn g side b))
 
 -- a place in memory is a pair: which memory, and which byte of it. The place that many bytes behind another one
 abbrev pub behind : ℕ → ℕ × ℕ → ℕ × ℕ
 behind k p = (p .0, p .1 + k)
 
 -- where the entries of a copy begin, by where head and tail begin
-abbrev pub entriesPlace : disk.Side → ℕ × ℕ → ℕ × ℕ → ℕ × ℕ
-entriesPlace disk.primary h t = behind (disk.entriesAt disk.disk512 disk.primary) h
-entriesPlace disk.backup h t = behind (disk.entriesAt disk.disk512 disk.backup) t
+abbrev pub entriesPlace : disk.Shape → disk.Side → ℕ × ℕ → ℕ × ℕ → ℕ × ℕ
+entriesPlace g disk.primary h t = behind (disk.entriesAt g disk.primary) h
+entriesPlace g disk.backup h t = behind (disk.entriesAt g disk.backup) t

@@ -24,7 +24,7 @@ good-requires c κs =
 returns : tie.Need-returns
 returns c =
     let top = c .before .before .before .before .before in
-    bad-header (top .args .n) (sideOf (top .args .side)) (now (top .args .b)) _ (c .before .good2 .ensures) (not-true _ (c .if1 .taken))
+    bad-header (top .args .shape) (top .args .n) (sideOf (top .args .side)) (now (top .args .b)) _ (c .before .good2 .ensures) (not-true _ (c .if1 .taken))
 
 first-usable-requires : tie.Need-first-usable-requires
 first-usable-requires c κs = search needs
@@ -43,7 +43,7 @@ returns-2 c =
     let s4 = s3 .before .before in
     let top = s4 .before .before in
     let w = c .table-ok .ensures ∙ ap₂ (λ (f l : ℕ). goodTable f l (now (s4 .entries-in .result))) (s1 .first-usable .ensures) (c .before .last-usable .ensures) in
-    copy-table (top .args .n) (sideOf (top .args .side)) (now (top .args .b)) _ _ _ (s4 .entries-in .ensures .0) (s3 .good2 .ensures) w (not-false _ (s2 .if1 .left))
+    copy-table (top .args .shape) (top .args .n) (sideOf (top .args .side)) (now (top .args .b)) _ _ _ (s4 .entries-in .ensures .0) (s3 .good2 .ensures) w (not-false _ (s2 .if1 .left))
 
 pub good-copy-spec : {M : Type 1} → statement M
 good-copy-spec =

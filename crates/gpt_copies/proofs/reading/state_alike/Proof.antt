@@ -29,7 +29,7 @@ returns c =
     let s3 = s2 .before in
     let top = s3 .before .before .before in
     let w = c .before .table-ok .ensures ∙ ap₂ (λ (f l : ℕ). goodTable f l (now (s3 .entries-in .result))) (s2 .first-usable .ensures) (s1 .last-usable .ensures) in
-    state-bad (top .args .n) (now (top .args .head)) (now (top .args .tail)) _ _ (s3 .entries-in .ensures .0) (s3 .entries-in .ensures .0 ∙ top .pre .3) w
+    state-bad (top .args .shape) (top .args .n) (now (top .args .head)) (now (top .args .tail)) _ _ (s3 .entries-in .ensures .0) (s3 .entries-in .ensures .0 ∙ top .pre .3) w
     (not-true _ (c .if1 .taken))
 
 crc32-requires : tie.Need-crc32-requires
@@ -73,7 +73,7 @@ returns-2 c =
     let top = s9 .before .before .before in
     let w = s6 .table-ok .ensures ∙ ap₂ (λ (f l : ℕ). goodTable f l (now (s9 .entries-in .result))) (s8 .first-usable .ensures) (s7 .last-usable .ensures) in
     c .state-of .ensures
-    ∙ state-alike (top .args .n) (now (top .args .head)) (now (top .args .tail)) _ _ (s9 .entries-in .ensures .0) (s9 .entries-in .ensures .0 ∙ top .pre .3) w _ _ _
+    ∙ state-alike (top .args .shape) (top .args .n) (now (top .args .head)) (now (top .args .tail)) _ _ (s9 .entries-in .ensures .0) (s9 .entries-in .ensures .0 ∙ top .pre .3) w _ _ _
     (not-false _ (s5 .if1 .left)) (s4 .good2 .ensures) (s3 .good3 .ensures) (c .before .same .ensures ∙ ap₂ same (s2 .guid-in .ensures .0) (s1 .guid-in2 .ensures .0))
 
 pub state-alike-spec : {M : Type 1} → statement M

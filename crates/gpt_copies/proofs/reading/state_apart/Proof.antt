@@ -18,7 +18,7 @@ returns : tie.Need-returns
 returns c =
     let s1 = c .before .before in
     let top = s1 .before .before .before in
-    c .state-of .ensures ∙ state-apart (top .args .n) (now (top .args .head)) (now (top .args .tail)) _ _ (s1 .good-copy .ensures) (c .before .good-copy2 .ensures) (top .pre .3)
+    c .state-of .ensures ∙ state-apart (top .args .shape) (top .args .n) (now (top .args .head)) (now (top .args .tail)) _ _ (s1 .good-copy .ensures) (c .before .good-copy2 .ensures) (top .pre .3)
 
 pub state-apart-spec : {M : Type 1} → statement M
 state-apart-spec =

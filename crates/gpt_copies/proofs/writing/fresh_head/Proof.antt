@@ -31,7 +31,7 @@ returns c =
     let s4 = s3 .before in
     let s5 = s4 .before .before .before .before in
     let top = s5 .before .before .before .before in
-    head-fresh (top .args .n) (now (top .args .guid)) _ _ _ _ _ (s5 .fill .ensures ∙ filled (now (top .args .head)) 17408 (top .pre .0)) (s4 .entries-in .ensures .0) (s3 .crc32 .ensures)
+    head-fresh (top .args .shape) (top .pre .1 .legal) (top .args .n) (now (top .args .guid)) _ _ _ _ _ (s5 .fill .ensures ∙ filled (now (top .args .head)) _ (top .pre .0)) (s4 .entries-in .ensures .0) (s3 .crc32 .ensures)
     (s2 .put-block0 .ensures) (s1 .put-header .ensures)
 
 pub fresh-head-spec : {M : Type 1} → statement M

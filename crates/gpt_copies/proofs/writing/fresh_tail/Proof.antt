@@ -27,7 +27,7 @@ returns c =
     let s3 = s2 .before in
     let s4 = s3 .before .before .before .before in
     let top = s4 .before .before .before .before in
-    tail-fresh (top .args .n) (now (top .args .guid)) _ _ _ _ (s4 .fill .ensures ∙ filled (now (top .args .tail)) 16896 (top .pre .0)) (s3 .entries-in .ensures .0) (s2 .crc32 .ensures) (s1 .put-header .ensures)
+    tail-fresh (top .args .shape) (top .pre .1 .legal) (top .args .n) (now (top .args .guid)) _ _ _ _ (s4 .fill .ensures ∙ filled (now (top .args .tail)) _ (top .pre .0)) (s3 .entries-in .ensures .0) (s2 .crc32 .ensures) (s1 .put-header .ensures)
 
 pub fresh-tail-spec : {M : Type 1} → statement M
 fresh-tail-spec =

@@ -5,7 +5,7 @@ use denote.Ref.{now}
 use borrow.Author.Needs.{needs}
 use Rattle.octets.specs.Bytes.{putChunk}
 use Rattle.crc_lanes.specs.Crc.{crc32}
-use Rattle.gpt_model.specs.Disk.{disk512, backup, guidIn, withTable}
+use Rattle.gpt_model.specs.Disk.{backup, guidIn, withTable}
 use Rattle.gpt_copies.proofs.writing.put_both.Statement.{statement}
 use Rattle.gpt_copies.proofs.writing.put_both.Tie as tie
 
@@ -45,7 +45,7 @@ returns c =
     let s2 = s1 .before .before .before .before in
     let top = s2 .before .before .before .before .before .before .before .before in
     let t = now (top .args .tail) in
-    let table : List ℕ → List ℕ = λ es. withTable disk512 (top .args .n) backup (guidIn disk512 backup t) (putChunk 128 (top .args .i) (now (top .args .e)) es) t in
+    let table : List ℕ → List ℕ = λ es. withTable (top .args .shape) (top .args .n) backup (guidIn (top .args .shape) backup t) (putChunk 128 (top .args .i) (now (top .args .e)) es) t in
     (s2 .put-entry .ensures, s1 .put-entry2 .ensures ∙ ap table (sym (top .pre .5)))
 
 pub put-both-spec : {M : Type 1} → statement M

@@ -16,7 +16,7 @@ entries-at-requires c κs = search needs
 copy-requires : tie.Need-copy-requires
 copy-requires c κs =
     let top = c .before .before .before .before .before .before .before .before .before in
-    omega (arith, entries-end (sideOf (top .args .side)))
+    omega (arith, entries-end (top .args .shape) (top .pre .1 .legal) (sideOf (top .args .side)))
 
 crc32-requires : tie.Need-crc32-requires
 crc32-requires c κs = search needs
@@ -35,7 +35,7 @@ returns c =
     let s4 = s3 .before in
     let s5 = s4 .before .before .before .before in
     let top = s5 .before .before .before .before .before in
-    copy-put (sideOf (top .args .side)) (now (top .args .b)) (top .pre .0) (top .args .n) (now (top .args .guid)) (now (top .args .table)) _ _ _ _ (s5 .clear-header .ensures) (s4 .entries-at .ensures) (s3 .copy .ensures) (s1 .put-header .ensures _ (s2 .crc32 .ensures))
+    copy-put (top .args .shape) (top .pre .1 .legal) (sideOf (top .args .side)) (now (top .args .b)) (top .pre .0) (top .args .n) (now (top .args .guid)) (now (top .args .table)) _ _ _ _ (s5 .clear-header .ensures) (s4 .entries-at .ensures) (s3 .copy .ensures) (s1 .put-header .ensures _ (s2 .crc32 .ensures))
 
 pub put-copy-spec : {M : Type 1} → statement M
 put-copy-spec =

@@ -19,9 +19,11 @@ returns c =
     let s1 = c .before .before in
     let s2 = s1 .before .before .before .before in
     let top = s2 .before .before .before .before in
+    let g = top .args .shape in
+    let ok = top .pre .1 .legal in
     let s = sideOf (top .args .side) in
     let b = now (top .args .b) in
-    table-put s b (top .pre .0) (top .args .n) _ _ _ (length-changed s b (top .pre .0) (top .args .i) (now (top .args .e)) (top .pre .2) (top .pre .3)) (s2 .set-entry .ensures)
+    table-put g ok s b (top .pre .0) (top .args .n) _ _ _ (length-changed g ok s b (top .pre .0) (top .args .i) (now (top .args .e)) (top .pre .2) (top .pre .3)) (s2 .set-entry .ensures)
     (s1 .renew-header .ensures _ (top .pre .4))
 
 pub put-entry-spec : {M : Type 1} → statement M

@@ -30,7 +30,7 @@ returns c =
     let s2 = s1 .before .before .before .before in
     let s3 = s2 .before in
     let top = s3 .before .before .before .before in
-    λ es p. header-renewed (sideOf (top .args .side)) (now (top .args .b)) (top .pre .0) (top .args .n) _ _ es _ _ refl (s3 .guid-in .ensures .0) (s2 .copy .ensures) (s1 .put-header .ensures es p)
+    λ es p. header-renewed (top .args .shape) (top .pre .1 .legal) (sideOf (top .args .side)) (now (top .args .b)) (top .pre .0) (top .args .n) _ _ es _ _ refl (s3 .guid-in .ensures .0) (s2 .copy .ensures) (s1 .put-header .ensures es p)
 
 pub renew-header-spec : {M : Type 1} → statement M
 renew-header-spec =

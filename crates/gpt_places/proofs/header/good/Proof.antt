@@ -4,7 +4,7 @@ use Prim.Native.Nat.{ℕ}
 use denote.Ref.{now}
 use borrow.Author.Needs.{needs}
 use Rattle.octets.specs.Bytes.{same}
-use Rattle.gpt_model.specs.Disk.{disk512, header, entriesIn}
+use Rattle.gpt_model.specs.Disk.{header, entriesIn}
 use Rattle.gpt_places.specs.Sides.{sideOf}
 use Rattle.gpt_places.proofs.header.good.Statement.{statement}
 use Rattle.gpt_places.proofs.header.good.Tie as tie
@@ -34,10 +34,10 @@ returns c =
     let s3 = s2 .before in
     let top = s3 .before .before .before in
     let b = now (top .args .b) in
-    let es = entriesIn disk512 (sideOf (top .args .side)) b in
+    let es = entriesIn (top .args .shape) (sideOf (top .args .side)) b in
     c .same .ensures
     ∙ ap₂ same (s1 .header-in .ensures)
-    (s2 .write .ensures es (top .pre .2) ∙ ap (λ (g : List ℕ). header disk512 (top .args .n) (sideOf (top .args .side)) g es) (s3 .guid-in .ensures .0))
+    (s2 .write .ensures es (top .pre .2) ∙ ap (λ (g : List ℕ). header (top .args .shape) (top .args .n) (sideOf (top .args .side)) g es) (s3 .guid-in .ensures .0))
 
 pub good-spec : {M : Type 1} → statement M
 good-spec =

@@ -36,7 +36,7 @@ returns c =
     let s3 = s2 .before .before .before .before in
     let s4 = s3 .before .before .before .before in
     let s5 = s4 .before .before .before .before in
-    s1 .store324 .ensures ∙ ap (put 20 _) (s2 .store323 .ensures ∙ ap (put 16 _) (s3 .store322 .ensures ∙ ap (put 12 _) (s4 .store32 .ensures ∙ ap (put 8 _) (s5 .copy .ensures))))
+    λ g. s1 .store324 .ensures ∙ ap (put 20 _) (s2 .store323 .ensures ∙ ap (put 16 _) (s3 .store322 .ensures ∙ ap (put 12 _) (s4 .store32 .ensures ∙ ap (put 8 _) (s5 .copy .ensures))))
 
 pub start-spec : {M : Type 1} → statement M
 start-spec =

@@ -31,7 +31,7 @@ returns c =
     let s4 = s3 .before .before .before .before in
     let s5 = s4 .before .before .before .before in
     let top = s5 .before .before .before .before in
-    header-written (top .args .n) (sideOf (top .args .side)) (now (top .args .guid)) (now (top .args .out)) _ _ _ _ (top .args .crc) _ (top .pre .0) (top .pre .2)
+    header-written (top .args .shape) (top .args .n) (sideOf (top .args .side)) (now (top .args .guid)) (now (top .args .out)) _ _ _ _ (top .args .crc) _ (top .pre .0) (top .pre .2)
     (s5 .start .ensures) (s4 .blocks2 .ensures) (s3 .table .ensures) (s2 .crc32 .ensures) (s1 .store32 .ensures)
 
 pub write-spec : {M : Type 1} → statement M

@@ -1,0 +1,114 @@
+-- The block size that a caller names: its shape, the calls by it, and demand 3 of them.
+use mathlib.Core.Path.{_≡_, refl, sym, ap, subst, _∙_}
+use mathlib.Core.Bool.{Bool, true, false, cond}
+use mathlib.Core.List.{List, []}
+use mathlib.Core.Option.{Option, none, some}
+use Prim.Native.Nat.{ℕ, _-_, _*_, _≤_}
+use native.Mathlib.Omega.{arith}
+use lib.Dec.{eqb}
+use borrow.Author.Tests.{eqb-true, leb-true, le-leb, ne-eqb}
+use Rattle.octets.proofs.Bools.{and-l, and-r, and-i, some-none}
+use Rattle.gpt_model.specs.Disk.{Shape, disk512, disk4096, headerBytes, inRange, primary, backup, lentBytes}
+use Rattle.gpt_model.specs.Calls.{Call, refused, accepted, outcome, step, format}
+use Rattle.gpt_model.specs.Sizes.{shapeOf, onShape, stepBy, formatBy}
+use Rattle.gpt_model.specs.Lists.{afterAll, startAfter}
+use Rattle.gpt_model.specs.Claims.{Sound, Formats, Demand3At, Demand3At512, Demand3At4096, ShapesBySize, OnItsShape, OtherSizeRefused, WholeBlocks}
+use Rattle.gpt_model.specs.Claims.{Numbers512, Numbers4096}
+use Rattle.gpt_model.proofs.Demand3.{demand3}
+
+pub shapesBySize : ShapesBySize
+unfolding shapeOf
+shapesBySize = (
+  refl,
+  refl,
+  λ size a b.
+      ap (λ (p : Bool). cond p (some disk512) (cond (eqb size 4096) (some disk4096) none)) (ne-eqb size 512 a)
+      ∙ ap (λ (p : Bool). cond p (some disk4096) none) (ne-eqb size 4096 b),
+)
+
+pub at512 : (size : ℕ) → size ≡ 512 → shapeOf size ≡ some disk512
+at512 size e = ap shapeOf e ∙ shapesBySize .0
+
+pub at4096 : (size : ℕ) → size ≡ 4096 → shapeOf size ≡ some disk4096
+at4096 size e = ap shapeOf e ∙ shapesBySize .1
+
+-- what holds of both shapes, each by its size, holds of the shape of every block size
+pub by-size : (P : ℕ → Shape → Type 0) → P 512 disk512 → P 4096 disk4096 → (size : ℕ) (g : Shape) → shapeOf size ≡ some g → P size g
+unfolding shapeOf
+by-size P a b size g e = go (eqb size 512) (eqb size 4096) refl refl e
+  where
+    go : (p q : Bool) → eqb size 512 ≡ p → eqb size 4096 ≡ q → cond p (some disk512) (cond q (some disk4096) none) ≡ some g → P size g
+    go true q x y r =
+        let w : disk512 ≡ g = cc in
+        subst (λ (s : ℕ). P s g) (sym (eqb-true size 512 x)) (subst (λ (s : Shape). P 512 s) w a)
+    go false true x y r =
+        let w : disk4096 ≡ g = cc in
+        subst (λ (s : ℕ). P s g) (sym (eqb-true size 4096 y)) (subst (λ (s : Shape). P 4096 s) w b)
+    go false false x y r = absurd (some-none (sym r))
+
+pub wholeBlocks : WholeBlocks
+wholeBlocks =
+    by-size (λ size g. (size ≡ g .block) × (lentBytes g primary ≡ g .first * g .block) × (lentBytes g backup ≡ (g .first - 1) * g .block))
+    (refl, refl, refl) (refl, refl, refl)
+
+-- ---- the calls
+
+pub onItsShape : OnItsShape
+unfolding stepBy formatBy
+onItsShape size n h t g e = (
+  λ c. ap (λ (s : Option Shape). onShape s h t (λ g. step g n h t c)) e,
+  λ guid. ap (λ (s : Option Shape). onShape s h t (λ g. format g n guid h t)) e,
+)
+
+pub step-none : (size n : ℕ) (h t : List ℕ) → shapeOf size ≡ none → (c : Call) → stepBy size n h t c ≡ outcome (refused 6) h t
+unfolding stepBy
+step-none size n h t e c = ap (λ (s : Option Shape). onShape s h t (λ g. step g n h t c)) e
+
+pub format-none : (size n : ℕ) (h t : List ℕ) → shapeOf size ≡ none → (guid : List ℕ) → formatBy size n guid h t ≡ outcome (refused 6) h t
+unfolding formatBy
+format-none size n h t e guid = ap (λ (s : Option Shape). onShape s h t (λ g. format g n guid h t)) e
+
+pub otherSizeRefused : OtherSizeRefused
+otherSizeRefused size n h t a b = (step-none size n h t (shapesBySize .2 size a b), format-none size n h t (shapesBySize .2 size a b))
+
+-- ---- demand 3
+
+demand3-by : (size : ℕ) (g : Shape) → shapeOf size ≡ some g → (n : ℕ) (guid h t : List ℕ) → Formats g n guid h t → (cs : List Call)
+    → (formatBy size n guid h t .answer ≡ accepted []) × Sound g n (afterAll (stepBy size n) cs (startAfter (formatBy size n guid h t)))
+unfolding stepBy formatBy
+demand3-by size g e n guid h t f cs =
+    subst
+    (λ (s : Option Shape).
+    (onShape s h t (λ g. format g n guid h t) .answer ≡ accepted [])
+    × Sound g n (afterAll (λ h t c. onShape s h t (λ g. step g n h t c)) cs (startAfter (onShape s h t (λ g. format g n guid h t)))))
+    (sym e) (demand3 g n guid h t f cs)
+
+demand3-at : (size : ℕ) (g : Shape) → shapeOf size ≡ some g → headerBytes ≤ g .block → (least : ℕ)
+    → ((n : ℕ) → least ≤ n → n ≤ 4294967296 → inRange g n ≡ true) → Demand3At size g least (lentBytes g primary) (lentBytes g backup)
+demand3-at size g e wide least range n guid h t lo hi lg z lh lt =
+    demand3-by size g e n guid h t
+    (record { wide = wide; range = range n lo hi; len-guid = lg; nonzero = z; len-head = lh; len-tail = lt })
+
+pub numbers512 : Numbers512
+numbers512 = record {
+  head = refl;
+  tail = refl;
+  range = λ n. (λ e. (leb-true _ _ (and-l _ _ e), leb-true _ _ (and-r _ _ e)), λ w. and-i _ _ (le-leb _ _ (w .0)) (le-leb _ _ (w .1)));
+  first = refl;
+  blocks = λ n h. (omega arith, omega arith, omega arith);
+}
+
+pub numbers4096 : Numbers4096
+numbers4096 = record {
+  head = refl;
+  tail = refl;
+  range = λ n. (λ e. (leb-true _ _ (and-l _ _ e), leb-true _ _ (and-r _ _ e)), λ w. and-i _ _ (le-leb _ _ (w .0)) (le-leb _ _ (w .1)));
+  first = refl;
+  blocks = λ n h. (omega arith, omega arith, omega arith);
+}
+
+pub demand3At512 : Demand3At512
+demand3At512 = demand3-at 512 disk512 (shapesBySize .0) (omega arith) 68 (λ n a b. numbers512 .range n .1 (a, b))
+
+pub demand3At4096 : Demand3At4096
+demand3At4096 = demand3-at 4096 disk4096 (shapesBySize .1) (omega arith) 12 (λ n a b. numbers4096 .range n .1 (a, b))

@@ -1,0 +1,22 @@
+use native.Mathlib.Omega.{arith}
+use borrow.Author.Needs.{needs}
+use Rattle.gpt_places.proofs.entries_at.Statement.{statement}
+use Rattle.gpt_places.proofs.entries_at.Tie as tie
+
+enum-told : tie.Need-enum-told
+enum-told c = search needs
+
+mul-result : tie.Need-mul-result
+mul-result c = search needs
+
+enum-told-2 : tie.Need-enum-told-2
+enum-told-2 c = search needs
+
+returns : tie.Need-returns
+returns c = rw (c .before .enum-told .given .1) (omega arith)
+
+returns-2 : tie.Need-returns-2
+returns-2 c = search needs
+
+pub entries-at-spec : {M : Type 1} → statement M
+entries-at-spec = tie.close (tie.spec enum-told mul-result enum-told-2 returns returns-2)
