@@ -4,7 +4,7 @@ use mathlib.Core.Logic.{_≢_}
 use mathlib.Core.Bool.{Bool, true, false, not}
 use mathlib.Core.List.{List, _++_}
 use mathlib.Core.Option.{Option, none, some}
-use Prim.Native.Nat.{ℕ, _≤_, _<_}
+use Prim.Native.Nat.{ℕ, _*_, _≤_, _<_}
 use native.Mathlib.Omega.{arith}
 use lib.Dec.{eqb}
 use lib.ListN.{length}
@@ -15,7 +15,7 @@ use Rattle.octets.proofs.Bools.{and-l, and-r, and-i, not-f, some-none}
 use Rattle.octets.proofs.Rows.{rowsFrom, passes, pick-true, pick-false, refusal-append, refusal-first, refusal-before}
 use Rattle.gpt_model.specs.Ranges.{lowestStart}
 use Rattle.gpt_model.specs.Table.{rangesOf}
-use Rattle.gpt_model.specs.Disk.{disk512, lastUsable, inRange, primary, entriesIn, state, tableOf}
+use Rattle.gpt_model.specs.Disk.{Shape, mostBlocks, lastUsable, inRange, primary, backup, lentBytes, entriesIn, state, tableOf}
 use Rattle.gpt_model.specs.declared.NewPartition.{NewPartition}
 use Rattle.gpt_model.specs.Calls.{Edit, add, delete, resize, rename, edit, slotRows, addRows, fitsAt, startFor, tableRows, isNone, lengthsOf, lengthsOk, lentRows, openRows, rowsOf, formatRows}
 use Rattle.gpt_model.proofs.Outcomes.{edit-decides, edit-stops}
@@ -40,109 +40,109 @@ passed c p q = sym q ∙ ap stopOf p
 pub stopped : {q : Option ℕ} (c : Check) (r : Refusal) → c ≡ Stop r → stopOf c ≡ q → q ≡ some (numberOf r)
 stopped c r p q = sym q ∙ ap stopOf p
 
-module _ (n : ℕ) (h t : List ℕ) where
+module _ (g : Shape) (n : ℕ) (h t : List ℕ) where
   -- ---- rows 1 and 2
 
   pub record Lent : Type 0 where
-    pub head : length h ≡ 17408
-    pub tail : length t ≡ 16896
-    pub least : 68 ≤ n
-    pub most : n ≤ 4294967296
+    pub head : length h ≡ lentBytes g primary
+    pub tail : length t ≡ lentBytes g backup
+    pub least : 2 * g .first ≤ n
+    pub most : n ≤ mostBlocks
 
-  lent-by : (b : Bool) → not (lengthsOk disk512 h t and b) ≡ false → not (inRange disk512 n) ≡ false → Lent
+  lent-by : (b : Bool) → not (lengthsOk g h t and b) ≡ false → not (inRange g n) ≡ false → Lent
   lent-by b p q =
       let l = and-l _ _ (not-f _ p) in
       let r = not-f _ q in
       record { head = eqb-true _ _ (and-l _ _ l); tail = eqb-true _ _ (and-r _ _ l); least = leb-true _ _ (and-l _ _ r); most = leb-true _ _ (and-r _ _ r) }
 
-  pub lent-facts : refusal (lentRows disk512 n h t true) ≡ none → Lent
-  lent-facts e = lent-by true (passes 1 (lentRows disk512 n h t true) e) (passes 2 (lentRows disk512 n h t true) e)
+  pub lent-facts : refusal (lentRows g n h t true) ≡ none → Lent
+  lent-facts e = lent-by true (passes 1 (lentRows g n h t true) e) (passes 2 (lentRows g n h t true) e)
 
-  pub format-facts : (guid : List ℕ) → refusal (formatRows disk512 n guid h t) ≡ none → Lent
-  format-facts guid e = lent-by (eqb (length guid) 16) (passes 1 (formatRows disk512 n guid h t) e) (passes 2 (formatRows disk512 n guid h t) e)
+  pub format-facts : (guid : List ℕ) → refusal (formatRows g n guid h t) ≡ none → Lent
+  format-facts guid e = lent-by (eqb (length guid) 16) (passes 1 (formatRows g n guid h t) e) (passes 2 (formatRows g n guid h t) e)
 
-  pub edit-facts : (d : Edit) → refusal (rowsOf disk512 n h t (edit d)) ≡ none → Lent
-  edit-facts d e = lent-by (lengthsOf d) (passes 1 (rowsOf disk512 n h t (edit d)) e) (passes 2 (rowsOf disk512 n h t (edit d)) e)
+  pub edit-facts : (d : Edit) → refusal (rowsOf g n h t (edit d)) ≡ none → Lent
+  edit-facts d e = lent-by (lengthsOf d) (passes 1 (rowsOf g n h t (edit d)) e) (passes 2 (rowsOf g n h t (edit d)) e)
 
   -- ---- rows 1, 2, 10, 11
 
   abbrev later : List Row
-  later = rowsFrom 10 (openRows disk512 n h t true)
+  later = rowsFrom 10 (openRows g n h t true)
 
-  pub open-lent : (k : ℕ) → refusal (lentRows disk512 n h t true) ≡ some k → some k ≡ refusal (openRows disk512 n h t true)
-  open-lent k e = sym (refusal-first (lentRows disk512 n h t true) later k e)
+  pub open-lent : (k : ℕ) → refusal (lentRows g n h t true) ≡ some k → some k ≡ refusal (openRows g n h t true)
+  open-lent k e = sym (refusal-first (lentRows g n h t true) later k e)
 
   -- by the state x that the code finds
-  module _ (e : refusal (lentRows disk512 n h t true) ≡ none) (s x : State) (p : s ≡ x) (q : stateNumber s ≡ state disk512 n h t) where
+  module _ (e : refusal (lentRows g n h t true) ≡ none) (s x : State) (p : s ≡ x) (q : stateNumber s ≡ state g n h t) where
     abbrev opening : Option ℕ
-    opening = refusal (openRows disk512 n h t true)
+    opening = refusal (openRows g n h t true)
 
-    state-is : state disk512 n h t ≡ stateNumber x
+    state-is : state g n h t ≡ stateNumber x
     state-is = sym q ∙ ap stateNumber p
 
     pub open-neither : stateNumber x ≡ 0 → some 10 ≡ opening
-    open-neither z = sym (refusal-append (lentRows disk512 n h t true) later e ∙ pick-true _ 10 _ (eq-eqb _ _ (state-is ∙ z)))
+    open-neither z = sym (refusal-append (lentRows g n h t true) later e ∙ pick-true _ 10 _ (eq-eqb _ _ (state-is ∙ z)))
 
-    to11 : stateNumber x ≢ 0 → opening ≡ refusal (rowsFrom 11 (openRows disk512 n h t true))
-    to11 f = refusal-append (lentRows disk512 n h t true) later e ∙ pick-false _ 10 _ (ne-eqb _ _ (λ z. f (sym state-is ∙ z)))
+    to11 : stateNumber x ≢ 0 → opening ≡ refusal (rowsFrom 11 (openRows g n h t true))
+    to11 f = refusal-append (lentRows g n h t true) later e ∙ pick-false _ 10 _ (ne-eqb _ _ (λ z. f (sym state-is ∙ z)))
 
     pub open-other : stateNumber x ≢ 0 → stateNumber x ≢ 1 → some 11 ≡ opening
-    open-other f g = sym (to11 f ∙ pick-true _ 11 _ (ap not (ne-eqb _ _ (λ z. g (sym state-is ∙ z)))))
+    open-other f k = sym (to11 f ∙ pick-true _ 11 _ (ap not (ne-eqb _ _ (λ z. k (sym state-is ∙ z)))))
 
     pub open-both : stateNumber x ≡ 1 → none ≡ opening
     open-both z = sym (to11 (λ w. omega (arith, w, z)) ∙ pick-false _ 11 _ (ap not (eq-eqb _ _ (state-is ∙ z))))
 
   -- the rows before an edit's own, where GUIDs and name have the lengths of their types
-  open-is : (d : Edit) → lengthsOf d ≡ true → refusal (openRows disk512 n h t (lengthsOf d)) ≡ refusal (openRows disk512 n h t true)
-  open-is d l = ap (λ (b : Bool). refusal (openRows disk512 n h t b)) l
+  open-is : (d : Edit) → lengthsOf d ≡ true → refusal (openRows g n h t (lengthsOf d)) ≡ refusal (openRows g n h t true)
+  open-is d l = ap (λ (b : Bool). refusal (openRows g n h t b)) l
 
-  module _ (e : refusal (openRows disk512 n h t true) ≡ none) where
+  module _ (e : refusal (openRows g n h t true) ≡ none) where
     pub open-facts : Lent
-    open-facts = lent-facts (refusal-before (lentRows disk512 n h t true) later e .0)
+    open-facts = lent-facts (refusal-before (lentRows g n h t true) later e .0)
 
     -- the table that reading uses, as the code finds it in the head
-    pub table-is : entriesIn disk512 primary h ≡ tableOf disk512 n h t
-    table-is = sym (one-primary disk512 n h t (eqb-true _ _ (not-f _ (passes 11 (openRows disk512 n h t true) e))))
+    pub table-is : entriesIn g primary h ≡ tableOf g n h t
+    table-is = sym (one-primary g n h t (eqb-true _ _ (not-f _ (passes 11 (openRows g n h t true) e))))
 
     -- an edit's own rows, over a part tb of the head that holds the table
-    pub own-rows : (d : Edit) → lengthsOf d ≡ true → (tb : List ℕ) → tb ≡ entriesIn disk512 primary h
-        → refusal (tableRows 34 (lastUsable disk512 n) tb d) ≡ refusal (rowsOf disk512 n h t (edit d))
+    pub own-rows : (d : Edit) → lengthsOf d ≡ true → (tb : List ℕ) → tb ≡ entriesIn g primary h
+        → refusal (tableRows (g .first) (lastUsable g n) tb d) ≡ refusal (rowsOf g n h t (edit d))
     own-rows d l tb is =
-        ap (λ (es : List ℕ). refusal (tableRows 34 (lastUsable disk512 n) es d)) (is ∙ table-is) ∙ sym (edit-decides disk512 n h t d (open-is d l ∙ e))
+        ap (λ (es : List ℕ). refusal (tableRows (g .first) (lastUsable g n) es d)) (is ∙ table-is) ∙ sym (edit-decides g n h t d (open-is d l ∙ e))
 
-    pub placed-in : (tb : List ℕ) → tb ≡ entriesIn disk512 primary h → (p : NewPartition) (s : ℕ) → startFor 34 (lastUsable disk512 n) tb p ≡ some s
-        → startFor 34 (lastUsable disk512 n) (tableOf disk512 n h t) p ≡ some s
-    placed-in tb is p s q = sym (ap (λ (es : List ℕ). startFor 34 (lastUsable disk512 n) es p) (is ∙ table-is)) ∙ q
+    pub placed-in : (tb : List ℕ) → tb ≡ entriesIn g primary h → (p : NewPartition) (s : ℕ) → startFor (g .first) (lastUsable g n) tb p ≡ some s
+        → startFor (g .first) (lastUsable g n) (tableOf g n h t) p ≡ some s
+    placed-in tb is p s q = sym (ap (λ (es : List ℕ). startFor (g .first) (lastUsable g n) es p) (is ∙ table-is)) ∙ q
 
-  pub open-stops : (d : Edit) → lengthsOf d ≡ true → (k : ℕ) → refusal (openRows disk512 n h t true) ≡ some k → some k ≡ refusal (rowsOf disk512 n h t (edit d))
-  open-stops d l k e = sym (edit-stops disk512 n h t d k (open-is d l ∙ e))
+  pub open-stops : (d : Edit) → lengthsOf d ≡ true → (k : ℕ) → refusal (openRows g n h t true) ≡ some k → some k ≡ refusal (rowsOf g n h t (edit d))
+  open-stops d l k e = sym (edit-stops g n h t d k (open-is d l ∙ e))
 
   -- ---- R29: Rename the same, then 23. R30: Resize as delete, then 20, 25
 
   module _ (k : ℕ) where
     abbrev slotted : List Row
-    slotted = rowsOf disk512 n h t (edit (delete k))
+    slotted = rowsOf g n h t (edit (delete k))
 
-    pub delete-open : refusal slotted ≡ none → refusal (openRows disk512 n h t true) ≡ none
-    delete-open e = refusal-before (openRows disk512 n h t true) (slotRows (tableOf disk512 n h t) k) e .0
+    pub delete-open : refusal slotted ≡ none → refusal (openRows g n h t true) ≡ none
+    delete-open e = refusal-before (openRows g n h t true) (slotRows (tableOf g n h t) k) e .0
 
     pub delete-slot : refusal slotted ≡ none → (1 ≤ k) × (k ≤ 128)
     delete-slot e = slot-number k (passes 12 slotted e)
 
     -- where the name has its length, the rows of renaming are those of a delete, then its own
     pub rename-is : (name : List ℕ) → length name ≡ 36
-        → rowsAfter (refusal slotted) (rowsFrom 23 (rowsOf disk512 n h t (edit (rename k name)))) ≡ refusal (rowsOf disk512 n h t (edit (rename k name)))
+        → rowsAfter (refusal slotted) (rowsFrom 23 (rowsOf g n h t (edit (rename k name)))) ≡ refusal (rowsOf g n h t (edit (rename k name)))
     rename-is name l =
-        in-order slotted (rowsFrom 23 (rowsOf disk512 n h t (edit (rename k name))))
-        ∙ sym (ap (λ (b : Bool). refusal (openRows disk512 n h t b ++ tableRows 34 (lastUsable disk512 n) (tableOf disk512 n h t) (rename k name)))
+        in-order slotted (rowsFrom 23 (rowsOf g n h t (edit (rename k name))))
+        ∙ sym (ap (λ (b : Bool). refusal (openRows g n h t b ++ tableRows (g .first) (lastUsable g n) (tableOf g n h t) (rename k name)))
         (eq-eqb (length name) 36 l))
 
     module _ (size : ℕ) where
       abbrev own : List Row
-      own = rowsFrom 20 (rowsOf disk512 n h t (edit (resize k size)))
+      own = rowsFrom 20 (rowsOf g n h t (edit (resize k size)))
 
       abbrev resized : Option ℕ
-      resized = refusal (rowsOf disk512 n h t (edit (resize k size)))
+      resized = refusal (rowsOf g n h t (edit (resize k size)))
 
       pub resize-stops : (j : ℕ) → refusal slotted ≡ some j → some j ≡ resized
       resize-stops j e = sym (refusal-first slotted own j e)
@@ -152,9 +152,9 @@ module _ (n : ℕ) (h t : List ℕ) where
         resize-zero q = sym (refusal-append slotted own e ∙ pick-true _ 20 _ (eq-eqb _ _ q))
 
         -- the room is asked of a part tb of the head that holds the table, up to block last
-        module _ (a : size ≢ 0) (tb : List ℕ) (last : ℕ) (is : tb ≡ entriesIn disk512 primary h) (l : last ≡ lastUsable disk512 n) (b : Bool)
+        module _ (a : size ≢ 0) (tb : List ℕ) (last : ℕ) (is : tb ≡ entriesIn g primary h) (l : last ≡ lastUsable g n) (b : Bool)
             (f : b ≡ fitsAt last tb k size) where
-          fits-is : fitsAt (lastUsable disk512 n) (tableOf disk512 n h t) k size ≡ b
+          fits-is : fitsAt (lastUsable g n) (tableOf g n h t) k size ≡ b
           fits-is = sym (f ∙ rw (l, is ∙ table-is (delete-open e)))
 
           pub resize-full : b ≡ false → some 25 ≡ resized
@@ -168,18 +168,18 @@ module _ (n : ℕ) (h t : List ℕ) where
 pub add-lengths : (p : NewPartition) → length (p .kind) ≡ 16 → length (p .unique) ≡ 16 → length (p .name) ≡ 36 → lengthsOf (add p) ≡ true
 add-lengths p a b c = and-i _ _ (and-i _ _ (eq-eqb _ _ a) (eq-eqb _ _ b)) (eq-eqb _ _ c)
 
-module _ (n : ℕ) (es : List ℕ) (p : NewPartition) where
+module _ (g : Shape) (n : ℕ) (es : List ℕ) (p : NewPartition) where
   abbrev before25 : List Row
   before25 = addRows es p
 
   abbrev from25 : List Row
-  from25 = rowsFrom 25 (tableRows 34 (lastUsable disk512 n) es (add p))
+  from25 = rowsFrom 25 (tableRows (g .first) (lastUsable g n) es (add p))
 
   abbrev start : Option ℕ
-  start = startFor 34 (lastUsable disk512 n) es p
+  start = startFor (g .first) (lastUsable g n) es p
 
   abbrev rows : Option ℕ
-  rows = refusal (tableRows 34 (lastUsable disk512 n) es (add p))
+  rows = refusal (tableRows (g .first) (lastUsable g n) es (add p))
 
   pub add-size : refusal before25 ≡ none → 0 < p .size
   add-size e = let w : p .size ≢ 0 = eqb-false (p .size) 0 (passes 20 before25 e) in omega arith
@@ -188,7 +188,7 @@ module _ (n : ℕ) (es : List ℕ) (p : NewPartition) where
   start-stops k e = (sym (refusal-first before25 from25 k e), λ b q. absurd (some-none (sym q)))
 
   -- what the search for a start answers, between the usable blocks f and l
-  module _ (e : refusal before25 ≡ none) (q : Place) (f l : ℕ) (ef : f ≡ 34) (el : l ≡ lastUsable disk512 n)
+  module _ (e : refusal before25 ≡ none) (q : Place) (f l : ℕ) (ef : f ≡ g .first) (el : l ≡ lastUsable g n)
       (r : placed q ≡ lowestStart (rangesOf es) f l (p .size)) where
     placed-is : placed q ≡ start
     placed-is = r ∙ rw (ef, el)

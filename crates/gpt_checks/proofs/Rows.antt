@@ -3,7 +3,7 @@ use mathlib.Core.Path.{_≡_, refl, sym, ap, _∙_}
 use mathlib.Core.Bool.{Bool, true, false, not}
 use mathlib.Core.List.{List, [], _∷_, _++_}
 use mathlib.Core.Option.{Option, none, some}
-use Prim.Native.Nat.{ℕ, _≤_, _<_}
+use Prim.Native.Nat.{ℕ, _*_, _≤_, _<_}
 use native.Mathlib.Omega.{arith}
 use lib.Dec.{leb, eqb}
 use lib.ListN.{length}
@@ -13,7 +13,7 @@ use Rattle.octets.specs.Tests.{_and_, _or_, any, findIx}
 use Rattle.octets.specs.Rows.{Row, row, pickRow, refusal}
 use Rattle.octets.proofs.Bools.{and-l, and-r, and-i, not-f, bool-cases}
 use Rattle.octets.proofs.Rows.{rowsFrom, pick-true, pick-false, refusal-append, refusal-first}
-use Rattle.gpt_model.specs.Disk.{disk512, inRange}
+use Rattle.gpt_model.specs.Disk.{Shape, mostBlocks, primary, backup, lentBytes, inRange}
 use Rattle.gpt_model.specs.Table.{unused, entries}
 use Rattle.gpt_model.specs.Calls.{lengthsOk, lentRows, formatRows, entryOf, slotRows}
 use Rattle.gpt_table.proofs.Entries.{some-unused}
@@ -23,31 +23,31 @@ use Rattle.gpt_checks.specs.declared.Refusal.{Refusal}
 use Rattle.gpt_checks.specs.declared.Check.{Check}
 use Rattle.gpt_checks.specs.declared.Check.the-variants.{Pass, Stop}
 
-module _ (n : ℕ) (h t : List ℕ) where
-  pub head-wrong : (length h ≡ 17408 → ⊥) → some 1 ≡ refusal (lentRows disk512 n h t true)
+module _ (g : Shape) (n : ℕ) (h t : List ℕ) where
+  pub head-wrong : (length h ≡ lentBytes g primary → ⊥) → some 1 ≡ refusal (lentRows g n h t true)
   unfolding _and_
-  head-wrong f = sym (pick-true _ 1 _ (rw (ne-eqb (length h) 17408 f)))
+  head-wrong f = sym (pick-true _ 1 _ (rw (ne-eqb (length h) (lentBytes g primary) f)))
 
-  pub tail-wrong : length h ≡ 17408 → (length t ≡ 16896 → ⊥) → some 1 ≡ refusal (lentRows disk512 n h t true)
+  pub tail-wrong : length h ≡ lentBytes g primary → (length t ≡ lentBytes g backup → ⊥) → some 1 ≡ refusal (lentRows g n h t true)
   unfolding _and_
-  tail-wrong e f = sym (pick-true _ 1 _ (rw (eq-eqb (length h) 17408 e, ne-eqb (length t) 16896 f)))
+  tail-wrong e f = sym (pick-true _ 1 _ (rw (eq-eqb (length h) (lentBytes g primary) e, ne-eqb (length t) (lentBytes g backup) f)))
 
-  module _ (e : length h ≡ 17408) (f : length t ≡ 16896) where
-    lent : not (lengthsOk disk512 h t and true) ≡ false
+  module _ (e : length h ≡ lentBytes g primary) (f : length t ≡ lentBytes g backup) where
+    lent : not (lengthsOk g h t and true) ≡ false
     lent = ap not (and-i _ _ (and-i _ _ (eq-eqb _ _ e) (eq-eqb _ _ f)) refl)
 
-    pub n-low : n < 68 → some 2 ≡ refusal (lentRows disk512 n h t true)
+    pub n-low : n < 2 * g .first → some 2 ≡ refusal (lentRows g n h t true)
     unfolding _and_
-    n-low l = sym (pick-false _ 1 _ lent ∙ pick-true _ 2 _ (rw (lt-leb 68 n l)))
+    n-low l = sym (pick-false _ 1 _ lent ∙ pick-true _ 2 _ (rw (lt-leb (2 * g .first) n l)))
 
-    pub n-high : 68 ≤ n → 4294967296 < n → some 2 ≡ refusal (lentRows disk512 n h t true)
+    pub n-high : 2 * g .first ≤ n → mostBlocks < n → some 2 ≡ refusal (lentRows g n h t true)
     unfolding _and_
-    n-high l k = sym (pick-false _ 1 _ lent ∙ pick-true _ 2 _ (rw (le-leb 68 n l, lt-leb n 4294967296 k)))
+    n-high l k = sym (pick-false _ 1 _ lent ∙ pick-true _ 2 _ (rw (le-leb (2 * g .first) n l, lt-leb n mostBlocks k)))
 
-    pub in-range : 68 ≤ n → n ≤ 4294967296 → inRange disk512 n ≡ true
-    in-range l k = and-i _ _ (le-leb 68 n l) (le-leb n 4294967296 k)
+    pub in-range : 2 * g .first ≤ n → n ≤ mostBlocks → inRange g n ≡ true
+    in-range l k = and-i _ _ (le-leb (2 * g .first) n l) (le-leb n mostBlocks k)
 
-    pub lent-right : 68 ≤ n → n ≤ 4294967296 → none ≡ refusal (lentRows disk512 n h t true)
+    pub lent-right : 2 * g .first ≤ n → n ≤ mostBlocks → none ≡ refusal (lentRows g n h t true)
     lent-right l k = sym (pick-false _ 1 _ lent ∙ pick-false _ 2 _ (ap not (in-range l k)))
 
 -- ---- rows one after another
@@ -96,11 +96,11 @@ module _ (b : Check) (h : Bool) (r : Refusal) where
   after-passes e f = rw (e, f)
 
 -- where the GUID has its length, the rows of formatting are the first ones of every call, then its own
-pub format-is : (n : ℕ) (guid h t : List ℕ) → length guid ≡ 16
-    → rowsAfter (refusal (lentRows disk512 n h t true)) (rowsFrom 3 (formatRows disk512 n guid h t)) ≡ refusal (formatRows disk512 n guid h t)
-format-is n guid h t l =
-    in-order (lentRows disk512 n h t true) (rowsFrom 3 (formatRows disk512 n guid h t))
-    ∙ sym (ap (λ (b : Bool). refusal (lentRows disk512 n h t b ++ rowsFrom 3 (formatRows disk512 n guid h t))) (eq-eqb (length guid) 16 l))
+pub format-is : (g : Shape) (n : ℕ) (guid h t : List ℕ) → length guid ≡ 16
+    → rowsAfter (refusal (lentRows g n h t true)) (rowsFrom 3 (formatRows g n guid h t)) ≡ refusal (formatRows g n guid h t)
+format-is g n guid h t l =
+    in-order (lentRows g n h t true) (rowsFrom 3 (formatRows g n guid h t))
+    ∙ sym (ap (λ (b : Bool). refusal (lentRows g n h t b ++ rowsFrom 3 (formatRows g n guid h t))) (eq-eqb (length guid) 16 l))
 
 -- ---- rows 12, 13 of a slot
 

@@ -1,11 +1,12 @@
 -- W15: When an answer is an enum, a definition states this paper's number and values for each enum case. Definitions only.
 use Prim.Native.Nat.{ℕ}
 use Rattle.gpt_checks.specs.declared.Refusal.{Refusal}
-use Rattle.gpt_checks.specs.declared.Refusal.the-variants.{WrongLength, BlockCount, NoDiskGuid, NeitherGood, NotTheSame, NoSuchSlot, SlotUnused}
-use Rattle.gpt_checks.specs.declared.Refusal.the-variants.{NoSize, NoType, NoUniqueGuid, BadName, NoUnusedSlot, NoRoom}
+use Rattle.gpt_checks.specs.declared.Refusal.the-variants.{BlockSize, WrongLength, BlockCount, NoDiskGuid, NeitherGood, NotTheSame, NoSuchSlot}
+use Rattle.gpt_checks.specs.declared.Refusal.the-variants.{SlotUnused, NoSize, NoType, NoUniqueGuid, BadName, NoUnusedSlot, NoRoom}
 
--- R4 to R13, in the order there
+-- l7 (6 for another block size), then R4 to R13, in the order there
 abbrev pub numberOf : Refusal → ℕ
+numberOf BlockSize = 6
 numberOf WrongLength = 1
 numberOf BlockCount = 2
 numberOf NoDiskGuid = 3

@@ -3,28 +3,29 @@
 use gpt_copies::State;
 use gpt_model::Block;
 use gpt_model::NewPartition;
-use gpt_places::BLOCK;
+use gpt_model::Shape;
 use gpt_places::SLOTS;
 use gpt_places::Side;
-use gpt_places::TABLE;
 use gpt_room::Place;
 ghost use mathlib.Core.Path.{_≡_};
 ghost use mathlib.Core.Bool.{true, not};
 ghost use mathlib.Core.Option.{some};
-ghost use Prim.Native.Nat.{ℕ, _*_, _≤_};
+ghost use Prim.Native.Nat.{ℕ, _≤_};
 ghost use lib.ListN.{length};
 ghost use Rattle.octets.specs.Tests.{_or_, any};
 ghost use Rattle.octets.specs.Bytes.{isZero};
 ghost use Rattle.octets.specs.Rows.{row, refusal};
 ghost use Rattle.gpt_model.specs.Table.{tableBytes, unused, entries};
-ghost use Rattle.gpt_model.specs.Disk.{disk512, lastUsable, tableOf};
+ghost use Rattle.gpt_model.specs.Disk.{lastUsable, mostBlocks, tableOf};
 ghost use Rattle.gpt_model.specs.Calls.{lentRows, openRows, formatRows, carries, slotRows, addRows, startFor, tableRows, rowsOf, edit};
 ghost use Rattle.gpt_model.specs.Calls.{add as addCall, delete as deleteCall, resize as resizeCall, rename as renameCall};
+ghost use Rattle.gpt_places.specs.Shapes.{Legal, Fits};
 ghost use Rattle.gpt_checks.specs.Checks.{stopOf, rowAfter, stopBy, startBy};
 ghost use Rattle.gpt_checks.specs.Refusals.{numberOf};
 
 // Why a call is refused; specs/Refusals gives each its number.
 pub enum Refusal {
+    BlockSize,
     WrongLength,
     BlockCount,
     NoDiskGuid,
@@ -53,14 +54,7 @@ pub enum Start {
 }
 
 // Q2: N, its block count, is 68 to 4,294,967,296.
-const LEAST_BLOCKS: u64 = 68;
-
 const MOST_BLOCKS: u64 = 4294967296;
-
-// Q3: the head, blocks 0 to 33 (17,408 bytes), and the tail, the last 33 blocks (16,896 bytes).
-pub const HEAD: usize = 2 * BLOCK + TABLE;
-
-pub const TAIL: usize = TABLE + BLOCK;
 
 // One row more, after those that `before` judged.
 fn row_after(before: Check, holds: bool, r: Refusal) -> Check
@@ -78,16 +72,17 @@ fn row_after(before: Check, holds: bool, r: Refusal) -> Check
 }
 
 // 1, 2.
-pub fn lent(head: &[u8], tail: &[u8], n: u64) -> Check
-    ensures { λ r. ⌜ stopOf r ≡ refusal (lentRows disk512 n (now (head .entry)) (now (tail .entry)) true) ⌝ }
+pub fn lent(head: &[u8], tail: &[u8], n: u64, shape: Shape) -> Check
+    requires { ⌜ Legal shape ⌝ }
+    ensures { λ r. ⌜ stopOf r ≡ refusal (lentRows shape n (now (head .entry)) (now (tail .entry)) true) ⌝ }
 {
-    if head.len() != HEAD {
+    if head.len() != gpt_places::lent_bytes(Side::Primary, shape) {
         return Check::Stop(Refusal::WrongLength);
     }
-    if tail.len() != TAIL {
+    if tail.len() != gpt_places::lent_bytes(Side::Backup, shape) {
         return Check::Stop(Refusal::WrongLength);
     }
-    if n < LEAST_BLOCKS {
+    if n < 2 * shape.first {
         return Check::Stop(Refusal::BlockCount);
     }
     if MOST_BLOCKS < n {
@@ -97,24 +92,25 @@ pub fn lent(head: &[u8], tail: &[u8], n: u64) -> Check
 }
 
 // R25: format 1, 2, 3.
-pub fn format(head: &[u8], tail: &[u8], n: u64, guid: &[u8]) -> Check
-    requires { ⌜ length (now guid) ≡ 16 ⌝ }
-    ensures { λ r. ⌜ stopOf r ≡ refusal (formatRows disk512 n (now (guid .entry)) (now (head .entry)) (now (tail .entry))) ⌝ }
+pub fn format(head: &[u8], tail: &[u8], n: u64, shape: Shape, guid: &[u8]) -> Check
+    requires { ⌜ (length (now guid) ≡ 16) × Legal shape ⌝ }
+    ensures { λ r. ⌜ stopOf r ≡ refusal (formatRows shape n (now (guid .entry)) (now (head .entry)) (now (tail .entry))) ⌝ }
 {
     row_after(
-        lent(head, tail, n),
+        lent(head, tail, n, shape),
         octets::is_zero(guid),
         Refusal::NoDiskGuid,
     )
 }
 
 // 1, 2, 10, 11: the copies are both good and the same.
-fn opened(head: &[u8], tail: &[u8], n: u64) -> Check
-    ensures { λ r. ⌜ stopOf r ≡ refusal (openRows disk512 n (now (head .entry)) (now (tail .entry)) true) ⌝ }
+fn opened(head: &[u8], tail: &[u8], n: u64, shape: Shape) -> Check
+    requires { ⌜ Legal shape ⌝ }
+    ensures { λ r. ⌜ stopOf r ≡ refusal (openRows shape n (now (head .entry)) (now (tail .entry)) true) ⌝ }
 {
-    match lent(head, tail, n) {
+    match lent(head, tail, n, shape) {
         Check::Stop(r) => Check::Stop(r),
-        Check::Pass => match gpt_copies::reading::state(head, tail, n) {
+        Check::Pass => match gpt_copies::reading::state(head, tail, n, shape) {
             State::Both => Check::Pass,
             State::Differ => Check::Stop(Refusal::NotTheSame),
             State::PrimaryOnly => Check::Stop(Refusal::NotTheSame),
@@ -142,41 +138,43 @@ fn slot(table: &[u8], slot: u64) -> Check
 }
 
 // R28: Delete: 1, 2, 10, 11, 12, 13.
-pub fn delete(head: &[u8], tail: &[u8], n: u64, number: u64) -> Check
-    ensures { λ r. ⌜ stopOf r ≡ refusal (rowsOf disk512 n (now (head .entry)) (now (tail .entry)) (edit (deleteCall number))) ⌝ }
+pub fn delete(head: &[u8], tail: &[u8], n: u64, shape: Shape, number: u64) -> Check
+    requires { ⌜ Legal shape ⌝ }
+    ensures { λ r. ⌜ stopOf r ≡ refusal (rowsOf shape n (now (head .entry)) (now (tail .entry)) (edit (deleteCall number))) ⌝ }
 {
-    match opened(head, tail, n) {
+    match opened(head, tail, n, shape) {
         Check::Stop(r) => Check::Stop(r),
-        Check::Pass => slot(gpt_places::entries_in(head, Side::Primary), number),
+        Check::Pass => slot(gpt_places::entries_in(head, Side::Primary, shape), number),
     }
 }
 
 // R29: Rename the same, then 23.
-pub fn rename(head: &[u8], tail: &[u8], n: u64, number: u64, name: &[u16]) -> Check
-    requires { ⌜ length (now name) ≡ 36 ⌝ }
-    ensures { λ r. ⌜ stopOf r ≡ refusal (rowsOf disk512 n (now (head .entry)) (now (tail .entry)) (edit (renameCall number (now (name .entry))))) ⌝ }
+pub fn rename(head: &[u8], tail: &[u8], n: u64, shape: Shape, number: u64, name: &[u16]) -> Check
+    requires { ⌜ (length (now name) ≡ 36) × Legal shape ⌝ }
+    ensures { λ r. ⌜ stopOf r ≡ refusal (rowsOf shape n (now (head .entry)) (now (tail .entry)) (edit (renameCall number (now (name .entry))))) ⌝ }
 {
     row_after(
-        delete(head, tail, n, number),
+        delete(head, tail, n, shape, number),
         gpt_table::bad_name(name),
         Refusal::BadName,
     )
 }
 
 // R30: Resize as delete, then 20, 25. The room is asked before a last block is formed, so no size is too large.
-pub fn resize(head: &[u8], tail: &[u8], n: u64, number: u64, size: u64) -> Check
-    ensures { λ r. ⌜ stopOf r ≡ refusal (rowsOf disk512 n (now (head .entry)) (now (tail .entry)) (edit (resizeCall number size))) ⌝ }
+pub fn resize(head: &[u8], tail: &[u8], n: u64, shape: Shape, number: u64, size: u64) -> Check
+    requires { ⌜ Legal shape ⌝ }
+    ensures { λ r. ⌜ stopOf r ≡ refusal (rowsOf shape n (now (head .entry)) (now (tail .entry)) (edit (resizeCall number size))) ⌝ }
 {
-    match delete(head, tail, n, number) {
+    match delete(head, tail, n, shape, number) {
         Check::Stop(r) => Check::Stop(r),
         Check::Pass => {
             if size == 0 {
                 return Check::Stop(Refusal::NoSize);
             }
             if gpt_room::fits_at(
-                gpt_places::entries_in(head, Side::Primary),
+                gpt_places::entries_in(head, Side::Primary, shape),
                 number as usize,
-                gpt_places::last_usable(n),
+                gpt_places::last_usable(n, shape),
                 size,
             ) {
                 return Check::Pass;
@@ -218,17 +216,17 @@ fn new(table: &[u8], p: NewPartition) -> Check
 }
 
 // 20 to 25.
-fn place(table: &[u8], n: u64, p: NewPartition) -> Start
-    requires { ⌜ (length (now table) ≡ tableBytes) × (2 * disk512 .first ≤ n) × (n ≤ 4294967296) ⌝ }
-    ensures { λ r. ⌜ (stopBy r ≡ refusal (tableRows (disk512 .first) (lastUsable disk512 n) (now (table .entry)) (addCall p)))
-        × ((b : ℕ) → startBy r ≡ some b → startFor (disk512 .first) (lastUsable disk512 n) (now (table .entry)) p ≡ some b) ⌝ }
+fn place(table: &[u8], n: u64, shape: Shape, p: NewPartition) -> Start
+    requires { ⌜ (length (now table) ≡ tableBytes) × Fits shape n × (n ≤ mostBlocks) ⌝ }
+    ensures { λ r. ⌜ (stopBy r ≡ refusal (tableRows (shape .first) (lastUsable shape n) (now (table .entry)) (addCall p)))
+        × ((b : ℕ) → startBy r ≡ some b → startFor (shape .first) (lastUsable shape n) (now (table .entry)) p ≡ some b) ⌝ }
 {
     match new(table, p) {
         Check::Stop(r) => Start::Stop(r),
         Check::Pass => match gpt_room::lowest(
             table,
-            gpt_places::first_usable(),
-            gpt_places::last_usable(n),
+            gpt_places::first_usable(shape),
+            gpt_places::last_usable(n, shape),
             p.size,
         ) {
             Place::None => Start::Stop(Refusal::NoRoom),
@@ -238,13 +236,19 @@ fn place(table: &[u8], n: u64, p: NewPartition) -> Start
 }
 
 // R27: Add: 1, 2, 10, 11, 20, 21, 22, 23, 24, 25.
-pub fn add(head: &[u8], tail: &[u8], n: u64, p: NewPartition) -> Start
-    ensures { λ r. ⌜ (stopBy r ≡ refusal (rowsOf disk512 n (now (head .entry)) (now (tail .entry)) (edit (addCall p))))
+pub fn add(head: &[u8], tail: &[u8], n: u64, shape: Shape, p: NewPartition) -> Start
+    requires { ⌜ Legal shape ⌝ }
+    ensures { λ r. ⌜ (stopBy r ≡ refusal (rowsOf shape n (now (head .entry)) (now (tail .entry)) (edit (addCall p))))
         × ((b : ℕ) → startBy r ≡ some b
-        → startFor (disk512 .first) (lastUsable disk512 n) (tableOf disk512 n (now (head .entry)) (now (tail .entry))) p ≡ some b) ⌝ }
+        → startFor (shape .first) (lastUsable shape n) (tableOf shape n (now (head .entry)) (now (tail .entry))) p ≡ some b) ⌝ }
 {
-    match opened(head, tail, n) {
+    match opened(head, tail, n, shape) {
         Check::Stop(r) => Start::Stop(r),
-        Check::Pass => place(gpt_places::entries_in(head, Side::Primary), n, p),
+        Check::Pass => place(
+            gpt_places::entries_in(head, Side::Primary, shape),
+            n,
+            shape,
+            p,
+        ),
     }
 }

@@ -2,7 +2,7 @@
 use mathlib.Core.Path.{_≡_, ap₂, _∙_}
 use mathlib.Core.List.{List}
 use Prim.Native.Nat.{ℕ}
-use Rattle.gpt_model.specs.Disk.{disk512, Side, withCopy}
+use Rattle.gpt_model.specs.Disk.{Shape, Side, withCopy}
 
-pub copied : (n : ℕ) (side : Side) (g g′ es es′ b b′ : List ℕ) → g ≡ g′ → es ≡ es′ → b′ ≡ withCopy disk512 n side g es b → b′ ≡ withCopy disk512 n side g′ es′ b
-copied n side g g′ es es′ b b′ p q r = r ∙ ap₂ (λ (x y : List ℕ). withCopy disk512 n side x y b) p q
+pub copied : (g : Shape) (n : ℕ) (side : Side) (d d′ es es′ b b′ : List ℕ) → d ≡ d′ → es ≡ es′ → b′ ≡ withCopy g n side d es b → b′ ≡ withCopy g n side d′ es′ b
+copied g n side d d′ es es′ b b′ p q r = r ∙ ap₂ (λ (x y : List ℕ). withCopy g n side x y b) p q

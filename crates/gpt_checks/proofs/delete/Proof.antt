@@ -17,8 +17,9 @@ enum-told c = search needs
 
 entries-in-requires : tie.Need-entries-in-requires
 entries-in-requires c κs =
-    let a = c .before .before .before .before .before .args in
-    open-facts (a .n) (now (a .head)) (now (a .tail)) (passed _ (c .enum-told .given .1) (c .before .before .opened .ensures)) .head
+    let o = c .before .before .before .before .before in
+    let a = o .args in
+    (open-facts (a .shape) (a .n) (now (a .head)) (now (a .tail)) (passed _ (c .enum-told .given .1) (c .before .before .opened .ensures)) .head, o .pre)
 
 slot-requires : tie.Need-slot-requires
 slot-requires c κs = search needs
@@ -26,13 +27,13 @@ slot-requires c κs = search needs
 returns : tie.Need-returns
 returns c =
     let a = c .before .before .before .before .before .before .args in
-    open-stops (a .n) (now (a .head)) (now (a .tail)) (delete (a .number)) refl _ (stopped _ _ (c .before .r .given .1) (c .before .before .before .opened .ensures))
+    open-stops (a .shape) (a .n) (now (a .head)) (now (a .tail)) (delete (a .number)) refl _ (stopped _ _ (c .before .r .given .1) (c .before .before .before .opened .ensures))
 
 returns-2 : tie.Need-returns-2
 returns-2 c =
     let c4 = c .before .before .before .before in
     let a = c4 .before .before .before .args in
-    c .slot .ensures ∙ own-rows (a .n) (now (a .head)) (now (a .tail)) (passed _ (c .before .before .enum-told .given .1) (c4 .opened .ensures)) (delete (a .number)) refl _ (c .before .entries-in .ensures .0)
+    c .slot .ensures ∙ own-rows (a .shape) (a .n) (now (a .head)) (now (a .tail)) (passed _ (c .before .before .enum-told .given .1) (c4 .opened .ensures)) (delete (a .number)) refl _ (c .before .entries-in .ensures .0)
 
 pub delete-spec : {M : Type 1} → statement M
 delete-spec =

@@ -18,8 +18,8 @@ returns : tie.Need-returns
 returns c =
     let c4 = c .before .before .before .before in
     let a = c4 .before .before .args in
-    c .row-after .ensures ∙ row-is 3 (c .before .before .lent .ensures) (c .before .is-zero .ensures) ∙ format-is (a .n) (now (a .guid))
-    (now (a .head)) (now (a .tail)) (c4 .before .before .pre)
+    c .row-after .ensures ∙ row-is 3 (c .before .before .lent .ensures) (c .before .is-zero .ensures) ∙ format-is (a .shape) (a .n) (now (a .guid))
+    (now (a .head)) (now (a .tail)) (c4 .before .before .pre .0)
 
 pub format-spec : {M : Type 1} → statement M
 format-spec = tie.close (tie.spec lent-requires is-zero-requires row-after-requires returns)

@@ -26,7 +26,7 @@ lowest-requires c κs =
     let a = c4 .before .before .args in
     let e = c .last-usable .ensures in
     let m = c4 .before .before .pre .2 in
-    (c4 .before .before .pre .0, add-size (a .n) (now (a .table)) (a .p) (passed _ (c .before .before .enum-told .given .1) (c4 .new .ensures)), omega arith)
+    (c4 .before .before .pre .0, add-size (a .shape) (a .n) (now (a .table)) (a .p) (passed _ (c .before .before .enum-told .given .1) (c4 .new .ensures)), omega arith)
 
 enum-told-2 : tie.Need-enum-told-2
 enum-told-2 c = search needs
@@ -38,14 +38,14 @@ returns : tie.Need-returns
 returns c =
     let c4 = c .before .before .before .before in
     let a = c4 .before .args in
-    start-stops (a .n) (now (a .table)) (a .p) _ (stopped _ _ (c .before .r .given .1) (c .before .before .before .new .ensures))
+    start-stops (a .shape) (a .n) (now (a .table)) (a .p) _ (stopped _ _ (c .before .r .given .1) (c .before .before .before .new .ensures))
 
 returns-2 : tie.Need-returns-2
 returns-2 c =
     let c4 = c .before .before .before .before in
     let c8 = c4 .before .before .before .before in
     let a = c8 .before .args in
-    start-full (a .n) (now (a .table)) (a .p) (passed _ (c4 .before .enum-told .given .1) (c4 .before .before .before .new .ensures)) _ _ _
+    start-full (a .shape) (a .n) (now (a .table)) (a .p) (passed _ (c4 .before .enum-told .given .1) (c4 .before .before .before .new .ensures)) _ _ _
     (c4 .first-usable .ensures) (c .before .before .before .last-usable .ensures) (c .before .before .lowest .ensures) (c .enum-told2 .given .1)
 
 returns-3 : tie.Need-returns-3
@@ -53,7 +53,7 @@ returns-3 c =
     let c4 = c .before .before .before .before in
     let c8 = c4 .before .before .before .before in
     let a = c8 .before .before .args in
-    start-at (a .n) (now (a .table)) (a .p) (passed _ (c4 .before .before .enum-told .given .1) (c8 .new .ensures)) _ _ _
+    start-at (a .shape) (a .n) (now (a .table)) (a .p) (passed _ (c4 .before .before .enum-told .given .1) (c8 .new .ensures)) _ _ _
     (c4 .before .first-usable .ensures) (c4 .last-usable .ensures) (c .before .before .before .lowest .ensures) _ (c .before .first .given .1)
 
 pub place-spec : {M : Type 1} → statement M

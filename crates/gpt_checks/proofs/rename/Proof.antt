@@ -19,8 +19,8 @@ returns : tie.Need-returns
 returns c =
     let c4 = c .before .before .before .before in
     let a = c4 .before .before .args in
-    c .row-after .ensures ∙ row-is 23 (c .before .before .delete .ensures) (c .before .bad-name .ensures) ∙ rename-is (a .n) (now (a .head))
-    (now (a .tail)) (a .number) (now (a .name)) (c4 .before .before .pre)
+    c .row-after .ensures ∙ row-is 23 (c .before .before .delete .ensures) (c .before .bad-name .ensures) ∙ rename-is (a .shape) (a .n) (now (a .head))
+    (now (a .tail)) (a .number) (now (a .name)) (c4 .before .before .pre .0)
 
 pub rename-spec : {M : Type 1} → statement M
 rename-spec = tie.close (tie.spec delete-requires bad-name-requires row-after-requires returns)

@@ -9,7 +9,7 @@ use Rattle.gpt_edits.proofs.add.Tie as tie
 entries-in-requires : tie.Need-entries-in-requires
 entries-in-requires c κs =
     let a = c .before .before .before .args in
-    edit-facts (a .n) (now (a .head)) (now (a .tail)) (add (a .p)) (c .before .before .before .pre .0) .head
+    (edit-facts (a .shape) (a .n) (now (a .head)) (now (a .tail)) (add (a .p)) (c .before .before .before .pre .0) .head, c .before .before .before .pre .2)
 
 first-unused-requires : tie.Need-first-unused-requires
 first-unused-requires c κs = search needs
@@ -18,7 +18,7 @@ added-requires : tie.Need-added-requires
 added-requires c κs =
     let c4 = c .before .before .before .before in
     let a = c4 .before .args in
-    (add-size (a .n) (now (a .head)) (now (a .tail)) (a .p) (c4 .before .pre .0), add-bound (a .n) (now (a .head)) (now (a .tail)) (a .p) (c4 .before .pre .0) _ (c4 .before .pre .1))
+    (add-size (a .shape) (a .n) (now (a .head)) (now (a .tail)) (a .p) (c4 .before .pre .0), add-bound (a .shape) (a .n) (now (a .head)) (now (a .tail)) (a .p) (c4 .before .pre .0) _ (c4 .before .pre .1))
 
 slice-aggregate-put-both : tie.Need-slice-aggregate-put-both
 slice-aggregate-put-both c = search needs
@@ -28,8 +28,8 @@ put-both-requires c κs =
     let c4 = c .before .before .before .before in
     let c8 = c4 .before .before .before .before in
     let a = c8 .before .args in
-    let o = edit-facts (a .n) (now (a .head)) (now (a .tail)) (add (a .p)) (c8 .before .pre .0) in
-    (o .head, o .tail, o .least, add-index (a .n) (now (a .head)) (now (a .tail)) (a .p) (c8 .before .pre .0) _ _ (c4 .before .entries-in .ensures .0) (c4 .first-unused .ensures .0), c .before .before .before .added .ensures .1, same-tables (a .n) (now (a .head)) (now (a .tail)) (add (a .p)) (c8 .before .pre .0))
+    let o = edit-facts (a .shape) (a .n) (now (a .head)) (now (a .tail)) (add (a .p)) (c8 .before .pre .0) in
+    (o .head, o .tail, record { legal = c8 .before .pre .2; least = o .least }, add-index (a .shape) (a .n) (now (a .head)) (now (a .tail)) (a .p) (c8 .before .pre .0) _ _ (c4 .before .entries-in .ensures .0) (c4 .first-unused .ensures .0), c .before .before .before .added .ensures .1, same-tables (a .shape) (a .n) (now (a .head)) (now (a .tail)) (add (a .p)) (c8 .before .pre .0))
 
 add-result : tie.Need-add-result
 add-result c = search needs
@@ -46,8 +46,8 @@ returns c =
     let c8 = c4 .before .before .before .before in
     let c12 = c8 .before .before .before .before in
     let a = c12 .before .before .args in
-    edit-made (a .n) (now (a .head)) (now (a .tail)) (add (a .p)) (c12 .before .before .pre .0) _ _ _
-    (add-is (a .n) (now (a .head)) (now (a .tail)) (a .p) (c12 .before .before .pre .0) _ _ (c8 .before .before .entries-in .ensures .0) (c8 .before .first-unused .ensures .0) _ _ (c12 .before .before .pre .1) (c8 .added .ensures .0))
+    edit-made (a .shape) (a .n) (now (a .head)) (now (a .tail)) (add (a .p)) (c12 .before .before .pre .0) _ _ _
+    (add-is (a .shape) (a .n) (now (a .head)) (now (a .tail)) (a .p) (c12 .before .before .pre .0) _ _ (c8 .before .before .entries-in .ensures .0) (c8 .before .first-unused .ensures .0) _ _ (c12 .before .before .pre .1) (c8 .added .ensures .0))
     (c4 .put-both .ensures .0) (c4 .put-both .ensures .1)
 
 pub add-spec : {M : Type 1} → statement M

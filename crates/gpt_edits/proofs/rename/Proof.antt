@@ -10,23 +10,23 @@ use Rattle.gpt_edits.proofs.rename.Tie as tie
 sub-i : tie.Need-sub-i
 sub-i c =
     let a = c .before .before .before .args in
-    omega (arith, rename-slot (a .n) (now (a .head)) (now (a .tail)) (a .slot) (now (a .name)) (c .before .before .before .pre) .0)
+    omega (arith, rename-slot (a .shape) (a .n) (now (a .head)) (now (a .tail)) (a .slot) (now (a .name)) (c .before .before .before .pre .0) .0)
 
 entries-in-requires : tie.Need-entries-in-requires
 entries-in-requires c κs =
     let a = c .before .before .before .before .args in
-    edit-facts (a .n) (now (a .head)) (now (a .tail)) (rename (a .slot) (now (a .name))) (c .before .before .before .before .pre) .head
+    (edit-facts (a .shape) (a .n) (now (a .head)) (now (a .tail)) (rename (a .slot) (now (a .name))) (c .before .before .before .before .pre .0) .head, c .before .before .before .before .pre .1)
 
 entry-requires : tie.Need-entry-requires
 entry-requires c κs =
     let a = c .before .before .before .before .before .args in
-    let k = rename-slot (a .n) (now (a .head)) (now (a .tail)) (a .slot) (now (a .name)) (c .before .before .before .before .before .pre) in
+    let k = rename-slot (a .shape) (a .n) (now (a .head)) (now (a .tail)) (a .slot) (now (a .name)) (c .before .before .before .before .before .pre .0) in
     (omega arith, c .entries-in .ensures .1)
 
 renamed-requires : tie.Need-renamed-requires
 renamed-requires c κs =
     let a = c .before .before .before .before .before .before .args in
-    (c .entry .ensures .1, rename-slot (a .n) (now (a .head)) (now (a .tail)) (a .slot) (now (a .name)) (c .before .before .before .before .before .before .pre) .2)
+    (c .entry .ensures .1, rename-slot (a .shape) (a .n) (now (a .head)) (now (a .tail)) (a .slot) (now (a .name)) (c .before .before .before .before .before .before .pre .0) .2)
 
 slice-aggregate-put-both : tie.Need-slice-aggregate-put-both
 slice-aggregate-put-both c = search needs
@@ -36,9 +36,9 @@ put-both-requires c κs =
     let c4 = c .before .before .before .before in
     let c8 = c4 .before .before .before .before in
     let a = c8 .before .before .args in
-    let o = edit-facts (a .n) (now (a .head)) (now (a .tail)) (rename (a .slot) (now (a .name))) (c8 .before .before .pre) in
-    let k = rename-slot (a .n) (now (a .head)) (now (a .tail)) (a .slot) (now (a .name)) (c8 .before .before .pre) in
-    (o .head, o .tail, o .least, omega arith, c .before .before .before .renamed .ensures .1, same-tables (a .n) (now (a .head)) (now (a .tail)) (rename (a .slot) (now (a .name))) (c8 .before .before .pre))
+    let o = edit-facts (a .shape) (a .n) (now (a .head)) (now (a .tail)) (rename (a .slot) (now (a .name))) (c8 .before .before .pre .0) in
+    let k = rename-slot (a .shape) (a .n) (now (a .head)) (now (a .tail)) (a .slot) (now (a .name)) (c8 .before .before .pre .0) in
+    (o .head, o .tail, record { legal = c8 .before .before .pre .1; least = o .least }, omega arith, c .before .before .before .renamed .ensures .1, same-tables (a .shape) (a .n) (now (a .head)) (now (a .tail)) (rename (a .slot) (now (a .name))) (c8 .before .before .pre .0))
 
 same-length : tie.Need-same-length
 same-length c = search needs
@@ -52,8 +52,8 @@ returns c =
     let c8 = c4 .before .before .before .before in
     let c12 = c8 .before .before .before .before in
     let a = c12 .before .before .before .args in
-    edit-made (a .n) (now (a .head)) (now (a .tail)) (rename (a .slot) (now (a .name))) (c12 .before .before .before .pre) _ _ _
-    (renamed-is (a .n) (now (a .head)) (now (a .tail)) (a .slot) _ _ (c8 .before .before .entries-in .ensures .0) (c8 .before .entry .ensures .0) _ (now (a .name)) (c8 .renamed .ensures .0))
+    edit-made (a .shape) (a .n) (now (a .head)) (now (a .tail)) (rename (a .slot) (now (a .name))) (c12 .before .before .before .pre .0) _ _ _
+    (renamed-is (a .shape) (a .n) (now (a .head)) (now (a .tail)) (a .slot) _ _ (c8 .before .before .entries-in .ensures .0) (c8 .before .entry .ensures .0) _ (now (a .name)) (c8 .renamed .ensures .0))
     (c4 .put-both .ensures .0) (c4 .put-both .ensures .1)
 
 pub rename-spec : {M : Type 1} → statement M

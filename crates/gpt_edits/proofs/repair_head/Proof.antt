@@ -17,7 +17,7 @@ same-length c = search needs
 
 returns : tie.Need-returns
 returns c =
-    copied _ _ _ _ _ _ _ _ (c .before .before .before .before .guid-in .ensures .0) (c .before .before .before .entries-in .ensures .0)
+    copied _ _ _ _ _ _ _ _ _ (c .before .before .before .before .guid-in .ensures .0) (c .before .before .before .entries-in .ensures .0)
     (c .before .before .put-copy .ensures)
 
 pub repair-head-spec : {M : Type 1} → statement M
