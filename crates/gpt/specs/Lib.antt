@@ -1,3 +1,3 @@
--- What the calls answer, in the rules' numbers and values.
-pub mod Answers
+-- The part that reading hands back, and what is claimed of it.
+pub mod Parts
 pub mod Claims

@@ -1,62 +1,29 @@
-use Rattle.gpt_model.specs.Calls.{edit, add}
-use Rattle.gpt_checks.specs.Checks.{stopBy, startBy}
-use Rattle.gpt.proofs.Refusals.{stop-step}
+use mathlib.Core.Path.{sym, _∙_}
 use denote.Ref.{now}
-use mathlib.Core.Path.{sym, ap, _∙_}
 use borrow.Author.Needs.{needs}
+use Rattle.gpt_model.specs.Calls.{edit, add}
+use Rattle.gpt_model.proofs.Sizes.{onItsShape, step-none}
+use Rattle.gpt_places.proofs.Shapes.{shape-legal, sized, unsized}
 use Rattle.gpt.proofs.add.Statement.{statement}
 use Rattle.gpt.proofs.add.Tie as tie
 
 add-requires : tie.Need-add-requires
-add-requires c κs = search needs
-
-enum-known-r : tie.Need-enum-known-r
-enum-known-r c = search needs
-
-enum-known-first : tie.Need-enum-known-first
-enum-known-first c = search needs
-
-add-requires-2 : tie.Need-add-requires-2
-add-requires-2 c κs =
-    let c4 = c .before .before .before .before in
-    let e = c4 .before .add .ensures in
-    let p = c .before .before .before .first .given .1 in
-    (sym (e .0) ∙ ap stopBy p, e .1 _ (ap startBy p))
-
-same-length : tie.Need-same-length
-same-length c = search needs
-
-same-length-2 : tie.Need-same-length-2
-same-length-2 c = search needs
+add-requires c κs = let s = c .before .before .before in shape-legal _ _ (sized _ _ (s .shape .given .1) (s .before .before .shape-of .ensures))
 
 returns : tie.Need-returns
 returns c =
-    let c4 = c .before .before .before .before in
-    let c8 = c4 .before .before .before .before in
-    let a = c8 .args in
-    stop-step (a .n) (now (a .head)) (now (a .tail)) (edit (add (a .p))) _
-    (sym (c .before .before .before .add .ensures .0) ∙ ap stopBy (c .before .r .given .1))
-
-same-length-3 : tie.Need-same-length-3
-same-length-3 c = search needs
-
-same-length-4 : tie.Need-same-length-4
-same-length-4 c = search needs
+    let f = c .before .before .before .before in
+    let s = f .before .before .before .before in
+    let o = s .before .before in
+    let a = o .before .before .before .args in
+    f .add .ensures ∙ sym
+    (onItsShape (a .block) (a .n) (now (a .head)) (now (a .tail)) _ (sized _ _ (s .shape .given .1) (o .shape-of .ensures)) .0 (edit (add (a .p))))
 
 returns-2 : tie.Need-returns-2
-returns-2 c = search needs
+returns-2 c =
+    let o = c .before .before in
+    let a = o .before .before .before .args in
+    sym (step-none (a .block) (a .n) (now (a .head)) (now (a .tail)) (unsized _ (c .enum-told .given .1) (o .shape-of .ensures)) (edit (add (a .p))))
 
 pub add-spec : {M : Type 1} → statement M
-add-spec =
-    tie.close
-    (tie.spec
-    add-requires
-    enum-known-r
-    enum-known-first
-    add-requires-2
-    same-length
-    same-length-2
-    returns
-    same-length-3
-    same-length-4
-    returns-2)
+add-spec = tie.close (tie.spec (λ c κs. search needs) (λ c. search needs) add-requires (λ c. search needs) (λ c. search needs) (λ c. search needs) returns returns-2)

@@ -1,56 +1,29 @@
+use mathlib.Core.Path.{sym, _∙_}
 use denote.Ref.{now}
-use Rattle.gpt.proofs.Refusals.{stop-step}
-use Rattle.gpt_checks.proofs.Judged.{passed, stopped}
-use Rattle.gpt_model.specs.Calls.{edit, delete}
 use borrow.Author.Needs.{needs}
+use Rattle.gpt_model.specs.Calls.{edit, delete}
+use Rattle.gpt_model.proofs.Sizes.{onItsShape, step-none}
+use Rattle.gpt_places.proofs.Shapes.{shape-legal, sized, unsized}
 use Rattle.gpt.proofs.delete.Statement.{statement}
 use Rattle.gpt.proofs.delete.Tie as tie
 
 delete-requires : tie.Need-delete-requires
-delete-requires c κs = search needs
-
-enum-known-r : tie.Need-enum-known-r
-enum-known-r c = search needs
-
-enum-told : tie.Need-enum-told
-enum-told c = search needs
-
-delete-requires-2 : tie.Need-delete-requires-2
-delete-requires-2 c κs = passed _ (c .before .before .enum-told .given .1) (c .before .before .before .before .delete .ensures)
-
-same-length : tie.Need-same-length
-same-length c = search needs
-
-same-length-2 : tie.Need-same-length-2
-same-length-2 c = search needs
+delete-requires c κs = let s = c .before .before .before in shape-legal _ _ (sized _ _ (s .shape .given .1) (s .before .before .shape-of .ensures))
 
 returns : tie.Need-returns
 returns c =
-    let c4 = c .before .before .before in
-    let c8 = c4 .before .before .before .before in
-    let a = c8 .before .args in
-    stop-step (a .n) (now (a .head)) (now (a .tail)) (edit (delete (a .slot))) _ (stopped _ _ (c .before .r .given .1) (c4 .delete .ensures))
-
-same-length-3 : tie.Need-same-length-3
-same-length-3 c = search needs
-
-same-length-4 : tie.Need-same-length-4
-same-length-4 c = search needs
+    let f = c .before .before .before .before in
+    let s = f .before .before .before .before in
+    let o = s .before .before in
+    let a = o .before .before .before .args in
+    f .delete .ensures ∙ sym
+    (onItsShape (a .block) (a .n) (now (a .head)) (now (a .tail)) _ (sized _ _ (s .shape .given .1) (o .shape-of .ensures)) .0 (edit (delete (a .slot))))
 
 returns-2 : tie.Need-returns-2
-returns-2 c = search needs
+returns-2 c =
+    let o = c .before .before in
+    let a = o .before .before .before .args in
+    sym (step-none (a .block) (a .n) (now (a .head)) (now (a .tail)) (unsized _ (c .enum-told .given .1) (o .shape-of .ensures)) (edit (delete (a .slot))))
 
 pub delete-spec : {M : Type 1} → statement M
-delete-spec =
-    tie.close
-    (tie.spec
-    delete-requires
-    enum-known-r
-    enum-told
-    delete-requires-2
-    same-length
-    same-length-2
-    returns
-    same-length-3
-    same-length-4
-    returns-2)
+delete-spec = tie.close (tie.spec (λ c κs. search needs) (λ c. search needs) delete-requires (λ c. search needs) (λ c. search needs) (λ c. search needs) returns returns-2)

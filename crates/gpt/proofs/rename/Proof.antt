@@ -1,64 +1,29 @@
+use mathlib.Core.Path.{sym, _∙_}
 use denote.Ref.{now}
-use Rattle.gpt.proofs.Refusals.{stop-step}
-use Rattle.gpt_checks.proofs.Judged.{passed, stopped}
-use Rattle.gpt_model.specs.Calls.{edit, rename}
 use borrow.Author.Needs.{needs}
+use Rattle.gpt_model.specs.Calls.{edit, rename}
+use Rattle.gpt_model.proofs.Sizes.{onItsShape, step-none}
+use Rattle.gpt_places.proofs.Shapes.{shape-legal, sized, unsized}
 use Rattle.gpt.proofs.rename.Statement.{statement}
 use Rattle.gpt.proofs.rename.Tie as tie
 
-slice-aggregate-rename : tie.Need-slice-aggregate-rename
-slice-aggregate-rename c = search needs
-
 rename-requires : tie.Need-rename-requires
-rename-requires c κs = search needs
-
-enum-known-r : tie.Need-enum-known-r
-enum-known-r c = search needs
-
-enum-told : tie.Need-enum-told
-enum-told c = search needs
-
-slice-aggregate-rename-2 : tie.Need-slice-aggregate-rename-2
-slice-aggregate-rename-2 c = search needs
-
-rename-requires-2 : tie.Need-rename-requires-2
-rename-requires-2 c κs = passed _ (c .before .before .before .enum-told .given .1) (c .before .before .before .before .before .rename .ensures)
-
-same-length : tie.Need-same-length
-same-length c = search needs
-
-same-length-2 : tie.Need-same-length-2
-same-length-2 c = search needs
+rename-requires c κs = let s = c .before .before .before in shape-legal _ _ (sized _ _ (s .shape .given .1) (s .before .before .shape-of .ensures))
 
 returns : tie.Need-returns
 returns c =
-    let c4 = c .before .before .before in
-    let c8 = c4 .before .before .before .before in
-    let a = c8 .before .before .args in
-    stop-step (a .n) (now (a .head)) (now (a .tail)) (edit (rename (a .slot) (a .t5))) _ (stopped _ _ (c .before .r .given .1) (c4 .rename .ensures))
-
-same-length-3 : tie.Need-same-length-3
-same-length-3 c = search needs
-
-same-length-4 : tie.Need-same-length-4
-same-length-4 c = search needs
+    let f = c .before .before .before .before in
+    let s = f .before .before .before .before in
+    let o = s .before .before in
+    let a = o .before .before .before .args in
+    f .rename .ensures ∙ sym
+    (onItsShape (a .block) (a .n) (now (a .head)) (now (a .tail)) _ (sized _ _ (s .shape .given .1) (o .shape-of .ensures)) .0 (edit (rename (a .slot) (a .name))))
 
 returns-2 : tie.Need-returns-2
-returns-2 c = search needs
+returns-2 c =
+    let o = c .before .before in
+    let a = o .before .before .before .args in
+    sym (step-none (a .block) (a .n) (now (a .head)) (now (a .tail)) (unsized _ (c .enum-told .given .1) (o .shape-of .ensures)) (edit (rename (a .slot) (a .name))))
 
 pub rename-spec : {M : Type 1} → statement M
-rename-spec =
-    tie.close
-    (tie.spec
-    slice-aggregate-rename
-    rename-requires
-    enum-known-r
-    enum-told
-    slice-aggregate-rename-2
-    rename-requires-2
-    same-length
-    same-length-2
-    returns
-    same-length-3
-    same-length-4
-    returns-2)
+rename-spec = tie.close (tie.spec (λ c κs. search needs) (λ c. search needs) rename-requires (λ c. search needs) (λ c. search needs) (λ c. search needs) returns returns-2)

@@ -1,4 +1,4 @@
-use Rattle.gpt.proofs.Found.{entries-of-reading}
+use Rattle.gpt.proofs.Reading.{entriesOfReading}
 use denote.Ref.{now}
 use mathlib.Core.Path.{_∙_}
 use borrow.Author.Needs.{needs}
@@ -15,7 +15,7 @@ returns : tie.Need-returns
 returns c =
     let c4 = c .before .before .before .before in
     let a = c4 .args in
-    c .entries .ensures ∙ entries-of-reading (a .n) (now (a .head)) (now (a .tail)) (a .head .ptr) (a .tail .ptr) (c .before .read .result)
+    c .entries .ensures ∙ entriesOfReading (a .block) (a .n) (now (a .head)) (now (a .tail)) (a .head .ptr) (a .tail .ptr) (c .before .read .result)
     (c .before .read .ensures)
 
 pub table-spec : {M : Type 1} → statement M

@@ -4,18 +4,18 @@ use mathlib.Core.List.{List, [], _∷_}
 use mathlib.Core.Option.{Option, none, some}
 use Prim.Native.Nat.{ℕ}
 use Rattle.octets.specs.Rows.{refusal}
-use Rattle.gpt_model.specs.Disk.{disk512, primary, backup, usedSide, entriesIn, state, tableOf}
+use Rattle.gpt_model.specs.Disk.{Shape, primary, backup, usedSide, entriesIn, state, tableOf}
 use Rattle.gpt_model.specs.Calls.{Answer, refused, accepted, read, lengthsOk, rowsOf}
 use Rattle.gpt_places.specs.Sides.{behind, entriesPlace}
 use Rattle.gpt_checks.specs.Refusals.{numberOf}
-use Rattle.gpt.specs.declared.Done.{Done}
-use Rattle.gpt.specs.declared.Done.the-variants as done
-use Rattle.gpt.specs.declared.Reading.{Reading}
-use Rattle.gpt.specs.declared.Reading.the-variants as reading
-use Rattle.gpt.specs.declared.Added.{Added}
-use Rattle.gpt.specs.declared.Added.the-variants as adding
-use Rattle.gpt.specs.declared.Counted.{Counted}
-use Rattle.gpt.specs.declared.Counted.the-variants as counting
+use Rattle.gpt_calls.specs.declared.Done.{Done}
+use Rattle.gpt_calls.specs.declared.Done.the-variants as done
+use Rattle.gpt_calls.specs.declared.Reading.{Reading}
+use Rattle.gpt_calls.specs.declared.Reading.the-variants as reading
+use Rattle.gpt_calls.specs.declared.Added.{Added}
+use Rattle.gpt_calls.specs.declared.Added.the-variants as adding
+use Rattle.gpt_calls.specs.declared.Counted.{Counted}
+use Rattle.gpt_calls.specs.declared.Counted.the-variants as counting
 
 -- R3: other writers only that they accepted
 abbrev pub doneOf : Done → Answer
@@ -49,29 +49,29 @@ pub record Handed : Type 0 where
 abbrev pub handed : List ℕ → ℕ × ℕ → Handed
 handed bs p = record { bytes = bs; place = p }
 
--- D11: It hands back the 16,384 entry bytes inside whichever of the two lent buffers was used, by where head and tail begin.
--- R1: an empty part where a part is returned; it lies at the head's start.
-module _ (h t : List ℕ) (head tail : ℕ × ℕ) where
-  abbrev pub nothing : Handed
-  nothing = handed [] (behind 0 head)
+-- R1: an empty part where a part is returned; it lies at the head's start
+abbrev pub nothing : ℕ × ℕ → Handed
+nothing head = handed [] (behind 0 head)
 
+-- D11: It hands back the 16,384 entry bytes inside whichever of the two lent buffers was used, by where head and tail begin, on a disk of that shape.
+module _ (g : Shape) (h t : List ℕ) (head tail : ℕ × ℕ) where
   abbrev primaryEntries : Handed
-  primaryEntries = handed (entriesIn disk512 primary h) (entriesPlace primary head tail)
+  primaryEntries = handed (entriesIn g primary h) (entriesPlace g primary head tail)
 
   -- (D10) by what reading answered
   abbrev pub entriesOf : Reading → Handed
   entriesOf reading.Same = primaryEntries
   entriesOf reading.Different = primaryEntries
   entriesOf reading.PrimaryOnly = primaryEntries
-  entriesOf reading.BackupOnly = handed (entriesIn disk512 backup t) (entriesPlace backup head tail)
-  entriesOf (reading.Refused r) = nothing
+  entriesOf reading.BackupOnly = handed (entriesIn g backup t) (entriesPlace g backup head tail)
+  entriesOf (reading.Refused r) = nothing head
 
-  abbrev pub entriesBy : Reading → Handed
-  entriesBy r = cond (lengthsOk disk512 h t) (entriesOf r) nothing
+  abbrev pub entriesOn : Reading → Handed
+  entriesOn r = cond (lengthsOk g h t) (entriesOf r) (nothing head)
 
-  abbrev pub handedBy : ℕ → Option ℕ → Handed
-  handedBy n none = handed (tableOf disk512 n h t) (entriesPlace (usedSide (state disk512 n h t)) head tail)
-  handedBy n (some k) = nothing
+  abbrev pub handedIf : ℕ → Option ℕ → Handed
+  handedIf n none = handed (tableOf g n h t) (entriesPlace g (usedSide (state g n h t)) head tail)
+  handedIf n (some k) = nothing head
 
-abbrev pub handedPart : ℕ → List ℕ → List ℕ → ℕ × ℕ → ℕ × ℕ → Handed
-handedPart n h t head tail = handedBy h t head tail n (refusal (rowsOf disk512 n h t read))
+  abbrev pub handedOn : ℕ → Handed
+  handedOn n = handedIf n (refusal (rowsOf g n h t read))

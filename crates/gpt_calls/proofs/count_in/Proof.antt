@@ -7,8 +7,8 @@ use Rattle.gpt_model.specs.Calls.{accepted}
 use Rattle.gpt_model.specs.Ranges.{freeCount, longestFree}
 use Rattle.gpt_model.specs.Table.{rangesOf}
 use Rattle.gpt_room.specs.declared.Free.{Free}
-use Rattle.gpt.proofs.count_in.Statement.{statement}
-use Rattle.gpt.proofs.count_in.Tie as tie
+use Rattle.gpt_calls.proofs.count_in.Statement.{statement}
+use Rattle.gpt_calls.proofs.count_in.Tie as tie
 
 first-usable-requires : tie.Need-first-usable-requires
 first-usable-requires c κs = search needs
