@@ -1,15 +1,19 @@
 -- Laws of what C gets of a GPT call.
 use mathlib.Core.Path.{_≡_, refl, sym, ap, ap₂, _∙_}
 use mathlib.Core.List.{List, []}
+use mathlib.Core.Option.{Option, none, some}
 use Prim.Native.Nat.{ℕ}
 use native.Mathlib.Omega.{arith}
-use Rattle.gpt_model.specs.Calls.{Answer, refused, accepted, Outcome, outcome}
-use Rattle.gpt.specs.Answers.{doneOf, readingOf}
-use Rattle.gpt.specs.declared.Done.{Done}
-use Rattle.gpt.specs.declared.Done.the-variants as done
-use Rattle.gpt.specs.declared.Reading.{Reading}
-use Rattle.gpt_checks.specs.declared.Refusal.the-variants.{WrongLength, BlockCount, NoDiskGuid, NeitherGood, NotTheSame, NoSuchSlot, SlotUnused, NoSize, NoType, NoUniqueGuid, BadName, NoUnusedSlot, NoRoom}
-use Rattle.c_disk.specs.Effects.{GptEffect, resultOf, valuesOf, gptEffect, tablePlace}
+use Rattle.gpt_model.specs.Disk.{Shape}
+use Rattle.gpt_model.specs.Calls.{Answer, refused, accepted, Outcome, outcome, read, step}
+use Rattle.gpt_model.specs.Sizes.{shapeOf, onShape, stepBy}
+use Rattle.gpt_model.proofs.Sizes.{onItsShape}
+use Rattle.gpt_calls.specs.Answers.{doneOf, readingOf}
+use Rattle.gpt_calls.specs.declared.Done.{Done}
+use Rattle.gpt_calls.specs.declared.Done.the-variants as done
+use Rattle.gpt_calls.specs.declared.Reading.{Reading}
+use Rattle.gpt_checks.specs.declared.Refusal.the-variants.{BlockSize, WrongLength, BlockCount, NoDiskGuid, NeitherGood, NotTheSame, NoSuchSlot, SlotUnused, NoSize, NoType, NoUniqueGuid, BadName, NoUnusedSlot, NoRoom}
+use Rattle.c_disk.specs.Effects.{GptEffect, resultOf, valuesOf, gptEffect, tablePlace, withTablePlace, tablePlaceBy}
 use Rattle.c_disk.specs.Claims.{NoRefusalIsZero}
 
 -- an answer a given by its number and values, with the buffers that the call left
@@ -35,10 +39,24 @@ pub gpt-accepted : (a : Answer) (old vs : List ℕ) → a ≡ accepted vs → (0
 gpt-accepted a old vs e = (ap resultOf (sym e), ap (valuesOf old) (sym e))
 
 -- where the entries begin, by a reading
-abbrev pub placeBy : Reading → Answer
-placeBy r = tablePlace (readingOf r)
+abbrev pub placeBy : Shape → Reading → Answer
+placeBy g r = tablePlace g (readingOf r)
+
+module _ (size n : ℕ) (h t : List ℕ) where
+  pub place-by : (g : Shape) → shapeOf size ≡ some g → (a : Answer) → outcome a h t ≡ stepBy size n h t read
+      → outcome (tablePlace g a) h t ≡ tablePlaceBy size n h t
+  unfolding tablePlaceBy
+  place-by g e a q =
+      ap (withTablePlace g) (q ∙ onItsShape size n h t g e .0 read)
+      ∙ sym (ap (λ (s : Option Shape). onShape s h t (λ g. withTablePlace g (step g n h t read))) e)
+
+  pub place-other : (old : List ℕ) → shapeOf size ≡ none
+      → _≡_ {A = GptEffect} (record { result = 6; head = h; tail = t; values = old }) (gptEffect old (tablePlaceBy size n h t))
+  unfolding tablePlaceBy
+  place-other old e = ap (λ (s : Option Shape). gptEffect old (onShape s h t (λ g. withTablePlace g (step g n h t read)))) (sym e)
 
 pub no-refusal-is-zero : NoRefusalIsZero
+no-refusal-is-zero BlockSize e = omega arith
 no-refusal-is-zero WrongLength e = omega arith
 no-refusal-is-zero BlockCount e = omega arith
 no-refusal-is-zero NoDiskGuid e = omega arith

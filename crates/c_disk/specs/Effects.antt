@@ -1,9 +1,11 @@
 -- What C gets of a GPT call: the result, head and tail afterwards, and the number answers afterwards. Definitions only.
 use mathlib.Core.List.{List, [], _∷_}
+use mathlib.Core.Option.{Option, none, some}
 use Prim.Native.Nat.{ℕ}
 use lib.ListN.{getD}
-use Rattle.gpt_model.specs.Disk.{disk512, Side, primary, backup, usedSide, entriesAt}
-use Rattle.gpt_model.specs.Calls.{Answer, refused, accepted, Outcome, outcome}
+use Rattle.gpt_model.specs.Disk.{Shape, Side, primary, backup, usedSide, entriesAt}
+use Rattle.gpt_model.specs.Calls.{Answer, refused, accepted, Outcome, outcome, read, step}
+use Rattle.gpt_model.specs.Sizes.{shapeOf, onShape}
 
 -- R1: A refusal returns its number alone. Accepted is 0
 abbrev pub resultOf : Answer → ℕ
@@ -30,9 +32,17 @@ sideNumber primary = 0
 sideNumber backup = 1
 
 -- where the entries begin, by what reading answers (the state): the buffer used, and the byte in it
-abbrev pub tablePlace : Answer → Answer
-tablePlace (refused k) = refused k
-tablePlace (accepted vs) = accepted (sideNumber (usedSide (getD vs 0 0)) ∷ entriesAt disk512 (usedSide (getD vs 0 0)) ∷ [])
+abbrev pub tablePlace : Shape → Answer → Answer
+tablePlace g (refused k) = refused k
+tablePlace g (accepted vs) = accepted (sideNumber (usedSide (getD vs 0 0)) ∷ entriesAt g (usedSide (getD vs 0 0)) ∷ [])
 
-abbrev pub withTablePlace : Outcome → Outcome
-withTablePlace o = outcome (tablePlace (o .answer)) (o .head) (o .tail)
+abbrev pub withTablePlace : Shape → Outcome → Outcome
+withTablePlace g o = outcome (tablePlace g (o .answer)) (o .head) (o .tail)
+
+unfoldable pub tablePlaceBy : ℕ → ℕ → List ℕ → List ℕ → Outcome
+tablePlaceBy size n h t = onShape (shapeOf size) h t (λ g. withTablePlace g (step g n h t read))
+
+-- what a call answers that is lent a GUID or a name of a wrong length. l7: 6 for another block size, before all others
+abbrev pub lengthNumber : Option Shape → ℕ
+lengthNumber none = 6
+lengthNumber (some g) = 1

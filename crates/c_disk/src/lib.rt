@@ -1,17 +1,21 @@
-// The GPT calls for C. Each contract is one equation with `format` or `step` of gpt_model, for the result, both buffers and the number answers afterwards.
-use gpt::Added;
-use gpt::Counted;
-use gpt::Done;
-use gpt::Reading;
+// The GPT calls for C. Each contract is one equation with `formatBy` or `stepBy` of gpt_model, for the result, both buffers and the number answers afterwards.
+use gpt_calls::Added;
+use gpt_calls::Counted;
+use gpt_calls::Done;
+use gpt_calls::Reading;
 use gpt_model::NewPartition;
+use gpt_model::Shape;
+use gpt_places::Side;
+use gpt_places::Sized;
 ghost use mathlib.Core.Path.{_≡_};
 ghost use mathlib.Core.List.{[], _∷_};
 ghost use lib.ListN.{length};
-ghost use Rattle.gpt_model.specs.Disk.{disk512};
-ghost use Rattle.gpt_model.specs.Calls.{step, format as formatOn, read as readCall, freeCounts, repair as repairCall, edit, delete as deleteCall};
+ghost use Rattle.gpt_model.specs.Sizes.{shapeOf, stepBy, formatBy};
+ghost use Rattle.gpt_model.specs.Calls.{read as readCall, freeCounts, repair as repairCall, edit, delete as deleteCall};
 ghost use Rattle.gpt_model.specs.Calls.{resize as resizeCall, rename as renameCall, add as addCall, newPartition};
-ghost use Rattle.gpt.specs.Answers.{doneOf, readingOf, countedOf, addedOf};
-ghost use Rattle.c_disk.specs.Effects.{resultOf, valuesOf, gptEffect, tablePlace, withTablePlace};
+ghost use Rattle.gpt_places.specs.Shapes.{Legal};
+ghost use Rattle.gpt_calls.specs.Answers.{doneOf, readingOf, countedOf, addedOf};
+ghost use Rattle.c_disk.specs.Effects.{resultOf, valuesOf, gptEffect, tablePlace, tablePlaceBy, lengthNumber};
 
 fn done(a: Done) -> u32
     ensures { λ r. ⌜ r ≡ resultOf (doneOf a) ⌝ }
@@ -77,24 +81,26 @@ fn added(a: Added, slot: &mut u64, first: &mut u64) -> u32
     }
 }
 
-fn place(a: Reading, in_tail: &mut u64, offset: &mut u64) -> u32
-    ensures { λ r. ⌜ (r ≡ resultOf (tablePlace (readingOf a)))
-        × ((now (in_tail .exit) ∷ now (offset .exit) ∷ []) ≡ valuesOf (now (in_tail .entry) ∷ now (offset .entry) ∷ []) (tablePlace (readingOf a))) ⌝ }
+fn place(a: Reading, shape: Shape, in_tail: &mut u64, offset: &mut u64) -> u32
+    requires { ⌜ Legal shape ⌝ }
+    ensures { λ r. ⌜ (r ≡ resultOf (tablePlace shape (readingOf a)))
+        × ((now (in_tail .exit) ∷ now (offset .exit) ∷ []) ≡ valuesOf (now (in_tail .entry) ∷ now (offset .entry) ∷ []) (tablePlace shape (readingOf a))) ⌝ }
 {
+    let at = gpt_places::entries_at(Side::Primary, shape) as u64;
     match a {
         Reading::Same => {
             *in_tail = 0;
-            *offset = 1024;
+            *offset = at;
             0
         }
         Reading::Different => {
             *in_tail = 0;
-            *offset = 1024;
+            *offset = at;
             0
         }
         Reading::PrimaryOnly => {
             *in_tail = 0;
-            *offset = 1024;
+            *offset = at;
             0
         }
         Reading::BackupOnly => {
@@ -134,31 +140,53 @@ fn name_of(s: &[u16]) -> [u16; 36]
     a
 }
 
+// Where a GUID or a name has a wrong length: 6 for another block size, else 1.
+fn wrong_length(block: u64) -> u32
+    ensures { λ r. ⌜ r ≡ lengthNumber (shapeOf block) ⌝ }
+{
+    match gpt_places::shape_of(block) {
+        Sized::Of(_) => 1,
+        Sized::Other => 6,
+    }
+}
+
 #[no_mangle]
-pub extern "C" fn usi_gpt_format(head: &mut [u8], tail: &mut [u8], n: u64, guid: &[u8]) -> u32
+pub extern "C" fn usi_gpt_format(
+    head: &mut [u8],
+    tail: &mut [u8],
+    n: u64,
+    block: u64,
+    guid: &[u8],
+) -> u32
     ensures { λ r. ⌜ record { result = r; head = now (head .exit); tail = now (tail .exit); values = [] }
-        ≡ gptEffect [] (formatOn disk512 n (now (guid .entry)) (now (head .entry)) (now (tail .entry))) ⌝ }
+        ≡ gptEffect [] (formatBy block n (now (guid .entry)) (now (head .entry)) (now (tail .entry))) ⌝ }
 {
     if guid.len() != 16 {
-        return 1;
+        return wrong_length(block);
     }
-    done(gpt::format(head, tail, n, guid_of(guid)))
+    done(gpt::format(head, tail, n, block, guid_of(guid)))
 }
 
 #[no_mangle]
-pub extern "C" fn usi_gpt_read(head: &[u8], tail: &[u8], n: u64, state: &mut u64) -> u32
+pub extern "C" fn usi_gpt_read(head: &[u8], tail: &[u8], n: u64, block: u64, state: &mut u64) -> u32
     ensures { λ r. ⌜ record { result = r; head = now (head .entry); tail = now (tail .entry); values = now (state .exit) ∷ [] }
-        ≡ gptEffect (now (state .entry) ∷ []) (step disk512 n (now (head .entry)) (now (tail .entry)) readCall) ⌝ }
+        ≡ gptEffect (now (state .entry) ∷ []) (stepBy block n (now (head .entry)) (now (tail .entry)) readCall) ⌝ }
 {
-    reading(gpt::read(head, tail, n), state)
+    reading(gpt::read(head, tail, n, block), state)
 }
 
 #[no_mangle]
-pub extern "C" fn usi_gpt_delete(head: &mut [u8], tail: &mut [u8], n: u64, slot: u64) -> u32
+pub extern "C" fn usi_gpt_delete(
+    head: &mut [u8],
+    tail: &mut [u8],
+    n: u64,
+    block: u64,
+    slot: u64,
+) -> u32
     ensures { λ r. ⌜ record { result = r; head = now (head .exit); tail = now (tail .exit); values = [] }
-        ≡ gptEffect [] (step disk512 n (now (head .entry)) (now (tail .entry)) (edit (deleteCall slot))) ⌝ }
+        ≡ gptEffect [] (stepBy block n (now (head .entry)) (now (tail .entry)) (edit (deleteCall slot))) ⌝ }
 {
-    done(gpt::delete(head, tail, n, slot))
+    done(gpt::delete(head, tail, n, block, slot))
 }
 
 #[no_mangle]
@@ -166,13 +194,14 @@ pub extern "C" fn usi_gpt_resize(
     head: &mut [u8],
     tail: &mut [u8],
     n: u64,
+    block: u64,
     slot: u64,
     size: u64,
 ) -> u32
     ensures { λ r. ⌜ record { result = r; head = now (head .exit); tail = now (tail .exit); values = [] }
-        ≡ gptEffect [] (step disk512 n (now (head .entry)) (now (tail .entry)) (edit (resizeCall slot size))) ⌝ }
+        ≡ gptEffect [] (stepBy block n (now (head .entry)) (now (tail .entry)) (edit (resizeCall slot size))) ⌝ }
 {
-    done(gpt::resize(head, tail, n, slot, size))
+    done(gpt::resize(head, tail, n, block, slot, size))
 }
 
 #[no_mangle]
@@ -180,21 +209,28 @@ pub extern "C" fn usi_gpt_free(
     head: &[u8],
     tail: &[u8],
     n: u64,
+    block: u64,
     free: &mut u64,
     longest: &mut u64,
 ) -> u32
     ensures { λ r. ⌜ record { result = r; head = now (head .entry); tail = now (tail .entry); values = now (free .exit) ∷ now (longest .exit) ∷ [] }
-        ≡ gptEffect (now (free .entry) ∷ now (longest .entry) ∷ []) (step disk512 n (now (head .entry)) (now (tail .entry)) freeCounts) ⌝ }
+        ≡ gptEffect (now (free .entry) ∷ now (longest .entry) ∷ []) (stepBy block n (now (head .entry)) (now (tail .entry)) freeCounts) ⌝ }
 {
-    counted(gpt::free_counts(head, tail, n), free, longest)
+    counted(gpt::free_counts(head, tail, n, block), free, longest)
 }
 
 #[no_mangle]
-pub extern "C" fn usi_gpt_repair(head: &mut [u8], tail: &mut [u8], n: u64, state: &mut u64) -> u32
+pub extern "C" fn usi_gpt_repair(
+    head: &mut [u8],
+    tail: &mut [u8],
+    n: u64,
+    block: u64,
+    state: &mut u64,
+) -> u32
     ensures { λ r. ⌜ record { result = r; head = now (head .exit); tail = now (tail .exit); values = now (state .exit) ∷ [] }
-        ≡ gptEffect (now (state .entry) ∷ []) (step disk512 n (now (head .entry)) (now (tail .entry)) repairCall) ⌝ }
+        ≡ gptEffect (now (state .entry) ∷ []) (stepBy block n (now (head .entry)) (now (tail .entry)) repairCall) ⌝ }
 {
-    reading(gpt::repair(head, tail, n), state)
+    reading(gpt::repair(head, tail, n, block), state)
 }
 
 #[no_mangle]
@@ -202,16 +238,17 @@ pub extern "C" fn usi_gpt_rename(
     head: &mut [u8],
     tail: &mut [u8],
     n: u64,
+    block: u64,
     slot: u64,
     name: &[u16],
 ) -> u32
     ensures { λ r. ⌜ record { result = r; head = now (head .exit); tail = now (tail .exit); values = [] }
-        ≡ gptEffect [] (step disk512 n (now (head .entry)) (now (tail .entry)) (edit (renameCall slot (now (name .entry))))) ⌝ }
+        ≡ gptEffect [] (stepBy block n (now (head .entry)) (now (tail .entry)) (edit (renameCall slot (now (name .entry))))) ⌝ }
 {
     if name.len() != 36 {
-        return 1;
+        return wrong_length(block);
     }
-    done(gpt::rename(head, tail, n, slot, name_of(name)))
+    done(gpt::rename(head, tail, n, block, slot, name_of(name)))
 }
 
 #[no_mangle]
@@ -219,6 +256,7 @@ pub extern "C" fn usi_gpt_add(
     head: &mut [u8],
     tail: &mut [u8],
     n: u64,
+    block: u64,
     kind: &[u8],
     unique: &[u8],
     size: u64,
@@ -229,17 +267,17 @@ pub extern "C" fn usi_gpt_add(
 ) -> u32
     ensures { λ r. ⌜ record { result = r; head = now (head .exit); tail = now (tail .exit); values = now (slot .exit) ∷ now (first .exit) ∷ [] }
         ≡ gptEffect (now (slot .entry) ∷ now (first .entry) ∷ [])
-        (step disk512 n (now (head .entry)) (now (tail .entry))
+        (stepBy block n (now (head .entry)) (now (tail .entry))
         (edit (addCall (newPartition (now (kind .entry)) (now (unique .entry)) size attributes (now (name .entry)))))) ⌝ }
 {
     if kind.len() != 16 {
-        return 1;
+        return wrong_length(block);
     }
     if unique.len() != 16 {
-        return 1;
+        return wrong_length(block);
     }
     if name.len() != 36 {
-        return 1;
+        return wrong_length(block);
     }
     let p = NewPartition {
         kind: guid_of(kind),
@@ -248,7 +286,7 @@ pub extern "C" fn usi_gpt_add(
         attributes,
         name: name_of(name),
     };
-    added(gpt::add(head, tail, n, p), slot, first)
+    added(gpt::add(head, tail, n, block, p), slot, first)
 }
 
 #[no_mangle]
@@ -256,11 +294,15 @@ pub extern "C" fn usi_gpt_table(
     head: &[u8],
     tail: &[u8],
     n: u64,
+    block: u64,
     in_tail: &mut u64,
     offset: &mut u64,
 ) -> u32
     ensures { λ r. ⌜ record { result = r; head = now (head .entry); tail = now (tail .entry); values = now (in_tail .exit) ∷ now (offset .exit) ∷ [] }
-        ≡ gptEffect (now (in_tail .entry) ∷ now (offset .entry) ∷ []) (withTablePlace (step disk512 n (now (head .entry)) (now (tail .entry)) readCall)) ⌝ }
+        ≡ gptEffect (now (in_tail .entry) ∷ now (offset .entry) ∷ []) (tablePlaceBy block n (now (head .entry)) (now (tail .entry))) ⌝ }
 {
-    place(gpt::read(head, tail, n), in_tail, offset)
+    match gpt_places::shape_of(block) {
+        Sized::Of(shape) => place(gpt::read(head, tail, n, block), shape, in_tail, offset),
+        Sized::Other => 6,
+    }
 }

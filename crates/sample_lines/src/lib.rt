@@ -1,12 +1,15 @@
 // The lines of the disk samples, as the program `samples` describes them.
 // An inner crate: no user calls it.
-use gpt::Added;
-use gpt::Counted;
-use gpt::Done;
-use gpt::Reading;
+use gpt_calls::Added;
+use gpt_calls::Counted;
+use gpt_calls::Done;
+use gpt_calls::Reading;
 use gpt_checks::Refusal;
 ghost use mathlib.Core.Path.{_≡_};
 ghost use lib.ListN.{length};
+
+// The samples are on disks of 512-byte blocks.
+pub const BLOCK: u64 = 512;
 
 pub fn begin(n: u64, call: &[u8]) {
     print_out::bytes(b"disk ");
@@ -68,9 +71,9 @@ fn free(answer: Counted) {
 // State, free counts, what was granted and given back since formatting, and bytes.
 pub fn close(head: &[u8], tail: &[u8], n: u64, granted: u64, back: u64) {
     begin(n, b"state");
-    state(gpt::read(head, tail, n));
+    state(gpt::read(head, tail, n, BLOCK));
     begin(n, b"free");
-    free(gpt::free_counts(head, tail, n));
+    free(gpt::free_counts(head, tail, n, BLOCK));
     begin(n, b"granted");
     named(b" ", granted);
     named(b" back ", back);

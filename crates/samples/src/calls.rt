@@ -1,8 +1,9 @@
 // The disk calls of the samples: each prints its line and tells what it changed.
 use crate::ledger::SumChange;
-use gpt::Added;
-use gpt::Done;
+use gpt_calls::Added;
+use gpt_calls::Done;
 use gpt_model::NewPartition;
+use sample_lines::BLOCK;
 
 pub fn format(head: &mut [u8], tail: &mut [u8], n: u64) -> SumChange {
     sample_lines::begin(n, b"format");
@@ -10,6 +11,7 @@ pub fn format(head: &mut [u8], tail: &mut [u8], n: u64) -> SumChange {
         head,
         tail,
         n,
+        BLOCK,
         *b"\x00\x01\x02\x03\x04\x05\x06\x07\x08\x09\x0a\x0b\x0c\x0d\x0e\x0f",
     ));
     SumChange::Nothing
@@ -38,7 +40,7 @@ pub fn add(head: &mut [u8], tail: &mut [u8], n: u64, k: u8, size: u64) -> SumCha
         attributes: 0,
         name: name(64 + k as u16),
     };
-    let answer = gpt::add(head, tail, n, p);
+    let answer = gpt::add(head, tail, n, BLOCK, p);
     sample_lines::added(answer);
     match answer {
         Added::At { slot, .. } => SumChange::Size { slot, size },
@@ -58,7 +60,7 @@ fn done(answer: Done, slot: u64, size: u64) -> SumChange {
 pub fn delete(head: &mut [u8], tail: &mut [u8], n: u64, slot: u64) -> SumChange {
     sample_lines::begin(n, b"delete ");
     print_out::decimal(slot);
-    done(gpt::delete(head, tail, n, slot), slot, 0)
+    done(gpt::delete(head, tail, n, BLOCK, slot), slot, 0)
 }
 
 pub fn resize(head: &mut [u8], tail: &mut [u8], n: u64, slot: u64, size: u64) -> SumChange {
@@ -66,5 +68,5 @@ pub fn resize(head: &mut [u8], tail: &mut [u8], n: u64, slot: u64, size: u64) ->
     print_out::decimal(slot);
     print_out::bytes(b" ");
     print_out::decimal(size);
-    done(gpt::resize(head, tail, n, slot, size), slot, size)
+    done(gpt::resize(head, tail, n, BLOCK, slot, size), slot, size)
 }

@@ -57,14 +57,14 @@ module _ (g : Shape) (wide : 92 ≤ g .block) (n : ℕ) (range : inRange g n ≡
       go (some k) e = rw e (ap (λ (o : Outcome). o .answer) (step-refused g n (r .head) (r .tail) (edit d) k (rows ∙ e)))
 
   answers-table : (ds : List Edit) (r : Snapshot) (es : List ℕ) → Kept g n r → tableOf g n (r .head) (r .tail) ≡ es → all lengthsOf ds ≡ true
-      → answers g n (map edit ds) r ≡ answersT (g .first) (lastUsable g n) es ds
+      → answers (step g n) (map edit ds) r ≡ answersT (g .first) (lastUsable g n) es ds
   answers-table [] r es v q l = refl
   answers-table (d ∷ ds) r es v q l =
       let w = keeps g wide n r v (edit d) in
       let a : step g n (r .head) (r .tail) (edit d) .answer ≡ answerT (g .first) (lastUsable g n) es d =
       answer-table r d v (and-l _ _ l) ∙ ap (λ (x : List ℕ). answerT (g .first) (lastUsable g n) x d) q in
       ap₂ _∷_ a
-      (answers-table ds (afterOne g n (edit d) r) (tableNext (g .first) (lastUsable g n) es (edit d) (answerT (g .first) (lastUsable g n) es d)) (w .0)
+      (answers-table ds (afterOne (step g n) (edit d) r) (tableNext (g .first) (lastUsable g n) es (edit d) (answerT (g .first) (lastUsable g n) es d)) (w .0)
       (w .1 ∙ ap₂ (λ (x : List ℕ) (y : Answer). tableNext (g .first) (lastUsable g n) x (edit d) y) q a) (and-r _ _ l))
 
 -- the ledger after a list, from calls and replies alone
@@ -73,9 +73,9 @@ bookAll l [] replies = l
 bookAll l (c ∷ cs) [] = l
 bookAll l (c ∷ cs) (a ∷ replies) = bookAll (book l c a) cs replies
 
-ledger-run : (g : Shape) (n : ℕ) (cs : List Call) (r : Snapshot) → afterAll g n cs r .ledger ≡ bookAll (r .ledger) cs (answers g n cs r)
+ledger-run : (g : Shape) (n : ℕ) (cs : List Call) (r : Snapshot) → afterAll (step g n) cs r .ledger ≡ bookAll (r .ledger) cs (answers (step g n) cs r)
 ledger-run g n [] r = refl
-ledger-run g n (c ∷ cs) r = ledger-run g n cs (afterOne g n c r)
+ledger-run g n (c ∷ cs) r = ledger-run g n cs (afterOne (step g n) c r)
 
 -- ---- a list of edits on a freshly formatted disk of 512-byte blocks, by the answers on the table alone
 

@@ -28,7 +28,7 @@ use Rattle.fmd_table.specs.declared.Section.{Section}
 abbrev pub After : ℕ → List Edit → (List Answer → Snapshot → Type 0) → Type 0
 After n ds P =
     (guid h t : List ℕ) → Formats disk512 n guid h t
-    → let r = startAfter (format disk512 n guid h t) in P (answers disk512 n (map edit ds) r) (afterAll disk512 n (map edit ds) r)
+    → let r = startAfter (format disk512 n guid h t) in P (answers (step disk512 n) (map edit ds) r) (afterAll (step disk512 n) (map edit ds) r)
 
 -- add, with some type, unique GUID and name
 abbrev pub adding : ℕ → ℕ → Edit

@@ -1,5 +1,5 @@
 use Rattle.c_disk.proofs.Effects.{gpt-refused}
-use Rattle.gpt.specs.Answers.{addedOf}
+use Rattle.gpt_calls.specs.Answers.{addedOf}
 use mathlib.Core.Path.{ap}
 use borrow.Author.Needs.{needs}
 use Rattle.c_disk.proofs.added.Statement.{statement}

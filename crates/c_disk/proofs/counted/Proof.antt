@@ -1,5 +1,5 @@
 use Rattle.c_disk.proofs.Effects.{gpt-refused}
-use Rattle.gpt.specs.Answers.{countedOf}
+use Rattle.gpt_calls.specs.Answers.{countedOf}
 use mathlib.Core.Path.{ap}
 use borrow.Author.Needs.{needs}
 use Rattle.c_disk.proofs.counted.Statement.{statement}

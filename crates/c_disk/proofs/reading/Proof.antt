@@ -1,5 +1,5 @@
 use Rattle.c_disk.proofs.Effects.{gpt-refused, gpt-accepted}
-use Rattle.gpt.specs.Answers.{readingOf}
+use Rattle.gpt_calls.specs.Answers.{readingOf}
 use mathlib.Core.Path.{ap}
 use borrow.Author.Needs.{needs}
 use Rattle.c_disk.proofs.reading.Statement.{statement}

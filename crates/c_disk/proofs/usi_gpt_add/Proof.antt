@@ -4,14 +4,23 @@ use borrow.Author.Needs.{needs}
 use Rattle.c_disk.proofs.usi_gpt_add.Statement.{statement}
 use Rattle.c_disk.proofs.usi_gpt_add.Tie as tie
 
+wrong-length-requires : tie.Need-wrong-length-requires
+wrong-length-requires c κs = search needs
+
 returns : tie.Need-returns
-returns c = kind-wrong _ _ _ _ _ (c .if1 .taken)
+returns c = kind-wrong _ _ _ _ _ (c .wrong-length .ensures) _ _ (c .before .if1 .taken)
+
+wrong-length-requires-2 : tie.Need-wrong-length-requires-2
+wrong-length-requires-2 c κs = search needs
 
 returns-2 : tie.Need-returns-2
-returns-2 c = unique-wrong _ _ _ _ _ (c .if2 .taken)
+returns-2 c = unique-wrong _ _ _ _ _ (c .wrong-length2 .ensures) _ _ (c .before .if2 .taken)
+
+wrong-length-requires-3 : tie.Need-wrong-length-requires-3
+wrong-length-requires-3 c κs = search needs
 
 returns-3 : tie.Need-returns-3
-returns-3 c = name-wrong _ _ _ _ _ (c .if3 .taken)
+returns-3 c = name-wrong _ _ _ _ _ (c .wrong-length3 .ensures) _ _ (c .before .if3 .taken)
 
 guid-of-requires : tie.Need-guid-of-requires
 guid-of-requires c κs = search needs
@@ -40,15 +49,18 @@ returns-4 c =
     let c8 = c4 .before .before .before .before in
     let c12 = c8 .before .before .before .before in
     gpt-tells _ _ _ _ _ _ _
-    (add-on _ _ _ _ _ (rw (c12 .guid-of .ensures, c8 .before .before .before .guid-of2 .ensures, c8 .before .before .name-of .ensures)) (c4 .before .before .before .add .ensures))
+    (add-on _ _ _ _ _ _ (rw (c12 .guid-of .ensures, c8 .before .before .before .guid-of2 .ensures, c8 .before .before .name-of .ensures)) (c4 .before .before .before .add .ensures))
     (c .added .ensures .0) (c .added .ensures .1)
 
 pub usi-gpt-add-spec : {M : Type 1} → statement M
 usi-gpt-add-spec =
     tie.close
     (tie.spec
+    wrong-length-requires
     returns
+    wrong-length-requires-2
     returns-2
+    wrong-length-requires-3
     returns-3
     guid-of-requires
     guid-of-requires-2

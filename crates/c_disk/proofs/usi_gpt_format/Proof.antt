@@ -4,8 +4,11 @@ use borrow.Author.Needs.{needs}
 use Rattle.c_disk.proofs.usi_gpt_format.Statement.{statement}
 use Rattle.c_disk.proofs.usi_gpt_format.Tie as tie
 
+wrong-length-requires : tie.Need-wrong-length-requires
+wrong-length-requires c κs = search needs
+
 returns : tie.Need-returns
-returns c = format-wrong _ _ _ _ (c .if1 .taken)
+returns c = format-wrong _ _ _ _ _ (c .wrong-length .ensures) _ (c .before .if1 .taken)
 
 guid-of-requires : tie.Need-guid-of-requires
 guid-of-requires c κs = search needs
@@ -23,12 +26,13 @@ same-length-2 : tie.Need-same-length-2
 same-length-2 c = search needs
 
 returns-2 : tie.Need-returns-2
-returns-2 c = gpt-tells-done (c .before .before .before .before .before .format .result) _ _ _ _ (format-on _ _ _ _ _ (c .before .before .before .before .before .before .guid-of .ensures) (c .before .before .before .before .before .format .ensures)) (c .done .ensures)
+returns-2 c = gpt-tells-done (c .before .before .before .before .before .format .result) _ _ _ _ (format-on _ _ _ _ _ _ (c .before .before .before .before .before .before .guid-of .ensures) (c .before .before .before .before .before .format .ensures)) (c .done .ensures)
 
 pub usi-gpt-format-spec : {M : Type 1} → statement M
 usi-gpt-format-spec =
     tie.close
     (tie.spec
+    wrong-length-requires
     returns
     guid-of-requires
     format-requires
