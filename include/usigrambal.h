@@ -154,14 +154,18 @@ static inline const char *usi_rule_words(uint64_t rule)
 #define USI_GUID_LEN 16
 #define USI_GUID_TEXT_LEN 36
 
-/* A disk: blocks of 512 bytes; the head is blocks 0 to 33, the tail the last 33 blocks; usable are blocks 34 to n - 34. */
-#define USI_BLOCK_LEN 512
-#define USI_BLOCKS_MIN UINT64_C(68)
+/* A disk: n blocks of 512 or of 4096 bytes. The head is its first blocks, the tail its last ones;
+ * usable are blocks USI_FIRST_USABLE(block) to n - USI_BEHIND_LAST_USABLE(block).
+ * The macros over block are for 512 and 4096 alone; of a constant they are constants, which an array may have as its length.
+ * An array of USI_HEAD_LEN_MAX bytes holds the head of either block size, one of USI_TAIL_LEN_MAX bytes the tail. */
+#define USI_BLOCKS_MIN(block) (2 * USI_FIRST_USABLE(block))
 #define USI_BLOCKS_MAX UINT64_C(4294967296)
-#define USI_HEAD_LEN 17408
-#define USI_TAIL_LEN 16896
-#define USI_FIRST_USABLE 34
-#define USI_BEHIND_LAST_USABLE 34
+#define USI_HEAD_LEN(block) (2 * (block) + USI_ENTRIES_LEN)
+#define USI_TAIL_LEN(block) ((block) + USI_ENTRIES_LEN)
+#define USI_HEAD_LEN_MAX USI_HEAD_LEN(4096)
+#define USI_TAIL_LEN_MAX USI_TAIL_LEN(4096)
+#define USI_FIRST_USABLE(block) (UINT64_C(2) + USI_ENTRIES_LEN / (block))
+#define USI_BEHIND_LAST_USABLE(block) USI_FIRST_USABLE(block)
 
 /* A table: 128 entries, one a slot; an entry whose bytes are all zero is unused. Numbers are little-endian. */
 #define USI_ENTRIES_LEN 16384
@@ -179,7 +183,7 @@ static inline const char *usi_rule_words(uint64_t rule)
 #define USI_NAME_UNITS 36
 
 /* Where the disk GUID of the copy in use stands: in the head or in the tail, as usi_gpt_table says. */
-#define USI_DISK_GUID_IN_HEAD 568
+#define USI_DISK_GUID_IN_HEAD(block) ((block) + 56)
 #define USI_DISK_GUID_IN_TAIL 16440
 
 /* The states of the two copies. */
@@ -263,7 +267,8 @@ uint32_t usi_fmap_carry(const uint8_t *old, size_t old_len, uint8_t *image, size
  * A GUID is 16 stored bytes, a name 36 UTF-16 units (name_units counts units, not bytes), a slot a number from 1 to 128.
  *
  * Refusals of every call, before its own: 6 block is neither 512 nor 4096; 1 a buffer has a wrong length; 2 n is outside its range.
- * All calls but usi_gpt_format then: 10 neither copy is good. The four edits (add, delete, resize, rename) then: 11 the two copies are not both good and the same.
+ * All calls but usi_gpt_format then: 10 neither copy is good.
+ * The four edits (add, delete, resize, rename) then: 11 the two copies are not both good and the same.
  *
  * On a refusal head, tail and the numbers behind the pointers for answers are as they were.
  * Pointers for answers must be valid and differ, and point into no buffer. */
