@@ -79,7 +79,9 @@ impl Disk {
 
     /// The disk in a file of its own, zero between head and tail.
     pub fn image(&self) -> Scratch {
-        self.stored().image()
+        let file = Scratch::new();
+        self.write_to(&file.path);
+        file
     }
 
     pub fn write_to(&self, path: &Path) {
