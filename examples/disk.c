@@ -1,4 +1,5 @@
-/* Formats a disk in memory, adds a partition, and is refused a second one that has no room; prints each answer. */
+/* Formats a disk in memory, adds a partition, and is refused a second one that has no room: with blocks of 512 bytes, and with blocks of 4096.
+ * Then it names a block size that is refused. Prints each answer. */
 #include "usigrambal.h"
 
 #include <inttypes.h>
@@ -6,23 +7,39 @@
 
 #define N 1000000
 
-static uint8_t head[USI_HEAD_LEN], tail[USI_TAIL_LEN]; /* blocks 0 to 33, and the last 33 blocks */
+static uint8_t head[USI_HEAD_LEN_MAX], tail[USI_TAIL_LEN_MAX]; /* the first and the last blocks, of either size */
+static uint64_t block;
 
-static uint32_t add(const uint8_t *kind, const uint8_t *unique, uint64_t size, uint64_t *slot, uint64_t *first) {
+static uint32_t format(void) {
+    static const uint8_t disk[USI_GUID_LEN] = {1};
+    return usi_gpt_format(head, USI_HEAD_LEN(block), tail, USI_TAIL_LEN(block), N, block, disk, sizeof disk);
+}
+
+static uint32_t add(const uint8_t *unique, uint64_t size, uint64_t *slot, uint64_t *first) {
     static const uint16_t name[USI_NAME_UNITS] = {'d', 'a', 't', 'a'};
-    return usi_gpt_add(head, sizeof head, tail, sizeof tail, N, kind, USI_GUID_LEN, unique, USI_GUID_LEN, size, 0, name, USI_NAME_UNITS, slot, first);
+    uint8_t kind[USI_GUID_LEN];
+    usi_type_read((const uint8_t *)"linux", 5, kind, sizeof kind);
+    return usi_gpt_add(head, USI_HEAD_LEN(block), tail, USI_TAIL_LEN(block), N, block, kind, sizeof kind, unique, USI_GUID_LEN, size, 0,
+                       name, USI_NAME_UNITS, slot, first);
+}
+
+static void fill(void) {
+    static const uint8_t one[USI_GUID_LEN] = {2}, two[USI_GUID_LEN] = {3};
+    uint64_t slot = 0, first = 0, free_blocks = 0, longest = 0;
+    printf("format %" PRIu32 "\n", format());
+    printf("add %" PRIu32, add(one, 2048, &slot, &first));
+    printf(" slot %" PRIu64 " first %" PRIu64 "\n", slot, first);
+    printf("add %" PRIu32 "\n", add(two, N, &slot, &first));
+    printf("free %" PRIu32, usi_gpt_free(head, USI_HEAD_LEN(block), tail, USI_TAIL_LEN(block), N, block, &free_blocks, &longest));
+    printf(" %" PRIu64 " %" PRIu64 "\n", free_blocks, longest);
 }
 
 int main(void) {
-    const uint8_t disk[USI_GUID_LEN] = {1}, one[USI_GUID_LEN] = {2}, two[USI_GUID_LEN] = {3};
-    uint8_t kind[USI_GUID_LEN];
-    uint64_t slot = 0, first = 0, free_blocks = 0, longest = 0;
-    printf("type %" PRIu32 "\n", usi_type_read((const uint8_t *)"linux", 5, kind, sizeof kind));
-    printf("format %" PRIu32 "\n", usi_gpt_format(head, sizeof head, tail, sizeof tail, N, disk, sizeof disk));
-    printf("add %" PRIu32, add(kind, one, 2048, &slot, &first));
-    printf(" slot %" PRIu64 " first %" PRIu64 "\n", slot, first);
-    printf("add %" PRIu32 "\n", add(kind, two, N, &slot, &first));
-    printf("free %" PRIu32, usi_gpt_free(head, sizeof head, tail, sizeof tail, N, &free_blocks, &longest));
-    printf(" %" PRIu64 " %" PRIu64 "\n", free_blocks, longest);
+    block = 512;
+    fill();
+    block = 4096;
+    fill();
+    block = 1024;
+    printf("format %" PRIu32 "\n", format());
     return 0;
 }

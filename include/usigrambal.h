@@ -32,6 +32,7 @@ enum usi_answer {
     USI_WRONG_LENGTH = 1,
     USI_BLOCK_COUNT = 2,
     USI_NO_DISK_GUID = 3,
+    USI_BLOCK_SIZE = 6,
     USI_NEITHER_GOOD = 10,
     USI_NOT_THE_SAME = 11,
     USI_NO_SUCH_SLOT = 12,
@@ -71,6 +72,7 @@ static inline const char *usi_words(uint32_t number)
     case USI_WRONG_LENGTH: return "a lent buffer has a wrong length";
     case USI_BLOCK_COUNT: return "the number of blocks is outside its range";
     case USI_NO_DISK_GUID: return "the disk GUID is all zero";
+    case USI_BLOCK_SIZE: return "the block size is neither 512 nor 4096";
     case USI_NEITHER_GOOD: return "neither GPT copy is good";
     case USI_NOT_THE_SAME: return "the GPT copies are not both good and the same";
     case USI_NO_SUCH_SLOT: return "the partition number is not 1 to 128";
@@ -152,14 +154,18 @@ static inline const char *usi_rule_words(uint64_t rule)
 #define USI_GUID_LEN 16
 #define USI_GUID_TEXT_LEN 36
 
-/* A disk: blocks of 512 bytes; the head is blocks 0 to 33, the tail the last 33 blocks; usable are blocks 34 to n - 34. */
-#define USI_BLOCK_LEN 512
-#define USI_BLOCKS_MIN UINT64_C(68)
+/* A disk: n blocks of 512 or of 4096 bytes. The head is its first blocks, the tail its last ones;
+ * usable are blocks USI_FIRST_USABLE(block) to n - USI_BEHIND_LAST_USABLE(block).
+ * The macros over block are for 512 and 4096 alone; of a constant they are constants, which an array may have as its length.
+ * An array of USI_HEAD_LEN_MAX bytes holds the head of either block size, one of USI_TAIL_LEN_MAX bytes the tail. */
+#define USI_BLOCKS_MIN(block) (2 * USI_FIRST_USABLE(block))
 #define USI_BLOCKS_MAX UINT64_C(4294967296)
-#define USI_HEAD_LEN 17408
-#define USI_TAIL_LEN 16896
-#define USI_FIRST_USABLE 34
-#define USI_BEHIND_LAST_USABLE 34
+#define USI_HEAD_LEN(block) (2 * (block) + USI_ENTRIES_LEN)
+#define USI_TAIL_LEN(block) ((block) + USI_ENTRIES_LEN)
+#define USI_HEAD_LEN_MAX USI_HEAD_LEN(4096)
+#define USI_TAIL_LEN_MAX USI_TAIL_LEN(4096)
+#define USI_FIRST_USABLE(block) (UINT64_C(2) + USI_ENTRIES_LEN / (block))
+#define USI_BEHIND_LAST_USABLE(block) USI_FIRST_USABLE(block)
 
 /* A table: 128 entries, one a slot; an entry whose bytes are all zero is unused. Numbers are little-endian. */
 #define USI_ENTRIES_LEN 16384
@@ -177,7 +183,7 @@ static inline const char *usi_rule_words(uint64_t rule)
 #define USI_NAME_UNITS 36
 
 /* Where the disk GUID of the copy in use stands: in the head or in the tail, as usi_gpt_table says. */
-#define USI_DISK_GUID_IN_HEAD 568
+#define USI_DISK_GUID_IN_HEAD(block) ((block) + 56)
 #define USI_DISK_GUID_IN_TAIL 16440
 
 /* The states of the two copies. */
@@ -255,49 +261,55 @@ uint32_t usi_fmap_named(const uint8_t *image, size_t image_len, const uint8_t *n
  * 62 areas to be carried share a byte in either map; 63 one shares a byte with area FMAP of the new map. */
 uint32_t usi_fmap_carry(const uint8_t *old, size_t old_len, uint8_t *image, size_t image_len);
 
-/* The GPT of a disk of n blocks of 512 bytes. The caller lends the head (blocks 0 to 33, 17,408 bytes) and the tail (the last 33 blocks, 16,896 bytes).
+/* The GPT of a disk of n blocks, each of block bytes. The caller lends the head and the tail:
+ * block 512: blocks 0 to 33 (17,408 bytes) and the last 33 blocks (16,896 bytes); n is 68 to 4,294,967,296, and blocks 34 to n - 34 are usable;
+ * block 4096: blocks 0 to 5 (24,576 bytes) and the last 5 blocks (20,480 bytes); n is 12 to 4,294,967,296, and blocks 6 to n - 6 are usable.
  * A GUID is 16 stored bytes, a name 36 UTF-16 units (name_units counts units, not bytes), a slot a number from 1 to 128.
  *
- * Refusals of every call, before its own: 1 a buffer has a wrong length; 2 n is not 68 to 4,294,967,296. All calls but usi_gpt_format then:
- * 10 neither copy is good. The four edits (add, delete, resize, rename) then: 11 the two copies are not both good and the same.
+ * Refusals of every call, before its own: 6 block is neither 512 nor 4096; 1 a buffer has a wrong length; 2 n is outside its range.
+ * All calls but usi_gpt_format then: 10 neither copy is good.
+ * The four edits (add, delete, resize, rename) then: 11 the two copies are not both good and the same.
  *
  * On a refusal head, tail and the numbers behind the pointers for answers are as they were.
  * Pointers for answers must be valid and differ, and point into no buffer. */
 
-/* Writes both copies with no entries, and block 0. Refusals in order: 1, 2; 3 the disk GUID is all zero. */
-uint32_t usi_gpt_format(uint8_t *head, size_t head_len, uint8_t *tail, size_t tail_len, uint64_t n, const uint8_t *guid, size_t guid_len);
+/* Writes both copies with no entries, and block 0. Refusals in order: 6, 1, 2; 3 the disk GUID is all zero. */
+uint32_t usi_gpt_format(uint8_t *head, size_t head_len, uint8_t *tail, size_t tail_len, uint64_t n, uint64_t block, const uint8_t *guid, size_t guid_len);
 
 /* The state of the two copies: 1 both good with equal disk GUID and entries, 2 both good but different (the primary is used),
- * 3 the primary only, 4 the backup only. Refusals in order: 1, 2, 10. */
-uint32_t usi_gpt_read(const uint8_t *head, size_t head_len, const uint8_t *tail, size_t tail_len, uint64_t n, uint64_t *state);
+ * 3 the primary only, 4 the backup only. Refusals in order: 6, 1, 2, 10. */
+uint32_t usi_gpt_read(const uint8_t *head, size_t head_len, const uint8_t *tail, size_t tail_len, uint64_t n, uint64_t block, uint64_t *state);
 
 /* Where the 16,384 entry bytes of the copy in use begin: *in_tail is 0 (in the head) or 1 (in the tail), *offset the byte in that buffer.
- * Refusals in order: 1, 2, 10. */
-uint32_t usi_gpt_table(const uint8_t *head, size_t head_len, const uint8_t *tail, size_t tail_len, uint64_t n, uint64_t *in_tail, uint64_t *offset);
+ * Refusals in order: 6, 1, 2, 10. */
+uint32_t usi_gpt_table(const uint8_t *head, size_t head_len, const uint8_t *tail, size_t tail_len, uint64_t n, uint64_t block, uint64_t *in_tail,
+                       uint64_t *offset);
 
-/* The number of usable blocks in no partition, and the length of the longest run of such blocks. Refusals in order: 1, 2, 10. */
-uint32_t usi_gpt_free(const uint8_t *head, size_t head_len, const uint8_t *tail, size_t tail_len, uint64_t n, uint64_t *free, uint64_t *longest);
+/* The number of usable blocks in no partition, and the length of the longest run of such blocks. Refusals in order: 6, 1, 2, 10. */
+uint32_t usi_gpt_free(const uint8_t *head, size_t head_len, const uint8_t *tail, size_t tail_len, uint64_t n, uint64_t block, uint64_t *free,
+                      uint64_t *longest);
 
 /* Adds a partition of size blocks in the lowest unused slot, at the lowest start with enough free blocks; answers slot and first block.
- * Refusals in order: 1, 2, 10, 11; 20 size is 0; 21 the type is all zero; 22 the unique GUID is all zero or already in a used slot;
+ * Refusals in order: 6, 1, 2, 10, 11; 20 size is 0; 21 the type is all zero; 22 the unique GUID is all zero or already in a used slot;
  * 23 the name has a unit other than zero after a zero one; 24 no unused slot; 25 no room. */
-uint32_t usi_gpt_add(uint8_t *head, size_t head_len, uint8_t *tail, size_t tail_len, uint64_t n, const uint8_t *kind, size_t kind_len,
+uint32_t usi_gpt_add(uint8_t *head, size_t head_len, uint8_t *tail, size_t tail_len, uint64_t n, uint64_t block, const uint8_t *kind, size_t kind_len,
                      const uint8_t *unique, size_t unique_len, uint64_t size, uint64_t attributes, const uint16_t *name, size_t name_units,
                      uint64_t *slot, uint64_t *first);
 
-/* Zeroes a slot. Refusals in order: 1, 2, 10, 11; 12 slot is not 1 to 128; 13 the slot is unused. */
-uint32_t usi_gpt_delete(uint8_t *head, size_t head_len, uint8_t *tail, size_t tail_len, uint64_t n, uint64_t slot);
+/* Zeroes a slot. Refusals in order: 6, 1, 2, 10, 11; 12 slot is not 1 to 128; 13 the slot is unused. */
+uint32_t usi_gpt_delete(uint8_t *head, size_t head_len, uint8_t *tail, size_t tail_len, uint64_t n, uint64_t block, uint64_t slot);
 
-/* Sets a partition's last block alone, to size blocks. Refusals in order: 1, 2, 10, 11, 12, 13; 20 size is 0;
- * 25 a block of the new range lies past n - 34 or in another partition. */
-uint32_t usi_gpt_resize(uint8_t *head, size_t head_len, uint8_t *tail, size_t tail_len, uint64_t n, uint64_t slot, uint64_t size);
+/* Sets a partition's last block alone, to size blocks. Refusals in order: 6, 1, 2, 10, 11, 12, 13; 20 size is 0;
+ * 25 a block of the new range lies past the last usable one or in another partition. */
+uint32_t usi_gpt_resize(uint8_t *head, size_t head_len, uint8_t *tail, size_t tail_len, uint64_t n, uint64_t block, uint64_t slot, uint64_t size);
 
-/* Sets a partition's name alone. Refusals in order: 1, 2, 10, 11, 12, 13; 23 the name has a unit other than zero after a zero one. */
-uint32_t usi_gpt_rename(uint8_t *head, size_t head_len, uint8_t *tail, size_t tail_len, uint64_t n, uint64_t slot, const uint16_t *name, size_t name_units);
+/* Sets a partition's name alone. Refusals in order: 6, 1, 2, 10, 11, 12, 13; 23 the name has a unit other than zero after a zero one. */
+uint32_t usi_gpt_rename(uint8_t *head, size_t head_len, uint8_t *tail, size_t tail_len, uint64_t n, uint64_t block, uint64_t slot,
+                        const uint16_t *name, size_t name_units);
 
 /* Writes the other copy from the good one (state 2: the backup from the primary; state 1: nothing), and answers the state found, as usi_gpt_read.
- * Refusals in order: 1, 2, 10. */
-uint32_t usi_gpt_repair(uint8_t *head, size_t head_len, uint8_t *tail, size_t tail_len, uint64_t n, uint64_t *state);
+ * Refusals in order: 6, 1, 2, 10. */
+uint32_t usi_gpt_repair(uint8_t *head, size_t head_len, uint8_t *tail, size_t tail_len, uint64_t n, uint64_t block, uint64_t *state);
 
 /* The layout language. A text of at most 32,768 bytes describes an image and its sections, at most 128 of them on at most 8 levels.
  *

@@ -2,13 +2,15 @@
 
 Standard library alone. Buffers go in as bytes (or bytearray), numbers as int. A call that changes a buffer answers the changed
 one as new bytes and leaves its argument alone. A refused call raises Refused, which has the number and its words.
+A disk is its head and its tail (the first and the last blocks), the number n of its blocks, and the bytes of a block, 512 or 4096.
 
 The library is looked for in this order: the file that the environment variable USIGRAMBAL_LIBRARY names; beside this module;
 ../../lib from it (as `make install` puts both) and ../target/sharedlib (as `make shared` writes it); the system's path.
 
     >>> import usigrambal
-    >>> head, tail = usigrambal.gpt_format(bytes(17408), bytes(16896), 1000000, bytes([1] * 16))
-    >>> usigrambal.gpt_free(head, tail, 1000000)
+    >>> head, tail = bytes(usigrambal.head_len(512)), bytes(usigrambal.tail_len(512))
+    >>> head, tail = usigrambal.gpt_format(head, tail, 1000000, 512, bytes([1] * 16))
+    >>> usigrambal.gpt_free(head, tail, 1000000, 512)
     (999933, 999933)
 """
 
@@ -18,8 +20,7 @@ import os
 
 __version__ = "0.1.0"
 
-HEAD_LEN = 17408
-TAIL_LEN = 16896
+BLOCK_SIZES = (512, 4096)
 ENTRIES_LEN = 16384
 ENTRY_LEN = 128
 GUID_LEN = 16
@@ -47,6 +48,7 @@ class Refusal(_Worded):
     WRONG_LENGTH = 1, "a lent buffer has a wrong length"
     BLOCK_COUNT = 2, "the number of blocks is outside its range"
     NO_DISK_GUID = 3, "the disk GUID is all zero"
+    BLOCK_SIZE = 6, "the block size is neither 512 nor 4096"
     NEITHER_GOOD = 10, "neither GPT copy is good"
     NOT_THE_SAME = 11, "the GPT copies are not both good and the same"
     NO_SUCH_SLOT = 12, "the partition number is not 1 to 128"
@@ -140,7 +142,7 @@ _KINDS = {
     "answer": (ctypes.POINTER(ctypes.c_uint64),),
 }
 
-_DISK = ("buffer", "buffer", "number")
+_DISK = ("buffer", "buffer", "number", "number")
 
 _CALLS = {
     "usi_crc32": ("buffer",),
@@ -274,72 +276,88 @@ def fmap_carry(old, new):
     return bytes(image)
 
 
-def gpt_format(head, tail, n, guid):
-    """Head and tail of a disk of n blocks with an empty table, and block 0. Refused: 1, 2, 3."""
-    return _edited("usi_gpt_format", head, tail, n, _copy(guid))
+def head_len(block):
+    """The bytes of a disk's head, its first blocks, where a block has so many bytes. Refused: 6."""
+    return 2 * _block_size(block) + ENTRIES_LEN
 
 
-def gpt_read(head, tail, n):
-    """The State of the two copies. Refused: 1, 2, 10."""
+def tail_len(block):
+    """The bytes of a disk's tail, its last blocks, where a block has so many bytes. Refused: 6."""
+    return _block_size(block) + ENTRIES_LEN
+
+
+def _block_size(block):
+    if block not in BLOCK_SIZES:
+        raise Refused(Refusal.BLOCK_SIZE.value)
+    return block
+
+
+def gpt_format(head, tail, n, block, guid):
+    """Head and tail of a disk of n blocks, each of `block` bytes, with an empty table, and block 0. Refused: 6, 1, 2, 3."""
+    return _edited("usi_gpt_format", head, tail, n, block, _copy(guid))
+
+
+def gpt_read(head, tail, n, block):
+    """The State of the two copies. Refused: 6, 1, 2, 10."""
     (state,) = _answers(1)
-    _accepted("usi_gpt_read", _copy(head), _copy(tail), n, state)
+    _accepted("usi_gpt_read", _copy(head), _copy(tail), n, block, state)
     return State(state.value)
 
 
-def gpt_table(head, tail, n):
-    """Whether the entries in use stand in the tail, and at which byte of it or of the head. Refused: 1, 2, 10."""
+def gpt_table(head, tail, n, block):
+    """Whether the entries in use stand in the tail, and at which byte of it or of the head. Refused: 6, 1, 2, 10."""
     in_tail, offset = _answers(2)
-    _accepted("usi_gpt_table", _copy(head), _copy(tail), n, in_tail, offset)
+    _accepted("usi_gpt_table", _copy(head), _copy(tail), n, block, in_tail, offset)
     return in_tail.value != 0, offset.value
 
 
-def gpt_entries(head, tail, n):
-    """The 16,384 entry bytes of the copy in use. Refused: 1, 2, 10."""
-    in_tail, offset = gpt_table(head, tail, n)
+def gpt_entries(head, tail, n, block):
+    """The 16,384 entry bytes of the copy in use. Refused: 6, 1, 2, 10."""
+    in_tail, offset = gpt_table(head, tail, n, block)
     return bytes(tail if in_tail else head)[offset : offset + ENTRIES_LEN]
 
 
-def gpt_free(head, tail, n):
-    """How many usable blocks are in no partition, and the longest run of them. Refused: 1, 2, 10."""
+def gpt_free(head, tail, n, block):
+    """How many usable blocks are in no partition, and the longest run of them. Refused: 6, 1, 2, 10."""
     free, longest = _answers(2)
-    _accepted("usi_gpt_free", _copy(head), _copy(tail), n, free, longest)
+    _accepted("usi_gpt_free", _copy(head), _copy(tail), n, block, free, longest)
     return free.value, longest.value
 
 
-def gpt_add(head, tail, n, kind, unique, size, attributes=0, name=""):
+def gpt_add(head, tail, n, block, kind, unique, size, attributes=0, name=""):
     """Head and tail with a new partition of `size` blocks, then its slot and its first block.
-    The name is a text or a list of 36 units. Refused: 1, 2, 10, 11, 20 to 25."""
+    The name is a text or a list of 36 units. Refused: 6, 1, 2, 10, 11, 20 to 25."""
     slot, first = _answers(2)
     more = (_copy(kind), _copy(unique), size, attributes, _name(name), slot, first)
-    head, tail = _edited("usi_gpt_add", head, tail, n, *more)
+    head, tail = _edited("usi_gpt_add", head, tail, n, block, *more)
     return head, tail, slot.value, first.value
 
 
-def gpt_delete(head, tail, n, slot):
-    """Head and tail without the partition in a slot. Refused: 1, 2, 10 to 13."""
-    return _edited("usi_gpt_delete", head, tail, n, slot)
+def gpt_delete(head, tail, n, block, slot):
+    """Head and tail without the partition in a slot. Refused: 6, 1, 2, 10 to 13."""
+    return _edited("usi_gpt_delete", head, tail, n, block, slot)
 
 
-def gpt_resize(head, tail, n, slot, size):
-    """Head and tail with another size of a partition. Refused: 1, 2, 10 to 13, 20, 25."""
-    return _edited("usi_gpt_resize", head, tail, n, slot, size)
+def gpt_resize(head, tail, n, block, slot, size):
+    """Head and tail with another size of a partition. Refused: 6, 1, 2, 10 to 13, 20, 25."""
+    return _edited("usi_gpt_resize", head, tail, n, block, slot, size)
 
 
-def gpt_rename(head, tail, n, slot, name):
-    """Head and tail with another name of a partition. Refused: 1, 2, 10 to 13, 23."""
-    return _edited("usi_gpt_rename", head, tail, n, slot, _name(name))
+def gpt_rename(head, tail, n, block, slot, name):
+    """Head and tail with another name of a partition. Refused: 6, 1, 2, 10 to 13, 23."""
+    return _edited("usi_gpt_rename", head, tail, n, block, slot, _name(name))
 
 
-def gpt_repair(head, tail, n):
-    """Head and tail with both copies good and the same, then the State that was found. Refused: 1, 2, 10."""
+def gpt_repair(head, tail, n, block):
+    """Head and tail with both copies good and the same, then the State that was found. Refused: 6, 1, 2, 10."""
     (state,) = _answers(1)
-    head, tail = _edited("usi_gpt_repair", head, tail, n, state)
+    head, tail = _edited("usi_gpt_repair", head, tail, n, block, state)
     return head, tail, State(state.value)
 
 
-def _edited(call, head, tail, n, *more):
+def _edited(call, head, tail, *more):
     head, tail = _copy(head), _copy(tail)
-    _accepted(call, head, tail, n, *more)
+    _accepted(call, head, tail, *more)
     return bytes(head), bytes(tail)
 
 

@@ -1,4 +1,5 @@
-/* Holds the constants of the header to what the calls do: each length is the one that is not refused, each field stands where a call wrote it. */
+/* Holds the constants of the header to what the calls do: each length is the one that is not refused, each field stands where a call wrote it;
+ * and every disk call to its first refusal, a block size that is none. */
 #include "usigrambal.h"
 
 #include <stdio.h>
@@ -7,11 +8,22 @@
 
 #define HOLDS(claim) ((claim) ? (void)held++ : broken(__LINE__, #claim))
 
-#define N USI_BLOCKS_MIN
 #define TEXT(text) (const uint8_t *)(text), strlen(text)
+/* A disk of the least number of blocks, at the block size in hand. */
+#define HEAD head, USI_HEAD_LEN(block)
+#define TAIL tail, USI_TAIL_LEN(block)
+#define N USI_BLOCKS_MIN(block)
+
+#if USI_HEAD_LEN(512) != 17408 || USI_TAIL_LEN(512) != 16896 || USI_FIRST_USABLE(512) != 34 || USI_BLOCKS_MIN(512) != 68
+#error "the numbers of 512-byte blocks"
+#endif
+#if USI_HEAD_LEN(4096) != 24576 || USI_TAIL_LEN(4096) != 20480 || USI_FIRST_USABLE(4096) != 6 || USI_BLOCKS_MIN(4096) != 12
+#error "the numbers of 4096-byte blocks"
+#endif
 
 static int held;
-static uint8_t head[USI_HEAD_LEN + 1], other[USI_HEAD_LEN], tail[USI_TAIL_LEN + 1];
+static uint64_t block;
+static uint8_t head[USI_HEAD_LEN_MAX + 1], other[USI_HEAD_LEN_MAX], tail[USI_TAIL_LEN_MAX + 1];
 static uint8_t image[USI_IMAGE_MAX + 1], records[USI_RECORDS_LEN + 1], text[USI_TEXT_MAX + 1];
 static const uint8_t one[USI_GUID_LEN + 1] = {1}, two[USI_GUID_LEN + 1] = {2};
 static const uint16_t name[USI_NAME_UNITS + 1] = {'n'};
@@ -28,54 +40,102 @@ static uint64_t number(const uint8_t *at, int bytes) {
 }
 
 static uint32_t format(size_t head_len, size_t tail_len, uint64_t n, size_t guid_len) {
-    return usi_gpt_format(head, head_len, tail, tail_len, n, one, guid_len);
+    return usi_gpt_format(head, head_len, tail, tail_len, n, block, one, guid_len);
 }
 
 static uint32_t add(size_t guid_len, size_t units) {
     uint64_t slot, first;
-    return usi_gpt_add(head, USI_HEAD_LEN, tail, USI_TAIL_LEN, N, two, guid_len, one, guid_len, 1, 5, name, units, &slot, &first);
+    return usi_gpt_add(HEAD, TAIL, N, block, two, guid_len, one, guid_len, 1, 5, name, units, &slot, &first);
 }
 
 static uint64_t state(void) {
     uint64_t found = 0;
-    HOLDS(usi_gpt_read(head, USI_HEAD_LEN, tail, USI_TAIL_LEN, N, &found) == USI_ACCEPTED);
+    HOLDS(usi_gpt_read(HEAD, TAIL, N, block, &found) == USI_ACCEPTED);
     return found;
+}
+
+static void lengths(void) {
+    const size_t head_len = USI_HEAD_LEN(block), tail_len = USI_TAIL_LEN(block);
+    const uint64_t other_block = block == 512 ? 4096 : 512;
+    HOLDS(head_len <= USI_HEAD_LEN_MAX && tail_len <= USI_TAIL_LEN_MAX);
+    HOLDS(format(head_len, tail_len, USI_BLOCKS_MAX, USI_GUID_LEN) == USI_ACCEPTED);
+    HOLDS(format(head_len, tail_len, USI_BLOCKS_MAX + 1, USI_GUID_LEN) == USI_BLOCK_COUNT);
+    HOLDS(format(head_len, tail_len, N - 1, USI_GUID_LEN) == USI_BLOCK_COUNT);
+    HOLDS(format(head_len + 1, tail_len, N, USI_GUID_LEN) == USI_WRONG_LENGTH);
+    HOLDS(format(head_len, tail_len + 1, N, USI_GUID_LEN) == USI_WRONG_LENGTH);
+    HOLDS(format(head_len, tail_len, N, USI_GUID_LEN + 1) == USI_WRONG_LENGTH);
+    HOLDS(format(USI_HEAD_LEN(other_block), USI_TAIL_LEN(other_block), 100, USI_GUID_LEN) == USI_WRONG_LENGTH);
 }
 
 static void disk(void) {
     uint64_t in_tail, offset;
-    uint8_t *entry, guid_text[USI_GUID_TEXT_LEN + 1];
-    HOLDS(usi_guid_write(one, USI_GUID_LEN, guid_text, USI_GUID_TEXT_LEN) == USI_ACCEPTED);
-    HOLDS(usi_guid_write(one, USI_GUID_LEN, guid_text, USI_GUID_TEXT_LEN + 1) == USI_WRONG_LENGTH);
-    HOLDS(format(USI_HEAD_LEN, USI_TAIL_LEN, USI_BLOCKS_MAX, USI_GUID_LEN) == USI_ACCEPTED);
-    HOLDS(format(USI_HEAD_LEN, USI_TAIL_LEN, USI_BLOCKS_MAX + 1, USI_GUID_LEN) == USI_BLOCK_COUNT);
-    HOLDS(format(USI_HEAD_LEN, USI_TAIL_LEN, N - 1, USI_GUID_LEN) == USI_BLOCK_COUNT);
-    HOLDS(format(USI_HEAD_LEN + 1, USI_TAIL_LEN, N, USI_GUID_LEN) == USI_WRONG_LENGTH);
-    HOLDS(format(USI_HEAD_LEN, USI_TAIL_LEN + 1, N, USI_GUID_LEN) == USI_WRONG_LENGTH);
-    HOLDS(format(USI_HEAD_LEN, USI_TAIL_LEN, N, USI_GUID_LEN + 1) == USI_WRONG_LENGTH);
-    HOLDS(format(USI_HEAD_LEN, USI_TAIL_LEN, N, USI_GUID_LEN) == USI_ACCEPTED);
-    HOLDS(memcmp(head + USI_DISK_GUID_IN_HEAD, one, USI_GUID_LEN) == 0 && memcmp(tail + USI_DISK_GUID_IN_TAIL, one, USI_GUID_LEN) == 0);
-    HOLDS(number(head + USI_BLOCK_LEN, 8) == number((const uint8_t *)"EFI PART", 8));
-    HOLDS(add(USI_GUID_LEN, USI_NAME_UNITS + 1) == USI_WRONG_LENGTH);
+    uint8_t *entry;
+    HOLDS(format(USI_HEAD_LEN(block), USI_TAIL_LEN(block), N, USI_GUID_LEN) == USI_ACCEPTED);
+    HOLDS(memcmp(head + USI_DISK_GUID_IN_HEAD(block), one, USI_GUID_LEN) == 0 && memcmp(tail + USI_DISK_GUID_IN_TAIL, one, USI_GUID_LEN) == 0);
+    HOLDS(number(head + block, 8) == number((const uint8_t *)"EFI PART", 8));
+    HOLDS(add(USI_GUID_LEN, USI_NAME_UNITS + 1) == USI_WRONG_LENGTH && add(USI_GUID_LEN + 1, USI_NAME_UNITS) == USI_WRONG_LENGTH);
     HOLDS(add(USI_GUID_LEN, USI_NAME_UNITS) == USI_ACCEPTED);
-    HOLDS(usi_gpt_table(head, USI_HEAD_LEN, tail, USI_TAIL_LEN, N, &in_tail, &offset) == USI_ACCEPTED && in_tail == 0);
-    HOLDS(offset + USI_ENTRIES_LEN == USI_HEAD_LEN && USI_ENTRY_LEN * USI_SLOTS == USI_ENTRIES_LEN);
+    HOLDS(usi_gpt_table(HEAD, TAIL, N, block, &in_tail, &offset) == USI_ACCEPTED && in_tail == 0);
+    HOLDS(offset + USI_ENTRIES_LEN == USI_HEAD_LEN(block) && USI_ENTRY_LEN * USI_SLOTS == USI_ENTRIES_LEN);
     entry = head + offset;
     HOLDS(memcmp(entry + USI_ENTRY_TYPE, two, USI_GUID_LEN) == 0 && memcmp(entry + USI_ENTRY_UNIQUE, one, USI_GUID_LEN) == 0);
-    HOLDS(number(entry + USI_ENTRY_FIRST, 8) == USI_FIRST_USABLE && number(entry + USI_ENTRY_LAST, 8) == N - USI_BEHIND_LAST_USABLE);
+    HOLDS(number(entry + USI_ENTRY_FIRST, 8) == USI_FIRST_USABLE(block) && number(entry + USI_ENTRY_LAST, 8) == N - USI_BEHIND_LAST_USABLE(block));
     HOLDS(number(entry + USI_ENTRY_ATTRIBUTES, 8) == 5 && number(entry + USI_ENTRY_NAME, 2) == 'n');
     HOLDS(USI_ENTRY_NAME + 2 * USI_NAME_UNITS == USI_ENTRY_LEN);
-    HOLDS(usi_gpt_delete(head, USI_HEAD_LEN, tail, USI_TAIL_LEN, N, USI_SLOTS) == USI_SLOT_UNUSED);
-    HOLDS(usi_gpt_delete(head, USI_HEAD_LEN, tail, USI_TAIL_LEN, N, USI_SLOTS + 1) == USI_NO_SUCH_SLOT);
+    HOLDS(usi_gpt_delete(HEAD, TAIL, N, block, USI_SLOTS) == USI_SLOT_UNUSED);
+    HOLDS(usi_gpt_delete(HEAD, TAIL, N, block, USI_SLOTS + 1) == USI_NO_SUCH_SLOT);
     HOLDS(state() == USI_STATE_SAME);
     tail[USI_ENTRIES_LEN]++;
     HOLDS(state() == USI_STATE_PRIMARY_ONLY);
     tail[USI_ENTRIES_LEN]--;
-    head[USI_BLOCK_LEN]++;
+    head[block]++;
     HOLDS(state() == USI_STATE_BACKUP_ONLY);
-    head[USI_BLOCK_LEN]--;
-    HOLDS(usi_gpt_format(other, USI_HEAD_LEN, tail, USI_TAIL_LEN, N, two, USI_GUID_LEN) == USI_ACCEPTED);
+    head[block]--;
+    HOLDS(usi_gpt_format(other, USI_HEAD_LEN(block), TAIL, N, block, two, USI_GUID_LEN) == USI_ACCEPTED);
     HOLDS(state() == USI_STATE_DIFFERENT);
+}
+
+/* Each disk call, on the disk that is there, with the block size in hand. */
+static void refused_for_its_block(size_t head_len, size_t tail_len, uint64_t n, size_t guid_len, size_t units) {
+    uint64_t a = 77, b = 78;
+    HOLDS(usi_gpt_format(head, head_len, tail, tail_len, n, block, one, guid_len) == USI_BLOCK_SIZE);
+    HOLDS(usi_gpt_read(head, head_len, tail, tail_len, n, block, &a) == USI_BLOCK_SIZE);
+    HOLDS(usi_gpt_table(head, head_len, tail, tail_len, n, block, &a, &b) == USI_BLOCK_SIZE);
+    HOLDS(usi_gpt_free(head, head_len, tail, tail_len, n, block, &a, &b) == USI_BLOCK_SIZE);
+    HOLDS(usi_gpt_add(head, head_len, tail, tail_len, n, block, two, guid_len, one, USI_GUID_LEN, 1, 0, name, units, &a, &b) == USI_BLOCK_SIZE);
+    HOLDS(usi_gpt_add(head, head_len, tail, tail_len, n, block, two, USI_GUID_LEN, one, guid_len, 1, 0, name, units, &a, &b) == USI_BLOCK_SIZE);
+    HOLDS(usi_gpt_delete(head, head_len, tail, tail_len, n, block, 1) == USI_BLOCK_SIZE);
+    HOLDS(usi_gpt_resize(head, head_len, tail, tail_len, n, block, 1, 1) == USI_BLOCK_SIZE);
+    HOLDS(usi_gpt_rename(head, head_len, tail, tail_len, n, block, 1, name, units) == USI_BLOCK_SIZE);
+    HOLDS(usi_gpt_repair(head, head_len, tail, tail_len, n, block, &a) == USI_BLOCK_SIZE);
+    HOLDS(a == 77 && b == 78);
+}
+
+/* Right lengths, then each of them wrong, then all, with a number of blocks that is none. */
+static void block_sizes(void) {
+    static const uint64_t none[] = {0, 1, 511, 513, 1024, 2048, 4095, 4097, 8192, (UINT64_C(1) << 32) + 512, (UINT64_C(1) << 32) + 4096, UINT64_MAX};
+    static uint8_t head_before[sizeof head], tail_before[sizeof tail];
+    const size_t head_len = USI_HEAD_LEN(block), tail_len = USI_TAIL_LEN(block);
+    const uint64_t good = block;
+    memcpy(head_before, head, sizeof head);
+    memcpy(tail_before, tail, sizeof tail);
+    for (size_t k = 0; k < sizeof none / sizeof *none; k++) {
+        block = none[k];
+        refused_for_its_block(head_len, tail_len, 100, USI_GUID_LEN, USI_NAME_UNITS);
+        refused_for_its_block(head_len - 1, tail_len, 100, USI_GUID_LEN, USI_NAME_UNITS);
+        refused_for_its_block(head_len, tail_len - 1, 100, USI_GUID_LEN, USI_NAME_UNITS);
+        refused_for_its_block(head_len, tail_len, 100, USI_GUID_LEN + 1, USI_NAME_UNITS);
+        refused_for_its_block(head_len, tail_len, 100, USI_GUID_LEN, USI_NAME_UNITS + 1);
+        refused_for_its_block(0, 0, 0, 0, 0);
+    }
+    block = good;
+    HOLDS(memcmp(head, head_before, sizeof head) == 0 && memcmp(tail, tail_before, sizeof tail) == 0);
+}
+
+static void guid(void) {
+    uint8_t guid_text[USI_GUID_TEXT_LEN + 1];
+    HOLDS(usi_guid_write(one, USI_GUID_LEN, guid_text, USI_GUID_TEXT_LEN) == USI_ACCEPTED);
+    HOLDS(usi_guid_write(one, USI_GUID_LEN, guid_text, USI_GUID_TEXT_LEN + 1) == USI_WRONG_LENGTH);
 }
 
 static uint32_t find(size_t len) {
@@ -135,13 +195,20 @@ static void layout(void) {
 }
 
 int main(void) {
+    static const uint64_t blocks[] = {512, 4096};
     char version[32];
-    disk();
+    for (size_t k = 0; k < sizeof blocks / sizeof *blocks; k++) {
+        block = blocks[k];
+        lengths();
+        disk();
+        block_sizes();
+    }
+    guid();
     flash();
     layout();
     sprintf(version, "%d.%d.%d", USI_VERSION_MAJOR, USI_VERSION_MINOR, USI_VERSION_PATCH);
     HOLDS(strcmp(version, USI_VERSION) == 0);
     HOLDS(strcmp(usi_words(USI_NO_ROOM), "no room") == 0 && strcmp(usi_words(99), usi_words(100)) == 0);
-    printf("%d claims about the header's constants hold\n", held);
+    printf("%d claims about the header's constants and block sizes hold\n", held);
     return 0;
 }

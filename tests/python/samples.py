@@ -1,5 +1,6 @@
 """python/usigrambal.py: its names are those of the header, the samples of the rules come out, and a refusal changes nothing."""
 
+import collections
 import ctypes
 import re
 import unittest
@@ -20,8 +21,14 @@ SECTIONS = [
 ]
 
 
-def formatted(n):
-    return usi.gpt_format(bytes(usi.HEAD_LEN), bytes(usi.TAIL_LEN), n, ONE)
+# The block size, the lengths of head and tail, the first usable block.
+Shape = collections.namedtuple("Shape", "block head tail first")
+SHAPES = [Shape(512, 17408, 16896, 34), Shape(4096, 24576, 20480, 6)]
+NO_BLOCK_SIZES = [0, 511, 513, 1024, 4095, 4097, (1 << 32) + 512, (1 << 64) - 1]
+
+
+def formatted(n, block):
+    return usi.gpt_format(bytes(usi.head_len(block)), bytes(usi.tail_len(block)), n, block, ONE)
 
 
 class Names(unittest.TestCase):
@@ -35,12 +42,26 @@ class Names(unittest.TestCase):
         self.assertEqual(words, {name: one.words for name, one in named})
 
     def test_constants(self):
-        for name in ["HEAD_LEN", "TAIL_LEN", "ENTRIES_LEN", "ENTRY_LEN", "GUID_LEN", "GUID_TEXT_LEN", "NAME_UNITS", "AREA_LEN", "IMAGE_NAME_LEN", "RECORDS_LEN"]:
+        for name in ["ENTRIES_LEN", "ENTRY_LEN", "GUID_LEN", "GUID_TEXT_LEN", "NAME_UNITS", "AREA_LEN", "IMAGE_NAME_LEN", "RECORDS_LEN"]:
             self.assertIn(f"#define USI_{name} {getattr(usi, name)}\n", HEADER)
         self.assertIn(f"#define USI_FLAG_PRESERVE {usi.PRESERVE}\n", HEADER)
         self.assertIn(f'#define USI_VERSION "{usi.__version__}"\n', HEADER)
         for state in State:
             self.assertIn(f"#define USI_STATE_{state.name} {int(state)}\n", HEADER)
+
+    def test_lengths(self):
+        """What the header's macros over the block size say, too."""
+        macros = dict(re.findall(r"#define USI_(\w+)\(block\) (.*)", HEADER))
+        self.assertEqual(usi.BLOCK_SIZES, tuple(shape.block for shape in SHAPES))
+        for shape in SHAPES:
+            self.assertEqual((usi.head_len(shape.block), usi.tail_len(shape.block)), (shape.head, shape.tail))
+            numbers = {"block": shape.block, "USI_ENTRIES_LEN": usi.ENTRIES_LEN}
+            self.assertEqual(eval(macros["HEAD_LEN"], numbers), shape.head)
+            self.assertEqual(eval(macros["TAIL_LEN"], numbers), shape.tail)
+        for block in NO_BLOCK_SIZES:
+            for length in (usi.head_len, usi.tail_len):
+                with self.assertRaisesRegex(Refused, "^6: the block size is neither 512 nor 4096$"):
+                    length(block)
 
     def test_calls(self):
         """Every prototype of the header, with its parameters as the module passes them."""
@@ -65,35 +86,64 @@ class Samples(unittest.TestCase):
         self.assertEqual(lent, list(arguments))
 
     def test_1_and_2(self):
-        self.refused(2, usi.gpt_format, bytes(usi.HEAD_LEN), bytes(usi.TAIL_LEN), 67, ONE)
-        head, tail = formatted(68)
-        head, tail, slot, first = usi.gpt_add(head, tail, 68, TWO, ONE, 1)
-        self.assertEqual((slot, first, usi.gpt_free(head, tail, 68)), (1, 34, (0, 0)))
-        self.refused(25, usi.gpt_add, head, tail, 68, TWO, TWO, 1)
+        for block, head_len, tail_len, least in SHAPES:
+            n = 2 * least
+            self.refused(2, usi.gpt_format, bytes(head_len), bytes(tail_len), n - 1, block, ONE)
+            head, tail = formatted(n, block)
+            head, tail, slot, first = usi.gpt_add(head, tail, n, block, TWO, ONE, 1)
+            self.assertEqual((slot, first, usi.gpt_free(head, tail, n, block)), (1, least, (0, 0)))
+            self.refused(25, usi.gpt_add, head, tail, n, block, TWO, TWO, 1)
 
     def test_3(self):
-        head, tail = formatted(100)
         number = lambda part, at: int.from_bytes(part[at : at + 8], "little")
-        # last usable, the backup header's block, its first block of entries
-        self.assertEqual((number(head, 512 + 48), number(head, 512 + 32), number(tail, 16384 + 72)), (66, 99, 67))
+        for block, last, entries in [(512, 66, 67), (4096, 94, 95)]:
+            head, tail = formatted(100, block)
+            # last usable, the backup header's block, its first block of entries
+            stored = number(head, block + 48), number(head, block + 32), number(tail, 16384 + 72)
+            self.assertEqual(stored, (last, 99, entries))
 
     def test_4_and_5(self):
-        head, tail = formatted(100)
-        placed = []
-        for unique, size in [(1, 10), (2, 5), (None, 1), (3, 11), (4, 10)]:
-            if unique is None:
-                head, tail = usi.gpt_delete(head, tail, 100, size)
-            else:
-                head, tail, slot, first = usi.gpt_add(head, tail, 100, TWO, bytes([unique] * 16), size)
-                placed.append((slot, first))
-        self.assertEqual(placed, [(1, 34), (2, 44), (1, 49), (3, 34)])
-        self.assertEqual(usi.gpt_free(head, tail, 100), (7, 7))
-        self.refused(25, usi.gpt_resize, head, tail, 100, 1, 19)
-        head, tail = usi.gpt_resize(head, tail, 100, 1, 18)
-        self.assertEqual(usi.gpt_free(head, tail, 100), (0, 0))
-        self.refused(25, usi.gpt_add, head, tail, 100, TWO, bytes([5] * 16), 2**64 - 1)  # sample 9
-        self.refused(13, usi.gpt_delete, head, tail, 100, 4)
-        self.refused(12, usi.gpt_delete, head, tail, 100, 129)
+        """A disk with 33 usable blocks; with blocks of 512 bytes it has 100."""
+        for block, _, _, least in SHAPES:
+            n = 2 * least + 32
+            head, tail = formatted(n, block)
+            placed = []
+            for unique, size in [(1, 10), (2, 5), (None, 1), (3, 11), (4, 10)]:
+                if unique is None:
+                    head, tail = usi.gpt_delete(head, tail, n, block, size)
+                else:
+                    head, tail, slot, first = usi.gpt_add(head, tail, n, block, TWO, bytes([unique] * 16), size)
+                    placed.append((slot, first))
+            self.assertEqual(placed, [(1, least), (2, least + 10), (1, least + 15), (3, least)])
+            self.assertEqual(usi.gpt_free(head, tail, n, block), (7, 7))
+            self.refused(25, usi.gpt_resize, head, tail, n, block, 1, 19)
+            head, tail = usi.gpt_resize(head, tail, n, block, 1, 18)
+            self.assertEqual(usi.gpt_free(head, tail, n, block), (0, 0))
+            self.refused(25, usi.gpt_add, head, tail, n, block, TWO, bytes([5] * 16), 2**64 - 1)  # sample 9
+            self.refused(13, usi.gpt_delete, head, tail, n, block, 4)
+            self.refused(12, usi.gpt_delete, head, tail, n, block, 129)
+
+    def test_block_sizes(self):
+        """Another block size is refused before all else; one disk by the other block size has wrong lengths."""
+        for shape in SHAPES:
+            head, tail = formatted(100, shape.block)
+            for block in NO_BLOCK_SIZES:
+                self.every_disk_call_refuses(6, head, tail, 100, block)
+                self.every_disk_call_refuses(6, b"", b"", 0, block, guid=bytes(15), name=[0])
+            for other in usi.BLOCK_SIZES:
+                if other != shape.block:
+                    self.every_disk_call_refuses(1, head, tail, 100, other)
+
+    def every_disk_call_refuses(self, number, head, tail, n, block, guid=TWO, name=""):
+        disk = head, tail, n, block
+        self.refused(number, usi.gpt_format, *disk, guid)
+        for call in (usi.gpt_read, usi.gpt_table, usi.gpt_entries, usi.gpt_free, usi.gpt_repair):
+            self.refused(number, call, *disk)
+        self.refused(number, usi.gpt_add, *disk, guid, ONE, 1, 0, name)
+        self.refused(number, usi.gpt_add, *disk, ONE, guid, 1, 0, name)
+        self.refused(number, usi.gpt_delete, *disk, 1)
+        self.refused(number, usi.gpt_resize, *disk, 1, 1)
+        self.refused(number, usi.gpt_rename, *disk, 1, name)
 
     def test_6(self):
         stored = bytes.fromhex("A2A0D0EBE5B9334487C068B6B72699C7")
@@ -125,41 +175,51 @@ class Samples(unittest.TestCase):
         self.refused(41, usi.fmap_carry, bytes(98), new)
         self.refused(40, usi.fmap_find, bytes(97))
 
-    def test_copies_names_and_the_rest(self):
-        head, tail = formatted(1 << 32)
-        head, tail, slot, _ = usi.gpt_add(head, tail, 1 << 32, TWO, ONE, 7, attributes=1 << 63, name="Größe")
-        entry = usi.gpt_entries(head, tail, 1 << 32)[: usi.ENTRY_LEN]
-        self.assertEqual((entry[:16], entry[16:32], entry[48:56]), (TWO, ONE, (1 << 63).to_bytes(8, "little")))
-        self.assertEqual(entry[56:].decode("utf-16-le").rstrip("\0"), "Größe")
-        head, tail = usi.gpt_rename(head, tail, 1 << 32, slot, [ord("b")] + [0] * 35)
-        self.assertEqual(usi.gpt_entries(head, tail, 1 << 32)[56:60], b"b\0\0\0")
-        self.refused(23, usi.gpt_rename, head, tail, 1 << 32, 1, [0, 1] + [0] * 34)
-        self.refused(1, usi.gpt_rename, head, tail, 1 << 32, 1, "x" * 37)
-        self.assertEqual((usi.gpt_read(head, tail, 1 << 32), usi.gpt_table(head, tail, 1 << 32)), (State.SAME, (False, 1024)))
-        lost = bytes(1024) + head[1024:]
-        self.assertEqual((usi.gpt_read(lost, tail, 1 << 32), usi.gpt_table(lost, tail, 1 << 32)), (State.BACKUP_ONLY, (True, 0)))
-        self.refused(11, usi.gpt_delete, lost, tail, 1 << 32, 1)
-        repaired = usi.gpt_repair(lost, tail, 1 << 32)
-        self.assertEqual((repaired[0][512:], repaired[1:]), (head[512:], (tail, State.BACKUP_ONLY)))
+    def test_copies_and_names(self):
+        for block in usi.BLOCK_SIZES:
+            size = 1 << 32, block
+            head, tail = formatted(*size)
+            head, tail, slot, _ = usi.gpt_add(head, tail, *size, TWO, ONE, 7, attributes=1 << 63, name="Größe")
+            entry = usi.gpt_entries(head, tail, *size)[: usi.ENTRY_LEN]
+            self.assertEqual((entry[:16], entry[16:32], entry[48:56]), (TWO, ONE, (1 << 63).to_bytes(8, "little")))
+            self.assertEqual(entry[56:].decode("utf-16-le").rstrip("\0"), "Größe")
+            head, tail = usi.gpt_rename(head, tail, *size, slot, [ord("b")] + [0] * 35)
+            self.assertEqual(usi.gpt_entries(head, tail, *size)[56:60], b"b\0\0\0")
+            self.refused(23, usi.gpt_rename, head, tail, *size, 1, [0, 1] + [0] * 34)
+            self.refused(1, usi.gpt_rename, head, tail, *size, 1, "x" * 37)
+            self.assertEqual((usi.gpt_read(head, tail, *size), usi.gpt_table(head, tail, *size)), (State.SAME, (False, 2 * block)))
+            lost = bytes(2 * block) + head[2 * block :]
+            self.assertEqual((usi.gpt_read(lost, tail, *size), usi.gpt_table(lost, tail, *size)), (State.BACKUP_ONLY, (True, 0)))
+            self.refused(11, usi.gpt_delete, lost, tail, *size, 1)
+            repaired = usi.gpt_repair(lost, tail, *size)
+            self.assertEqual((repaired[0][block:], repaired[1:]), (head[block:], (tail, State.BACKUP_ONLY)))
+            for number in (-1, 1 << 64):
+                with self.assertRaises(OverflowError):
+                    usi.gpt_read(head, tail, number, block)
+                with self.assertRaises(OverflowError):
+                    usi.gpt_read(head, tail, 1 << 32, number)
+
+    def test_crc32(self):
         self.assertEqual((usi.crc32(b"123456789"), usi.crc32(b"")), (0xCBF43926, 0))
-        for number in (-1, 1 << 64):
-            with self.assertRaises(OverflowError):
-                usi.gpt_read(head, tail, number)
 
     def test_a_refusal_changes_no_lent_byte(self):
         """Below the module's own copies: buffers full of a pattern are as they were."""
         patterned = lambda size: usi._copy(bytes(k * 7 % 256 for k in range(size)))
-        head, tail = patterned(usi.HEAD_LEN), patterned(usi.TAIL_LEN)
         guid, answer, other = patterned(16), ctypes.c_uint64(77), ctypes.c_uint64(78)
         calls = [
-            ("usi_gpt_format", head, tail, 67, guid),
-            ("usi_gpt_read", head, tail, 100, answer),
-            ("usi_gpt_add", head, tail, 100, guid, guid, 1, 0, usi._name("n"), answer, other),
-            ("usi_gpt_repair", head, tail, 100, answer),
             ("usi_guid_read", guid, patterned(16)),
-            ("usi_fmap_carry", head, tail),
+            ("usi_fmap_carry", patterned(98), patterned(98)),
             ("usi_fmd_records", guid, patterned(usi.RECORDS_LEN), answer),
         ]
+        for block, head_len, tail_len, least in SHAPES:
+            head, tail = patterned(head_len), patterned(tail_len)
+            calls += [
+                ("usi_gpt_format", head, tail, 2 * least - 1, block, guid),
+                ("usi_gpt_format", head, tail, 100, block + 1, guid),
+                ("usi_gpt_read", head, tail, 100, block, answer),
+                ("usi_gpt_add", head, tail, 100, block, guid, guid, 1, 0, usi._name("n"), answer, other),
+                ("usi_gpt_repair", head, tail, 100, block, answer),
+            ]
         for name, *arguments in calls:
             lent = [bytes(one) for one in arguments if not isinstance(one, (int, ctypes.c_uint64))]
             self.assertNotEqual(usi._call(name, *arguments), 0, name)

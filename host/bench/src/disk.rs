@@ -3,12 +3,10 @@
 
 use std::path::Path;
 use testkit::disk::Scratch;
-use usigrambal::raw;
+use usigrambal::{raw, BlockSize};
 
 const N: u64 = 1 << 20;
 pub const KIND: [u8; 16] = [0xAF; 16];
-/// The signature of the primary header.
-const SIGNATURE_AT: usize = 512;
 const ENTRY_LEN: usize = 128;
 const NAME: [u16; 36] = [0; 36];
 /// The size of the add that is timed; longer than every gap but the last.
@@ -18,13 +16,19 @@ const ASKED: u64 = 2;
 pub struct Disk {
     head: Vec<u8>,
     tail: Vec<u8>,
+    block: BlockSize,
 }
 
 impl Disk {
+    fn formatted(block: BlockSize) -> Disk {
+        let mut disk = Disk { head: vec![0; block.head_len()], tail: vec![0; block.tail_len()], block };
+        assert_eq!(raw::gpt_format(&mut disk.head, &mut disk.tail, N, block.bytes(), &[1; 16]), 0);
+        disk
+    }
+
     /// A disk with so many partitions of two blocks, one free block behind each.
-    pub fn with_gaps(partitions: u8) -> Disk {
-        let mut disk = Disk { head: vec![0; 17_408], tail: vec![0; 16_896] };
-        assert_eq!(raw::gpt_format(&mut disk.head, &mut disk.tail, N, &[1; 16]), 0);
+    pub fn with_gaps(partitions: u8, block: BlockSize) -> Disk {
+        let mut disk = Disk::formatted(block);
         for partition in 1..=partitions {
             assert_eq!(disk.add(partition, 3), 0);
         }
@@ -33,14 +37,13 @@ impl Disk {
     }
 
     /// The same, but each partition before the one of the slot before it; only slot 1 has the lowest.
-    pub fn with_gaps_descending(partitions: u8) -> Disk {
-        let mut disk = Disk { head: vec![0; 17_408], tail: vec![0; 16_896] };
-        assert_eq!(raw::gpt_format(&mut disk.head, &mut disk.tail, N, &[1; 16]), 0);
+    pub fn with_gaps_descending(partitions: u8, block: BlockSize) -> Disk {
+        let mut disk = Disk::formatted(block);
         for partition in 2..=partitions {
             // Slot 1 takes all before the place, and gives it back.
             assert_eq!(disk.add(1, 3 * u64::from(partitions - partition + 1)), 0);
             assert_eq!(disk.add(partition, 3), 0);
-            assert_eq!(raw::gpt_delete(&mut disk.head, &mut disk.tail, N, 1), 0);
+            assert_eq!(raw::gpt_delete(&mut disk.head, &mut disk.tail, N, block.bytes(), 1), 0);
         }
         assert_eq!(disk.add(1, 3), 0);
         disk.shorten(partitions);
@@ -49,8 +52,9 @@ impl Disk {
 
     /// Takes the last of its three blocks from each partition.
     fn shorten(&mut self, partitions: u8) {
+        let block = self.block.bytes();
         for slot in 1..=u64::from(partitions) {
-            assert_eq!(raw::gpt_resize(&mut self.head, &mut self.tail, N, slot, 2), 0);
+            assert_eq!(raw::gpt_resize(&mut self.head, &mut self.tail, N, block, slot, 2), 0);
         }
     }
 
@@ -59,8 +63,8 @@ impl Disk {
         let mut other = self.clone();
         let mut name = NAME;
         name[0] = 1;
-        assert_eq!(raw::gpt_rename(&mut other.head, &mut other.tail, N, 128, &name), 0);
-        let disk = Disk { head: self.head.clone(), tail: other.tail };
+        assert_eq!(raw::gpt_rename(&mut other.head, &mut other.tail, N, self.block.bytes(), 128, &name), 0);
+        let disk = Disk { head: self.head.clone(), ..other };
         assert_eq!(disk.read(), 2);
         disk
     }
@@ -68,14 +72,16 @@ impl Disk {
     /// The disk with a primary header that has lost its signature: only the backup is good.
     pub fn with_a_broken_header(&self) -> Disk {
         let mut disk = self.clone();
-        disk.head[SIGNATURE_AT] ^= 1;
+        disk.head[self.block.bytes() as usize] ^= 1;
         assert_eq!(disk.read(), 4);
         disk
     }
 
     /// The disk in a file of its own, zero between head and tail.
     pub fn image(&self) -> Scratch {
-        self.stored().image()
+        let file = Scratch::new();
+        self.write_to(&file.path);
+        file
     }
 
     pub fn write_to(&self, path: &Path) {
@@ -86,16 +92,18 @@ impl Disk {
         testkit::disk::Disk { head: self.head.clone(), tail: self.tail.clone(), n: N }
     }
 
+    /// A disk with blocks of 512 bytes, as all that are written to files.
     pub fn in_file(path: &Path) -> Disk {
-        let testkit::disk::Disk { head, tail, n } = testkit::disk::Disk::read(path).expect("the disk's file");
-        assert_eq!(n, N);
-        Disk { head, tail }
+        let stored = testkit::disk::Disk::read(path).expect("the disk's file");
+        assert_eq!(stored.n, N);
+        Disk { head: stored.head, tail: stored.tail, block: BlockSize::Bytes512 }
     }
 
     /// The first block of each used entry.
     pub fn firsts(&self) -> Vec<u64> {
         let (mut in_tail, mut offset) = (0, 0);
-        assert_eq!(raw::gpt_table(&self.head, &self.tail, N, &mut in_tail, &mut offset), 0);
+        let block = self.block.bytes();
+        assert_eq!(raw::gpt_table(&self.head, &self.tail, N, block, &mut in_tail, &mut offset), 0);
         let table = if in_tail == 0 { &self.head } else { &self.tail };
         let entries = table[offset as usize..].chunks_exact(ENTRY_LEN).take(128);
         let used = entries.filter(|entry| entry.iter().any(|byte| *byte != 0));
@@ -108,18 +116,18 @@ impl Disk {
 
     fn add(&mut self, unique: u8, size: u64) -> u32 {
         let new = raw::NewPartition { kind: &KIND, unique: &[unique; 16], size, attributes: 0, name: &NAME };
-        raw::gpt_add(&mut self.head, &mut self.tail, N, &new, &mut 0, &mut 0)
+        raw::gpt_add(&mut self.head, &mut self.tail, N, self.block.bytes(), &new, &mut 0, &mut 0)
     }
 
     pub fn read(&self) -> u64 {
         let mut state = 0;
-        assert_eq!(raw::gpt_read(&self.head, &self.tail, N, &mut state), 0);
+        assert_eq!(raw::gpt_read(&self.head, &self.tail, N, self.block.bytes(), &mut state), 0);
         state
     }
 
     pub fn free(&self) -> u64 {
         let (mut free, mut longest) = (0, 0);
-        assert_eq!(raw::gpt_free(&self.head, &self.tail, N, &mut free, &mut longest), 0);
+        assert_eq!(raw::gpt_free(&self.head, &self.tail, N, self.block.bytes(), &mut free, &mut longest), 0);
         free + longest
     }
 

@@ -10,9 +10,9 @@ use std::ffi::{c_char, c_int, CString};
 use std::fs::{File, OpenOptions};
 use std::os::unix::fs::FileExt;
 use std::path::Path;
-use usigrambal::{Guid, Name, NewPartition, HEAD_LEN, TAIL_LEN};
+use usigrambal::{BlockSize, Guid, Name, NewPartition};
 
-const BLOCK_LEN: u64 = 512;
+const BLOCK: BlockSize = BlockSize::Bytes512;
 
 /// Below 0: an error.
 type Call = extern "C" fn(*const c_char) -> c_int;
@@ -88,23 +88,23 @@ fn side<'a>(who: &str, disk: &'a Disk, answer: usize, call: impl Fn(&Path) -> us
 /// A disk's file and the blocks of its table.
 struct Opened {
     file: File,
-    head: [u8; HEAD_LEN],
-    tail: [u8; TAIL_LEN],
+    head: [u8; BLOCK.head_len()],
+    tail: [u8; BLOCK.tail_len()],
     n: u64,
 }
 
 impl Opened {
     fn new(path: &Path, options: &mut OpenOptions) -> Opened {
         let file = options.read(true).open(path).expect("the disk's file");
-        let n = file.metadata().expect("its length").len() / BLOCK_LEN;
-        let (mut head, mut tail) = ([0; HEAD_LEN], [0; TAIL_LEN]);
+        let n = file.metadata().expect("its length").len() / BLOCK.bytes();
+        let (mut head, mut tail) = ([0; BLOCK.head_len()], [0; BLOCK.tail_len()]);
         file.read_exact_at(&mut head, 0).expect("its head");
         file.read_exact_at(&mut tail, tail_at(n)).expect("its tail");
         Opened { file, head, tail, n }
     }
 
     fn disk(&mut self) -> usigrambal::Disk<'_> {
-        usigrambal::Disk { head: &mut self.head, tail: &mut self.tail, n: self.n }
+        usigrambal::Disk { head: &mut self.head, tail: &mut self.tail, n: self.n, block: BLOCK }
     }
 
     fn write(&self) {
@@ -114,7 +114,7 @@ impl Opened {
 }
 
 fn tail_at(n: u64) -> u64 {
-    n * BLOCK_LEN - TAIL_LEN as u64
+    n * BLOCK.bytes() - BLOCK.tail_len() as u64
 }
 
 fn list(path: &Path) -> usize {

@@ -1,13 +1,16 @@
-//! The rows of the disk calls in memory, in units of a CRC-32.
+//! The rows of the disk calls in memory, in units of a CRC-32, and with blocks of 4096 bytes beside blocks of 512.
 
 use crate::disk::Disk;
 use crate::peers;
 use crate::table::{Label, Table};
-use crate::timed::calls;
+use crate::timed::{calls, Timed};
 use crate::work::{self, of};
+use usigrambal::BlockSize;
 
 const READ_MOST: f64 = 6.0;
 const ADD_MOST: f64 = 14.0;
+/// The time with blocks of 4096 bytes, in units of that with blocks of 512.
+const LARGE_MOST: f64 = 1.3;
 
 /// A gap behind each partition: 128 partitions, in the slots' order and against it; and 127 with room for one more behind the last gap.
 pub struct Disks {
@@ -19,37 +22,71 @@ pub struct Disks {
     descending_differ: Disk,
     /// The first with a primary header that is not good (state 4).
     pub broken: Disk,
+    /// `full` and `room` with blocks of 4096 bytes; all others have blocks of 512.
+    large_full: Disk,
+    large_room: Disk,
 }
 
 impl Disks {
     pub fn new() -> Disks {
-        let (full, descending) = (Disk::with_gaps(128), Disk::with_gaps_descending(128));
+        let [block, large] = BlockSize::ALL;
+        let (full, descending) = (Disk::with_gaps(128, block), Disk::with_gaps_descending(128, block));
         let (differ, descending_differ) = (full.with_another_tail(), descending.with_another_tail());
-        let (room, broken) = (Disk::with_gaps(127), full.with_a_broken_header());
-        Disks { full, descending, room, differ, descending_differ, broken }
+        let (room, broken) = (Disk::with_gaps(127, block), full.with_a_broken_header());
+        let (large_full, large_room) = (Disk::with_gaps(128, large), Disk::with_gaps(127, large));
+        Disks { full, descending, room, differ, descending_differ, broken, large_full, large_room }
     }
 }
 
 pub fn rows<'a>(t: &mut Table<'a>, disks: &'a Disks) {
+    unit_rows(t, disks);
+    large_rows(t, disks);
+}
+
+fn unit_rows<'a>(t: &mut Table<'a>, disks: &'a Disks) {
     let zlib = match peers::crc32("zlib", "zlib1g-dev") {
         Ok(crc32) => crc32,
         Err(why) => return t.left_out.push(format!("gpt in memory: {why}")),
     };
     let Disks { full, descending, room, differ, descending_differ, .. } = disks;
-    let mut copy = room.clone();
-    let add = Box::new(move || u64::from(room.add_to(&mut copy)));
-    let rows: [(_, _, _, Box<dyn FnMut() -> u64>); 7] = [
-        ("gpt read", "128 partitions", READ_MOST, Box::new(|| full.read())),
-        ("gpt read", "128 descending", READ_MOST, Box::new(|| descending.read())),
-        ("gpt read, copies differ", "128 partitions", READ_MOST, Box::new(|| differ.read())),
-        ("gpt read, copies differ", "128 descending", READ_MOST, Box::new(|| descending_differ.read())),
-        ("gpt add", "127 partitions", ADD_MOST, add),
-        ("gpt free", "128 partitions", ADD_MOST, Box::new(|| full.free())),
-        ("gpt free, copies differ", "128 partitions", ADD_MOST, Box::new(|| differ.free())),
+    let rows = [
+        ("gpt read", "128 partitions", READ_MOST, reads(full)),
+        ("gpt read", "128 descending", READ_MOST, reads(descending)),
+        ("gpt read, copies differ", "128 partitions", READ_MOST, reads(differ)),
+        ("gpt read, copies differ", "128 descending", READ_MOST, reads(descending_differ)),
+        ("gpt add", "127 partitions", ADD_MOST, adds(room)),
+        ("gpt free", "128 partitions", ADD_MOST, frees(full)),
+        ("gpt free, copies differ", "128 partitions", ADD_MOST, frees(differ)),
     ];
-    for (what, size, most, call) in rows {
+    for (what, size, most, ours) in rows {
         let label = Label::new(format!("{what}, in memory"), "zlib's crc32 of 16 KiB");
         let unit = calls(of(work::bytes(16 << 10), zlib));
-        t.row(label.size(size).at_most_units(most), calls(call), unit);
+        t.row(label.size(size).at_most_units(most), ours, unit);
     }
+}
+
+fn large_rows<'a>(t: &mut Table<'a>, disks: &'a Disks) {
+    let Disks { full, room, large_full, large_room, .. } = disks;
+    let rows = [
+        ("gpt read", "128 partitions", reads(large_full), reads(full)),
+        ("gpt add", "127 partitions", adds(large_room), adds(room)),
+        ("gpt free", "128 partitions", frees(large_full), frees(full)),
+    ];
+    for (what, size, large, small) in rows {
+        let label = Label::new(format!("{what}, in memory, 4096-byte blocks"), "itself on 512-byte blocks");
+        t.row(label.size(size).at_most_units(LARGE_MOST), large, small);
+    }
+}
+
+fn reads(disk: &Disk) -> Timed<'_> {
+    calls(|| disk.read())
+}
+
+fn frees(disk: &Disk) -> Timed<'_> {
+    calls(|| disk.free())
+}
+
+fn adds(disk: &Disk) -> Timed<'_> {
+    let mut copy = disk.clone();
+    calls(move || disk.add_to(&mut copy))
 }

@@ -1,30 +1,18 @@
+use crate::block::{BlockSize, ENTRIES_LEN, ENTRY_LEN, GUID_IN_TAIL};
 use crate::raw;
 use crate::refusal::accepted;
 use crate::refused::{Detail, Refused};
 use crate::Guid;
 
-/// Rule Q3: bytes of blocks 0 to 33, and of the last 33 blocks.
-pub const HEAD_LEN: usize = 17_408;
-pub const TAIL_LEN: usize = 16_896;
-
-/// Rule D1: the first usable block, and how many blocks stand behind the last one.
-const FIRST_USABLE: u64 = 34;
-const BEHIND_USABLE: u64 = 34;
-
-/// Where the disk GUID stands in head and tail (rule D1).
-const GUID_IN_HEAD: usize = 512 + 56;
-const GUID_IN_TAIL: usize = ENTRIES_LEN + 56;
-
-const ENTRIES_LEN: usize = 16_384;
-const ENTRY_LEN: usize = 128;
-
-/// A disk of `n` blocks of 512 bytes, by its first 34 and its last 33 blocks. The caller reads and
-/// writes these blocks; the calls change them in memory.
+/// A disk of `n` blocks, by its first and its last blocks: `head` and `tail` have the lengths that the
+/// block size decides, else every call is refused with 1. The caller reads and writes these blocks; the
+/// calls change them in memory.
 #[derive(Debug)]
 pub struct Disk<'a> {
-    pub head: &'a mut [u8; HEAD_LEN],
-    pub tail: &'a mut [u8; TAIL_LEN],
+    pub head: &'a mut [u8],
+    pub tail: &'a mut [u8],
     pub n: u64,
+    pub block: BlockSize,
 }
 
 /// Rule D10: what reading finds.
@@ -117,13 +105,13 @@ impl Name {
 impl Disk<'_> {
     /// Writes an empty table, in both copies, and block 0 (rule D13).
     pub fn format(&mut self, guid: Guid) -> Result<(), Refused> {
-        let answer = raw::gpt_format(self.head, self.tail, self.n, &guid.0);
+        let answer = raw::gpt_format(self.head, self.tail, self.n, self.block.bytes(), &guid.0);
         self.accepted(answer, &[])
     }
 
     pub fn state(&self) -> Result<State, Refused> {
         let mut state = 0;
-        let answer = raw::gpt_read(self.head, self.tail, self.n, &mut state);
+        let answer = raw::gpt_read(self.head, self.tail, self.n, self.block.bytes(), &mut state);
         self.accepted(answer, &[])?;
         Ok(named_state(state))
     }
@@ -138,14 +126,16 @@ impl Disk<'_> {
     /// The disk GUID of the copy that reading uses.
     pub fn guid(&self) -> Result<Guid, Refused> {
         let (in_tail, _) = self.table()?;
-        let stored = if in_tail { &self.tail[GUID_IN_TAIL..] } else { &self.head[GUID_IN_HEAD..] };
+        let stored =
+            if in_tail { &self.tail[GUID_IN_TAIL..] } else { &self.head[self.block.guid_in_head()..] };
         Ok(Guid(stored[..16].try_into().expect("16 bytes")))
     }
 
     /// Whether the entries in use stand in the tail, and at which byte of it or of the head.
     fn table(&self) -> Result<(bool, usize), Refused> {
         let (mut in_tail, mut offset) = (0, 0);
-        let answer = raw::gpt_table(self.head, self.tail, self.n, &mut in_tail, &mut offset);
+        let answer =
+            raw::gpt_table(self.head, self.tail, self.n, self.block.bytes(), &mut in_tail, &mut offset);
         self.accepted(answer, &[])?;
         Ok((in_tail != 0, offset as usize))
     }
@@ -153,13 +143,14 @@ impl Disk<'_> {
     /// The blocks that partitions may have; a disk that is refused for its number of blocks has none.
     pub fn usable(&self) -> Result<Run, Refused> {
         self.table()?;
-        Ok(Run { first: FIRST_USABLE, last: self.n - BEHIND_USABLE })
+        let first = self.block.first_usable();
+        Ok(Run { first, last: self.n - first })
     }
 
     /// The runs of free blocks, in order (rule D21).
     pub fn free_runs(&self) -> Result<Vec<Run>, Refused> {
         let mut used: Vec<Run> = self.partitions()?.iter().map(Partition::run).collect();
-        let usable = Run { first: FIRST_USABLE, last: self.n - BEHIND_USABLE };
+        let usable = self.usable()?;
         used.sort_by_key(|run| run.first);
         let starts = std::iter::once(usable.first).chain(used.iter().map(|run| run.last + 1));
         let ends = used.iter().map(|run| run.first).chain([usable.last + 1]);
@@ -175,7 +166,8 @@ impl Disk<'_> {
 
     pub fn free(&self) -> Result<Free, Refused> {
         let (mut blocks, mut longest_run) = (0, 0);
-        let answer = raw::gpt_free(self.head, self.tail, self.n, &mut blocks, &mut longest_run);
+        let answer =
+            raw::gpt_free(self.head, self.tail, self.n, self.block.bytes(), &mut blocks, &mut longest_run);
         self.accepted(answer, &[])?;
         Ok(Free { blocks, longest_run })
     }
@@ -190,31 +182,32 @@ impl Disk<'_> {
             name: &new.name.0,
         };
         let (mut slot, mut first) = (0, 0);
-        let answer = raw::gpt_add(self.head, self.tail, self.n, &lent, &mut slot, &mut first);
+        let answer =
+            raw::gpt_add(self.head, self.tail, self.n, self.block.bytes(), &lent, &mut slot, &mut first);
         self.accepted(answer, &[Detail::NewSize(new.size)])?;
         Ok(Placed { slot, first })
     }
 
     pub fn delete(&mut self, slot: u64) -> Result<(), Refused> {
-        let answer = raw::gpt_delete(self.head, self.tail, self.n, slot);
+        let answer = raw::gpt_delete(self.head, self.tail, self.n, self.block.bytes(), slot);
         self.accepted(answer, &[Detail::Slot(slot)])
     }
 
     /// Sets the last block for a partition of `size` blocks; its first block stays.
     pub fn resize(&mut self, slot: u64, size: u64) -> Result<(), Refused> {
-        let answer = raw::gpt_resize(self.head, self.tail, self.n, slot, size);
+        let answer = raw::gpt_resize(self.head, self.tail, self.n, self.block.bytes(), slot, size);
         self.accepted(answer, &[Detail::Slot(slot), Detail::SlotSize(slot, size)])
     }
 
     pub fn rename(&mut self, slot: u64, name: &Name) -> Result<(), Refused> {
-        let answer = raw::gpt_rename(self.head, self.tail, self.n, slot, &name.0);
+        let answer = raw::gpt_rename(self.head, self.tail, self.n, self.block.bytes(), slot, &name.0);
         self.accepted(answer, &[Detail::Slot(slot)])
     }
 
     /// Makes both copies good and the same; answers the state found (rule D24).
     pub fn repair(&mut self) -> Result<State, Refused> {
         let mut state = 0;
-        let answer = raw::gpt_repair(self.head, self.tail, self.n, &mut state);
+        let answer = raw::gpt_repair(self.head, self.tail, self.n, self.block.bytes(), &mut state);
         self.accepted(answer, &[])?;
         Ok(named_state(state))
     }
@@ -266,8 +259,9 @@ mod tests {
     /// Samples S2 to S5, by the wrapper.
     #[test]
     fn a_disk_of_100_blocks() {
-        let (mut head, mut tail) = ([0xA5; HEAD_LEN], [0xA5; TAIL_LEN]);
-        let mut disk = Disk { head: &mut head, tail: &mut tail, n: 100 };
+        let block = BlockSize::Bytes512;
+        let (mut head, mut tail) = (vec![0xA5; block.head_len()], vec![0xA5; block.tail_len()]);
+        let mut disk = Disk { head: &mut head, tail: &mut tail, n: 100, block };
         assert_eq!(words(disk.state()), "10: neither GPT copy is good");
         assert_eq!(words(disk.format(Guid([0; 16]))), "3: the disk GUID is all zero");
         disk.format(Guid([1; 16])).unwrap();
@@ -297,8 +291,9 @@ mod tests {
 
     #[test]
     fn repair_tells_the_state_found() {
-        let (mut head, mut tail) = ([0; HEAD_LEN], [0; TAIL_LEN]);
-        let mut disk = Disk { head: &mut head, tail: &mut tail, n: 67 };
+        let block = BlockSize::Bytes512;
+        let (mut head, mut tail) = (vec![0; block.head_len()], vec![0; block.tail_len()]);
+        let mut disk = Disk { head: &mut head, tail: &mut tail, n: 67, block };
         assert_eq!(words(disk.state()), "2: the number of blocks is outside its range: 67 blocks");
         disk.n = 1 << 32;
         disk.format(Guid([1; 16])).unwrap();
@@ -306,7 +301,7 @@ mod tests {
         assert_eq!(disk.free_runs(), Ok(vec![whole]));
         assert_eq!(disk.free(), Ok(Free { blocks: whole.blocks(), longest_run: whole.blocks() }));
         disk.head[512] = 0;
-        disk.head[GUID_IN_HEAD] = 9;
+        disk.head[block.guid_in_head()] = 9;
         assert_eq!(disk.guid(), Ok(Guid([1; 16])));
         assert_eq!(disk.state(), Ok(State::BackupOnly));
         assert_eq!(disk.entries().unwrap().as_ptr(), disk.tail.as_ptr());

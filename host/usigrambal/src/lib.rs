@@ -1,6 +1,7 @@
 //! Safe Rust over the C interface of Usigrambal. `raw` has the calls with their numbers; the rest
 //! gives them Rust's types and errors.
 
+mod block;
 mod disk;
 pub mod flash;
 mod guid;
@@ -10,7 +11,8 @@ mod refusal;
 mod refused;
 mod rule;
 
-pub use disk::{Disk, Free, Name, NewPartition, Partition, Placed, Run, State, HEAD_LEN, TAIL_LEN};
+pub use block::BlockSize;
+pub use disk::{Disk, Free, Name, NewPartition, Partition, Placed, Run, State};
 pub use guid::Guid;
 pub use refusal::Refusal;
 pub use refused::{Refused, IMAGE_MAX, TEXT_MAX};

@@ -44,6 +44,7 @@ refusals! {
     1 WrongLength "a lent buffer has a wrong length"
     2 BlockCount "the number of blocks is outside its range"
     3 NoDiskGuid "the disk GUID is all zero"
+    6 BlockSize "the block size is neither 512 nor 4096"
     10 NeitherGood "neither GPT copy is good"
     11 NotTheSame "the GPT copies are not both good and the same"
     12 NoSuchSlot "the partition number is not 1 to 128"

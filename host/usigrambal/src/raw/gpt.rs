@@ -8,6 +8,7 @@ mod c {
             tail: *mut u8,
             tail_len: usize,
             n: u64,
+            block: u64,
             guid: *const u8,
             guid_len: usize,
         ) -> u32;
@@ -17,6 +18,7 @@ mod c {
             tail: *const u8,
             tail_len: usize,
             n: u64,
+            block: u64,
             state: *mut u64,
         ) -> u32;
         pub fn usi_gpt_table(
@@ -25,6 +27,7 @@ mod c {
             tail: *const u8,
             tail_len: usize,
             n: u64,
+            block: u64,
             in_tail: *mut u64,
             offset: *mut u64,
         ) -> u32;
@@ -34,6 +37,7 @@ mod c {
             tail: *const u8,
             tail_len: usize,
             n: u64,
+            block: u64,
             free: *mut u64,
             longest: *mut u64,
         ) -> u32;
@@ -43,6 +47,7 @@ mod c {
             tail: *mut u8,
             tail_len: usize,
             n: u64,
+            block: u64,
             kind: *const u8,
             kind_len: usize,
             unique: *const u8,
@@ -60,6 +65,7 @@ mod c {
             tail: *mut u8,
             tail_len: usize,
             n: u64,
+            block: u64,
             slot: u64,
         ) -> u32;
         pub fn usi_gpt_resize(
@@ -68,6 +74,7 @@ mod c {
             tail: *mut u8,
             tail_len: usize,
             n: u64,
+            block: u64,
             slot: u64,
             size: u64,
         ) -> u32;
@@ -77,6 +84,7 @@ mod c {
             tail: *mut u8,
             tail_len: usize,
             n: u64,
+            block: u64,
             slot: u64,
             name: *const u16,
             name_units: usize,
@@ -87,6 +95,7 @@ mod c {
             tail: *mut u8,
             tail_len: usize,
             n: u64,
+            block: u64,
             state: *mut u64,
         ) -> u32;
     }
@@ -105,28 +114,31 @@ pub struct NewPartition<'a> {
 // Safety of every call below: each pointer and length come from one slice, each answer's pointer
 // from one reference, and nothing behind a `&mut` is shared with another argument.
 
-pub fn gpt_format(head: &mut [u8], tail: &mut [u8], n: u64, guid: &[u8]) -> u32 {
+pub fn gpt_format(head: &mut [u8], tail: &mut [u8], n: u64, block: u64, guid: &[u8]) -> u32 {
     let (head_len, tail_len) = (head.len(), tail.len());
     let (head, tail) = (head.as_mut_ptr(), tail.as_mut_ptr());
-    unsafe { c::usi_gpt_format(head, head_len, tail, tail_len, n, guid.as_ptr(), guid.len()) }
+    unsafe { c::usi_gpt_format(head, head_len, tail, tail_len, n, block, guid.as_ptr(), guid.len()) }
 }
 
-pub fn gpt_read(head: &[u8], tail: &[u8], n: u64, state: &mut u64) -> u32 {
-    unsafe { c::usi_gpt_read(head.as_ptr(), head.len(), tail.as_ptr(), tail.len(), n, state) }
+pub fn gpt_read(head: &[u8], tail: &[u8], n: u64, block: u64, state: &mut u64) -> u32 {
+    unsafe { c::usi_gpt_read(head.as_ptr(), head.len(), tail.as_ptr(), tail.len(), n, block, state) }
 }
 
-pub fn gpt_table(head: &[u8], tail: &[u8], n: u64, in_tail: &mut u64, offset: &mut u64) -> u32 {
-    unsafe { c::usi_gpt_table(head.as_ptr(), head.len(), tail.as_ptr(), tail.len(), n, in_tail, offset) }
+pub fn gpt_table(head: &[u8], tail: &[u8], n: u64, block: u64, in_tail: &mut u64, offset: &mut u64) -> u32 {
+    unsafe {
+        c::usi_gpt_table(head.as_ptr(), head.len(), tail.as_ptr(), tail.len(), n, block, in_tail, offset)
+    }
 }
 
-pub fn gpt_free(head: &[u8], tail: &[u8], n: u64, free: &mut u64, longest: &mut u64) -> u32 {
-    unsafe { c::usi_gpt_free(head.as_ptr(), head.len(), tail.as_ptr(), tail.len(), n, free, longest) }
+pub fn gpt_free(head: &[u8], tail: &[u8], n: u64, block: u64, free: &mut u64, longest: &mut u64) -> u32 {
+    unsafe { c::usi_gpt_free(head.as_ptr(), head.len(), tail.as_ptr(), tail.len(), n, block, free, longest) }
 }
 
 pub fn gpt_add(
     head: &mut [u8],
     tail: &mut [u8],
     n: u64,
+    block: u64,
     new: &NewPartition,
     slot: &mut u64,
     first: &mut u64,
@@ -138,6 +150,7 @@ pub fn gpt_add(
             tail.as_mut_ptr(),
             tail.len(),
             n,
+            block,
             new.kind.as_ptr(),
             new.kind.len(),
             new.unique.as_ptr(),
@@ -152,20 +165,24 @@ pub fn gpt_add(
     }
 }
 
-pub fn gpt_delete(head: &mut [u8], tail: &mut [u8], n: u64, slot: u64) -> u32 {
-    unsafe { c::usi_gpt_delete(head.as_mut_ptr(), head.len(), tail.as_mut_ptr(), tail.len(), n, slot) }
+pub fn gpt_delete(head: &mut [u8], tail: &mut [u8], n: u64, block: u64, slot: u64) -> u32 {
+    unsafe { c::usi_gpt_delete(head.as_mut_ptr(), head.len(), tail.as_mut_ptr(), tail.len(), n, block, slot) }
 }
 
-pub fn gpt_resize(head: &mut [u8], tail: &mut [u8], n: u64, slot: u64, size: u64) -> u32 {
-    unsafe { c::usi_gpt_resize(head.as_mut_ptr(), head.len(), tail.as_mut_ptr(), tail.len(), n, slot, size) }
+pub fn gpt_resize(head: &mut [u8], tail: &mut [u8], n: u64, block: u64, slot: u64, size: u64) -> u32 {
+    unsafe {
+        c::usi_gpt_resize(head.as_mut_ptr(), head.len(), tail.as_mut_ptr(), tail.len(), n, block, slot, size)
+    }
 }
 
-pub fn gpt_rename(head: &mut [u8], tail: &mut [u8], n: u64, slot: u64, name: &[u16]) -> u32 {
+pub fn gpt_rename(head: &mut [u8], tail: &mut [u8], n: u64, block: u64, slot: u64, name: &[u16]) -> u32 {
     let (head_len, tail_len) = (head.len(), tail.len());
     let (head, tail) = (head.as_mut_ptr(), tail.as_mut_ptr());
-    unsafe { c::usi_gpt_rename(head, head_len, tail, tail_len, n, slot, name.as_ptr(), name.len()) }
+    unsafe { c::usi_gpt_rename(head, head_len, tail, tail_len, n, block, slot, name.as_ptr(), name.len()) }
 }
 
-pub fn gpt_repair(head: &mut [u8], tail: &mut [u8], n: u64, state: &mut u64) -> u32 {
-    unsafe { c::usi_gpt_repair(head.as_mut_ptr(), head.len(), tail.as_mut_ptr(), tail.len(), n, state) }
+pub fn gpt_repair(head: &mut [u8], tail: &mut [u8], n: u64, block: u64, state: &mut u64) -> u32 {
+    unsafe {
+        c::usi_gpt_repair(head.as_mut_ptr(), head.len(), tail.as_mut_ptr(), tail.len(), n, block, state)
+    }
 }
