@@ -5,8 +5,8 @@ use gpt_calls::Done;
 use gpt_calls::Reading;
 use gpt_model::NewPartition;
 use gpt_model::Shape;
+use gpt_places::BlockSize;
 use gpt_places::Side;
-use gpt_places::Sized;
 ghost use mathlib.Core.Path.{_≡_};
 ghost use mathlib.Core.List.{[], _∷_};
 ghost use lib.ListN.{length};
@@ -145,8 +145,8 @@ fn wrong_length(block: u64) -> u32
     ensures { λ r. ⌜ r ≡ lengthNumber (shapeOf block) ⌝ }
 {
     match gpt_places::shape_of(block) {
-        Sized::Of(_) => 1,
-        Sized::Other => 6,
+        BlockSize::Known(_) => 1,
+        BlockSize::Other => 6,
     }
 }
 
@@ -302,7 +302,7 @@ pub extern "C" fn usi_gpt_table(
         ≡ gptEffect (now (in_tail .entry) ∷ now (offset .entry) ∷ []) (tablePlaceBy block n (now (head .entry)) (now (tail .entry))) ⌝ }
 {
     match gpt_places::shape_of(block) {
-        Sized::Of(shape) => place(gpt::read(head, tail, n, block), shape, in_tail, offset),
-        Sized::Other => 6,
+        BlockSize::Known(shape) => place(gpt::read(head, tail, n, block), shape, in_tail, offset),
+        BlockSize::Other => 6,
     }
 }

@@ -136,7 +136,7 @@ pub fn update_short(near: &[u32; 256], state: u32, s: &[u8]) -> u32
     update_words(near, state, s, 0)
 }
 
-// The lanes are c0 to c3: each is still to be added to its next word, at i, j, k and l. At the end they join, one word after the other.
+// The lanes are c0 to c3; each is still to be added to its next word, at i, j, k and l. At the end they join, one word after the other.
 fn update_long(near: &[u32; 256], far: &[u32; 2048], state: u32, s: &[u8]) -> u32
     requires { ⌜ Near (now near) × Far (now far) × (32 ≤ length (now s)) ⌝ }
     ensures { λ r. ⌜ r ≡ crcUpdate state (now (s .entry)) ⌝ }

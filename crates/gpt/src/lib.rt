@@ -8,7 +8,7 @@ use gpt_calls::Done;
 use gpt_calls::Reading;
 use gpt_checks::Refusal;
 use gpt_model::NewPartition;
-use gpt_places::Sized;
+use gpt_places::BlockSize;
 ghost use mathlib.Core.Path.{_≡_};
 ghost use Rattle.gpt_model.specs.Calls.{outcome, read as readCall, freeCounts, repair as repairCall, edit};
 ghost use Rattle.gpt_model.specs.Calls.{add as addCall, delete as deleteCall, resize as resizeCall, rename as renameCall};
@@ -45,8 +45,8 @@ pub fn format(head: &mut [u8], tail: &mut [u8], n: u64, block: u64, guid: [u8; 1
         ≡ formatBy block n guid (now (head .entry)) (now (tail .entry)) ⌝ }
 {
     match gpt_places::shape_of(block) {
-        Sized::Of(shape) => gpt_calls::format(head, tail, n, shape, guid),
-        Sized::Other => Done::Refused(Refusal::BlockSize),
+        BlockSize::Known(shape) => gpt_calls::format(head, tail, n, shape, guid),
+        BlockSize::Other => Done::Refused(Refusal::BlockSize),
     }
 }
 
@@ -56,8 +56,8 @@ pub fn read(head: &[u8], tail: &[u8], n: u64, block: u64) -> Reading
         ≡ stepBy block n (now (head .entry)) (now (tail .entry)) readCall ⌝ }
 {
     match gpt_places::shape_of(block) {
-        Sized::Of(shape) => gpt_calls::read(head, tail, n, shape),
-        Sized::Other => Reading::Refused(Refusal::BlockSize),
+        BlockSize::Known(shape) => gpt_calls::read(head, tail, n, shape),
+        BlockSize::Other => Reading::Refused(Refusal::BlockSize),
     }
 }
 
@@ -67,8 +67,8 @@ pub fn delete(head: &mut [u8], tail: &mut [u8], n: u64, block: u64, slot: u64) -
         ≡ stepBy block n (now (head .entry)) (now (tail .entry)) (edit (deleteCall slot)) ⌝ }
 {
     match gpt_places::shape_of(block) {
-        Sized::Of(shape) => gpt_calls::delete(head, tail, n, shape, slot),
-        Sized::Other => Done::Refused(Refusal::BlockSize),
+        BlockSize::Known(shape) => gpt_calls::delete(head, tail, n, shape, slot),
+        BlockSize::Other => Done::Refused(Refusal::BlockSize),
     }
 }
 
@@ -78,8 +78,8 @@ pub fn add(head: &mut [u8], tail: &mut [u8], n: u64, block: u64, p: NewPartition
         ≡ stepBy block n (now (head .entry)) (now (tail .entry)) (edit (addCall p)) ⌝ }
 {
     match gpt_places::shape_of(block) {
-        Sized::Of(shape) => gpt_calls::add(head, tail, n, shape, p),
-        Sized::Other => Added::Refused(Refusal::BlockSize),
+        BlockSize::Known(shape) => gpt_calls::add(head, tail, n, shape, p),
+        BlockSize::Other => Added::Refused(Refusal::BlockSize),
     }
 }
 
@@ -89,8 +89,8 @@ pub fn resize(head: &mut [u8], tail: &mut [u8], n: u64, block: u64, slot: u64, s
         ≡ stepBy block n (now (head .entry)) (now (tail .entry)) (edit (resizeCall slot size)) ⌝ }
 {
     match gpt_places::shape_of(block) {
-        Sized::Of(shape) => gpt_calls::resize(head, tail, n, shape, slot, size),
-        Sized::Other => Done::Refused(Refusal::BlockSize),
+        BlockSize::Known(shape) => gpt_calls::resize(head, tail, n, shape, slot, size),
+        BlockSize::Other => Done::Refused(Refusal::BlockSize),
     }
 }
 
@@ -107,8 +107,8 @@ pub fn rename(
         ≡ stepBy block n (now (head .entry)) (now (tail .entry)) (edit (renameCall slot name)) ⌝ }
 {
     match gpt_places::shape_of(block) {
-        Sized::Of(shape) => gpt_calls::rename(head, tail, n, shape, slot, name),
-        Sized::Other => Done::Refused(Refusal::BlockSize),
+        BlockSize::Known(shape) => gpt_calls::rename(head, tail, n, shape, slot, name),
+        BlockSize::Other => Done::Refused(Refusal::BlockSize),
     }
 }
 
@@ -118,8 +118,8 @@ pub fn repair(head: &mut [u8], tail: &mut [u8], n: u64, block: u64) -> Reading
         ≡ stepBy block n (now (head .entry)) (now (tail .entry)) repairCall ⌝ }
 {
     match gpt_places::shape_of(block) {
-        Sized::Of(shape) => gpt_calls::repair(head, tail, n, shape),
-        Sized::Other => Reading::Refused(Refusal::BlockSize),
+        BlockSize::Known(shape) => gpt_calls::repair(head, tail, n, shape),
+        BlockSize::Other => Reading::Refused(Refusal::BlockSize),
     }
 }
 
@@ -129,8 +129,8 @@ pub fn entries<'a>(head: &'a [u8], tail: &'a [u8], block: u64, found: Reading) -
     ensures { λ r. ⌜ handed (now r) (r .ptr) ≡ entriesBy block (now (head .entry)) (now (tail .entry)) (head .entry .ptr) (tail .entry .ptr) found ⌝ }
 {
     match gpt_places::shape_of(block) {
-        Sized::Of(shape) => gpt_calls::entries(head, tail, shape, found),
-        Sized::Other => &head[0..0],
+        BlockSize::Known(shape) => gpt_calls::entries(head, tail, shape, found),
+        BlockSize::Other => &head[0..0],
     }
 }
 
@@ -147,7 +147,7 @@ pub fn free_counts(head: &[u8], tail: &[u8], n: u64, block: u64) -> Counted
         ≡ stepBy block n (now (head .entry)) (now (tail .entry)) freeCounts ⌝ }
 {
     match gpt_places::shape_of(block) {
-        Sized::Of(shape) => gpt_calls::free_counts(head, tail, n, shape),
-        Sized::Other => Counted::Refused(Refusal::BlockSize),
+        BlockSize::Known(shape) => gpt_calls::free_counts(head, tail, n, shape),
+        BlockSize::Other => Counted::Refused(Refusal::BlockSize),
     }
 }

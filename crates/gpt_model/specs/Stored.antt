@@ -68,7 +68,8 @@ pub record HeaderSays (own other first last table : ℕ) (es x : List ℕ) : Typ
   -- 88 CRC of all 16,384 entry bytes
   pub entriesCrc : part 88 4 x ≡ le 4 (crc32 es)
 
--- ---- head and tail. At 512-byte blocks the first usable block is 34: the head's header stands at byte 512, its entries at 1,024
+-- ---- head and tail. At 512-byte blocks the first usable block is 34: the head's header stands at byte 512, its entries at 1,024. At 4,096-byte blocks
+-- these are 6, 4,096 and 8,192
 
 -- the head: block 0, the header's block, the entries. D2: The primary header is block 1 with entries from 2
 abbrev pub HeadGood : Shape → ℕ → List ℕ → Type 0
@@ -124,6 +125,7 @@ pub record FormatSays (g : Shape) (n : ℕ) (guid h t : List ℕ) : Type 0 where
   pub at458 : part 458 4 h ≡ le 4 (n - 1)
   pub at462 : part 462 48 h ≡ zeros 48
   pub at510 : part 510 2 h ≡ 0x55 ∷ 0xAA ∷ []
+  -- l2: and zero after
   pub at512 : part 512 (g .block - 512) h ≡ zeros (g .block - 512)
 
 -- ---- what an edit writes into the table

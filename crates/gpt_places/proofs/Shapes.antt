@@ -7,8 +7,8 @@ use Rattle.gpt_model.specs.Disk.{Shape, disk512, disk4096}
 use Rattle.gpt_model.specs.Sizes.{shapeOf}
 use Rattle.gpt_model.proofs.Sizes.{by-size}
 use Rattle.gpt_places.specs.Shapes.{Legal, shapeBy}
-use Rattle.gpt_places.specs.declared.Sized.{Sized}
-use Rattle.gpt_places.specs.declared.Sized.the-variants.{Of, Other}
+use Rattle.gpt_places.specs.declared.BlockSize.{BlockSize}
+use Rattle.gpt_places.specs.declared.BlockSize.the-variants.{Known, Other}
 
 legal512 : Legal disk512
 legal512 = record { wide = omega arith; narrow = omega arith; behind = omega arith; some = omega arith }
@@ -19,8 +19,8 @@ legal4096 = record { wide = omega arith; narrow = omega arith; behind = omega ar
 pub shape-legal : (size : ℕ) (g : Shape) → shapeOf size ≡ some g → Legal g
 shape-legal = by-size (λ size g. Legal g) legal512 legal4096
 
-pub sized : {q : Option Shape} (s : Sized) (g : Shape) → s ≡ Of g → shapeBy s ≡ q → q ≡ some g
+pub sized : {q : Option Shape} (s : BlockSize) (g : Shape) → s ≡ Known g → shapeBy s ≡ q → q ≡ some g
 sized s g p q = sym q ∙ ap shapeBy p
 
-pub unsized : {q : Option Shape} (s : Sized) → s ≡ Other → shapeBy s ≡ q → q ≡ none
+pub unsized : {q : Option Shape} (s : BlockSize) → s ≡ Other → shapeBy s ≡ q → q ≡ none
 unsized s p q = sym q ∙ ap shapeBy p

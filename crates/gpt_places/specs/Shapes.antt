@@ -3,8 +3,8 @@ use mathlib.Core.Option.{Option, none, some}
 use Prim.Native.Nat.{ℕ, _*_, _≤_}
 use Rattle.gpt_model.specs.Table.{tableBytes}
 use Rattle.gpt_model.specs.Disk.{Shape, mostBlocks}
-use Rattle.gpt_places.specs.declared.Sized.{Sized}
-use Rattle.gpt_places.specs.declared.Sized.the-variants.{Of, Other}
+use Rattle.gpt_places.specs.declared.BlockSize.{BlockSize}
+use Rattle.gpt_places.specs.declared.BlockSize.the-variants.{Known, Other}
 
 -- l2: Block 0 is as before in its first 512 bytes
 abbrev pub bootBytes : ℕ
@@ -22,6 +22,6 @@ pub record Fits (g : Shape) (n : ℕ) : Type 0 where
   pub legal : Legal g
   pub least : 2 * g .first ≤ n
 
-abbrev pub shapeBy : Sized → Option Shape
-shapeBy (Of g) = some g
+abbrev pub shapeBy : BlockSize → Option Shape
+shapeBy (Known g) = some g
 shapeBy Other = none

@@ -27,28 +27,28 @@ pub const ENTRY: usize = 128;
 pub const TABLE: usize = SLOTS * ENTRY;
 
 // The shape that a block size has, if it has one.
-pub enum Sized {
-    Of(Shape),
+pub enum BlockSize {
+    Known(Shape),
     Other,
 }
 
 // Q1: A disk has 512-byte blocks. D1: first usable 34. l1: usable blocks run from 6 to N−6. The numbers of a shape stand here alone.
-pub fn shape_of(block: u64) -> Sized
+pub fn shape_of(block: u64) -> BlockSize
     ensures { λ r. ⌜ shapeBy r ≡ shapeOf block ⌝ }
 {
     if block == 512 {
-        return Sized::Of(Shape {
+        return BlockSize::Known(Shape {
             block: 512,
             first: 34,
         });
     }
     if block == 4096 {
-        return Sized::Of(Shape {
+        return BlockSize::Known(Shape {
             block: 4096,
             first: 6,
         });
     }
-    Sized::Other
+    BlockSize::Other
 }
 
 pub enum Side {

@@ -21,10 +21,10 @@ pub fn described(architecture: &str) -> Vec<(String, bool)> {
         .collect()
 }
 
-/// A rule's number: a letter and digits.
+/// A rule's number: a letter and digits. A small letter is that of a change which was asked for later.
 pub fn is_number(word: &str) -> bool {
     let (letter, digits) = word.split_at(word.len().min(1));
-    letter.bytes().all(|b| b.is_ascii_uppercase())
+    letter.bytes().all(|b| b.is_ascii_alphabetic())
         && !digits.is_empty()
         && digits.bytes().all(|b| b.is_ascii_digit())
 }
@@ -44,6 +44,7 @@ mod tests {
         assert_eq!(crates("# NAME: imports\na:\nb: a io\n"), ["a", "b"]);
         let table = "x\n| crate | says | callable |\n|---|---|---|\n| `a` | b | no (inner) |\n| `c` | d | yes |\n\n| `e` | f | yes |\n";
         assert_eq!(described(table), [("a".to_string(), false), ("c".to_string(), true)]);
-        assert_eq!(rules("| No. | Sentence |\n|---|---|\n| E1 | Wrong. | x |\n"), [("E1", "Wrong.")]);
+        let table = "| No. | Sentence |\n|---|---|\n| E1 | Wrong. | x |\n| l7 | 6. | x |\n| `W9` | no rule | x |\n";
+        assert_eq!(rules(table), [("E1", "Wrong."), ("l7", "6.")]);
     }
 }
