@@ -1,5 +1,6 @@
 //! What the tests are made of: other tools, bytes that they made (`fixtures/`), drawn inputs.
 
+pub mod device;
 pub mod disk;
 pub mod disk_calls;
 pub mod edit;

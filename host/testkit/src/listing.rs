@@ -87,7 +87,8 @@ fn sfdisk_one(slot: &str, fields: &str) -> Partition {
     let first: u64 = pairs["start"].parse().expect("a block number");
     let size: u64 = pairs["size"].parse().expect("a number of blocks");
     Partition {
-        slot: slot.trim().parse().expect("a slot"),
+        // A device whose name ends in a digit has a letter before the slot.
+        slot: slot.trim().trim_start_matches('p').parse().expect("a slot"),
         first,
         last: first + size - 1,
         kind: pairs["type"].to_string(),
