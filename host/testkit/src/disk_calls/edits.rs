@@ -16,6 +16,8 @@ const CGPT_BITS: u64 = 0xFFFF_0000_0000_0005;
 #[derive(Clone, Copy)]
 struct Tool {
     by: fn(&Path, &[Edit]),
+    /// So many bytes of a header's block, at most, stay as they were.
+    keeps: usize,
     likewise: fn(&Calls, &Disk, &Edit) -> bool,
 }
 
@@ -40,7 +42,7 @@ fn compared(
     let mut ours = calls.formatted(shape, plan.n, DISK_GUID);
     // Bytes that no edit touches: block 0 before its record, and the rest of the header blocks.
     ours.head[..440].copy_from_slice(&random.bytes(440));
-    let rest = HEADER_LEN..shape.block as usize;
+    let rest = HEADER_LEN..tool.keeps.min(shape.block as usize);
     for header in [&mut ours.head[shape.header_in_head()..], &mut ours.tail[shape.header_in_tail()..]] {
         header[rest.clone()].copy_from_slice(&random.bytes(rest.len()));
     }
@@ -91,7 +93,7 @@ pub fn sgdisk_makes_the_same_bytes(calls: &Calls) {
         return;
     }
     let plan = |n, edits| Plan { n, groups: 2, edits };
-    let tool = Tool { by: tool::sgdisk, likewise: |_, _, _| true };
+    let tool = Tool { by: tool::sgdisk, keeps: 512, likewise: |_, _, _| true };
     same_bytes(calls, &tool, |shape| {
         vec![plan(100, 8), plan(5000, 30), plan(65_536, 30), plan(largest(shape), 20)]
     });
@@ -109,6 +111,7 @@ pub fn sfdisk_makes_the_same_bytes(calls: &Calls) {
     }
     let tool = Tool {
         by: |image, edits| edits.iter().for_each(|edit| tool::sfdisk(image, edit)),
+        keeps: usize::MAX,
         likewise: |_, _, edit| !matches!(edit, Edit::Add(new) if new.attributes & !SFDISK_BITS != 0),
     };
     same_bytes(calls, &tool, |shape| singly(shape, 8));
@@ -120,6 +123,7 @@ pub fn cgpt_makes_the_same_bytes(calls: &Calls) {
     }
     let tool = Tool {
         by: |image, edits| edits.iter().for_each(|edit| tool::cgpt(image, edit)),
+        keeps: usize::MAX,
         likewise: cgpt_likewise,
     };
     same_bytes(calls, &tool, |shape| singly(shape, 100));

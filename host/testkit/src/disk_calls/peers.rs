@@ -7,9 +7,12 @@ use crate::peer;
 use crate::random::Random;
 use std::path::Path;
 
+/// From the smallest disk to 2 TiB, three of them between 3 blocks more and 4 MiB.
 fn block_counts(shape: Shape) -> [u64; 6] {
-    let least = shape.least_blocks();
-    [least, least + 32, 2048, 5001, 65_536, largest(shape)]
+    match shape.block {
+        512 => [68, 100, 2048, 5001, 65_536, largest(shape)],
+        _ => [12, 44, 500, 1000, 65_536, largest(shape)],
+    }
 }
 
 /// Bytes of an entry: type, unique GUID, first, last, attribute bit 48, name.
@@ -211,15 +214,18 @@ impl Calls {
     }
 }
 
-/// Where a one-block partition stands on the last usable block, sgdisk may count that block as free.
+/// Where a one-block partition stands on the last usable block, or before a partition of a lower slot, sgdisk may count
+/// that block as free.
 pub fn sgdisk_counts_the_same_free_blocks(calls: &Calls) {
     if !peer::present("sgdisk", "gdisk") {
         return;
     }
     for shape in shapes() {
         calls.counted_by(shape, listing::sgdisk_free, |disk| {
-            let last = disk.n - shape.first_usable;
-            calls.table(disk).iter().all(|row| row.first != last)
+            let (last, rows) = (disk.n - shape.first_usable, calls.table(disk));
+            let before_lower =
+                |row: &Partition| rows.iter().any(|r| r.slot < row.slot && r.first == row.first + 1);
+            rows.iter().all(|row| row.first != last && !before_lower(row))
         });
         let mut disk = calls.formatted(shape, shape.least_blocks() + 32, DISK_GUID);
         let mut random = Random::new(1);
@@ -244,12 +250,16 @@ pub fn sfdisk_counts_the_same_free_blocks(calls: &Calls) {
             counted.contains(&disk.n) && at_end != 2 && calls.runs(disk).all(|run| run != 1)
         });
     }
-    for (n, theirs) in [(68, 0), (70, 0), (71, 4), (8192, 8125), (8193, 6112)] {
-        let disk = calls.formatted(Shape::of(512), n, DISK_GUID);
-        assert_eq!(
-            (calls.free_blocks(&disk).0, listing::sfdisk_free(&disk.image().path).0),
-            (n - 67, theirs)
-        );
+    for shape in shapes() {
+        let counts = match shape.block {
+            512 => [(68, 0), (70, 0), (71, 4), (8192, 8125), (8193, 6112)],
+            _ => [(12, 0), (14, 0), (15, 4), (1024, 1013), (1025, 764)],
+        };
+        for (n, theirs) in counts {
+            let disk = calls.formatted(shape, n, DISK_GUID);
+            let found = (calls.free_blocks(&disk).0, listing::sfdisk_free(&disk.image().path).0);
+            assert_eq!(found, (shape.usable(n), theirs), "N {n}, {shape:?}");
+        }
     }
 }
 
