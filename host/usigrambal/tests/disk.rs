@@ -25,7 +25,7 @@ testkit::disk_tests!(CALLS);
 
 /// A call of the wrapper on the disk.
 fn on<T>(disk: &mut Disk, call: impl FnOnce(&mut usigrambal::Disk) -> Result<T, Refused>) -> Result<T, u32> {
-    let block = disk.block.try_into().expect("a block size");
+    let block = disk.block.try_into().map_err(|refused: Refused| refused.number())?;
     let (head, tail) = (disk.head.as_mut_slice(), disk.tail.as_mut_slice());
     call(&mut usigrambal::Disk { head, tail, n: disk.n, block }).map_err(|refused| refused.number())
 }

@@ -1,10 +1,12 @@
-//! What an implementation of the disk calls is held to: the fixtures, and other tools on the same disks.
+//! What an implementation of the disk calls is held to: samples, the fixtures, and other tools on the same disks.
 
 mod edits;
 mod peers;
+mod samples;
 
 pub use edits::*;
 pub use peers::*;
+pub use samples::*;
 
 use crate::device;
 use crate::disk::{Disk, Shape, ENTRIES_LEN, HEADER_LEN, SHAPES};
@@ -48,6 +50,9 @@ macro_rules! disk_tests {
             disk_calls,
             $calls,
             [
+                samples_at_each_block_size,
+                formatting_writes_all_of_head_and_tail,
+                another_block_size_is_refused_first,
                 fixtures_read_as_their_tool_said,
                 sgdisk_lists_the_same,
                 sfdisk_lists_the_same,
