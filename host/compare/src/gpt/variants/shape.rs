@@ -43,10 +43,11 @@ fn names() -> Vec<Variant> {
     variants.extend([
         variant("blocks-of-512-refused", "02.l3", |r| r.gpt.shapes[0].named_min = 513),
         variant("blocks-of-4096-refused", "02.l3", |r| r.gpt.shapes[1].named_min = 4097),
-        variant("block-sizes-exchanged", "02.l3", |r| r.gpt.shapes.swap(0, 1)),
-        variant("always-blocks-of-512", "02.l3", |r| {
-            (r.gpt.shapes[1], r.gpt.shapes[1].named_min) = (r.gpt.shapes[0], 4096)
+        variant("block-sizes-exchanged", "02.l3", |r| {
+            r.gpt.shapes = [named(SHAPES[0], 4096), named(SHAPES[1], 512)];
         }),
+        variant("always-blocks-of-512", "02.l3", |r| r.gpt.shapes[1] = named(SHAPES[0], 4096)),
+        variant("always-blocks-of-4096", "02.l3", |r| r.gpt.shapes[0] = named(SHAPES[1], 512)),
         variant("block-size-of-32-bits", "02.l7", |r| r.gpt.block_size_mask = 0xFFFF_FFFF),
         variant("block-size-of-16-bits", "02.l7", |r| r.gpt.block_size_mask = 0xFFFF),
         variant("format-BlockSize-last", "02.l7", |r| r.gpt.format_order = last(r.gpt.format_order)),
@@ -54,6 +55,10 @@ fn names() -> Vec<Variant> {
         variant("add-BlockSize-last", "02.l7", |r| r.gpt.add_order = last(r.gpt.add_order)),
     ]);
     variants
+}
+
+fn named(shape: Shape, block: u64) -> Shape {
+    Shape { named_min: block, named_max: block, ..shape }
 }
 
 /// The order with the row of the block size at its end.
