@@ -1,6 +1,5 @@
 //! Files as block devices, whose blocks can have another size than the 512 bytes that tools take for a file's.
 
-use std::io::Write;
 use std::path::{Path, PathBuf};
 use std::process::Command;
 use std::sync::OnceLock;
@@ -50,8 +49,7 @@ pub fn present() -> bool {
         std::fs::write(&scratch.path, [0; 1 << 16]).unwrap_or_else(|error| panic!("{error}"));
         let found = attached(&scratch.path, 4096, Duration::from_secs(3)).is_some();
         if !found {
-            // Past the test's own output, which is not shown where it passes.
-            let _ = writeln!(std::io::stdout(), "skipped: loop devices with blocks of 4096 bytes");
+            crate::skipped("loop devices with blocks of 4096 bytes");
         }
         found
     })

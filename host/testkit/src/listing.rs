@@ -305,5 +305,7 @@ mod tests {
         let found = sfdisk_one("7", row);
         assert_eq!((found.slot, found.first, found.last), (7, 34, 43));
         assert_eq!((found.name.as_str(), found.attributes), ("a, b", 1 << 60));
+        // Of a device such as /dev/loop0.
+        assert_eq!(sfdisk_one("p128", row).slot, 128);
     }
 }

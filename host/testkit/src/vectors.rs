@@ -52,14 +52,14 @@ fn hex(digits: &str) -> Vec<u8> {
 pub struct Calls {
     pub crc32: fn(&[u8]) -> u32,
     /// Answers 0 and the other answers in words, or the refusal's number.
-    pub call: fn(&mut [u8], &mut [u8], &Call) -> (u32, String),
+    pub call: fn(&mut Lent, &Call) -> (u32, String),
 }
 
 /// Head and tail of the case that is run.
 #[derive(Default)]
-struct Lent {
-    head: Vec<u8>,
-    tail: Vec<u8>,
+pub struct Lent {
+    pub head: Vec<u8>,
+    pub tail: Vec<u8>,
 }
 
 impl Lent {
@@ -88,7 +88,7 @@ impl Lent {
 
     /// What the call of the line comes to, in the words of the line.
     fn outcome(&mut self, calls: &Calls, call: &str) -> String {
-        let (number, answers) = (calls.call)(&mut self.head, &mut self.tail, &Call::new(call));
+        let (number, answers) = (calls.call)(self, &Call::new(call));
         let answer = match number {
             0 => format!("accepted {answers}"),
             number => format!("refused {number}"),
@@ -103,28 +103,28 @@ fn lines() -> Option<String> {
     let named = env::var_os(FOLDER).map(PathBuf::from);
     let folder = named.clone().unwrap_or_else(|| crate::host().join("../../shared/vectors"));
     if named.is_none() && !folder.exists() {
-        println!("skipped: {FILE}: no folder {}", folder.display());
+        crate::skipped(&format!("{FILE}: no folder {}", folder.display()));
         return None;
     }
     let path = folder.join(FILE);
     Some(fs::read_to_string(&path).unwrap_or_else(|error| panic!("{}: {error}", path.display())))
 }
 
-/// Every call of every case comes to what its line says; of each case that differs, the first line is told.
+/// Every call of every case comes to what its line says; of a case that differs, the first such line is told.
 pub fn disk_calls_come_to_the_same(calls: &Calls) {
     let Some(lines) = lines() else { return };
     let (mut lent, mut compared, mut different) = (Lent::default(), 0, Vec::new());
-    let mut case = Ok("");
+    let (mut case, mut differs) = ("", false);
     for (line, number) in lines.lines().zip(1..) {
         if line.starts_with("case ") {
-            case = Ok(line);
-        } else if case.is_ok() && !line.starts_with('#') && !lent.is_changed_by(line) {
+            (case, differs) = (line, false);
+        } else if !differs && !line.starts_with('#') && !lent.is_changed_by(line) {
             let (call, expected) = line.split_once(" => ").expect("a call and its outcome");
             let outcome = lent.outcome(calls, call);
             compared += 1;
-            if outcome != expected {
-                different.push(format!("{case:?}, line {number}: {outcome}, not {expected}\n{call}"));
-                case = Err(());
+            differs = outcome != expected;
+            if differs {
+                different.push(format!("{case}, line {number}: {outcome}, not {expected}\n{call}"));
             }
         }
     }

@@ -1,13 +1,13 @@
 //! The disk calls of the C interface on cases that another implementation made.
 
-use testkit::vectors::{Call, Calls};
+use testkit::vectors::{Call, Calls, Lent};
 use usigrambal::raw;
 
 const CALLS: Calls = Calls { crc32: usigrambal::crc32, call };
 
 testkit::vector_tests!(CALLS);
 
-fn call(head: &mut [u8], tail: &mut [u8], call: &Call) -> (u32, String) {
+fn call(Lent { head, tail }: &mut Lent, call: &Call) -> (u32, String) {
     let (n, block) = (call.number("n"), call.number("block_size"));
     let (mut a, mut b) = (0, 0);
     match call.name {

@@ -1,3 +1,4 @@
+use crate::bytes::part;
 use crate::rules::{CopyPlace, Place, Rules, Shape, Which};
 
 pub const BOTH: [Which; 2] = [Which::Primary, Which::Backup];
@@ -65,7 +66,7 @@ impl<'a> Geometry<'a> {
 
     /// D9: the bytes after the header that begins `block`, to the end of its block.
     pub fn header_tail<'b>(&self, block: &'b [u8]) -> &'b [u8] {
-        crate::bytes::part(block, self.rules.gpt.header_len, self.header_tail_len())
+        part(block, self.rules.gpt.header_len, self.header_tail_len())
     }
 
     pub fn header_tail_len(&self) -> usize {
