@@ -103,7 +103,7 @@ fn each_disk_target_shows_a_wrong_block_size() {
     let wrong: &[fn(&mut Rules)] = &[
         |r| r.gpt.shapes[0].named_min = 513,
         |r| r.gpt.shapes[1].named_min = 4097,
-        |r| r.gpt.shapes[1].n_min = 13 + 32,
+        |r| r.gpt.shapes[1].n_min = 45,
         |r| r.gpt.shapes[1].n_min = 11,
         |r| r.refusals.renumber(Row::BlockSize, 99),
     ];

@@ -36,7 +36,7 @@ pub struct Disk<'a> {
 }
 
 impl<'a> Disk<'a> {
-    /// Where the block size is refused, that row comes before all that is judged by the first shape here.
+    /// A disk whose block size is refused is judged by the first shape; no row after that one is asked.
     pub fn of(rules: &'a Rules, head: &[u8], tail: &[u8], n: u64, block: u64) -> Disk<'a> {
         let named = Geometry::named(rules, n, block);
         let geometry = named.unwrap_or(Geometry { rules, shape: &rules.gpt.shapes[0], n });
