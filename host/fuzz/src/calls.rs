@@ -95,47 +95,47 @@ pub fn usi_fmap_carry(rules: &Rules, input: &mut Input) -> Outcome {
 
 pub fn usi_gpt_format(rules: &Rules, input: &mut Input) -> Outcome {
     let (lengths, guid) = (lengths(input), input.guid());
-    let (n, [head, tail]) = (lengths.n, script(&lengths, input));
+    let (n, block, [head, tail]) = (lengths.n, lengths.block, script(&lengths, input));
     both(
         [head, tail, guid],
-        |[head, tail, guid], []| raw::gpt_format(head, tail, n, guid),
-        |[head, tail, guid], []| second::gpt_format(rules, head, tail, n, guid),
+        |[head, tail, guid], []| raw::gpt_format(head, tail, n, block, guid),
+        |[head, tail, guid], []| second::gpt_format(rules, head, tail, n, block, guid),
     )
 }
 
 pub fn usi_gpt_read(rules: &Rules, input: &mut Input) -> Outcome {
     let lengths = lengths(input);
-    let n = lengths.n;
+    let (n, block) = (lengths.n, lengths.block);
     both(
         script(&lengths, input),
-        |[head, tail], [state]| raw::gpt_read(head, tail, n, state),
-        |[head, tail], [state]| second::gpt_read(rules, head, tail, n, state),
+        |[head, tail], [state]| raw::gpt_read(head, tail, n, block, state),
+        |[head, tail], [state]| second::gpt_read(rules, head, tail, n, block, state),
     )
 }
 
 pub fn usi_gpt_table(rules: &Rules, input: &mut Input) -> Outcome {
     let lengths = lengths(input);
-    let n = lengths.n;
+    let (n, block) = (lengths.n, lengths.block);
     both(
         script(&lengths, input),
-        |[head, tail], [in_tail, offset]| raw::gpt_table(head, tail, n, in_tail, offset),
-        |[head, tail], [in_tail, offset]| second::gpt_table(rules, head, tail, n, in_tail, offset),
+        |[head, tail], [in_tail, offset]| raw::gpt_table(head, tail, n, block, in_tail, offset),
+        |[head, tail], [in_tail, offset]| second::gpt_table(rules, head, tail, n, block, in_tail, offset),
     )
 }
 
 pub fn usi_gpt_free(rules: &Rules, input: &mut Input) -> Outcome {
     let lengths = lengths(input);
-    let n = lengths.n;
+    let (n, block) = (lengths.n, lengths.block);
     both(
         script(&lengths, input),
-        |[head, tail], [free, longest]| raw::gpt_free(head, tail, n, free, longest),
-        |[head, tail], [free, longest]| second::gpt_free(rules, head, tail, n, free, longest),
+        |[head, tail], [free, longest]| raw::gpt_free(head, tail, n, block, free, longest),
+        |[head, tail], [free, longest]| second::gpt_free(rules, head, tail, n, block, free, longest),
     )
 }
 
 pub fn usi_gpt_add(rules: &Rules, input: &mut Input) -> Outcome {
     let lengths = lengths(input);
-    let n = lengths.n;
+    let (n, block) = (lengths.n, lengths.block);
     let (kind, unique) = (input.guid(), input.guid());
     let (size, attributes, name) = (input.number(n), input.number(0), input.name());
     let [head, tail] = script(&lengths, input);
@@ -143,53 +143,53 @@ pub fn usi_gpt_add(rules: &Rules, input: &mut Input) -> Outcome {
         [head, tail, kind, unique, name],
         |[head, tail, kind, unique, name], [slot, first]| {
             let new = raw::NewPartition { kind, unique, size, attributes, name: in_place(name) };
-            raw::gpt_add(head, tail, n, &new, slot, first)
+            raw::gpt_add(head, tail, n, block, &new, slot, first)
         },
         |[head, tail, kind, unique, name], [slot, first]| {
             let new = NewPartition { kind, unique, size, attributes, name: &units(name) };
-            second::gpt_add(rules, head, tail, n, &new, slot, first)
+            second::gpt_add(rules, head, tail, n, block, &new, slot, first)
         },
     )
 }
 
 pub fn usi_gpt_delete(rules: &Rules, input: &mut Input) -> Outcome {
     let (lengths, slot) = (lengths(input), input.number(0));
-    let n = lengths.n;
+    let (n, block) = (lengths.n, lengths.block);
     both(
         script(&lengths, input),
-        |[head, tail], []| raw::gpt_delete(head, tail, n, slot),
-        |[head, tail], []| second::gpt_delete(rules, head, tail, n, slot),
+        |[head, tail], []| raw::gpt_delete(head, tail, n, block, slot),
+        |[head, tail], []| second::gpt_delete(rules, head, tail, n, block, slot),
     )
 }
 
 pub fn usi_gpt_resize(rules: &Rules, input: &mut Input) -> Outcome {
     let (lengths, slot) = (lengths(input), input.number(0));
-    let n = lengths.n;
+    let (n, block) = (lengths.n, lengths.block);
     let size = input.number(n);
     both(
         script(&lengths, input),
-        |[head, tail], []| raw::gpt_resize(head, tail, n, slot, size),
-        |[head, tail], []| second::gpt_resize(rules, head, tail, n, slot, size),
+        |[head, tail], []| raw::gpt_resize(head, tail, n, block, slot, size),
+        |[head, tail], []| second::gpt_resize(rules, head, tail, n, block, slot, size),
     )
 }
 
 pub fn usi_gpt_rename(rules: &Rules, input: &mut Input) -> Outcome {
     let (lengths, slot, name) = (lengths(input), input.number(0), input.name());
-    let (n, [head, tail]) = (lengths.n, script(&lengths, input));
+    let (n, block, [head, tail]) = (lengths.n, lengths.block, script(&lengths, input));
     both(
         [head, tail, name],
-        |[head, tail, name], []| raw::gpt_rename(head, tail, n, slot, in_place(name)),
-        |[head, tail, name], []| second::gpt_rename(rules, head, tail, n, slot, &units(name)),
+        |[head, tail, name], []| raw::gpt_rename(head, tail, n, block, slot, in_place(name)),
+        |[head, tail, name], []| second::gpt_rename(rules, head, tail, n, block, slot, &units(name)),
     )
 }
 
 pub fn usi_gpt_repair(rules: &Rules, input: &mut Input) -> Outcome {
     let lengths = lengths(input);
-    let n = lengths.n;
+    let (n, block) = (lengths.n, lengths.block);
     both(
         script(&lengths, input),
-        |[head, tail], [state]| raw::gpt_repair(head, tail, n, state),
-        |[head, tail], [state]| second::gpt_repair(rules, head, tail, n, state),
+        |[head, tail], [state]| raw::gpt_repair(head, tail, n, block, state),
+        |[head, tail], [state]| second::gpt_repair(rules, head, tail, n, block, state),
     )
 }
 

@@ -1,6 +1,8 @@
 //! The first inputs of each target, from the fixtures.
 
+use crate::disk::{ANY_BLOCK_SIZE, OTHER_BLOCK_SIZE};
 use crate::{disk, flash};
+use testkit::disk::{Shape, SHAPES};
 use testkit::fixture;
 
 /// Arguments of a call that come after a disk's lengths, before its script.
@@ -30,17 +32,40 @@ fn disks(call: &str) -> Vec<Vec<u8>> {
             inputs.push([disk::encoded_lengths(&disk), arguments, disk::encoded(&disk)].concat());
         }
     }
-    // An empty disk of 100 blocks, one with a partition of each size to 3 by steps of a script, and two that lend too little.
     for arguments in disk_arguments(call) {
-        let script = [0, 1, 0, 0, 34, 1, 9, 1, 0, 1, 1, 0, 40, 2, 9, 2, 0, 1, 6, 0, 60, 3, 9, 3, 0];
-        inputs.push([&[100, 0, 0], &arguments[..], &[0]].concat());
-        inputs.push([&[100, 0, 0], &arguments[..], &script].concat());
-        inputs.push([&[230, 0, 0], &arguments[..], &[0, 6, 128, 2]].concat());
-        inputs.push([&[100, 0xF6, 0], &arguments[..], &[0]].concat());
-        inputs.push([&[67, 0, 0xFF], &arguments[..], &[0]].concat());
-        inputs.push([&[67, 0, 0], &arguments[..], &[0]].concat());
+        for (tag, shape) in (0..).zip(SHAPES) {
+            inputs.extend(by_scripts(tag, shape, &arguments));
+        }
+        // Block sizes 0, 1024 and 2^64-1, and the one that the disk does not have.
+        for block in [&[ANY_BLOCK_SIZE, 0][..], &[ANY_BLOCK_SIZE, 0xE0, 0, 4], &[ANY_BLOCK_SIZE, 0xE5, 0]] {
+            inputs.push([&[100], block, &[0, 0], &arguments, &[0]].concat());
+        }
+        for tag in [OTHER_BLOCK_SIZE, OTHER_BLOCK_SIZE + 1] {
+            inputs.push([&[100, tag, 0, 0], &arguments[..], &[0]].concat());
+        }
     }
     inputs
+}
+
+/// An empty disk of 33 usable blocks, one with a partition of each size to 3 by steps of a script, one of 230 blocks with
+/// partitions in all slots, and three that are refused for lengths or number of blocks.
+fn by_scripts(tag: u8, shape: Shape, arguments: &[u8]) -> [Vec<u8>; 6] {
+    let (first, least) = (shape.first_usable as u8, shape.least_blocks() as u8);
+    let place = |slot: u8, first: u8, size: u8| [1, slot, 0, first, size, 9, size, 0];
+    let steps = [[0, 0, 1], [1, 6, 2], [6, 26, 3]].map(|[slot, at, size]| place(slot, first + at, size));
+    let script = [&[0], &steps.concat()[..]].concat();
+    let input = |n: u8, lengths: [u8; 2], script: &[u8]| {
+        [&[n, tag, lengths[0], lengths[1]], arguments, script].concat()
+    };
+    let n = least + 32;
+    [
+        input(n, [0, 0], &[0]),
+        input(n, [0, 0], &script),
+        input(230, [0, 0], &[0, 6, 128, 2]),
+        input(n, [0xF6, 0], &[0]),
+        input(least - 1, [0, 0xFF], &[0]),
+        input(least - 1, [0, 0], &[0]),
+    ]
 }
 
 /// Images of 220 bytes by steps of a script, with areas FMAP, A and B, the latter two preserved; then B elsewhere, of another size, none.

@@ -2,13 +2,16 @@
 //! The library makes it, being the faster one; were it wrong there, the two would differ on the disk.
 
 use crate::input::{number, Input};
-use testkit::disk::{Disk, HEAD_LEN, TAIL_LEN};
+use testkit::disk::{Disk, Shape, ENTRIES_LEN, HEADER_LEN, SHAPES};
 use usigrambal::crc32;
 use usigrambal::raw::gpt_format;
 
 const ENTRY_LEN: usize = 128;
-const ENTRIES_LEN: usize = 128 * ENTRY_LEN;
-const HEADER_LEN: usize = 92;
+
+/// The byte that names the block size: any number follows, or else its lowest bit chooses one of the two, by which the
+/// disk is made; with the highest bit the call is told the other one.
+pub const ANY_BLOCK_SIZE: u8 = 0xFF;
+pub const OTHER_BLOCK_SIZE: u8 = 0x80;
 
 /// Bits of the script's first byte.
 const HEAD_UNSEALED: u8 = 1;
@@ -34,16 +37,16 @@ impl Side {
         }
     }
 
-    fn header_at(self) -> usize {
+    fn header_at(self, shape: Shape) -> usize {
         match self {
-            Side::Head => 512,
-            Side::Tail => ENTRIES_LEN,
+            Side::Head => shape.header_in_head(),
+            Side::Tail => shape.header_in_tail(),
         }
     }
 
-    fn entries_at(self) -> usize {
+    fn entries_at(self, shape: Shape) -> usize {
         match self {
-            Side::Head => 1024,
+            Side::Head => shape.entries_in_head(),
             Side::Tail => 0,
         }
     }
@@ -56,23 +59,41 @@ fn side(disk: &mut Disk, side: Side) -> &mut [u8] {
     }
 }
 
-/// Number of blocks, both lengths, and the rest of the input, which [`script`] reads.
+/// Number and size of blocks, both lengths, and the rest of the input, which [`script`] reads.
 pub struct Lengths {
     pub n: u64,
+    /// As the call is told it.
+    pub block: u64,
+    /// What the disk is made by.
+    shape: Shape,
     head: usize,
     tail: usize,
 }
 
 pub fn lengths(input: &mut Input) -> Lengths {
-    Lengths { n: input.number(1 << 32), head: input.length(HEAD_LEN), tail: input.length(TAIL_LEN) }
+    let n = input.number(1 << 32);
+    let (block, shape) = block_size(input);
+    Lengths { n, block, shape, head: input.length(shape.head_len), tail: input.length(shape.tail_len) }
+}
+
+fn block_size(input: &mut Input) -> (u64, Shape) {
+    let tag = input.byte();
+    let [shape, other] = if tag & 1 == 0 { SHAPES } else { [SHAPES[1], SHAPES[0]] };
+    match tag {
+        ANY_BLOCK_SIZE => (input.number(4096), shape),
+        OTHER_BLOCK_SIZE.. => (other.block, shape),
+        _ => (shape.block, shape),
+    }
 }
 
 /// Head and tail after all steps of the script.
 pub fn script(lengths: &Lengths, input: &mut Input) -> [Vec<u8>; 2] {
     let flags = input.byte();
-    let mut disk = Disk { head: vec![0; HEAD_LEN], tail: vec![0; TAIL_LEN], n: lengths.n };
+    let shape = lengths.shape;
+    let mut disk = shape.filled(lengths.n, 0);
     if flags & ZEROS == 0 {
-        gpt_format(&mut disk.head, &mut disk.tail, disk.n.clamp(68, 1 << 32), &[0xD1; 16]);
+        let n = disk.n.clamp(shape.least_blocks(), 1 << 32);
+        gpt_format(&mut disk.head, &mut disk.tail, n, disk.block, &[0xD1; 16]);
     }
     while !input.is_empty() {
         step(&mut disk, input);
@@ -99,7 +120,7 @@ fn step(disk: &mut Disk, input: &mut Input) {
         RUN => {
             let (which, at) = (Side::of(input.byte()), input.number(0) as usize);
             let (len, byte) = (input.number(0) as usize, input.byte());
-            put(side(disk, which), at, &vec![byte; len.min(HEAD_LEN)]);
+            put(side(disk, which), at, &vec![byte; len.min(ENTRIES_LEN)]);
         }
         3 => seal(disk, Side::of(input.byte())),
         4 => header_number(disk, input),
@@ -125,23 +146,28 @@ fn place(disk: &mut Disk, input: &mut Input) {
     entry.resize(ENTRY_LEN, 0);
     entry[56 + usize::from(name % 72)] = name / 72;
     if sides & 3 != 1 {
-        put(&mut disk.head, 1024 + slot * ENTRY_LEN, &entry);
+        put_entry(disk, Side::Head, slot, &entry);
     }
     if sides & 3 != 2 {
-        put(&mut disk.tail, slot * ENTRY_LEN, &entry);
+        put_entry(disk, Side::Tail, slot, &entry);
     }
+}
+
+fn put_entry(disk: &mut Disk, which: Side, slot: usize, entry: &[u8]) {
+    let at = which.entries_at(disk.shape()) + slot * ENTRY_LEN;
+    put(side(disk, which), at, entry);
 }
 
 /// Partitions of one block each in the first slots, with a free block after some.
 fn many(disk: &mut Disk, input: &mut Input) {
     let (count, every) = (usize::from(input.byte()).min(128), u64::from(input.byte()));
-    let mut first: u64 = 34;
+    let mut first = disk.shape().first_usable;
     for slot in 0..count {
         let numbers = [first.to_le_bytes(), first.to_le_bytes()].concat();
         let mut entry = [&[7; 16], &[0xEE; 15][..], &[slot as u8], &numbers].concat();
         entry.resize(ENTRY_LEN, 0);
-        put(&mut disk.head, 1024 + slot * ENTRY_LEN, &entry);
-        put(&mut disk.tail, slot * ENTRY_LEN, &entry);
+        put_entry(disk, Side::Head, slot, &entry);
+        put_entry(disk, Side::Tail, slot, &entry);
         first += if every > 0 && slot as u64 % every == 0 { 2 } else { 1 };
     }
 }
@@ -166,7 +192,8 @@ fn header_number(disk: &mut Disk, input: &mut Input) {
     let (which, field) = (Side::of(input.byte()), usize::from(input.byte()) % FIELDS.len());
     let (at, len) = FIELDS[field];
     let value = input.number(disk.n).to_le_bytes();
-    put(side(disk, which), which.header_at() + at, &value[..len]);
+    let at = which.header_at(disk.shape()) + at;
+    put(side(disk, which), at, &value[..len]);
 }
 
 /// First or last block of an entry of a copy.
@@ -174,20 +201,21 @@ fn entry_number(disk: &mut Disk, input: &mut Input) {
     let (which, slot) = (Side::of(input.byte()), usize::from(input.byte() & 127));
     let at = 32 + 8 * usize::from(input.byte() % 3);
     let value = input.number(disk.n).to_le_bytes();
-    put(side(disk, which), which.entries_at() + slot * ENTRY_LEN + at, &value);
+    let at = which.entries_at(disk.shape()) + slot * ENTRY_LEN + at;
+    put(side(disk, which), at, &value);
 }
 
 /// The bytes of one slot into another.
 fn copy_entry(disk: &mut Disk, input: &mut Input) {
     let which = Side::of(input.byte());
     let (from, to) = (usize::from(input.byte() & 127), usize::from(input.byte() & 127));
-    let (at, buffer) = (which.entries_at(), side(disk, which));
+    let (at, buffer) = (which.entries_at(disk.shape()), side(disk, which));
     buffer.copy_within(at + from * ENTRY_LEN..at + (from + 1) * ENTRY_LEN, at + to * ENTRY_LEN);
 }
 
 /// Makes both CRCs of a copy right.
 fn seal(disk: &mut Disk, which: Side) {
-    let (header_at, entries_at) = (which.header_at(), which.entries_at());
+    let (header_at, entries_at) = (which.header_at(disk.shape()), which.entries_at(disk.shape()));
     let buffer = side(disk, which);
     let entries_crc = crc32(&buffer[entries_at..entries_at + ENTRIES_LEN]);
     let header = &mut buffer[header_at..header_at + HEADER_LEN];
@@ -204,7 +232,8 @@ pub fn put(buffer: &mut [u8], at: usize, bytes: &[u8]) {
 
 /// The first bytes of an input for a disk, before the call's own.
 pub fn encoded_lengths(disk: &Disk) -> Vec<u8> {
-    [number(disk.n), vec![0, 0]].concat()
+    let tag = u8::from(disk.block == SHAPES[1].block);
+    [number(disk.n), vec![tag, 0, 0]].concat()
 }
 
 /// The script that makes this disk, byte for byte.

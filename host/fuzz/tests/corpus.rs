@@ -96,3 +96,23 @@ fn each_target_shows_a_wrong_refusal() {
         }
     }
 }
+
+/// Each disk target is given disks of both block sizes, and others that are refused.
+#[test]
+fn each_disk_target_shows_a_wrong_block_size() {
+    let wrong: &[fn(&mut Rules)] = &[
+        |r| r.gpt.shapes[0].named_min = 513,
+        |r| r.gpt.shapes[1].named_min = 4097,
+        |r| r.gpt.shapes[1].n_min = 45,
+        |r| r.gpt.shapes[1].n_min = 11,
+        |r| r.refusals.renumber(Row::BlockSize, 99),
+    ];
+    for target in TARGETS.iter().filter(|target| target.call.starts_with("usi_gpt_")) {
+        for (number, change) in wrong.iter().enumerate() {
+            let mut rules = RULES;
+            change(&mut rules);
+            let shown = corpus(target.call).iter().any(|input| target.compare(&rules, input).is_err());
+            assert!(shown, "{}: {number}", target.call);
+        }
+    }
+}

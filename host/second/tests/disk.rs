@@ -11,39 +11,41 @@ const ENTRY_LEN: usize = 128;
 
 const CALLS: Calls = Calls {
     crc32: |bytes| second::crc32(&RULES, bytes),
-    format: |Disk { head, tail, n }, guid| {
-        answered(second::gpt_format(&RULES, head, tail, *n, &stored(guid)), ())
+    format: |Disk { head, tail, n, block }, guid| {
+        answered(second::gpt_format(&RULES, head, tail, *n, *block, &stored(guid)), ())
     },
-    state: |Disk { head, tail, n }| {
+    state: |Disk { head, tail, n, block }| {
         let mut state = 0;
-        answered(second::gpt_read(&RULES, head, tail, *n, &mut state), state)
+        answered(second::gpt_read(&RULES, head, tail, *n, *block, &mut state), state)
     },
     rows,
-    free: |Disk { head, tail, n }| {
+    free: |Disk { head, tail, n, block }| {
         let (mut free, mut longest) = (0, 0);
-        let number = second::gpt_free(&RULES, head, tail, *n, &mut free, &mut longest);
+        let number = second::gpt_free(&RULES, head, tail, *n, *block, &mut free, &mut longest);
         answered(number, (free, longest))
     },
     add,
-    delete: |Disk { head, tail, n }, slot| answered(second::gpt_delete(&RULES, head, tail, *n, slot), ()),
-    rename: |Disk { head, tail, n }, slot, name| {
-        answered(second::gpt_rename(&RULES, head, tail, *n, slot, &units(name)), ())
+    delete: |Disk { head, tail, n, block }, slot| {
+        answered(second::gpt_delete(&RULES, head, tail, *n, *block, slot), ())
     },
-    resize: |Disk { head, tail, n }, slot, size| {
-        answered(second::gpt_resize(&RULES, head, tail, *n, slot, size), ())
+    rename: |Disk { head, tail, n, block }, slot, name| {
+        answered(second::gpt_rename(&RULES, head, tail, *n, *block, slot, &units(name)), ())
     },
-    repair: |Disk { head, tail, n }| {
+    resize: |Disk { head, tail, n, block }, slot, size| {
+        answered(second::gpt_resize(&RULES, head, tail, *n, *block, slot, size), ())
+    },
+    repair: |Disk { head, tail, n, block }| {
         let mut state = 0;
-        answered(second::gpt_repair(&RULES, head, tail, *n, &mut state), state)
+        answered(second::gpt_repair(&RULES, head, tail, *n, *block, &mut state), state)
     },
 };
 
 testkit::disk_tests!(CALLS);
 
 /// The used entries of the table part.
-fn rows(Disk { head, tail, n }: &Disk) -> Result<Vec<Partition>, u32> {
+fn rows(Disk { head, tail, n, block }: &Disk) -> Result<Vec<Partition>, u32> {
     let (mut in_tail, mut offset) = (0, 0);
-    answered(second::gpt_table(&RULES, head, tail, *n, &mut in_tail, &mut offset), ())?;
+    answered(second::gpt_table(&RULES, head, tail, *n, *block, &mut in_tail, &mut offset), ())?;
     let buffer = if in_tail == 0 { head } else { tail };
     let entries = &buffer[offset as usize..offset as usize + ENTRIES_LEN];
     let used = entries.chunks(ENTRY_LEN).zip(1..).filter(|(entry, _)| entry.iter().any(|byte| *byte != 0));
@@ -84,10 +86,10 @@ fn units(name: &str) -> Vec<u16> {
     units
 }
 
-fn add(Disk { head, tail, n }: &mut Disk, new: &New) -> Result<u64, u32> {
+fn add(Disk { head, tail, n, block }: &mut Disk, new: &New) -> Result<u64, u32> {
     let New { kind, unique, size, attributes, name } = *new;
     let (kind, unique, name) = (&stored(kind), &stored(unique), &units(name));
     let new = NewPartition { kind, unique, size, attributes, name };
     let mut slot = 0;
-    answered(second::gpt_add(&RULES, head, tail, *n, &new, &mut slot, &mut 0), slot)
+    answered(second::gpt_add(&RULES, head, tail, *n, *block, &new, &mut slot, &mut 0), slot)
 }

@@ -1,6 +1,7 @@
 //! Bytes that another tool made, in a text: comment lines begin with `#`, and
 //!
 //! ```text
+//! block BYTES          512 where no line says it
 //! blocks N
 //! state STATE          or "refused" and the number
 //! partition SLOT FIRST LAST TYPE UNIQUE ATTRIBUTES "NAME"    as the tool listed it
@@ -29,7 +30,7 @@
 //! map OFFSET BYTES     the bytes of the image that are written
 //! ```
 
-use crate::disk::{Disk, HEAD_LEN, TAIL_LEN};
+use crate::disk::{Disk, Shape};
 use crate::flash::{self, AREA_LEN, NAME_LEN};
 use crate::layout::Calls;
 use crate::listing::{self, Area, Partition};
@@ -56,12 +57,13 @@ pub fn files(folder: &str, extension: &str) -> Vec<PathBuf> {
 
 pub fn disk(path: &Path) -> io::Result<DiskFixture> {
     let text = fs::read_to_string(path)?;
-    let mut disk = Disk { head: vec![0; HEAD_LEN], tail: vec![0; TAIL_LEN], n: 0 };
+    let mut disk = Shape::of(512).filled(0, 0);
     let (mut reads_as, mut partitions) = (Err(0), Vec::new());
     for line in text.lines().filter(|line| !line.is_empty() && !line.starts_with('#')) {
         let wrong = || io::Error::other(format!("{}: {line}", path.display()));
         let (word, rest) = line.split_once(' ').ok_or_else(wrong)?;
         match word {
+            "block" => disk = Shape::of(rest.parse().map_err(|_| wrong())?).filled(0, 0),
             "blocks" => disk.n = rest.parse().map_err(|_| wrong())?,
             "state" => reads_as = Ok(rest.parse().map_err(|_| wrong())?),
             "refused" => reads_as = Err(rest.parse().map_err(|_| wrong())?),

@@ -1,5 +1,6 @@
 //! What the tests are made of: other tools, bytes that they made (`fixtures/`), drawn inputs.
 
+pub mod device;
 pub mod disk;
 pub mod disk_calls;
 pub mod edit;
@@ -12,12 +13,19 @@ pub mod layout;
 pub mod listing;
 pub mod peer;
 pub mod random;
+pub mod vectors;
 
+use std::io::Write;
 use std::path::{Path, PathBuf};
 
 /// Folder `host` of the repository.
 pub fn host() -> PathBuf {
     Path::new(env!("CARGO_MANIFEST_DIR")).join("..")
+}
+
+/// Tells what a test passes over, past its own output, which is not shown where it passes.
+pub fn skipped(what: &str) {
+    let _ = writeln!(std::io::stdout(), "skipped: {what}");
 }
 
 /// What a call that answers 0 or a refusal's number came to.

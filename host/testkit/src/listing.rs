@@ -87,7 +87,8 @@ fn sfdisk_one(slot: &str, fields: &str) -> Partition {
     let first: u64 = pairs["start"].parse().expect("a block number");
     let size: u64 = pairs["size"].parse().expect("a number of blocks");
     Partition {
-        slot: slot.trim().parse().expect("a slot"),
+        // A device whose name ends in a digit has a letter before the slot.
+        slot: slot.trim().trim_start_matches('p').parse().expect("a slot"),
         first,
         last: first + size - 1,
         kind: pairs["type"].to_string(),
@@ -304,5 +305,7 @@ mod tests {
         let found = sfdisk_one("7", row);
         assert_eq!((found.slot, found.first, found.last), (7, 34, 43));
         assert_eq!((found.name.as_str(), found.attributes), ("a, b", 1 << 60));
+        // Of a device such as /dev/loop0.
+        assert_eq!(sfdisk_one("p128", row).slot, 128);
     }
 }

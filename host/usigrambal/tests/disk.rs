@@ -25,9 +25,9 @@ testkit::disk_tests!(CALLS);
 
 /// A call of the wrapper on the disk.
 fn on<T>(disk: &mut Disk, call: impl FnOnce(&mut usigrambal::Disk) -> Result<T, Refused>) -> Result<T, u32> {
-    let head = disk.head.as_mut_slice().try_into().expect("a head");
-    let tail = disk.tail.as_mut_slice().try_into().expect("a tail");
-    call(&mut usigrambal::Disk { head, tail, n: disk.n }).map_err(|refused| refused.number())
+    let block = disk.block.try_into().map_err(|refused: Refused| refused.number())?;
+    let (head, tail) = (disk.head.as_mut_slice(), disk.tail.as_mut_slice());
+    call(&mut usigrambal::Disk { head, tail, n: disk.n, block }).map_err(|refused| refused.number())
 }
 
 fn row(partition: Partition) -> listing::Partition {

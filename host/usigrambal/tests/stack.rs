@@ -1,6 +1,7 @@
 //! Every disk call and every flash map call runs on a thread with a stack of 24 KiB, as include/usigrambal.h says.
 
 use std::thread;
+use testkit::disk::{Disk, Shape, SHAPES};
 use testkit::flash::{map_len, Area, Map, PRESERVE};
 use usigrambal::raw::{self, NewPartition};
 
@@ -13,47 +14,42 @@ fn the_header_says_so() {
     assert!(header.contains(&format!("every call runs on a thread with {} KiB of stack.", STACK >> 10)));
 }
 
-/// Head and tail on the heap, so that the stack holds the calls alone.
-fn disk() -> (Vec<u8>, Vec<u8>) {
-    (vec![0; 17_408], vec![0; 16_896])
-}
-
 fn on_small_stack(work: impl FnOnce() + Send + 'static) {
     thread::Builder::new().stack_size(STACK).spawn(work).expect("a thread").join().expect("no overflow");
 }
 
 #[test]
 fn every_disk_call_needs_at_most_24_kib_of_stack() {
-    on_small_stack(|| {
-        let (mut head, mut tail) = disk();
-        let (mut a, mut b) = (0, 0);
-        assert_eq!(raw::gpt_format(&mut head, &mut tail, N, &[7; 16]), 0);
-        for unique in 1..=128_u8 {
-            let new = NewPartition {
-                kind: &[9; 16],
-                unique: &[unique; 16],
-                size: 3,
-                attributes: 0,
-                name: &[0; 36],
-            };
-            assert_eq!(raw::gpt_add(&mut head, &mut tail, N, &new, &mut a, &mut b), 0);
-        }
-        assert_eq!(raw::gpt_resize(&mut head, &mut tail, N, 64, 2), 0);
-        assert_eq!(raw::gpt_rename(&mut head, &mut tail, N, 64, &[65; 36]), 0);
-        assert_eq!(raw::gpt_delete(&mut head, &mut tail, N, 64), 0);
-        assert_eq!(raw::gpt_free(&head, &tail, N, &mut a, &mut b), 0);
-        assert_eq!(raw::gpt_table(&head, &tail, N, &mut a, &mut b), 0);
-        assert_eq!(raw::gpt_read(&head, &tail, N, &mut a), 0);
-        assert_eq!(a, 1);
-        // The primary's CRC is broken: repair writes the head from the tail.
-        head[512 + 16] ^= 1;
-        assert_eq!(raw::gpt_repair(&mut head, &mut tail, N, &mut a), 0);
-        assert_eq!(a, 4);
-        // Tables that differ are judged one by one.
-        tail[16_384 + 16] ^= 1;
-        assert_eq!(raw::gpt_repair(&mut head, &mut tail, N, &mut a), 0);
-        assert_eq!(a, 3);
-    });
+    for shape in SHAPES {
+        on_small_stack(move || disk_calls(shape));
+    }
+}
+
+fn disk_calls(shape: Shape) {
+    // Head and tail are on the heap, so that the stack holds the calls alone.
+    let Disk { mut head, mut tail, n, block } = shape.filled(N, 0);
+    let (mut a, mut b) = (0, 0);
+    assert_eq!(raw::gpt_format(&mut head, &mut tail, n, block, &[7; 16]), 0);
+    for unique in 1..=128_u8 {
+        let (kind, unique) = (&[9; 16], &[unique; 16]);
+        let new = NewPartition { kind, unique, size: 3, attributes: 0, name: &[0; 36] };
+        assert_eq!(raw::gpt_add(&mut head, &mut tail, n, block, &new, &mut a, &mut b), 0);
+    }
+    assert_eq!(raw::gpt_resize(&mut head, &mut tail, n, block, 64, 2), 0);
+    assert_eq!(raw::gpt_rename(&mut head, &mut tail, n, block, 64, &[65; 36]), 0);
+    assert_eq!(raw::gpt_delete(&mut head, &mut tail, n, block, 64), 0);
+    assert_eq!(raw::gpt_free(&head, &tail, n, block, &mut a, &mut b), 0);
+    assert_eq!(raw::gpt_table(&head, &tail, n, block, &mut a, &mut b), 0);
+    assert_eq!(raw::gpt_read(&head, &tail, n, block, &mut a), 0);
+    assert_eq!(a, 1);
+    // The primary's CRC is broken: repair writes the head from the tail.
+    head[shape.header_in_head() + 16] ^= 1;
+    assert_eq!(raw::gpt_repair(&mut head, &mut tail, n, block, &mut a), 0);
+    assert_eq!(a, 4);
+    // Tables that differ are judged one by one.
+    tail[shape.header_in_tail() + 16] ^= 1;
+    assert_eq!(raw::gpt_repair(&mut head, &mut tail, n, block, &mut a), 0);
+    assert_eq!(a, 3);
 }
 
 /// An image with a map of 128 areas at its start, all of them preserved but FMAP.

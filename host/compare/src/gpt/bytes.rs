@@ -2,18 +2,29 @@
 
 use super::call::Call;
 use super::damage::HEADER_FIELDS;
-use super::disk::{Disk, Side, BLOCK_LEN, ENTRY_LEN, HEADER_LEN, SIDES};
+use super::disk::{Disk, Side, ENTRY_LEN, SIDES};
 use super::sample;
 use crate::run::{Outcome, Run};
+use testkit::disk::{Shape, HEADER_LEN, SHAPES};
 
-/// Slots 1, 3 and 128 of a disk of 300 blocks: 34 to 40, 41 to 41, 200 to 266.
-fn disk(run: &mut Run) -> Disk {
-    let mut disk = Disk::formatted(300, &mut run.random);
-    for (index, first, last) in [(0, 34, 40), (2, 41, 41), (127, 200, 266)] {
+/// Slots 1, 3 and 128 of a disk of 300 blocks: the first seven usable blocks, the next one, and 200 to the last one.
+fn disk(run: &mut Run, shape: Shape) -> Disk {
+    let mut disk = Disk::formatted(shape, 300, &mut run.random);
+    let (start, end) = (shape.first_usable, disk.n - shape.first_usable);
+    for (index, first, last) in [(0, start, start + 6), (2, start + 7, start + 7), (127, 200, end)] {
         disk.place(index, first, last, &mut run.random);
     }
     disk.seal_both();
     disk
+}
+
+/// Such a disk of each block size.
+fn on_each(run: &mut Run, part: fn(&mut Run, Disk) -> Outcome) -> Outcome {
+    for shape in SHAPES {
+        let disk = disk(run, shape);
+        part(run, disk)?;
+    }
+    Ok(())
 }
 
 /// All that tells how the copies are read, and what an add and a repair make of them.
@@ -27,7 +38,10 @@ fn look(run: &mut Run, disk: &Disk) -> Outcome {
 
 /// Each byte of a header, its CRC made right again or not.
 pub fn headers(run: &mut Run) -> Outcome {
-    let disk = disk(run);
+    on_each(run, headers_of)
+}
+
+fn headers_of(run: &mut Run, disk: Disk) -> Outcome {
     for side in SIDES {
         for at in 0..HEADER_LEN {
             let mut changed = disk.clone();
@@ -43,7 +57,10 @@ pub fn headers(run: &mut Run) -> Outcome {
 
 /// Each field of a header zero, all ones, one more, one less; in one copy or both.
 pub fn header_fields(run: &mut Run) -> Outcome {
-    let disk = disk(run);
+    on_each(run, header_fields_of)
+}
+
+fn header_fields_of(run: &mut Run, disk: Disk) -> Outcome {
     for (at, len) in HEADER_FIELDS {
         for change in 0..4 {
             for sides in [&SIDES[..], &SIDES[..1], &SIDES[1..]] {
@@ -70,7 +87,10 @@ fn change_field(field: &mut [u8], change: u32) {
 
 /// Each byte of a used and of an unused entry, in one copy or both, CRCs right.
 pub fn entries(run: &mut Run) -> Outcome {
-    let disk = disk(run);
+    on_each(run, entries_of)
+}
+
+fn entries_of(run: &mut Run, disk: Disk) -> Outcome {
     for index in [2, 1, 127] {
         for at in 0..ENTRY_LEN {
             for sides in [&SIDES[..], &SIDES[1..]] {
@@ -90,12 +110,18 @@ pub fn entries(run: &mut Run) -> Outcome {
 
 /// First and last block at and next to every border, in both copies, CRCs right.
 pub fn ranges(run: &mut Run) -> Outcome {
-    let disk = disk(run);
-    let ends = [0, 33, 34, 40, 41, 42, 199, 200, 201, 265, 266, 267, u64::MAX];
-    for first in ends {
-        for last in ends {
+    on_each(run, ranges_of)
+}
+
+fn ranges_of(run: &mut Run, disk: Disk) -> Outcome {
+    let (start, end) = (disk.shape.first_usable, disk.n - disk.shape.first_usable);
+    let near_start = [0, start - 1, start, start + 6, start + 7, start + 8];
+    let near_end = [199, 200, 201, end - 1, end, end + 1, u64::MAX];
+    let ends: Vec<u64> = near_start.into_iter().chain(near_end).collect();
+    for first in &ends {
+        for last in &ends {
             let mut changed = disk.clone();
-            changed.place(5, first, last, &mut run.random);
+            changed.place(5, *first, *last, &mut run.random);
             changed.seal_both();
             changed.call(run, &Call::Read)?;
             changed.call(run, &Call::Free)?;
@@ -106,7 +132,10 @@ pub fn ranges(run: &mut Run) -> Outcome {
 
 /// Type or unique GUID zero, or a unique GUID that another entry has or nearly has.
 pub fn guids(run: &mut Run) -> Outcome {
-    let disk = disk(run);
+    on_each(run, guids_of)
+}
+
+fn guids_of(run: &mut Run, disk: Disk) -> Outcome {
     let taken = disk.clone().entry(Side::Head, 0)[16..32].to_vec();
     let mut nearly_taken = taken.clone();
     nearly_taken[15] ^= 0x80;
@@ -123,13 +152,16 @@ pub fn guids(run: &mut Run) -> Outcome {
 
 /// Block 0 and the bytes after a header are free, and kept by all but formatting and repair.
 pub fn unjudged(run: &mut Run) -> Outcome {
-    let mut disk = disk(run);
+    on_each(run, unjudged_of)
+}
+
+fn unjudged_of(run: &mut Run, mut disk: Disk) -> Outcome {
     look(run, &disk)?;
-    let block_0 = run.random.bytes(BLOCK_LEN);
-    disk.head.bytes_mut()[..BLOCK_LEN].copy_from_slice(&block_0);
+    let block_0 = run.random.bytes(disk.block_0().len());
+    disk.block_0().copy_from_slice(&block_0);
     look(run, &disk)?;
     for side in SIDES {
-        let tail = run.random.bytes(BLOCK_LEN - HEADER_LEN);
+        let tail = run.random.bytes(disk.header_tail(side).len());
         disk.header_tail(side).copy_from_slice(&tail);
         look(run, &disk)?;
         edits(run, &disk)?;

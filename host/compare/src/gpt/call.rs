@@ -1,12 +1,12 @@
+use super::disk::Disk;
 use crate::number::Number;
 use crate::run::Lent;
 use second::Rules;
 use std::fmt;
+use testkit::disk::SHAPES;
 use testkit::random::Random;
 use usigrambal::raw;
 
-pub const HEAD_LEN: usize = 17_408;
-pub const TAIL_LEN: usize = 16_896;
 pub const GUID_LEN: usize = 16;
 pub const NAME_UNITS: usize = 36;
 
@@ -28,6 +28,7 @@ pub enum Call {
 #[derive(Clone)]
 pub struct Loan {
     pub n: u64,
+    pub block: u64,
     pub head: Lent,
     pub tail: Lent,
     /// The disk GUID, or type and unique GUID.
@@ -58,21 +59,27 @@ impl Units {
 }
 
 impl Call {
-    pub fn name(&self) -> &'static str {
-        match self {
-            Call::Format { .. } => "gpt_format",
-            Call::Read => "gpt_read",
-            Call::Table => "gpt_table",
-            Call::Free => "gpt_free",
-            Call::Add { .. } => "gpt_add",
-            Call::Delete { .. } => "gpt_delete",
-            Call::Resize { .. } => "gpt_resize",
-            Call::Rename { .. } => "gpt_rename",
-            Call::Repair => "gpt_repair",
+    /// The call's name in the table, by the bytes of a block.
+    pub fn name(&self, block: u64) -> &'static str {
+        let [name, at_4096] = match self {
+            Call::Format { .. } => ["gpt_format", "gpt_format at 4096"],
+            Call::Read => ["gpt_read", "gpt_read at 4096"],
+            Call::Table => ["gpt_table", "gpt_table at 4096"],
+            Call::Free => ["gpt_free", "gpt_free at 4096"],
+            Call::Add { .. } => ["gpt_add", "gpt_add at 4096"],
+            Call::Delete { .. } => ["gpt_delete", "gpt_delete at 4096"],
+            Call::Resize { .. } => ["gpt_resize", "gpt_resize at 4096"],
+            Call::Rename { .. } => ["gpt_rename", "gpt_rename at 4096"],
+            Call::Repair => ["gpt_repair", "gpt_repair at 4096"],
+        };
+        if block == 4096 {
+            at_4096
+        } else {
+            name
         }
     }
 
-    pub fn loan(&self, head: &Lent, tail: &Lent, n: u64, random: &mut Random) -> Loan {
+    pub fn loan(&self, disk: &Disk, random: &mut Random) -> Loan {
         let (guids, name): ([&[u8]; 2], &[u16]) = match self {
             Call::Format { guid } => ([guid, &[]], &[]),
             Call::Add { kind, unique, name, .. } => ([kind, unique], name),
@@ -80,9 +87,10 @@ impl Call {
             _ => ([&[], &[]], &[]),
         };
         Loan {
-            n,
-            head: head.clone(),
-            tail: tail.clone(),
+            n: disk.n,
+            block: disk.block,
+            head: disk.head.clone(),
+            tail: disk.tail.clone(),
             guids: guids.map(|guid| Lent::holding(guid, random)),
             name: Units::holding(name, random),
             answers: [Number::new(random), Number::new(random)],
@@ -90,9 +98,12 @@ impl Call {
     }
 
     /// The fixed buffers whose length is wrong.
-    pub fn wrong_lengths(&self, head: &Lent, tail: &Lent) -> Vec<&'static str> {
-        let mut lengths =
-            vec![("head", head.bytes().len(), HEAD_LEN), ("tail", tail.bytes().len(), TAIL_LEN)];
+    pub fn wrong_lengths(&self, disk: &Disk) -> Vec<&'static str> {
+        let Some(shape) = SHAPES.into_iter().find(|shape| shape.block == disk.block) else {
+            return Vec::new();
+        };
+        let (head, tail) = (disk.head.bytes().len(), disk.tail.bytes().len());
+        let mut lengths = vec![("head", head, shape.head_len), ("tail", tail, shape.tail_len)];
         match self {
             Call::Format { guid } => lengths.push(("guid", guid.len(), GUID_LEN)),
             Call::Add { kind, unique, name, .. } => lengths.extend([
@@ -107,44 +118,46 @@ impl Call {
     }
 
     pub fn by_library(&self, loan: &mut Loan) -> u32 {
-        let Loan { n, head, tail, guids: [one, two], name: units, answers: [a, b] } = loan;
-        let (head, tail, n) = (head.bytes_mut(), tail.bytes_mut(), *n);
+        let Loan { n, block, head, tail, guids: [one, two], name: units, answers: [a, b] } = loan;
+        let (head, tail, n, block) = (head.bytes_mut(), tail.bytes_mut(), *n, *block);
         let (a, b) = (a.answer(), b.answer());
         match self {
-            Call::Format { .. } => raw::gpt_format(head, tail, n, one.bytes()),
-            Call::Read => raw::gpt_read(head, tail, n, a),
-            Call::Table => raw::gpt_table(head, tail, n, a, b),
-            Call::Free => raw::gpt_free(head, tail, n, a, b),
+            Call::Format { .. } => raw::gpt_format(head, tail, n, block, one.bytes()),
+            Call::Read => raw::gpt_read(head, tail, n, block, a),
+            Call::Table => raw::gpt_table(head, tail, n, block, a, b),
+            Call::Free => raw::gpt_free(head, tail, n, block, a, b),
             Call::Add { size, attributes, .. } => {
                 let (kind, unique, name) = (one.bytes(), two.bytes(), units.units());
                 let new = raw::NewPartition { kind, unique, size: *size, attributes: *attributes, name };
-                raw::gpt_add(head, tail, n, &new, a, b)
+                raw::gpt_add(head, tail, n, block, &new, a, b)
             }
-            Call::Delete { slot } => raw::gpt_delete(head, tail, n, *slot),
-            Call::Resize { slot, size } => raw::gpt_resize(head, tail, n, *slot, *size),
-            Call::Rename { slot, .. } => raw::gpt_rename(head, tail, n, *slot, units.units()),
-            Call::Repair => raw::gpt_repair(head, tail, n, a),
+            Call::Delete { slot } => raw::gpt_delete(head, tail, n, block, *slot),
+            Call::Resize { slot, size } => raw::gpt_resize(head, tail, n, block, *slot, *size),
+            Call::Rename { slot, .. } => raw::gpt_rename(head, tail, n, block, *slot, units.units()),
+            Call::Repair => raw::gpt_repair(head, tail, n, block, a),
         }
     }
 
     pub fn by_second(&self, rules: &Rules, loan: &mut Loan) -> u32 {
-        let Loan { n, head, tail, guids: [one, two], name: units, answers: [a, b] } = loan;
-        let (head, tail, n) = (head.bytes_mut(), tail.bytes_mut(), *n);
+        let Loan { n, block, head, tail, guids: [one, two], name: units, answers: [a, b] } = loan;
+        let (head, tail, n, block) = (head.bytes_mut(), tail.bytes_mut(), *n, *block);
         let (a, b) = (a.answer(), b.answer());
         match self {
-            Call::Format { .. } => second::gpt_format(rules, head, tail, n, one.bytes()),
-            Call::Read => second::gpt_read(rules, head, tail, n, a),
-            Call::Table => second::gpt_table(rules, head, tail, n, a, b),
-            Call::Free => second::gpt_free(rules, head, tail, n, a, b),
+            Call::Format { .. } => second::gpt_format(rules, head, tail, n, block, one.bytes()),
+            Call::Read => second::gpt_read(rules, head, tail, n, block, a),
+            Call::Table => second::gpt_table(rules, head, tail, n, block, a, b),
+            Call::Free => second::gpt_free(rules, head, tail, n, block, a, b),
             Call::Add { size, attributes, .. } => {
                 let (kind, unique, name) = (one.bytes(), two.bytes(), units.units());
                 let new = second::NewPartition { kind, unique, size: *size, attributes: *attributes, name };
-                second::gpt_add(rules, head, tail, n, &new, a, b)
+                second::gpt_add(rules, head, tail, n, block, &new, a, b)
             }
-            Call::Delete { slot } => second::gpt_delete(rules, head, tail, n, *slot),
-            Call::Resize { slot, size } => second::gpt_resize(rules, head, tail, n, *slot, *size),
-            Call::Rename { slot, .. } => second::gpt_rename(rules, head, tail, n, *slot, units.units()),
-            Call::Repair => second::gpt_repair(rules, head, tail, n, a),
+            Call::Delete { slot } => second::gpt_delete(rules, head, tail, n, block, *slot),
+            Call::Resize { slot, size } => second::gpt_resize(rules, head, tail, n, block, *slot, *size),
+            Call::Rename { slot, .. } => {
+                second::gpt_rename(rules, head, tail, n, block, *slot, units.units())
+            }
+            Call::Repair => second::gpt_repair(rules, head, tail, n, block, a),
         }
     }
 }

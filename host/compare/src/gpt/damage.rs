@@ -1,7 +1,7 @@
 //! Damage to a disk: single bytes, whole fields, CRCs made right again.
 
 use super::call::GUID_LEN;
-use super::disk::{Disk, Side, ENTRY_LEN, HEADER_LEN, SIDES, SLOTS};
+use super::disk::{Disk, Side, ENTRY_LEN, SIDES, SLOTS};
 use testkit::random::Random;
 
 /// Begin and length of the fields of a header, the CRCs left out.
@@ -25,8 +25,8 @@ pub fn any(disk: &mut Disk, random: &mut Random) {
     let side = random.pick(&SIDES);
     match random.below(12) {
         0 => flip(disk.side(side), random),
-        1 => disk.header_tail(side).copy_from_slice(&random.bytes(512 - HEADER_LEN)),
-        2 => disk.head.bytes_mut()[..512].copy_from_slice(&random.bytes(512)),
+        1 => fill(disk.header_tail(side), random),
+        2 => fill(disk.block_0(), random),
         3 => sealed(disk, side, |disk| flip(disk.header(side), random)),
         4 => sealed(disk, side, |disk| flip(disk.entries(side), random)),
         5 => sealed(disk, side, |disk| header_field(disk, side, random)),
@@ -45,6 +45,10 @@ fn sealed(disk: &mut Disk, side: Side, damage: impl FnOnce(&mut Disk)) {
 
 fn flip(bytes: &mut [u8], random: &mut Random) {
     bytes[random.below(bytes.len())] ^= 1 << random.below(8);
+}
+
+fn fill(bytes: &mut [u8], random: &mut Random) {
+    bytes.copy_from_slice(&random.bytes(bytes.len()));
 }
 
 /// One more, one less, zero, all ones, or the bytes of another field.
@@ -94,14 +98,16 @@ fn entry_damage(disk: &mut Disk, sides: &[Side], random: &mut Random) {
     let other = if used.is_empty() { random.below(SLOTS) } else { random.pick(&used) };
     let mut entry = disk.entry(sides[0], index).to_vec();
     let another = disk.entry(sides[0], other).to_vec();
-    change_entry(&mut entry, &another, disk.n, random);
+    let first_usable = disk.shape.first_usable;
+    change_entry(&mut entry, &another, (first_usable, disk.n - first_usable), random);
     for side in sides {
         disk.entry(*side, index).copy_from_slice(&entry);
         disk.seal(*side);
     }
 }
 
-fn change_entry(entry: &mut [u8], another: &[u8], n: u64, random: &mut Random) {
+/// `usable` has the first and the last usable block.
+fn change_entry(entry: &mut [u8], another: &[u8], usable: (u64, u64), random: &mut Random) {
     let number = |entry: &[u8], at: usize| u64::from_le_bytes(entry[at..at + 8].try_into().expect("8"));
     let own_first = number(entry, 32);
     let (first, last) = (number(another, 32), number(another, 40));
@@ -110,10 +116,10 @@ fn change_entry(entry: &mut [u8], another: &[u8], n: u64, random: &mut Random) {
         0 => entry[..16].fill(0),
         1 => entry[16..32].fill(0),
         2 => entry[16..32].copy_from_slice(&another[16..32]),
-        3 => set(32, 33),
-        4 => set(32, 34),
-        5 => set(40, n - 33),
-        6 => set(40, n - 34),
+        3 => set(32, usable.0 - 1),
+        4 => set(32, usable.0),
+        5 => set(40, usable.1 + 1),
+        6 => set(40, usable.1),
         7 => set(40, own_first.wrapping_sub(1)),
         8 => set(40, first),
         9 => set(40, first.wrapping_sub(1)),

@@ -1,16 +1,14 @@
-use super::call::{Call, GUID_LEN, HEAD_LEN, TAIL_LEN};
+use super::call::{Call, GUID_LEN};
 use crate::number::Answers;
 use crate::run::{Buffer, Cell, Difference, Lent, Run};
 use second::RULES;
+use testkit::disk::{Shape, ENTRIES_LEN, HEADER_LEN};
 use testkit::random::Random;
 
 pub const SLOTS: usize = 128;
 pub const ENTRY_LEN: usize = 128;
-pub const HEADER_LEN: usize = 92;
-pub const BLOCK_LEN: usize = 512;
-const ENTRIES_LEN: usize = SLOTS * ENTRY_LEN;
 
-/// Where a copy's header block and entries begin in its buffer.
+/// Which copy; where its header block and its entries begin in its buffer.
 #[derive(Clone, Copy, Debug, PartialEq, Eq)]
 pub enum Side {
     Head,
@@ -20,16 +18,16 @@ pub enum Side {
 pub const SIDES: [Side; 2] = [Side::Head, Side::Tail];
 
 impl Side {
-    pub fn header_at(self) -> usize {
+    fn header_at(self, shape: Shape) -> usize {
         match self {
-            Side::Head => BLOCK_LEN,
-            Side::Tail => ENTRIES_LEN,
+            Side::Head => shape.header_in_head(),
+            Side::Tail => shape.header_in_tail(),
         }
     }
 
-    pub fn entries_at(self) -> usize {
+    fn entries_at(self, shape: Shape) -> usize {
         match self {
-            Side::Head => 2 * BLOCK_LEN,
+            Side::Head => shape.entries_in_head(),
             Side::Tail => 0,
         }
     }
@@ -41,6 +39,10 @@ pub struct Disk {
     pub head: Lent,
     pub tail: Lent,
     pub n: u64,
+    /// The bytes of a block that the call is told; those of `shape` unless that is wrong.
+    pub block: u64,
+    /// What head and tail were made by.
+    pub shape: Shape,
 }
 
 /// What the library answered.
@@ -52,22 +54,24 @@ pub struct Reply {
 
 impl Disk {
     /// Random bytes.
-    pub fn random(n: u64, random: &mut Random) -> Disk {
-        Disk { head: Lent::of_length(HEAD_LEN, random), tail: Lent::of_length(TAIL_LEN, random), n }
+    pub fn random(shape: Shape, n: u64, random: &mut Random) -> Disk {
+        let (head, tail) = (Lent::of_length(shape.head_len, random), Lent::of_length(shape.tail_len, random));
+        Disk { head, tail, n, block: shape.block, shape }
     }
 
     /// An empty table, by the right rules.
-    pub fn formatted(n: u64, random: &mut Random) -> Disk {
-        let mut disk = Disk::random(n, random);
+    pub fn formatted(shape: Shape, n: u64, random: &mut Random) -> Disk {
+        let mut disk = Disk::random(shape, n, random);
         let guid = random.bytes(GUID_LEN);
-        let number = second::gpt_format(&RULES, disk.head.bytes_mut(), disk.tail.bytes_mut(), n, &guid);
+        let (head, tail) = (disk.head.bytes_mut(), disk.tail.bytes_mut());
+        let number = second::gpt_format(&RULES, head, tail, n, shape.block, &guid);
         assert_eq!(number, 0, "a disk of {n} blocks is formatted");
         disk
     }
 
     /// Makes the call on both sides, compares all that it was lent, and keeps what it left.
     pub fn call(&mut self, run: &mut Run, call: &Call) -> Result<Reply, Difference> {
-        let mut ours = call.loan(&self.head, &self.tail, self.n, &mut run.random);
+        let mut ours = call.loan(self, &mut run.random);
         let mut theirs = ours.clone();
         let library = call.by_library(&mut ours);
         let second = call.by_second(run.rules, &mut theirs);
@@ -82,7 +86,8 @@ impl Disk {
         ];
         let values = [ours.answers[0].value(), ours.answers[1].value()];
         let answers = (Answers(library, ours.answers.clone()), Answers(second, theirs.answers.clone()));
-        run.compare(call.name(), || format!("N {}, {call}", self.n), answers, &buffers)?;
+        let arguments = || format!("N {}, blocks of {} bytes, {call}", self.n, self.block);
+        run.compare(call.name(self.block), arguments, answers, &buffers)?;
         (self.head, self.tail) = (ours.head, ours.tail);
         Ok(Reply { number: library, values })
     }
@@ -97,16 +102,21 @@ impl Disk {
     pub fn call_after(&mut self, run: &mut Run, read: Reply, call: &Call) -> Result<Reply, Difference> {
         let reply = self.call(run, call)?;
         if read.number == 0 {
-            run.reach(call.name(), Cell::State(read.values[0]));
+            run.reach(call.name(self.block), Cell::State(read.values[0]));
         }
         Ok(reply)
     }
 
     fn note(&self, run: &mut Run, call: &Call, answer: u32) {
-        run.reach(call.name(), Cell::Answer(answer));
-        if let ([buffer], 1) = (&call.wrong_lengths(&self.head, &self.tail)[..], answer) {
-            run.reach(call.name(), Cell::By(1, buffer));
+        run.reach(call.name(self.block), Cell::Answer(answer));
+        if let ([buffer], 1) = (&call.wrong_lengths(self)[..], answer) {
+            run.reach(call.name(self.block), Cell::By(1, buffer));
         }
+    }
+
+    /// The block after the last usable one.
+    pub fn end(&self) -> u64 {
+        (self.n + 1).saturating_sub(self.shape.first_usable)
     }
 
     pub fn side(&mut self, side: Side) -> &mut [u8] {
@@ -116,18 +126,23 @@ impl Disk {
         }
     }
 
+    pub fn block_0(&mut self) -> &mut [u8] {
+        let len = self.shape.block as usize;
+        &mut self.head.bytes_mut()[..len]
+    }
+
     pub fn header(&mut self, side: Side) -> &mut [u8] {
-        let at = side.header_at();
+        let at = side.header_at(self.shape);
         &mut self.side(side)[at..at + HEADER_LEN]
     }
 
     pub fn header_tail(&mut self, side: Side) -> &mut [u8] {
-        let at = side.header_at();
-        &mut self.side(side)[at + HEADER_LEN..at + BLOCK_LEN]
+        let (at, len) = (side.header_at(self.shape) + HEADER_LEN, self.shape.header_tail_len());
+        &mut self.side(side)[at..at + len]
     }
 
     pub fn entries(&mut self, side: Side) -> &mut [u8] {
-        let at = side.entries_at();
+        let at = side.entries_at(self.shape);
         &mut self.side(side)[at..at + ENTRIES_LEN]
     }
 

@@ -5,6 +5,7 @@ use super::disk::{Disk, Reply, Side, SLOTS};
 use super::{damage, sample};
 use crate::run::{Difference, Outcome, Run};
 use second::Ledger;
+use testkit::disk::{Shape, SHAPES};
 use testkit::random::Random;
 
 const DAMAGED_HISTORIES: usize = 260;
@@ -14,11 +15,15 @@ const LEDGER_CALLS: usize = 40;
 
 /// Formatting over random bytes, the largest partition and one more, for each of many N.
 pub fn block_counts(run: &mut Run) -> Outcome {
-    for n in sample::block_counts(&mut run.random, 40) {
-        let mut disk = Disk::random(n, &mut run.random);
+    SHAPES.into_iter().try_for_each(|shape| block_counts_of(run, shape))
+}
+
+fn block_counts_of(run: &mut Run, shape: Shape) -> Outcome {
+    for n in sample::block_counts(shape, &mut run.random, 40) {
+        let mut disk = Disk::random(shape, n, &mut run.random);
         let guid = sample::guid(&mut run.random);
         disk.call(run, &Call::Format { guid })?;
-        let usable = n - 67;
+        let usable = shape.usable(n);
         for size in [usable + 1, usable, 1] {
             disk.call(run, &Call::Free)?;
             let add = sample::good_add(size, &mut run.random);
@@ -59,20 +64,21 @@ fn next_call(disk: &mut Disk, read: Reply, random: &mut Random) -> Call {
 
 /// A disk of any size with partitions in random slots.
 fn crowded(run: &mut Run) -> Disk {
+    let shape = run.random.pick(&SHAPES);
     let n = match run.random.below(4) {
-        0 => sample::block_count(&mut run.random),
+        0 => sample::block_count(shape, &mut run.random),
         1 => sample::N_MAX - run.random.number_below(40),
-        _ => sample::N_MIN + run.random.number_below(900),
+        _ => shape.least_blocks() + run.random.number_below(900),
     };
-    let mut disk = Disk::formatted(n, &mut run.random);
+    let mut disk = Disk::formatted(shape, n, &mut run.random);
     let count = run.random.pick(&[0, 2, 5, 20, 127, 128]);
     let mut slots: Vec<usize> = (0..SLOTS).collect();
-    let mut next = 34;
+    let mut next = shape.first_usable;
     for _ in 0..count {
         let index = slots.swap_remove(run.random.below(slots.len()));
         let first = next + run.random.number_below(4).saturating_sub(1);
         let last = first + run.random.number_below(4).saturating_sub(1);
-        if last > n - 34 {
+        if last >= disk.end() {
             break;
         }
         disk.place(index, first, last, &mut run.random);
@@ -86,8 +92,9 @@ fn crowded(run: &mut Run) -> Disk {
 /// entries hold, no block lies in two partitions, and room is refused exactly where no run is long enough.
 pub fn ledger(run: &mut Run) -> Outcome {
     for _ in 0..LEDGER_HISTORIES {
-        let n = sample::N_MIN + run.random.number_below(400);
-        let mut disk = Disk::random(n, &mut run.random);
+        let shape = run.random.pick(&SHAPES);
+        let n = shape.least_blocks() + run.random.number_below(400);
+        let mut disk = Disk::random(shape, n, &mut run.random);
         let mut ledger = Ledger::new(run.rules);
         format(run, &mut disk, &mut ledger)?;
         for _ in 0..LEDGER_CALLS {
@@ -131,13 +138,14 @@ fn one_call(run: &mut Run, disk: &mut Disk, ledger: &mut Ledger, before: Reply) 
 
 fn claims(run: &mut Run, disk: &mut Disk, ledger: &Ledger) -> Outcome {
     let [free, _] = disk.call(run, &Call::Free)?.values;
-    let held = i128::from(disk.n - 67) - i128::from(free);
+    let held = i128::from(disk.shape.usable(disk.n)) - i128::from(free);
     let summed = ledger.in_partitions();
     claim(held == summed, || format!("{held} blocks lie in partitions, {summed} by the sums"))?;
     let mut ranges: Vec<_> = disk.partitions(Side::Head).into_iter().map(|(_, a, b)| (a, b)).collect();
     ranges.sort();
     let apart = ranges.windows(2).all(|two| two[0].1 < two[1].0);
-    let in_order = ranges.iter().all(|(first, last)| 34 <= *first && first <= last && *last <= disk.n - 34);
+    let (start, end) = (disk.shape.first_usable, disk.end());
+    let in_order = ranges.iter().all(|(first, last)| start <= *first && first <= last && *last < end);
     claim(apart && in_order, || format!("the partitions are {ranges:?}"))
 }
 

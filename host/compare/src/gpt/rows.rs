@@ -1,16 +1,20 @@
 //! Calls for which one row holds, or two together, so that each row and each order of two shows.
 
-use super::call::{Call, GUID_LEN, HEAD_LEN, NAME_UNITS, TAIL_LEN};
+use super::call::{Call, GUID_LEN, NAME_UNITS};
 use super::disk::{Disk, Side, SIDES, SLOTS};
 use super::sample;
 use crate::run::{Lent, Outcome, Run};
+use testkit::disk::{Shape, SHAPES};
 use testkit::random::Random;
 
 /// A way to make a row hold.
 #[derive(Clone, Copy, Debug, PartialEq, Eq)]
 enum Fault {
+    BlockSize(u64),
+    OtherBlockSize,
     Length(&'static str),
-    BlockCount(u64),
+    TooFewBlocks,
+    TooManyBlocks,
     ZeroDiskGuid,
     NoGoodCopy,
     OtherDiskGuid,
@@ -30,8 +34,9 @@ enum Fault {
 
 use Fault::*;
 
-const DISK: [Fault; 5] =
-    [Length("head"), Length("tail"), BlockCount(67), BlockCount(sample::N_MAX + 1), NoGoodCopy];
+const SIZE: [Fault; 2] = [BlockSize(0), BlockSize(1024)];
+const LENGTHS: [Fault; 3] = [OtherBlockSize, Length("head"), Length("tail")];
+const COUNT: [Fault; 2] = [TooFewBlocks, TooManyBlocks];
 const NOT_SAME: [Fault; 4] = [OtherDiskGuid, OtherEntry, PrimaryOnly, BackupOnly];
 const SLOT: [Fault; 3] = [Slot(0), Slot(129), UnusedSlot];
 
@@ -39,9 +44,10 @@ const SLOT: [Fault; 3] = [Slot(0), Slot(129), UnusedSlot];
 fn calls(random: &mut Random) -> Vec<(Call, Vec<Fault>)> {
     let slot = 2;
     let name = sample::good_name(random);
-    let reading = [&DISK[..], &NOT_SAME].concat();
-    let editing = [&DISK[..], &NOT_SAME, &SLOT].concat();
-    let format = [&DISK[..2], &[Length("guid")], &DISK[2..4], &[ZeroDiskGuid]].concat();
+    let lent = [&SIZE[..], &LENGTHS].concat();
+    let reading = [&lent[..], &COUNT, &[NoGoodCopy], &NOT_SAME].concat();
+    let editing = [&reading[..], &SLOT].concat();
+    let format = [&lent[..], &[Length("guid")], &COUNT, &[ZeroDiskGuid]].concat();
     let new = [Length("type"), Length("unique"), Length("name")];
     let judged = [ZeroSize, ZeroType, ZeroUnique, TakenUnique, BadName, AllSlotsUsed, NoRoom];
     vec![
@@ -59,7 +65,11 @@ fn calls(random: &mut Random) -> Vec<(Call, Vec<Fault>)> {
 
 /// Each call with no fault, with each one, and with each two.
 pub fn each_two(run: &mut Run) -> Outcome {
-    let (some, all) = (some_slots_used(run), all_slots_used(run));
+    SHAPES.into_iter().try_for_each(|shape| each_two_of(run, shape))
+}
+
+fn each_two_of(run: &mut Run, shape: Shape) -> Outcome {
+    let (some, all) = (some_slots_used(run, shape), all_slots_used(run, shape));
     for (call, faults) in calls(&mut run.random) {
         with_faults(run, &some, &all, &call, &[])?;
         for (k, fault) in faults.iter().enumerate() {
@@ -86,22 +96,25 @@ fn with_faults(run: &mut Run, some: &Disk, all: &Disk, call: &Call, faults: &[Fa
     Ok(())
 }
 
-/// Slots 2, 3 and 5 of a disk of 100 blocks: 36 to 38, 45 to 50, 66; slots 1 and 4 are unused.
-fn some_slots_used(run: &mut Run) -> Disk {
-    let mut disk = Disk::formatted(100, &mut run.random);
-    for (index, first, last) in [(1, 36, 38), (2, 45, 50), (4, 66, 66)] {
-        disk.place(index, first, last, &mut run.random);
+/// Slots 2, 3 and 5 of a disk of 33 usable blocks, of which they have 2 to 4, 11 to 16 and the last; slots 1 and 4 are
+/// unused.
+fn some_slots_used(run: &mut Run, shape: Shape) -> Disk {
+    let mut disk = Disk::formatted(shape, shape.least_blocks() + 32, &mut run.random);
+    for (index, first, last) in [(1, 2, 4), (2, 11, 16), (4, 32, 32)] {
+        let start = shape.first_usable;
+        disk.place(index, start + first, start + last, &mut run.random);
     }
     disk.seal_both();
     disk
 }
 
 /// 128 partitions of one block, and 5 free blocks after them.
-fn all_slots_used(run: &mut Run) -> Disk {
-    let mut disk = Disk::formatted(34 + 128 + 5 + 33, &mut run.random);
-    for index in 0..SLOTS {
-        let block = 34 + index as u64;
-        disk.place(index, block, block, &mut run.random);
+fn all_slots_used(run: &mut Run, shape: Shape) -> Disk {
+    let slots = SLOTS as u64;
+    let mut disk = Disk::formatted(shape, shape.least_blocks() - 1 + slots + 5, &mut run.random);
+    for index in 0..slots {
+        let block = shape.first_usable + index;
+        disk.place(index as usize, block, block, &mut run.random);
     }
     disk.seal_both();
     disk
@@ -109,7 +122,10 @@ fn all_slots_used(run: &mut Run) -> Disk {
 
 fn on_disk(disk: &mut Disk, fault: Fault, random: &mut Random) {
     match fault {
-        BlockCount(n) => disk.n = n,
+        BlockSize(block) => disk.block = block,
+        OtherBlockSize => disk.block = other(disk.shape).block,
+        TooFewBlocks => disk.n = disk.shape.least_blocks() - 1,
+        TooManyBlocks => disk.n = sample::N_MAX + 1,
         NoGoodCopy => SIDES.into_iter().for_each(|side| disk.header(side)[0] ^= 1),
         PrimaryOnly => disk.header(Side::Tail)[56] ^= 1,
         BackupOnly => disk.header(Side::Head)[56] ^= 1,
@@ -123,6 +139,11 @@ fn on_disk(disk: &mut Disk, fault: Fault, random: &mut Random) {
         }
         _ => {}
     }
+}
+
+/// The other one of the two.
+fn other(shape: Shape) -> Shape {
+    SHAPES.into_iter().find(|other| *other != shape).expect("another shape")
 }
 
 fn on_call(call: &mut Call, fault: Fault, disk: &mut Disk, random: &mut Random) {
@@ -156,13 +177,13 @@ fn wrong_length(disk: &mut Disk, call: &mut Call, fault: Fault, random: &mut Ran
 fn set_length(disk: &mut Disk, call: &mut Call, buffer: &str, change: isize, random: &mut Random) {
     let new = |length: usize| length.saturating_add_signed(change);
     match (buffer, call) {
-        ("head", _) => disk.head = of_length(&disk.head, new(HEAD_LEN), random),
-        ("tail", _) => disk.tail = of_length(&disk.tail, new(TAIL_LEN), random),
+        ("head", _) => disk.head = of_length(&disk.head, new(disk.shape.head_len), random),
+        ("tail", _) => disk.tail = of_length(&disk.tail, new(disk.shape.tail_len), random),
         ("guid", Call::Format { guid }) => guid.resize(new(GUID_LEN), 7),
         ("type", Call::Add { kind, .. }) => kind.resize(new(GUID_LEN), 7),
         ("unique", Call::Add { unique, .. }) => unique.resize(new(GUID_LEN), 7),
         ("name", Call::Add { name, .. } | Call::Rename { name, .. }) => name.resize(new(NAME_UNITS), 0),
-        (buffer, call) => unreachable!("{} is lent no {buffer}", call.name()),
+        (buffer, call) => unreachable!("{} is lent no {buffer}", call.name(disk.block)),
     }
 }
 
@@ -172,13 +193,22 @@ fn of_length(lent: &Lent, length: usize, random: &mut Random) -> Lent {
     Lent::holding(&bytes, random)
 }
 
-/// Each buffer of each call, one unit short or long, twice as long, empty and nearly so.
+/// What a length is changed by: a few units, a block, and to that of the other block size, of the other buffer, or to
+/// nothing.
+const CHANGES: [isize; 16] =
+    [-1, 1, -2, 8, 16, 512, -512, 4096, -4096, 7168, -7168, 3584, -3584, 16_896, -16_895, -24_576];
+
+/// Each buffer of each call with other lengths.
 pub fn each_length(run: &mut Run) -> Outcome {
-    let disk = some_slots_used(run);
+    SHAPES.into_iter().try_for_each(|shape| each_length_of(run, shape))
+}
+
+fn each_length_of(run: &mut Run, shape: Shape) -> Outcome {
+    let disk = some_slots_used(run, shape);
     for (call, faults) in calls(&mut run.random) {
         for fault in faults {
             let Length(buffer) = fault else { continue };
-            for change in [-1, 1, -2, 8, 16, 512, -512, 16_896, -16_895, -17_408] {
+            for change in CHANGES {
                 let (mut disk, mut call) = (disk.clone(), call.clone());
                 set_length(&mut disk, &mut call, buffer, change, &mut run.random);
                 disk.call(run, &call)?;
@@ -190,11 +220,28 @@ pub fn each_length(run: &mut Run) -> Outcome {
 
 /// Each call with each N outside the range and next to the disk's own.
 pub fn each_block_count(run: &mut Run) -> Outcome {
-    let disk = some_slots_used(run);
-    for (call, _) in calls(&mut run.random) {
-        for n in sample::BAD_BLOCK_COUNTS.into_iter().chain([68, 99, 101, sample::N_MAX]) {
-            let mut other = Disk { n, ..disk.clone() };
-            other.call(run, &call)?;
+    for shape in SHAPES {
+        let disk = some_slots_used(run, shape);
+        for (call, _) in calls(&mut run.random) {
+            let near = [shape.least_blocks(), disk.n - 1, disk.n + 1, sample::N_MAX];
+            for n in sample::bad_block_counts(shape).into_iter().chain(near) {
+                let mut other = Disk { n, ..disk.clone() };
+                other.call(run, &call)?;
+            }
+        }
+    }
+    Ok(())
+}
+
+/// Each call with each block size that is neither of the two, and with the one that the disk does not have.
+pub fn each_block_size(run: &mut Run) -> Outcome {
+    for shape in SHAPES {
+        let disk = some_slots_used(run, shape);
+        for (call, _) in calls(&mut run.random) {
+            for block in sample::BAD_BLOCK_SIZES.into_iter().chain([other(shape).block]) {
+                let mut other = Disk { block, ..disk.clone() };
+                other.call(run, &call)?;
+            }
         }
     }
     Ok(())

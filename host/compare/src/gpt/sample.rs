@@ -2,27 +2,53 @@
 
 use super::call::{Call, GUID_LEN, NAME_UNITS};
 use super::disk::{Disk, Side, SLOTS};
+use testkit::disk::Shape;
 use testkit::random::Random;
 
-pub const N_MIN: u64 = 68;
 pub const N_MAX: u64 = 1 << 32;
 
 /// Every N next to a border or a power of two, then random ones.
-pub fn block_counts(random: &mut Random, drawn: usize) -> Vec<u64> {
-    let near_ends = (N_MIN..N_MIN + 6).chain(N_MAX - 5..=N_MAX);
-    let powers = (7..32).flat_map(|k| (1 << k) - 1..=(1 << k) + 1);
-    let mut counts: Vec<u64> = near_ends.chain([100, 161, 162, 195, 196]).chain(powers).collect();
-    counts.extend((0..drawn).map(|_| block_count(random)));
+pub fn block_counts(shape: Shape, random: &mut Random, drawn: usize) -> Vec<u64> {
+    let (first, least, slots) = (shape.first_usable, shape.least_blocks(), SLOTS as u64);
+    let near_ends = (least..least + 6).chain(N_MAX - 5..=N_MAX);
+    let near_slots = [first + slots - 1, first + slots, least + slots - 1, least + slots];
+    let powers = (4..32).flat_map(|k| (1 << k) - 1..=(1 << k) + 1).filter(|n| *n >= least);
+    let mut counts: Vec<u64> = near_ends.chain([100]).chain(near_slots).chain(powers).collect();
+    counts.extend((0..drawn).map(|_| block_count(shape, random)));
     counts
 }
 
 /// Of any magnitude.
-pub fn block_count(random: &mut Random) -> u64 {
-    let below = N_MAX >> random.below(26);
-    N_MIN + random.number_below(below.saturating_sub(N_MIN).max(1))
+pub fn block_count(shape: Shape, random: &mut Random) -> u64 {
+    let (least, below) = (shape.least_blocks(), N_MAX >> random.below(26));
+    least + random.number_below(below.saturating_sub(least).max(1))
 }
 
-pub const BAD_BLOCK_COUNTS: [u64; 8] = [0, 1, 33, 34, 67, N_MAX + 1, 1 << 33, u64::MAX];
+/// Outside the range.
+pub fn bad_block_counts(shape: Shape) -> [u64; 9] {
+    let (first, least) = (shape.first_usable, shape.least_blocks());
+    [0, 1, first - 1, first, least - 2, least - 1, N_MAX + 1, 1 << 33, u64::MAX]
+}
+
+/// Neither of the two block sizes; some have their low 32 bits.
+pub const BAD_BLOCK_SIZES: [u64; 16] = [
+    0,
+    1,
+    256,
+    511,
+    513,
+    1024,
+    2048,
+    4095,
+    4097,
+    8192,
+    65_536,
+    (1 << 32) + 512,
+    (1 << 32) + 4096,
+    (1 << 63) + 512,
+    (1 << 63) + 4096,
+    u64::MAX,
+];
 
 pub fn guid(random: &mut Random) -> Vec<u8> {
     random.bytes(GUID_LEN)
@@ -90,14 +116,16 @@ pub fn any_slot(disk: &mut Disk, random: &mut Random) -> u64 {
     }
 }
 
-const ODD_SIZES: [u64; 7] = [0, 1, 1 << 32, 1 << 63, u64::MAX - 34, u64::MAX - 33, u64::MAX];
+/// Some are 2^64 or nearly so when the first usable block is added.
+const ODD_SIZES: [u64; 9] =
+    [0, 1, 1 << 32, 1 << 63, u64::MAX - 34, u64::MAX - 33, u64::MAX - 6, u64::MAX - 5, u64::MAX];
 
 /// The lengths of the gaps between partitions, by the primary entries.
 fn gaps(disk: &mut Disk) -> Vec<u64> {
     let mut ranges: Vec<_> = disk.partitions(Side::Head).into_iter().map(|(_, a, b)| (a, b)).collect();
     ranges.sort();
-    ranges.push((disk.n.saturating_sub(33), 0));
-    let mut next: u64 = 34;
+    ranges.push((disk.end(), 0));
+    let mut next = disk.shape.first_usable;
     let mut gaps = Vec::new();
     for (first, last) in ranges {
         gaps.push(first.saturating_sub(next));
@@ -128,7 +156,7 @@ pub fn other_size(disk: &mut Disk, slot: u64, random: &mut Random) -> u64 {
         return random.pick(&ODD_SIZES);
     };
     let after = partitions.iter().map(|(_, first, _)| *first).filter(|start| start > last).min();
-    let largest = after.unwrap_or(disk.n.saturating_sub(33)).saturating_sub(*first);
+    let largest = after.unwrap_or(disk.end()).saturating_sub(*first);
     let size = last.saturating_sub(*first).saturating_add(1);
     match random.below(10) {
         0 => random.pick(&ODD_SIZES),

@@ -1,16 +1,18 @@
+mod shape;
+
 use crate::topic::{number_variants, order_variants, variant, Order, Variant};
-use second::rules::{EditSlip, Holds, Longest, Place, Row, Slot, Start, Tail, Unjudged, Which};
+use second::rules::{EditSlip, Holds, Longest, Row, Slot, Start, Tail, Unjudged, Which};
 
 pub const RULES_TO_BREAK: &[&str] = &[
     "Q1", "Q2", "Q3", "Q6", "R1", "R2", "R3", "R4", "R5", "R6", "R7", "R8", "R9", "R10", "R11", "R12", "R13",
     "R25", "R26", "R27", "R28", "R29", "R30", "D1", "D2", "D3", "D4", "D5", "D6", "D7", "D8", "D9", "D10",
     "D11", "D12", "D13", "D14", "D15", "D16", "D17", "D18", "D19", "D20", "D21", "D22", "D23", "D24", "E1",
-    "E2",
+    "E2", "02.l1", "02.l2", "02.l3", "02.l7",
 ];
 
 pub fn all() -> Vec<Variant> {
     let groups = [
-        quantities(),
+        shape::variants(),
         rows(),
         number_variants(NUMBERS),
         order_variants(ORDERS),
@@ -23,26 +25,9 @@ pub fn all() -> Vec<Variant> {
     groups.into_iter().flatten().collect()
 }
 
-fn quantities() -> Vec<Variant> {
-    vec![
-        variant("block-of-4096", "Q1", |r| r.gpt.block_len = 4096),
-        variant("n-67-taken", "Q2", |r| r.gpt.n_min = 67),
-        variant("n-68-refused", "Q2", |r| r.gpt.n_min = 69),
-        variant("n-2^32-refused", "Q2", |r| r.gpt.n_max -= 1),
-        variant("n-past-2^32-taken", "Q2", |r| r.gpt.n_max += 1),
-        variant("head-a-byte-longer", "Q3", |r| r.gpt.head_len += 1),
-        variant("head-a-byte-shorter", "Q3", |r| r.gpt.head_len -= 1),
-        variant("head-of-33-blocks", "Q3", |r| r.gpt.head_len -= 512),
-        variant("tail-a-byte-longer", "Q3", |r| r.gpt.tail_len += 1),
-        variant("tail-a-byte-shorter", "Q3", |r| r.gpt.tail_len -= 1),
-        variant("tail-of-34-blocks", "Q3", |r| r.gpt.tail_len += 512),
-        variant("tail-from-n-34", "Q3", |r| r.gpt.tail_start = Place::FromEnd(34)),
-        variant("big-endian", "Q6", |r| r.gpt.little_endian = false),
-    ]
-}
-
 fn rows() -> Vec<Variant> {
     vec![
+        variant("big-endian", "Q6", |r| r.gpt.little_endian = false),
         variant("refusal-zeroes-a-byte", "R1", |r| r.refusals.zeroes = 1),
         variant("refusal-zeroes-answers", "R1", |r| r.refusals.zeroes_answers = true),
         variant("no-row-but-the-first", "R2", |r| r.gpt.add_order = &[Row::WrongLength]),
@@ -78,6 +63,7 @@ fn rows() -> Vec<Variant> {
 
 /// Another number for each refusal.
 const NUMBERS: &[(Row, &str, u32)] = &[
+    (Row::BlockSize, "02.l7", 2),
     (Row::WrongLength, "R4", 2),
     (Row::BadBlockCount, "R5", 1),
     (Row::ZeroDiskGuid, "R6", 4),
@@ -116,10 +102,7 @@ fn headers() -> Vec<Variant> {
         variant("reserved-1", "D1", |r| r.gpt.header[4].holds = Holds::Number(1)),
         variant("own-block-is-other", "D1", |r| r.gpt.header[5].holds = Holds::OtherBlock),
         variant("other-block-is-own", "D1", |r| r.gpt.header[6].holds = Holds::OwnBlock),
-        variant("first-usable-33", "D1", |r| r.gpt.header[7].holds = Holds::Block(Place::FromStart(33))),
         variant("first-usable-2048", "D1", |r| r.gpt.header[7].holds = Holds::Number(2048)),
-        variant("last-usable-n-33", "D1", |r| r.gpt.header[8].holds = Holds::Block(Place::FromEnd(33))),
-        variant("last-usable-n-35", "D1", |r| r.gpt.header[8].holds = Holds::Block(Place::FromEnd(35))),
         variant("disk-guid-at-60", "D1", |r| r.gpt.header[9].at = 60),
         variant("entries-block-2-in-both", "D1", |r| r.gpt.header[10].holds = Holds::Number(2)),
         variant("count-129", "D1", |r| r.gpt.header[11].holds = Holds::Number(129)),
@@ -129,11 +112,6 @@ fn headers() -> Vec<Variant> {
         variant("entries-crc-of-16256", "D1", |r| r.gpt.entries_crc_len = 16_256),
         variant("entries-crc-of-16383", "D1", |r| r.gpt.entries_crc_len = 16_383),
         variant("entries-crc-of-512", "D1", |r| r.gpt.entries_crc_len = 512),
-        variant("primary-header-in-block-0", "D2", |r| r.gpt.primary.header = Place::FromStart(0)),
-        variant("primary-entries-from-3", "D2", |r| r.gpt.primary.entries = Place::FromStart(3)),
-        variant("backup-header-in-n-2", "D2", |r| r.gpt.backup.header = Place::FromEnd(2)),
-        variant("backup-header-first", "D2", |r| r.gpt.backup.header = Place::FromEnd(33)),
-        variant("backup-entries-from-n-32", "D2", |r| r.gpt.backup.entries = Place::FromEnd(32)),
         variant("backup-header-copied", "E2", |r| r.gpt.backup_header_copied = true),
         variant("disk-crc-starts-at-0", "D3", |r| r.crc.start = 0),
         variant("header-crc-of-88", "D4", |r| r.gpt.header_crc_len = 88),
@@ -168,10 +146,6 @@ fn entries() -> Vec<Variant> {
         variant("unused-by-type", "D6", |r| r.gpt.unused_len = 16),
         variant("unused-by-127-bytes", "D6", |r| r.gpt.unused_len = 127),
         variant("unused-by-56-bytes", "D6", |r| r.gpt.unused_len = 56),
-        variant("entry-from-33", "D7", |r| r.gpt.entry_first_min = Place::FromStart(33)),
-        variant("entry-from-35", "D7", |r| r.gpt.entry_first_min = Place::FromStart(35)),
-        variant("entry-to-n-33", "D7", |r| r.gpt.entry_last_max = Place::FromEnd(33)),
-        variant("entry-to-n-35", "D7", |r| r.gpt.entry_last_max = Place::FromEnd(35)),
         variant("last-before-first", "D7", |r| r.gpt.first_at_most_last = false),
         variant("zero-type-good", "D7", |r| r.gpt.zero_kind_bad = false),
         variant("zero-unique-good", "D7", |r| r.gpt.zero_unique_bad = false),
@@ -202,10 +176,6 @@ fn reading() -> Vec<Variant> {
         variant("longest-is-total", "D12", |r| r.gpt.longest = Longest::AllRuns),
         variant("longest-is-first", "D12", |r| r.gpt.longest = Longest::FirstRun),
         variant("longest-is-last", "D12", |r| r.gpt.longest = Longest::LastRun),
-        variant("free-from-33", "D21", |r| r.gpt.usable_first = Place::FromStart(33)),
-        variant("free-from-35", "D21", |r| r.gpt.usable_first = Place::FromStart(35)),
-        variant("free-to-n-33", "D21", |r| r.gpt.usable_last = Place::FromEnd(33)),
-        variant("free-to-n-35", "D21", |r| r.gpt.usable_last = Place::FromEnd(35)),
         variant("free-of-backup", "D21", |r| r.gpt.free_of = Some(Which::Backup)),
     ]);
     variants
@@ -240,8 +210,6 @@ fn writing() -> Vec<Variant> {
         variant("rename-ends-at-zero", "D17", |r| r.gpt.rename_stops_at_zero = true),
         variant("resize-to-size-and-1", "D18", |r| r.gpt.resize_last_less = 0),
         variant("resize-to-size-less-1", "D18", |r| r.gpt.resize_last_less = 2),
-        variant("resize-past-end", "D18", |r| r.gpt.resize_last_max = Place::FromEnd(33)),
-        variant("resize-short-of-end", "D18", |r| r.gpt.resize_last_max = Place::FromEnd(35)),
         variant("resize-over-others", "D18", |r| r.gpt.resize_judges_others = false),
         variant("resize-zeroes-attributes", "D18", |r| r.gpt.resize_zeroes_attributes = true),
         variant("repair-writes-in-state-1", "D24", |r| r.gpt.repair_rewrites_same = true),
@@ -262,7 +230,6 @@ fn block_0() -> Vec<Variant> {
         variant("record-type-ef", "D13", |r| r.gpt.block_0[2].holds = Holds::Number(0xEF)),
         variant("record-to-fe-ff-ff", "D13", |r| r.gpt.block_0[3].holds = Holds::Bytes(&[0xFE, 0xFF, 0xFF])),
         variant("record-from-block-0", "D13", |r| r.gpt.block_0[4].holds = Holds::Number(0)),
-        variant("record-of-n-blocks", "D13", |r| r.gpt.block_0[5].holds = Holds::Block(Place::FromEnd(0))),
         variant("record-size-at-462", "D13", |r| r.gpt.block_0[5].at = 462),
         variant("record-size-of-8-bytes", "D13", |r| r.gpt.block_0[5].len = 3),
         variant("block-0-ends-aa-55", "D13", |r| r.gpt.block_0[6].holds = Holds::Bytes(&[0xAA, 0x55])),

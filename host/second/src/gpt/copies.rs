@@ -1,6 +1,6 @@
 use super::entry;
 use super::header::{self, Subject};
-use super::place::{buffer, entries_at, entries_len, header_at};
+use super::place::{buffer, entries_len, Geometry};
 use crate::bytes::{is_zero, part};
 use crate::rules::{Holds, Row, Rules, Unjudged, Which};
 
@@ -26,26 +26,32 @@ impl State {
     }
 }
 
-/// Head and tail of a disk of `n` blocks, as reading judges them.
-pub struct Disk {
-    pub n: u64,
+/// Head and tail of a disk, as reading judges them.
+pub struct Disk<'a> {
+    pub geometry: Geometry<'a>,
+    block_size_taken: bool,
     lengths_right: bool,
     primary: Option<Copy>,
     backup: Option<Copy>,
 }
 
-impl Disk {
-    pub fn of(rules: &Rules, head: &[u8], tail: &[u8], n: u64) -> Disk {
+impl<'a> Disk<'a> {
+    /// A disk whose block size is refused is judged by the first shape; no row after that one is asked.
+    pub fn of(rules: &'a Rules, head: &[u8], tail: &[u8], n: u64, block: u64) -> Disk<'a> {
+        let named = Geometry::named(rules, n, block);
+        let geometry = named.unwrap_or(Geometry { rules, shape: &rules.gpt.shapes[0], n });
         Disk {
-            n,
-            lengths_right: head.len() == rules.gpt.head_len && tail.len() == rules.gpt.tail_len,
-            primary: copy(rules, head, tail, n, Which::Primary),
-            backup: copy(rules, head, tail, n, Which::Backup),
+            geometry,
+            block_size_taken: named.is_some(),
+            lengths_right: head.len() == geometry.shape.head_len && tail.len() == geometry.shape.tail_len,
+            primary: copy(geometry, head, tail, Which::Primary),
+            backup: copy(geometry, head, tail, Which::Backup),
         }
     }
 
     /// D10.
-    pub fn state(&self, rules: &Rules) -> Option<State> {
+    pub fn state(&self) -> Option<State> {
+        let rules = self.geometry.rules;
         match (&self.primary, &self.backup) {
             (Some(primary), Some(backup)) if are_same(rules, primary, backup) => Some(State::Same),
             (Some(_), Some(_)) => Some(State::Different),
@@ -60,27 +66,29 @@ impl Disk {
     }
 
     /// D10, D11: the copy that reading uses.
-    pub fn used(&self, rules: &Rules) -> Option<Which> {
-        Some(match self.state(rules)? {
+    pub fn used(&self) -> Option<Which> {
+        Some(match self.state()? {
             State::Same | State::PrimaryOnly => Which::Primary,
-            State::Different => rules.gpt.different_uses,
+            State::Different => self.geometry.rules.gpt.different_uses,
             State::BackupOnly => Which::Backup,
         })
     }
 
     /// The entries of the copy that reading uses; none where no copy is good.
-    pub fn entries(&self, rules: &Rules) -> &[u8] {
-        let copy = self.used(rules).and_then(|which| self.copy(which));
+    pub fn entries(&self) -> &[u8] {
+        let copy = self.used().and_then(|which| self.copy(which));
         copy.map_or(&[], |copy| &copy.entries)
     }
 
-    /// The rows that head, tail and N alone decide.
-    pub fn holds(&self, rules: &Rules, row: Row) -> bool {
+    /// The rows that head, tail, N and block size alone decide.
+    pub fn holds(&self, row: Row) -> bool {
+        let Geometry { shape, n, .. } = self.geometry;
         match row {
+            Row::BlockSize => !self.block_size_taken,
             Row::WrongLength => !self.lengths_right,
-            Row::BadBlockCount => !(rules.gpt.n_min..=rules.gpt.n_max).contains(&self.n),
-            Row::NoGoodCopy => self.state(rules).is_none(),
-            Row::NotSame => self.state(rules) != Some(State::Same),
+            Row::BadBlockCount => !(shape.n_min..=shape.n_max).contains(&n),
+            Row::NoGoodCopy => self.state().is_none(),
+            Row::NotSame => self.state() != Some(State::Same),
             _ => false,
         }
     }
@@ -95,16 +103,17 @@ fn are_same(rules: &Rules, primary: &Copy, backup: &Copy) -> bool {
 }
 
 /// D8: what the copy says, if it is good.
-fn copy(rules: &Rules, head: &[u8], tail: &[u8], n: u64, which: Which) -> Option<Copy> {
+fn copy(geometry: Geometry, head: &[u8], tail: &[u8], which: Which) -> Option<Copy> {
+    let rules = geometry.rules;
     let bytes = buffer(head, tail, which);
-    let block = part(bytes, header_at(rules, n, which), rules.gpt.block_len);
-    let entries = part(bytes, entries_at(rules, n, which), entries_len(rules));
+    let block = part(bytes, geometry.header_at(which), geometry.shape.block_len);
+    let entries = part(bytes, geometry.entries_at(which), entries_len(rules));
     let disk_guid = disk_guid(rules, block);
-    let header_tail = part(block, rules.gpt.header_len, rules.gpt.block_len).to_vec();
-    let subject = Subject { n, which, disk_guid, entries };
-    let good = header::is_good(rules, &subject, block)
-        && (!rules.gpt.entry_rules_judged || entry::are_good(rules, n, entries))
-        && !also_bad(rules, head, &subject, &header_tail);
+    let header_tail = geometry.header_tail(block).to_vec();
+    let subject = Subject { geometry, which, disk_guid, entries };
+    let good = header::is_good(&subject, block)
+        && (!rules.gpt.entry_rules_judged || entry::are_good(geometry, entries))
+        && !also_bad(head, &subject, &header_tail);
     good.then(|| Copy { disk_guid: disk_guid.to_vec(), entries: entries.to_vec(), header_tail })
 }
 
@@ -114,10 +123,11 @@ fn disk_guid<'a>(rules: &Rules, block: &'a [u8]) -> &'a [u8] {
 }
 
 /// D9: by a slip, more is judged than named header fields, CRCs and entry rules.
-fn also_bad(rules: &Rules, head: &[u8], subject: &Subject, header_tail: &[u8]) -> bool {
-    match rules.gpt.also_judged {
+fn also_bad(head: &[u8], subject: &Subject, header_tail: &[u8]) -> bool {
+    let geometry = subject.geometry;
+    match geometry.rules.gpt.also_judged {
         Some(Unjudged::DiskGuid) => is_zero(subject.disk_guid),
-        Some(Unjudged::Block0) => part(head, 0, rules.gpt.block_len) != header::block_0(rules, subject.n),
+        Some(Unjudged::Block0) => part(head, 0, geometry.shape.block_len) != header::block_0(geometry),
         Some(Unjudged::HeaderTail) => !is_zero(header_tail),
         _ => false,
     }

@@ -1,5 +1,6 @@
 use super::copies::Disk;
 use super::entry::{self, Entry, NewPartition};
+use super::place::Geometry;
 use super::write::Buffers;
 use super::{answer, leave_buffers, room};
 use crate::bytes::{is_zero, part, put};
@@ -12,27 +13,28 @@ pub fn gpt_add(
     head: &mut [u8],
     tail: &mut [u8],
     n: u64,
+    block: u64,
     new: &NewPartition,
     slot: &mut u64,
     first: &mut u64,
 ) -> u32 {
-    let disk = Disk::of(rules, head, tail, n);
-    let used = entry::used(rules, disk.entries(rules));
-    let runs = room::runs(rules, n, &used);
+    let disk = Disk::of(rules, head, tail, n, block);
+    let used = entry::used(rules, disk.entries());
+    let runs = room::runs(disk.geometry, &used);
     let free_slot = free_slot(rules, &used);
     let refusal = first_refusal(rules, rules.gpt.add_order, |row| match row {
-        Row::WrongLength => disk.holds(rules, row) || new_lengths_wrong(rules, new),
+        Row::WrongLength => disk.holds(row) || new_lengths_wrong(rules, new),
         Row::ZeroSize => new.size < rules.gpt.size_min,
         Row::ZeroType => is_zero(part(new.kind, 0, rules.gpt.zero_kind_len)),
         Row::UniqueTaken => unique_taken(rules, &used, new.unique),
         Row::BadName => entry::name_is_bad(rules, new.name),
         Row::NoSlot => free_slot.is_none(),
         Row::NoRoom => room::longest(rules.gpt.room, &runs) < new.size,
-        _ => disk.holds(rules, row),
+        _ => disk.holds(row),
     });
     let found = free_slot.zip(room::start(rules, &runs, new.size));
     let added = found.map(|(index, start)| (index, entry::new_entry(rules, new, start)));
-    finish(rules, Buffers { head, tail, n }, refusal, added);
+    finish(Buffers { head, tail, geometry: disk.geometry }, refusal, added);
     let told = found.map(|(index, start)| {
         let end = start.wrapping_add(new.size);
         [index as u64 + rules.gpt.slot_base, if rules.gpt.add_answers_first { start } else { end }]
@@ -41,61 +43,72 @@ pub fn gpt_add(
 }
 
 /// D16.
-pub fn gpt_delete(rules: &Rules, head: &mut [u8], tail: &mut [u8], n: u64, slot: u64) -> u32 {
-    let disk = Disk::of(rules, head, tail, n);
+pub fn gpt_delete(rules: &Rules, head: &mut [u8], tail: &mut [u8], n: u64, block: u64, slot: u64) -> u32 {
+    let disk = Disk::of(rules, head, tail, n, block);
     let target = target(rules, &disk, slot);
     let refusal = first_refusal(rules, rules.gpt.delete_order, |row| match row {
         Row::NoSuchSlot => no_such_slot(rules, slot),
         Row::UnusedSlot => target.is_none(),
-        _ => disk.holds(rules, row),
+        _ => disk.holds(row),
     });
     let zeros = vec![0; rules.gpt.delete_zeroes];
     let deleted = target.map(|entry| (entry.index, with(&entry, 0, &zeros)));
-    finish(rules, Buffers { head, tail, n }, refusal, deleted)
+    finish(Buffers { head, tail, geometry: disk.geometry }, refusal, deleted)
 }
 
 /// D17.
-pub fn gpt_rename(rules: &Rules, head: &mut [u8], tail: &mut [u8], n: u64, slot: u64, name: &[u16]) -> u32 {
-    let disk = Disk::of(rules, head, tail, n);
+pub fn gpt_rename(
+    rules: &Rules,
+    head: &mut [u8],
+    tail: &mut [u8],
+    n: u64,
+    block: u64,
+    slot: u64,
+    name: &[u16],
+) -> u32 {
+    let disk = Disk::of(rules, head, tail, n, block);
     let target = target(rules, &disk, slot);
     let refusal = first_refusal(rules, rules.gpt.rename_order, |row| match row {
-        Row::WrongLength => disk.holds(rules, row) || name.len() != rules.gpt.name_units,
+        Row::WrongLength => disk.holds(row) || name.len() != rules.gpt.name_units,
         Row::NoSuchSlot => no_such_slot(rules, slot),
         Row::UnusedSlot => target.is_none(),
         Row::BadName => entry::name_is_bad(rules, name),
-        _ => disk.holds(rules, row),
+        _ => disk.holds(row),
     });
     let units = entry::stored_name(rules, renamed_units(rules, name));
     let renamed = target.map(|entry| (entry.index, with(&entry, rules.gpt.entry.name, &units)));
-    finish(rules, Buffers { head, tail, n }, refusal, renamed)
+    finish(Buffers { head, tail, geometry: disk.geometry }, refusal, renamed)
 }
 
 /// D18.
-pub fn gpt_resize(rules: &Rules, head: &mut [u8], tail: &mut [u8], n: u64, slot: u64, size: u64) -> u32 {
-    let disk = Disk::of(rules, head, tail, n);
-    let used = entry::used(rules, disk.entries(rules));
+pub fn gpt_resize(
+    rules: &Rules,
+    head: &mut [u8],
+    tail: &mut [u8],
+    n: u64,
+    block: u64,
+    slot: u64,
+    size: u64,
+) -> u32 {
+    let disk = Disk::of(rules, head, tail, n, block);
+    let used = entry::used(rules, disk.entries());
     let target = target(rules, &disk, slot);
     let refusal = first_refusal(rules, rules.gpt.resize_order, |row| match row {
         Row::NoSuchSlot => no_such_slot(rules, slot),
         Row::UnusedSlot => target.is_none(),
         Row::ZeroSize => size < rules.gpt.size_min,
-        Row::NoRoom => target.as_ref().is_some_and(|entry| no_room(rules, n, &used, entry, size)),
-        _ => disk.holds(rules, row),
+        Row::NoRoom => target.as_ref().is_some_and(|entry| no_room(disk.geometry, &used, entry, size)),
+        _ => disk.holds(row),
     });
     let resized = target.map(|entry| (entry.index, resized(rules, &entry, size)));
-    finish(rules, Buffers { head, tail, n }, refusal, resized)
+    finish(Buffers { head, tail, geometry: disk.geometry }, refusal, resized)
 }
 
 /// Writes the edited entry of an accepted call.
-fn finish(
-    rules: &Rules,
-    mut buffers: Buffers,
-    refusal: Option<u32>,
-    edited: Option<(usize, Vec<u8>)>,
-) -> u32 {
+fn finish(mut buffers: Buffers, refusal: Option<u32>, edited: Option<(usize, Vec<u8>)>) -> u32 {
     match (refusal, edited) {
-        (None, Some((index, bytes))) => buffers.edit(rules, index, &bytes),
-        _ => leave_buffers(rules, &mut buffers),
+        (None, Some((index, bytes))) => buffers.edit(index, &bytes),
+        _ => leave_buffers(buffers.geometry.rules, &mut buffers),
     }
     refusal.unwrap_or(0)
 }
@@ -138,7 +151,7 @@ fn no_such_slot(rules: &Rules, slot: u64) -> bool {
 /// The used entry in that slot.
 fn target(rules: &Rules, disk: &Disk, slot: u64) -> Option<Entry> {
     let index = slot.checked_sub(rules.gpt.slot_base)?;
-    entry::used(rules, disk.entries(rules)).into_iter().find(|entry| entry.index as u64 == index)
+    entry::used(rules, disk.entries()).into_iter().find(|entry| entry.index as u64 == index)
 }
 
 fn renamed_units<'a>(rules: &Rules, name: &'a [u16]) -> &'a [u16] {
@@ -154,10 +167,11 @@ fn resized_last(rules: &Rules, entry: &Entry, size: u64) -> u128 {
     (u128::from(entry.first) + u128::from(size)).saturating_sub(u128::from(rules.gpt.resize_last_less))
 }
 
-/// D18: a block of the new range lies past N−34 or in another partition.
-fn no_room(rules: &Rules, n: u64, used: &[Entry], resized: &Entry, size: u64) -> bool {
+/// D18: a block of the new range lies past the last usable one or in another partition.
+fn no_room(geometry: Geometry, used: &[Entry], resized: &Entry, size: u64) -> bool {
+    let Geometry { rules, shape, .. } = geometry;
     let last = resized_last(rules, resized, size);
-    if last > u128::from(rules.gpt.resize_last_max.block(n)) {
+    if last > u128::from(geometry.block(shape.resize_last_max)) {
         return true;
     }
     let mut others = used.iter().filter(|entry| entry.index != resized.index);

@@ -1,3 +1,4 @@
+use super::place::Geometry;
 use crate::bytes::{is_zero, number, part, put, stored};
 use crate::rules::{Rules, Unjudged};
 
@@ -83,19 +84,22 @@ pub fn new_entry(rules: &Rules, new: &NewPartition, first: u64) -> Vec<u8> {
 }
 
 /// D7: every rule of entries holds.
-pub fn are_good(rules: &Rules, n: u64, entries: &[u8]) -> bool {
+pub fn are_good(geometry: Geometry, entries: &[u8]) -> bool {
+    let rules = geometry.rules;
     let used = used(rules, entries);
     let pairs_good =
         || (1..used.len()).all(|k| used[..k].iter().all(|entry| pair_good(rules, entry, &used[k])));
-    used.iter().all(|entry| is_good(rules, n, entry)) && pairs_good()
+    used.iter().all(|entry| is_good(geometry, entry)) && pairs_good()
 }
 
-fn is_good(rules: &Rules, n: u64, entry: &Entry) -> bool {
+fn is_good(geometry: Geometry, entry: &Entry) -> bool {
+    let Geometry { rules, shape, .. } = geometry;
     let gpt = &rules.gpt;
     let zero_guid =
         gpt.zero_kind_bad && is_zero(&entry.kind) || gpt.zero_unique_bad && is_zero(&entry.unique);
     let in_order = !gpt.first_at_most_last || entry.first <= entry.last;
-    let usable = gpt.entry_first_min.block(n) <= entry.first && entry.last <= gpt.entry_last_max.block(n);
+    let usable = geometry.block(shape.entry_first_min) <= entry.first
+        && entry.last <= geometry.block(shape.entry_last_max);
     !zero_guid && in_order && usable && !also_bad(rules, entry)
 }
 

@@ -1,39 +1,40 @@
-use super::place::{other, place};
+use super::place::{other, Geometry};
 use crate::bytes::{part, put, stored};
 use crate::crc::crc32;
 use crate::rules::{Field, Holds, Rules, Which};
 
-/// What a header tells of: one copy on a disk of `n` blocks.
+/// What a header tells of: one copy on a disk.
 pub struct Subject<'a> {
-    pub n: u64,
+    pub geometry: Geometry<'a>,
     pub which: Which,
     pub disk_guid: &'a [u8],
     pub entries: &'a [u8],
 }
 
 /// D1, D4: the bytes of the header.
-pub fn header(rules: &Rules, subject: &Subject) -> Vec<u8> {
-    let mut bytes = vec![0; rules.gpt.header_len];
-    let (crc, rest): (Vec<_>, Vec<_>) = rules.gpt.header.iter().partition(|field| is_header_crc(field));
+pub fn header(subject: &Subject) -> Vec<u8> {
+    let gpt = &subject.geometry.rules.gpt;
+    let mut bytes = vec![0; gpt.header_len];
+    let (crc, rest): (Vec<_>, Vec<_>) = gpt.header.iter().partition(|field| is_header_crc(field));
     for field in rest.into_iter().chain(crc) {
-        let value = value(rules, subject, field, &bytes);
+        let value = value(subject, field, &bytes);
         put(&mut bytes, field.at, &value);
     }
     bytes
 }
 
 /// D8: every named field of the header that begins `block` holds.
-pub fn is_good(rules: &Rules, subject: &Subject, block: &[u8]) -> bool {
-    let mut judged = rules.gpt.header.iter().filter(|field| field.judged);
-    judged.all(|field| part(block, field.at, field.len) == value(rules, subject, field, block))
+pub fn is_good(subject: &Subject, block: &[u8]) -> bool {
+    let mut judged = subject.geometry.rules.gpt.header.iter().filter(|field| field.judged);
+    judged.all(|field| part(block, field.at, field.len) == value(subject, field, block))
 }
 
-/// D13: block 0 of a formatted disk of `n` blocks.
-pub fn block_0(rules: &Rules, n: u64) -> Vec<u8> {
-    let subject = Subject { n, which: Which::Primary, disk_guid: &[], entries: &[] };
-    let mut bytes = vec![0; rules.gpt.block_len];
-    for field in &rules.gpt.block_0 {
-        put(&mut bytes, field.at, &value(rules, &subject, field, &[]));
+/// D13, 02.l2: block 0 of a formatted disk.
+pub fn block_0(geometry: Geometry) -> Vec<u8> {
+    let subject = Subject { geometry, which: Which::Primary, disk_guid: &[], entries: &[] };
+    let mut bytes = vec![0; geometry.shape.block_0_len];
+    for field in &geometry.rules.gpt.block_0 {
+        put(&mut bytes, field.at, &value(&subject, field, &[]));
     }
     bytes
 }
@@ -62,19 +63,22 @@ pub fn entries_crc(rules: &Rules, entries: &[u8]) -> u32 {
 }
 
 /// What a field must hold; `header` is the one that has the field.
-fn value(rules: &Rules, subject: &Subject, field: &Field, header: &[u8]) -> Vec<u8> {
-    let block = |place: crate::rules::Place| place.block(subject.n);
-    let own = place(rules, subject.which);
+fn value(subject: &Subject, field: &Field, header: &[u8]) -> Vec<u8> {
+    let Geometry { rules, shape, .. } = subject.geometry;
+    let block = |place| subject.geometry.block(place);
+    let own = subject.geometry.place(subject.which);
     let number = match field.holds {
         Holds::Bytes(bytes) => return bytes.to_vec(),
         Holds::DiskGuid => return subject.disk_guid.to_vec(),
         Holds::Number(number) => number,
-        Holds::Block(place) => block(place),
+        Holds::FirstUsable => block(shape.header_first_usable),
+        Holds::LastUsable => block(shape.header_last_usable),
         Holds::OwnBlock => block(own.header),
-        Holds::OtherBlock => block(place(rules, other(subject.which)).header),
+        Holds::OtherBlock => block(subject.geometry.place(other(subject.which)).header),
         Holds::EntriesBlock => block(own.entries),
         Holds::HeaderCrc => u64::from(header_crc(rules, header)),
         Holds::EntriesCrc => u64::from(entries_crc(rules, subject.entries)),
+        Holds::RecordSize => block(shape.record_blocks).wrapping_mul(shape.record_counts),
     };
     stored(rules.gpt.little_endian, number, field.len)
 }

@@ -23,9 +23,9 @@ use crate::rules::{Row, Rules};
 use copies::Disk;
 use write::Buffers;
 
-/// R26: the refusal of a call whose rows head, tail and N alone decide.
+/// R26: the refusal of a call whose rows head, tail, N and block size alone decide.
 fn disk_refusal(rules: &Rules, order: &[Row], disk: &Disk) -> Option<u32> {
-    first_refusal(rules, order, |row| disk.holds(rules, row))
+    first_refusal(rules, order, |row| disk.holds(row))
 }
 
 /// Sets the number answers of an accepted call.

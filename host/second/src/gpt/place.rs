@@ -1,4 +1,5 @@
-use crate::rules::{CopyPlace, Place, Rules, Which};
+use crate::bytes::part;
+use crate::rules::{CopyPlace, Place, Rules, Shape, Which};
 
 pub const BOTH: [Which; 2] = [Which::Primary, Which::Backup];
 
@@ -6,14 +7,6 @@ pub fn other(which: Which) -> Which {
     match which {
         Which::Primary => Which::Backup,
         Which::Backup => Which::Primary,
-    }
-}
-
-/// D2.
-pub fn place(rules: &Rules, which: Which) -> CopyPlace {
-    match which {
-        Which::Primary => rules.gpt.primary,
-        Which::Backup => rules.gpt.backup,
     }
 }
 
@@ -25,25 +18,58 @@ pub fn buffer<T>(head: T, tail: T, which: Which) -> T {
     }
 }
 
-pub fn header_at(rules: &Rules, n: u64, which: Which) -> usize {
-    position(rules, n, which, place(rules, which).header)
-}
-
-pub fn entries_at(rules: &Rules, n: u64, which: Which) -> usize {
-    position(rules, n, which, place(rules, which).entries)
-}
-
-/// Q1, Q3: the byte position of a block in the buffer of that copy.
-fn position(rules: &Rules, n: u64, which: Which, place: Place) -> usize {
-    let buffer_start = match which {
-        Which::Primary => 0,
-        Which::Backup => rules.gpt.tail_start.block(n),
-    };
-    let blocks = place.block(n).saturating_sub(buffer_start);
-    (blocks as usize).saturating_mul(rules.gpt.block_len)
-}
-
 /// D1: the length of all entries.
 pub fn entries_len(rules: &Rules) -> usize {
     rules.gpt.count * rules.gpt.entry_len
+}
+
+/// The rules for a disk of `n` blocks of one size.
+#[derive(Clone, Copy)]
+pub struct Geometry<'a> {
+    pub rules: &'a Rules,
+    pub shape: &'a Shape,
+    pub n: u64,
+}
+
+impl<'a> Geometry<'a> {
+    /// 02.l3: of a disk with blocks of that size; `None` for another size.
+    pub fn named(rules: &'a Rules, n: u64, block: u64) -> Option<Geometry<'a>> {
+        let block = block & rules.gpt.block_size_mask;
+        let mut shapes = rules.gpt.shapes.iter();
+        let shape = shapes.find(|shape| (shape.named_min..=shape.named_max).contains(&block))?;
+        Some(Geometry { rules, shape, n })
+    }
+
+    pub fn block(&self, place: Place) -> u64 {
+        place.block(self.n)
+    }
+
+    /// D2.
+    pub fn place(&self, which: Which) -> CopyPlace {
+        buffer(self.shape.primary, self.shape.backup, which)
+    }
+
+    pub fn header_at(&self, which: Which) -> usize {
+        self.position(which, self.place(which).header)
+    }
+
+    pub fn entries_at(&self, which: Which) -> usize {
+        self.position(which, self.place(which).entries)
+    }
+
+    /// Q1, Q3: the byte position of a block in the buffer of that copy.
+    fn position(&self, which: Which, place: Place) -> usize {
+        let buffer_start = buffer(0, self.block(self.shape.tail_start), which);
+        let blocks = self.block(place).saturating_sub(buffer_start);
+        (blocks as usize).saturating_mul(self.shape.block_len)
+    }
+
+    /// D9: the bytes after the header that begins `block`, to the end of its block.
+    pub fn header_tail<'b>(&self, block: &'b [u8]) -> &'b [u8] {
+        part(block, self.rules.gpt.header_len, self.header_tail_len())
+    }
+
+    pub fn header_tail_len(&self) -> usize {
+        self.shape.header_tail_end.saturating_sub(self.rules.gpt.header_len)
+    }
 }

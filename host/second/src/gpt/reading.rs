@@ -3,9 +3,9 @@ use super::{answer, disk_refusal, entry, place, room};
 use crate::rules::Rules;
 
 /// D10: the state of the two copies.
-pub fn gpt_read(rules: &Rules, head: &[u8], tail: &[u8], n: u64, state: &mut u64) -> u32 {
-    let disk = Disk::of(rules, head, tail, n);
-    let found = disk.state(rules).map(|state| [state.number(rules)]);
+pub fn gpt_read(rules: &Rules, head: &[u8], tail: &[u8], n: u64, block: u64, state: &mut u64) -> u32 {
+    let disk = Disk::of(rules, head, tail, n, block);
+    let found = disk.state().map(|state| [state.number(rules)]);
     answer(rules, disk_refusal(rules, rules.gpt.read_order, &disk), found, [state])
 }
 
@@ -15,24 +15,33 @@ pub fn gpt_table(
     head: &[u8],
     tail: &[u8],
     n: u64,
+    block: u64,
     in_tail: &mut u64,
     offset: &mut u64,
 ) -> u32 {
-    let disk = Disk::of(rules, head, tail, n);
-    let used = disk.used(rules).map(|used| rules.gpt.table_of.unwrap_or(used));
+    let disk = Disk::of(rules, head, tail, n, block);
+    let used = disk.used().map(|used| rules.gpt.table_of.unwrap_or(used));
     let found = used.map(|which| {
         let [of_head, of_tail] = rules.gpt.table_in;
-        [place::buffer(of_head, of_tail, which), place::entries_at(rules, n, which) as u64]
+        [place::buffer(of_head, of_tail, which), disk.geometry.entries_at(which) as u64]
     });
     answer(rules, disk_refusal(rules, rules.gpt.table_order, &disk), found, [in_tail, offset])
 }
 
 /// D12: the number of free blocks, and the longest run of them.
-pub fn gpt_free(rules: &Rules, head: &[u8], tail: &[u8], n: u64, free: &mut u64, longest: &mut u64) -> u32 {
-    let disk = Disk::of(rules, head, tail, n);
+pub fn gpt_free(
+    rules: &Rules,
+    head: &[u8],
+    tail: &[u8],
+    n: u64,
+    block: u64,
+    free: &mut u64,
+    longest: &mut u64,
+) -> u32 {
+    let disk = Disk::of(rules, head, tail, n, block);
     let of = rules.gpt.free_of.and_then(|which| disk.copy(which));
-    let entries = of.map_or(disk.entries(rules), |copy| &copy.entries);
-    let runs = room::runs(rules, n, &entry::used(rules, entries));
+    let entries = of.map_or(disk.entries(), |copy| &copy.entries);
+    let runs = room::runs(disk.geometry, &entry::used(rules, entries));
     let found = [room::total(&runs), room::longest(rules.gpt.longest, &runs)];
     answer(rules, disk_refusal(rules, rules.gpt.free_order, &disk), Some(found), [free, longest])
 }

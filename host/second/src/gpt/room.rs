@@ -1,4 +1,5 @@
 use super::entry::Entry;
+use super::place::Geometry;
 use crate::rules::{Longest, Rules, Start};
 
 /// Consecutive free blocks.
@@ -9,16 +10,16 @@ pub struct Run {
 }
 
 /// D21: the runs of usable blocks in none of the partitions, in ascending order.
-pub fn runs(rules: &Rules, n: u64, used: &[Entry]) -> Vec<Run> {
+pub fn runs(geometry: Geometry, used: &[Entry]) -> Vec<Run> {
     let mut ranges: Vec<_> = used.iter().map(|entry| (entry.first, entry.last)).collect();
     ranges.sort();
     let mut runs = Vec::new();
-    let mut next = rules.gpt.usable_first.block(n);
+    let mut next = geometry.block(geometry.shape.usable_first);
     for (first, last) in ranges {
         push(&mut runs, next, first);
         next = next.max(last.saturating_add(1));
     }
-    push(&mut runs, next, rules.gpt.usable_last.block(n).saturating_add(1));
+    push(&mut runs, next, geometry.block(geometry.shape.usable_last).saturating_add(1));
     runs
 }
 

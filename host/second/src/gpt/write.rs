@@ -1,6 +1,6 @@
 use super::copies::Copy;
 use super::header::{self, Subject};
-use super::place::{buffer, entries_at, entries_len, header_at, BOTH};
+use super::place::{buffer, entries_len, Geometry, BOTH};
 use crate::bytes::{part, put, stored};
 use crate::rules::{EditSlip, Holds, Rules, Which};
 
@@ -8,7 +8,7 @@ use crate::rules::{EditSlip, Holds, Rules, Which};
 pub struct Buffers<'a> {
     pub head: &'a mut [u8],
     pub tail: &'a mut [u8],
-    pub n: u64,
+    pub geometry: Geometry<'a>,
 }
 
 impl Buffers<'_> {
@@ -17,60 +17,64 @@ impl Buffers<'_> {
     }
 
     /// D13, D14: both copies with no entries, and block 0.
-    pub fn format(&mut self, rules: &Rules, disk_guid: &[u8]) {
-        put(self.head, 0, &header::block_0(rules, self.n));
+    pub fn format(&mut self, disk_guid: &[u8]) {
+        let rules = self.geometry.rules;
+        self.write_block_0();
         let entries = vec![0; entries_len(rules)];
-        let tail_len = rules.gpt.block_len.saturating_sub(rules.gpt.header_len);
-        let header_tail = vec![rules.gpt.format_tail_byte; tail_len];
+        let header_tail = vec![rules.gpt.format_tail_byte; self.geometry.header_tail_len()];
         let copy = Copy { disk_guid: disk_guid.to_vec(), entries, header_tail };
-        BOTH.into_iter().for_each(|which| self.write_copy(rules, which, &copy));
+        BOTH.into_iter().for_each(|which| self.write_copy(which, &copy));
     }
 
     /// Header block and entries of one copy.
-    pub fn write_copy(&mut self, rules: &Rules, which: Which, copy: &Copy) {
-        let n = self.n;
-        let told_of = if rules.gpt.backup_header_copied { Which::Primary } else { which };
-        let subject = Subject { n, which: told_of, disk_guid: &copy.disk_guid, entries: &copy.entries };
-        let header = header::header(rules, &subject);
+    pub fn write_copy(&mut self, which: Which, copy: &Copy) {
+        let geometry = self.geometry;
+        let gpt = &geometry.rules.gpt;
+        let told_of = if gpt.backup_header_copied { Which::Primary } else { which };
+        let subject =
+            Subject { geometry, which: told_of, disk_guid: &copy.disk_guid, entries: &copy.entries };
+        let header = header::header(&subject);
         let bytes = self.of(which);
-        put(bytes, entries_at(rules, n, which), &copy.entries);
-        put(bytes, header_at(rules, n, which), &header);
-        put(bytes, header_at(rules, n, which) + rules.gpt.header_len, &copy.header_tail);
+        put(bytes, geometry.entries_at(which), &copy.entries);
+        put(bytes, geometry.header_at(which), &header);
+        put(bytes, geometry.header_at(which) + gpt.header_len, &copy.header_tail);
     }
 
-    pub fn write_block_0(&mut self, rules: &Rules) {
-        put(self.head, 0, &header::block_0(rules, self.n));
+    pub fn write_block_0(&mut self) {
+        put(self.head, 0, &header::block_0(self.geometry));
     }
 
-    /// The bytes 92 to 511 of the copy's header block.
-    pub fn header_tail(&mut self, rules: &Rules, which: Which) -> &mut [u8] {
-        let at = header_at(rules, self.n, which);
+    /// The bytes after the copy's header, to the end of its block.
+    pub fn header_tail(&mut self, which: Which) -> &mut [u8] {
+        let geometry = self.geometry;
+        let at = geometry.header_at(which);
         let bytes = self.of(which);
-        let end = (at + rules.gpt.block_len).min(bytes.len());
-        let start = (at + rules.gpt.header_len).min(end);
+        let end = (at + geometry.shape.header_tail_end).min(bytes.len());
+        let start = (at + geometry.rules.gpt.header_len).min(end);
         &mut bytes[start..end]
     }
 
     /// D23: writes one entry and the two CRCs, in both copies.
-    pub fn edit(&mut self, rules: &Rules, index: usize, entry: &[u8]) {
-        let slip = rules.gpt.edit_slip;
+    pub fn edit(&mut self, index: usize, entry: &[u8]) {
+        let slip = self.geometry.rules.gpt.edit_slip;
         for which in BOTH {
             let skipped = buffer(EditSlip::BackupAlone, EditSlip::PrimaryAlone, which);
             if slip != Some(skipped) {
-                self.edit_copy(rules, which, index, entry);
+                self.edit_copy(which, index, entry);
             }
         }
         match slip {
             Some(EditSlip::HeaderTailsZeroed) => {
-                BOTH.into_iter().for_each(|which| self.header_tail(rules, which).fill(0));
+                BOTH.into_iter().for_each(|which| self.header_tail(which).fill(0));
             }
-            Some(EditSlip::Block0Written) => self.write_block_0(rules),
+            Some(EditSlip::Block0Written) => self.write_block_0(),
             _ => {}
         }
     }
 
-    fn edit_copy(&mut self, rules: &Rules, which: Which, index: usize, entry: &[u8]) {
-        let (header_at, entries_at) = (header_at(rules, self.n, which), entries_at(rules, self.n, which));
+    fn edit_copy(&mut self, which: Which, index: usize, entry: &[u8]) {
+        let Geometry { rules, shape, .. } = self.geometry;
+        let (header_at, entries_at) = (self.geometry.header_at(which), self.geometry.entries_at(which));
         let slip = rules.gpt.edit_slip;
         let bytes = self.of(which);
         put(bytes, entries_at + index * rules.gpt.entry_len, entry);
@@ -79,7 +83,7 @@ impl Buffers<'_> {
             put_crc(rules, bytes, header_at, |holds| matches!(holds, Holds::EntriesCrc), crc);
         }
         if slip != Some(EditSlip::HeaderCrcKept) {
-            let crc = header::header_crc(rules, part(bytes, header_at, rules.gpt.block_len));
+            let crc = header::header_crc(rules, part(bytes, header_at, shape.block_len));
             put_crc(rules, bytes, header_at, |holds| matches!(holds, Holds::HeaderCrc), crc);
         }
     }

@@ -1,6 +1,7 @@
 /// The rows of the refusal table, by what holds.
 #[derive(Clone, Copy, Debug, PartialEq, Eq)]
 pub enum Row {
+    BlockSize,
     WrongLength,
     BadBlockCount,
     ZeroDiskGuid,
@@ -46,8 +47,8 @@ pub enum Row {
 /// What a refusal returns and leaves.
 #[derive(Clone, Copy, Debug)]
 pub struct RefusalRules {
-    /// R4 to R24; 255 for the answer that no area is there.
-    pub numbers: [(Row, u32); 36],
+    /// R4 to R24, 02.l7; 255 for the answer that no area is there.
+    pub numbers: [(Row, u32); 37],
     /// R1: how many bytes of an output buffer a refusal zeroes.
     pub zeroes: usize,
     /// R1, "its number alone": a refusal sets the other answers to zero.
@@ -63,6 +64,7 @@ impl RefusalRules {
 
 pub const REFUSALS: RefusalRules = RefusalRules {
     numbers: [
+        (Row::BlockSize, 6),
         (Row::WrongLength, 1),
         (Row::BadBlockCount, 2),
         (Row::ZeroDiskGuid, 3),

@@ -1,7 +1,7 @@
-//! The same edits by the implementation and by other tools, on the same disk, give the same 34,304 bytes.
+//! The same edits by the implementation and by other tools, on the same disk, give the same bytes of head and tail.
 
-use super::{Calls, New, DISK_GUID};
-use crate::disk::Disk;
+use super::{largest, shapes, Calls, New, DISK_GUID};
+use crate::disk::{Disk, Shape, HEADER_LEN};
 use crate::edit::{self as tool, Edit};
 use crate::listing::Partition;
 use crate::peer;
@@ -13,12 +13,16 @@ const SFDISK_BITS: u64 = 0xFFFF_0000_0000_0007;
 const CGPT_BITS: u64 = 0xFFFF_0000_0000_0005;
 
 /// A tool, and which edits it makes as the rules say.
+#[derive(Clone, Copy)]
 struct Tool {
     by: fn(&Path, &[Edit]),
+    /// So many bytes of a header's block, at most, stay as they were.
+    keeps: usize,
     likewise: fn(&Calls, &Disk, &Edit) -> bool,
 }
 
 /// Blocks of a disk, and how many edits it gets: the bytes are compared after each group of them.
+#[derive(Clone, Copy)]
 struct Plan {
     n: u64,
     groups: usize,
@@ -26,13 +30,22 @@ struct Plan {
 }
 
 /// The first difference. With `changed`, the tool starts from a disk that has one byte of slot 1 otherwise.
-fn compared(calls: &Calls, tool: &Tool, plan: &Plan, seed: u64, changed: bool) -> Option<String> {
+fn compared(
+    calls: &Calls,
+    tool: &Tool,
+    shape: Shape,
+    plan: Plan,
+    seed: u64,
+    changed: bool,
+) -> Option<String> {
     let mut random = Random::new(seed);
-    let mut ours = calls.formatted(plan.n, DISK_GUID);
+    let mut ours = calls.formatted(shape, plan.n, DISK_GUID);
     // Bytes that no edit touches: block 0 before its record, and the rest of the header blocks.
     ours.head[..440].copy_from_slice(&random.bytes(440));
-    ours.head[604..1024].copy_from_slice(&random.bytes(420));
-    ours.tail[16_476..].copy_from_slice(&random.bytes(420));
+    let rest = HEADER_LEN..tool.keeps.min(shape.block as usize);
+    for header in [&mut ours.head[shape.header_in_head()..], &mut ours.tail[shape.header_in_tail()..]] {
+        header[rest.clone()].copy_from_slice(&random.bytes(rest.len()));
+    }
     calls.add_drawn(&mut ours, 1, &mut random).expect("room");
     let mut theirs = ours.clone();
     if changed {
@@ -44,26 +57,33 @@ fn compared(calls: &Calls, tool: &Tool, plan: &Plan, seed: u64, changed: bool) -
         let edits: Vec<Edit> =
             (0..plan.edits).map(|_| calls.edit(&mut ours, &mut random, likewise)).collect();
         (tool.by)(&image.path, &edits);
-        let theirs = Disk::read(&image.path).expect("an image");
+        let theirs = Disk::read(&image.path, shape.block).expect("an image");
         if let Some(difference) = ours.difference(&theirs) {
-            return Some(format!("N {}, seed {seed}, group {group}: {difference}\n{edits:?}", plan.n));
+            let n = plan.n;
+            return Some(format!("N {n}, {shape:?}, seed {seed}, group {group}: {difference}\n{edits:?}"));
         }
     }
     None
 }
 
 /// The bytes are the same on each disk, and are not once a byte of an entry is changed.
-fn same_bytes(calls: &Calls, tool: &Tool, plans: &[Plan]) {
+fn same_bytes(calls: &Calls, tool: &Tool, plans: impl Fn(Shape) -> Vec<Plan>) {
+    for shape in shapes() {
+        same_bytes_of(calls, tool, shape, &plans(shape));
+    }
+}
+
+fn same_bytes_of(calls: &Calls, tool: &Tool, shape: Shape, plans: &[Plan]) {
     std::thread::scope(|scope| {
         for (plan, seed) in plans.iter().zip(1..) {
-            scope.spawn(move || assert_eq!(compared(calls, tool, plan, seed, false), None));
+            scope.spawn(move || assert_eq!(compared(calls, tool, shape, *plan, seed, false), None));
         }
         // An add that every tool makes likewise, so that the changed byte is the one difference.
         let likewise = |_: &Calls, _: &Disk, edit: &Edit| matches!(edit, Edit::Add(new) if new.attributes == 0 && new.name == "boot");
-        let (adds, one) = (Tool { by: tool.by, likewise }, Plan { n: 5000, groups: 1, edits: 1 });
+        let (adds, one) = (Tool { likewise, ..*tool }, Plan { n: 5000, groups: 1, edits: 1 });
         scope.spawn(move || {
-            assert_eq!(compared(calls, &adds, &one, 1, false), None);
-            assert!(compared(calls, &adds, &one, 1, true).is_some());
+            assert_eq!(compared(calls, &adds, shape, one, 1, false), None);
+            assert!(compared(calls, &adds, shape, one, 1, true).is_some());
         });
     });
 }
@@ -73,8 +93,16 @@ pub fn sgdisk_makes_the_same_bytes(calls: &Calls) {
         return;
     }
     let plan = |n, edits| Plan { n, groups: 2, edits };
-    let tool = Tool { by: tool::sgdisk, likewise: |_, _, _| true };
-    same_bytes(calls, &tool, &[plan(100, 8), plan(5000, 30), plan(65_536, 30), plan(1 << 32, 20)]);
+    let tool = Tool { by: tool::sgdisk, keeps: 512, likewise: |_, _, _| true };
+    same_bytes(calls, &tool, |shape| {
+        vec![plan(100, 8), plan(5000, 30), plan(65_536, 30), plan(largest(shape), 20)]
+    });
+}
+
+/// Disks that other tools edit one by one.
+fn singly(shape: Shape, groups: usize) -> Vec<Plan> {
+    let counts = [100, 3000, 5000, 1 << 16, 1 << 20, largest(shape)];
+    counts.map(|n| Plan { n, groups, edits: 1 }).to_vec()
 }
 
 pub fn sfdisk_makes_the_same_bytes(calls: &Calls) {
@@ -83,13 +111,10 @@ pub fn sfdisk_makes_the_same_bytes(calls: &Calls) {
     }
     let tool = Tool {
         by: |image, edits| edits.iter().for_each(|edit| tool::sfdisk(image, edit)),
+        keeps: usize::MAX,
         likewise: |_, _, edit| !matches!(edit, Edit::Add(new) if new.attributes & !SFDISK_BITS != 0),
     };
-    same_bytes(
-        calls,
-        &tool,
-        &[100, 3000, 5000, 1 << 16, 1 << 20, 1 << 32].map(|n| Plan { n, groups: 8, edits: 1 }),
-    );
+    same_bytes(calls, &tool, |shape| singly(shape, 8));
 }
 
 pub fn cgpt_makes_the_same_bytes(calls: &Calls) {
@@ -98,13 +123,10 @@ pub fn cgpt_makes_the_same_bytes(calls: &Calls) {
     }
     let tool = Tool {
         by: |image, edits| edits.iter().for_each(|edit| tool::cgpt(image, edit)),
+        keeps: usize::MAX,
         likewise: cgpt_likewise,
     };
-    same_bytes(
-        calls,
-        &tool,
-        &[100, 3000, 5000, 1 << 16, 1 << 20, 1 << 32].map(|n| Plan { n, groups: 100, edits: 1 }),
-    );
+    same_bytes(calls, &tool, |shape| singly(shape, 100));
 }
 
 /// It cuts a name of 36 units, clears the type alone where a slot is deleted, and leaves what a longer name had.
@@ -122,13 +144,13 @@ fn cgpt_likewise(calls: &Calls, disk: &Disk, edit: &Edit) -> bool {
 fn after(disk: &Disk, edit: impl Fn(&Path)) -> Disk {
     let image = disk.image();
     edit(&image.path);
-    Disk::read(&image.path).expect("an image")
+    Disk::read(&image.path, disk.block).expect("an image")
 }
 
-/// Blocks 34 to 43 and 60 to 69 of 5000 in slots 1 and 3, the first named `name`.
-fn two_partitions(calls: &Calls, name: &str) -> Disk {
+/// The first ten usable blocks of 1000 in slot 1, named `name`, and ten more in slot 3, with 16 blocks between them.
+fn two_partitions(calls: &Calls, shape: Shape, name: &str) -> Disk {
     let mut random = Random::new(1);
-    let mut disk = calls.formatted(5000, DISK_GUID);
+    let mut disk = calls.formatted(shape, 1000, DISK_GUID);
     for size in [10, 16, 10] {
         calls.add_drawn(&mut disk, size, &mut random).expect("room");
     }
@@ -137,73 +159,81 @@ fn two_partitions(calls: &Calls, name: &str) -> Disk {
     disk
 }
 
-/// Name bytes of slot 1, in the head.
-const NAME: std::ops::Range<usize> = 1024 + 56..1024 + 128;
+/// The bytes of slot 1.
+fn slot_1(disk: &Disk) -> &[u8] {
+    &disk.head[disk.shape().entries_in_head()..][..128]
+}
 
 fn units(name: &str) -> Vec<u8> {
     name.encode_utf16().flat_map(u16::to_le_bytes).collect()
 }
 
 pub fn cgpt_differs_as_listed(calls: &Calls) {
-    if !peer::present("cgpt", "cgpt") {
-        return;
+    if peer::present("cgpt", "cgpt") {
+        shapes().for_each(|shape| cgpt_differs(calls, shape));
     }
-    let disk = two_partitions(calls, "EFI System");
+}
+
+fn cgpt_differs(calls: &Calls, shape: Shape) {
+    const NAME: usize = 56;
+    let disk = two_partitions(calls, shape, "EFI System");
     let deleted = after(&disk, |image| tool::cgpt(image, &Edit::Delete(1)));
-    assert_eq!(deleted.head[1024..1040], [0; 16]);
-    assert_eq!(deleted.head[1040..1152], disk.head[1040..1152]);
+    assert_eq!(slot_1(&deleted)[..16], [0; 16]);
+    assert_eq!(slot_1(&deleted)[16..], slot_1(&disk)[16..]);
     assert_eq!((calls.state)(&deleted), Err(10));
     let renamed = after(&disk, |image| tool::cgpt(image, &Edit::Rename(1, "boot".into())));
-    assert_eq!(renamed.head[NAME][..20], units("boot\0ystem"));
+    assert_eq!(slot_1(&renamed)[NAME..][..20], units("boot\0ystem"));
     let long = "x".repeat(36);
     let renamed = after(&disk, |image| tool::cgpt(image, &Edit::Rename(1, long.clone())));
-    assert_eq!(renamed.head[NAME], units(&format!("{}\0", &long[..35])));
+    assert_eq!(slot_1(&renamed)[NAME..], units(&format!("{}\0", &long[..35])));
     let image = disk.image();
     let placed = peer::run("cgpt", ["add", "-s", "5", "-t", "data", image.path.to_str().expect("a path")]);
     assert!(!placed.status.success());
 }
 
-/// Where the implementation puts a new partition of 5 blocks, and where the tool does when it is told no place.
-fn placed(calls: &Calls, by: impl Fn(&Path)) -> [(u64, u64); 2] {
-    let disk = two_partitions(calls, "boot");
-    let new = |disk: &Disk| {
-        let row = calls.table(disk).into_iter().find(|row| row.last == row.first + 4).expect("a new one");
-        (row.slot, row.first)
-    };
-    let mut ours = disk.clone();
-    calls.add_drawn(&mut ours, 5, &mut Random::new(2)).expect("room");
-    [new(&ours), new(&after(&disk, by))]
+/// The implementation puts a new partition of 5 blocks into slot 2 between the two; the tool that is told no place
+/// puts it behind them.
+fn placed_behind(calls: &Calls, by: impl Fn(&Path)) {
+    for shape in shapes() {
+        let disk = two_partitions(calls, shape, "boot");
+        let new = |disk: &Disk| {
+            let row = calls.table(disk).into_iter().find(|row| row.last == row.first + 4).expect("a new one");
+            (row.slot, row.first - shape.first_usable)
+        };
+        let mut ours = disk.clone();
+        calls.add_drawn(&mut ours, 5, &mut Random::new(2)).expect("room");
+        assert_eq!([new(&ours), new(&after(&disk, &by))], [(2, 10), (2, 36)], "{shape:?}");
+    }
 }
 
 pub fn sgdisk_starts_at_the_longest_run(calls: &Calls) {
     if peer::present("sgdisk", "gdisk") {
-        let by = |image: &Path| {
+        placed_behind(calls, |image| {
             peer::printed("sgdisk", ["-a", "1", "-n", "0:0:+5", image.to_str().expect("a path")]);
-        };
-        assert_eq!(placed(calls, by), [(2, 44), (2, 70)]);
+        });
     }
 }
 
 pub fn sfdisk_starts_after_the_last_partition(calls: &Calls) {
     if peer::present("sfdisk", "fdisk") {
-        let by = |image: &Path| {
+        placed_behind(calls, |image| {
             peer::feed("sfdisk", ["-q", "--append", image.to_str().expect("a path")], "size=5\n");
-        };
-        assert_eq!(placed(calls, by), [(2, 44), (2, 70)]);
+        });
     }
 }
 
 /// Edits that are refused, with the number.
 fn refused(calls: &Calls, disk: &Disk) -> Vec<(u32, Edit)> {
     let (one, three) = (calls.row_of(disk, 1), calls.row_of(disk, 3));
-    let twin = Partition { slot: 2, first: 44, last: 45, attributes: 0, ..one.clone() };
+    let twin = Partition { slot: 2, first: one.last + 1, last: one.last + 2, attributes: 0, ..one.clone() };
+    let past_end = disk.n - disk.shape().first_usable + 1;
     vec![
         (12, Edit::Delete(129)),
         (13, Edit::Delete(2)),
         (13, Edit::Rename(2, "boot".into())),
         (22, Edit::Add(twin)),
-        (25, Edit::Resize(Partition { last: 60, ..one })),
-        (25, Edit::Resize(Partition { last: 4967, ..three })),
+        (25, Edit::Resize(Partition { last: three.first, ..one })),
+        (25, Edit::Resize(Partition { last: past_end, ..three })),
     ]
 }
 
@@ -224,11 +254,16 @@ fn number(calls: &Calls, disk: &Disk, edit: &Edit) -> u32 {
 
 /// The tool leaves the disk alone where the implementation refuses, but for the numbers that it does not know.
 fn refuses_likewise(calls: &Calls, by: fn(&Path, &Edit), unknown: &[u32]) {
-    let disk = two_partitions(calls, "boot");
-    for (expected, edit) in refused(calls, &disk) {
-        assert_eq!(number(calls, &disk, &edit), expected, "{edit:?}");
+    for disk in shapes().map(|shape| two_partitions(calls, shape, "boot")) {
+        refuses_likewise_on(calls, &disk, by, unknown);
+    }
+}
+
+fn refuses_likewise_on(calls: &Calls, disk: &Disk, by: fn(&Path, &Edit), unknown: &[u32]) {
+    for (expected, edit) in refused(calls, disk) {
+        assert_eq!(number(calls, disk, &edit), expected, "{edit:?}");
         // It may end in failure or not.
-        let theirs = after(&disk, |image| drop(std::panic::catch_unwind(|| by(image, &edit))));
+        let theirs = after(disk, |image| drop(std::panic::catch_unwind(|| by(image, &edit))));
         assert_eq!(disk.difference(&theirs).is_some(), unknown.contains(&expected), "{edit:?}");
     }
 }

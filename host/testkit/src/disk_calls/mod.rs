@@ -1,12 +1,15 @@
-//! What an implementation of the disk calls is held to: the fixtures, and other tools on the same disks.
+//! What an implementation of the disk calls is held to: samples, the fixtures, and other tools on the same disks.
 
 mod edits;
 mod peers;
+mod samples;
 
 pub use edits::*;
 pub use peers::*;
+pub use samples::*;
 
-use crate::disk::{Disk, HEAD_LEN, TAIL_LEN};
+use crate::device;
+use crate::disk::{Disk, Shape, ENTRIES_LEN, HEADER_LEN, SHAPES};
 use crate::edit::Edit;
 use crate::fixture;
 use crate::listing::{Free, Partition};
@@ -47,6 +50,9 @@ macro_rules! disk_tests {
             disk_calls,
             $calls,
             [
+                samples_at_each_block_size,
+                formatting_writes_all_of_head_and_tail,
+                another_block_size_is_refused_first,
                 fixtures_read_as_their_tool_said,
                 sgdisk_lists_the_same,
                 sfdisk_lists_the_same,
@@ -73,14 +79,24 @@ macro_rules! disk_tests {
     };
 }
 
+/// The block sizes at which other tools can be given a disk.
+fn shapes() -> impl Iterator<Item = Shape> {
+    SHAPES.into_iter().filter(|shape| shape.block == 512 || device::present())
+}
+
+/// So many blocks as 2 TiB have; longer files are not made.
+fn largest(shape: Shape) -> u64 {
+    (1 << 41) / shape.block
+}
+
 const DISK_GUID: &str = "77777777-7777-7777-7777-777777777777";
 const NAMES: [&str; 7] =
     ["", "boot", "Größe 3½", "a", "EFI System", "äöü€", "thirty-six units are in this name..."];
 const KINDS: [&str; 6] = ["system", "msft", "data", "linux", "swap", "FE3A2A5D-4F32-41A7-B725-ACCC3285A309"];
 
 impl Calls {
-    fn formatted(&self, n: u64, guid: &str) -> Disk {
-        let mut disk = Disk { head: vec![0x5A; HEAD_LEN], tail: vec![0x5A; TAIL_LEN], n };
+    fn formatted(&self, shape: Shape, n: u64, guid: &str) -> Disk {
+        let mut disk = shape.filled(n, 0x5A);
         (self.format)(&mut disk, guid).expect("an empty table");
         disk
     }
@@ -147,13 +163,15 @@ impl Calls {
 
     /// Changes a byte of a used entry, in both copies, and makes the CRCs right again.
     fn change(&self, disk: &mut Disk, at: usize) {
-        disk.head[1024 + at] ^= 1;
+        let shape = disk.shape();
+        disk.head[shape.entries_in_head() + at] ^= 1;
         disk.tail[at] ^= 1;
-        let entries = (self.crc32)(&disk.tail[..16_384]);
-        for header in [&mut disk.head[512..1024], &mut disk.tail[16_384..]] {
+        let entries = (self.crc32)(&disk.tail[..ENTRIES_LEN]);
+        let headers = [&mut disk.head[shape.header_in_head()..], &mut disk.tail[shape.header_in_tail()..]];
+        for header in headers {
             header[88..92].copy_from_slice(&entries.to_le_bytes());
             header[16..20].fill(0);
-            let sum = (self.crc32)(&header[..92]);
+            let sum = (self.crc32)(&header[..HEADER_LEN]);
             header[16..20].copy_from_slice(&sum.to_le_bytes());
         }
     }
@@ -167,7 +185,7 @@ fn guid_text(bytes: &[u8]) -> String {
 
 /// Disks that other tools made are read in the state and with the partitions that the tool told.
 pub fn fixtures_read_as_their_tool_said(calls: &Calls) {
-    let mut states = Vec::new();
+    let (mut states, mut blocks) = (Vec::new(), Vec::new());
     for path in fixture::files("gpt", "disk") {
         let fixture = fixture::disk(&path).expect("a fixture");
         let name = path.display();
@@ -175,9 +193,13 @@ pub fn fixtures_read_as_their_tool_said(calls: &Calls) {
         let told = fixture.reads_as.map(|_| fixture.partitions);
         assert_eq!((calls.rows)(&fixture.disk), told, "{name}");
         states.push(fixture.reads_as);
+        blocks.push(fixture.disk.block);
     }
     states.sort();
     states.dedup();
     // All states, and the refusal of another first usable block.
     assert_eq!(states, [Ok(1), Ok(2), Ok(3), Ok(4), Err(10)]);
+    blocks.sort();
+    blocks.dedup();
+    assert_eq!(blocks, [512, 4096]);
 }

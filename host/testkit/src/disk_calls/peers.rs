@@ -1,13 +1,20 @@
 //! Disks that the implementation made, as other tools list, format, count and repair them.
 
-use super::{Calls, DISK_GUID};
-use crate::disk::{Disk, HEAD_LEN, TAIL_LEN};
+use super::{largest, shapes, Calls, DISK_GUID};
+use crate::disk::{Disk, Shape, HEADER_LEN};
 use crate::listing::{self, Partition};
 use crate::peer;
 use crate::random::Random;
 use std::path::Path;
 
-const BLOCKS: [u64; 6] = [68, 100, 2048, 5001, 65_536, 1 << 32];
+/// From the smallest disk to 2 TiB, three of them between 3 blocks more and 4 MiB.
+fn block_counts(shape: Shape) -> [u64; 6] {
+    match shape.block {
+        512 => [68, 100, 2048, 5001, 65_536, largest(shape)],
+        _ => [12, 44, 500, 1000, 65_536, largest(shape)],
+    }
+}
+
 /// Bytes of an entry: type, unique GUID, first, last, attribute bit 48, name.
 const FIELDS: [usize; 6] = [0, 16, 32, 40, 54, 56];
 
@@ -18,22 +25,22 @@ const BACKUP_ONLY: u64 = 4;
 
 impl Calls {
     /// A disk with the partitions that some edits leave.
-    fn filled(&self, n: u64, edits: usize, seed: u64) -> Disk {
+    fn filled(&self, shape: Shape, n: u64, edits: usize, seed: u64) -> Disk {
         let mut random = Random::new(seed);
-        let mut disk = self.formatted(n, DISK_GUID);
-        for _ in 0..if n == 68 { 1 } else { edits } {
+        let mut disk = self.formatted(shape, n, DISK_GUID);
+        for _ in 0..if n == shape.least_blocks() { 1 } else { edits } {
             self.edit(&mut disk, &mut random, |_, _| true);
         }
         disk
     }
 
-    fn disks(&self, edits: usize) -> Vec<Disk> {
-        BLOCKS.into_iter().zip(1..).map(|(n, seed)| self.filled(n, edits, seed)).collect()
+    fn disks(&self, shape: Shape, edits: usize) -> Vec<Disk> {
+        block_counts(shape).into_iter().zip(1..).map(|(n, seed)| self.filled(shape, n, edits, seed)).collect()
     }
 
-    /// A partition of blocks 34 to 43, and the same with a byte of one field changed.
-    fn changed(&self, at: usize) -> (Disk, Disk) {
-        let mut ours = self.formatted(5000, DISK_GUID);
+    /// A partition of the first ten usable blocks, and the same with a byte of one field changed.
+    fn changed(&self, shape: Shape, at: usize) -> (Disk, Disk) {
+        let mut ours = self.formatted(shape, 5000, DISK_GUID);
         self.add_drawn(&mut ours, 10, &mut Random::new(3)).expect("room");
         let mut other = ours.clone();
         self.change(&mut other, at);
@@ -47,14 +54,16 @@ impl Calls {
             rows.iter_mut().for_each(|row| row.attributes &= bits);
             rows
         };
-        for disk in self.disks(14) {
-            let ours = expected(&disk);
-            assert!(!ours.is_empty(), "N {}", disk.n);
-            assert_eq!(list(&disk.image().path, &ours), ours, "N {}", disk.n);
-        }
-        for at in FIELDS {
-            let (ours, other) = self.changed(at);
-            assert_ne!(list(&other.image().path, &self.table(&ours)), expected(&ours), "byte {at}");
+        for shape in shapes() {
+            for disk in self.disks(shape, 14) {
+                let ours = expected(&disk);
+                assert!(!ours.is_empty(), "N {}", disk.n);
+                assert_eq!(list(&disk.image().path, &ours), ours, "N {}, {shape:?}", disk.n);
+            }
+            for at in FIELDS {
+                let (ours, other) = self.changed(shape, at);
+                assert_ne!(list(&other.image().path, &self.table(&ours)), expected(&ours), "byte {at}");
+            }
         }
     }
 }
@@ -84,12 +93,14 @@ pub fn cgpt_lists_the_same_at_a_glance(calls: &Calls) {
     }
     let quick = |row: Partition| (row.slot, row.first, row.last - row.first + 1, in_words(row.kind));
     let ours = |disk: &Disk| calls.table(disk).into_iter().map(quick).collect::<Vec<_>>();
-    for disk in calls.disks(14) {
-        assert_eq!(listing::cgpt_quick(&disk.image().path), ours(&disk), "N {}", disk.n);
-    }
-    for at in [0, 32, 40] {
-        let (disk, other) = calls.changed(at);
-        assert_ne!(listing::cgpt_quick(&other.image().path), ours(&disk), "byte {at}");
+    for shape in shapes() {
+        for disk in calls.disks(shape, 14) {
+            assert_eq!(listing::cgpt_quick(&disk.image().path), ours(&disk), "N {}, {shape:?}", disk.n);
+        }
+        for at in [0, 32, 40] {
+            let (disk, other) = calls.changed(shape, at);
+            assert_ne!(listing::cgpt_quick(&other.image().path), ours(&disk), "byte {at}");
+        }
     }
 }
 
@@ -112,14 +123,16 @@ impl Calls {
             let said = String::from_utf8_lossy(&[output.stdout, output.stderr].concat()).into_owned();
             said.contains(right) && !wrong.iter().any(|word| said.contains(word))
         };
-        for disk in self.disks(14) {
-            assert!(content(&disk), "N {}", disk.n);
-        }
-        // In the entries, and in the header's first usable block.
-        for at in [0, 16_384 + 40] {
-            let mut broken = self.filled(5000, 1, 1);
-            broken.tail[at] ^= 1;
-            assert!(!content(&broken), "byte {at}");
+        for shape in shapes() {
+            for disk in self.disks(shape, 14) {
+                assert!(content(&disk), "N {}, {shape:?}", disk.n);
+            }
+            // In the entries, and in the header's first usable block.
+            for at in [0, shape.header_in_tail() + 40] {
+                let mut broken = self.filled(shape, 5000, 1, 1);
+                broken.tail[at] ^= 1;
+                assert!(!content(&broken), "byte {at}");
+            }
         }
     }
 }
@@ -138,27 +151,33 @@ pub fn sfdisk_finds_no_error(calls: &Calls) {
     }
 }
 
-/// Formatting writes what sfdisk writes when it is told to use block 34 on.
+/// Formatting writes what sfdisk writes when it is told which block is the first usable one.
 pub fn sfdisk_formats_to_the_same_bytes(calls: &Calls) {
     if !peer::present("sfdisk", "fdisk") {
         return;
     }
-    let guid = "76543210-BA98-FEDC-0102-030405060708";
-    let script = format!("label: gpt\nlabel-id: {guid}\nfirst-lba: 34\n");
-    std::thread::scope(|scope| {
-        for n in [100, 2048, 5001, 1 << 31, (1 << 32) - 1, 1 << 32] {
-            let script = &script;
-            scope.spawn(move || {
-                let image = Disk { head: vec![0; HEAD_LEN], tail: vec![0; TAIL_LEN], n }.image();
-                peer::feed("sfdisk", [Path::new("-q"), &image.path], script);
-                let theirs = Disk::read(&image.path).expect("an image");
-                let mut ours = calls.formatted(n, guid);
-                assert_eq!(ours.difference(&theirs), None, "N {n}");
-                calls.change(&mut ours, 5);
-                assert!(ours.difference(&theirs).is_some());
-            });
-        }
-    });
+    for shape in shapes() {
+        let largest = largest(shape);
+        std::thread::scope(|scope| {
+            for n in [100, 2048, 5001, largest / 2, largest - 1, largest] {
+                scope.spawn(move || calls.sfdisk_formats_the_same(shape, n));
+            }
+        });
+    }
+}
+
+impl Calls {
+    fn sfdisk_formats_the_same(&self, shape: Shape, n: u64) {
+        let guid = "76543210-BA98-FEDC-0102-030405060708";
+        let image = shape.filled(n, 0).image();
+        let script = format!("label: gpt\nlabel-id: {guid}\nfirst-lba: {}\n", shape.first_usable);
+        peer::feed("sfdisk", [Path::new("-q"), &image.path], &script);
+        let theirs = Disk::read(&image.path, shape.block).expect("an image");
+        let mut ours = self.formatted(shape, n, guid);
+        assert_eq!(ours.difference(&theirs), None, "N {n}, {shape:?}");
+        self.change(&mut ours, 5);
+        assert!(ours.difference(&theirs).is_some());
+    }
 }
 
 impl Calls {
@@ -167,15 +186,20 @@ impl Calls {
     }
 
     /// The tool's counts are ours on disks that it counts rightly, and differ once a last block is changed.
-    fn counted_by(&self, count: impl Fn(&Path) -> listing::Free, rightly: impl Fn(&Disk) -> bool) {
+    fn counted_by(
+        &self,
+        shape: Shape,
+        count: impl Fn(&Path) -> listing::Free,
+        rightly: impl Fn(&Disk) -> bool,
+    ) {
         let mut compared = 0;
-        for disk in (0..=5).flat_map(|edits| self.disks(4 * edits)).filter(|disk| rightly(disk)) {
+        for disk in (0..=5).flat_map(|edits| self.disks(shape, 4 * edits)).filter(|disk| rightly(disk)) {
             let ours = self.free_blocks(&disk);
             assert_eq!(count(&disk.image().path), ours, "N {}\n{:?}", disk.n, self.table(&disk));
             compared += 1;
         }
         assert!(compared >= 12, "{compared}");
-        let (disk, other) = self.changed(40);
+        let (disk, other) = self.changed(shape, 40);
         assert_ne!(count(&other.image().path), self.free_blocks(&disk));
     }
 
@@ -183,67 +207,82 @@ impl Calls {
     fn runs(&self, disk: &Disk) -> impl Iterator<Item = u64> {
         let mut used: Vec<_> = self.table(disk).into_iter().map(|row| (row.first, row.last + 1)).collect();
         used.sort();
-        let starts = [vec![34], used.iter().map(|(_, end)| *end).collect()].concat();
-        let ends = [used.into_iter().map(|(first, _)| first).collect(), vec![disk.n - 33]].concat();
+        let first = disk.shape().first_usable;
+        let starts = [vec![first], used.iter().map(|(_, end)| *end).collect()].concat();
+        let ends = [used.into_iter().map(|(first, _)| first).collect(), vec![disk.n - first + 1]].concat();
         starts.into_iter().zip(ends).map(|(start, end)| end - start)
     }
 }
 
-/// Where a one-block partition stands on the last usable block, sgdisk may count that block as free.
+/// Where a one-block partition stands on the last usable block, or before a partition of a lower slot, sgdisk may count
+/// that block as free.
 pub fn sgdisk_counts_the_same_free_blocks(calls: &Calls) {
     if !peer::present("sgdisk", "gdisk") {
         return;
     }
-    calls.counted_by(listing::sgdisk_free, |disk| {
-        let last = disk.n - 34;
-        calls.table(disk).iter().all(|row| row.first != last)
-    });
-    let mut disk = calls.formatted(100, DISK_GUID);
-    let mut random = Random::new(1);
-    calls.add_drawn(&mut disk, 32, &mut random).expect("room");
-    calls.add_drawn(&mut disk, 1, &mut random).expect("room");
-    calls.delete_used(&mut disk, 1);
-    assert_eq!((calls.free_blocks(&disk), listing::sgdisk_free(&disk.image().path)), ((32, 32), (33, 33)));
+    for shape in shapes() {
+        calls.counted_by(shape, listing::sgdisk_free, |disk| {
+            let (last, rows) = (disk.n - shape.first_usable, calls.table(disk));
+            let before_lower =
+                |row: &Partition| rows.iter().any(|r| r.slot < row.slot && r.first == row.first + 1);
+            rows.iter().all(|row| row.first != last && !before_lower(row))
+        });
+        let mut disk = calls.formatted(shape, shape.least_blocks() + 32, DISK_GUID);
+        let mut random = Random::new(1);
+        calls.add_drawn(&mut disk, 32, &mut random).expect("room");
+        calls.add_drawn(&mut disk, 1, &mut random).expect("room");
+        calls.delete_used(&mut disk, 1);
+        let counts = (calls.free_blocks(&disk), listing::sgdisk_free(&disk.image().path));
+        assert_eq!(counts, ((32, 32), (33, 33)), "{shape:?}");
+    }
 }
 
 /// sfdisk leaves out runs of one block, up to two blocks at the disk's end (three of an empty disk) and, on more than
-/// 8192 blocks, what stands before block 2048.
+/// 4 MiB, what stands before the first MiB.
 pub fn sfdisk_counts_the_same_free_blocks(calls: &Calls) {
     if !peer::present("sfdisk", "fdisk") {
         return;
     }
-    calls.counted_by(listing::sfdisk_free, |disk| {
-        let at_end = calls.runs(disk).last().expect("a run");
-        (71..=8192).contains(&disk.n) && at_end != 2 && calls.runs(disk).all(|run| run != 1)
-    });
-    for (n, theirs) in [(68, 0), (70, 0), (71, 4), (8192, 8125), (8193, 6112)] {
-        let disk = calls.formatted(n, DISK_GUID);
-        assert_eq!(
-            (calls.free_blocks(&disk).0, listing::sfdisk_free(&disk.image().path).0),
-            (n - 67, theirs)
-        );
+    for shape in shapes() {
+        let counted = shape.least_blocks() + 3..=(4 << 20) / shape.block;
+        calls.counted_by(shape, listing::sfdisk_free, |disk| {
+            let at_end = calls.runs(disk).last().expect("a run");
+            counted.contains(&disk.n) && at_end != 2 && calls.runs(disk).all(|run| run != 1)
+        });
+    }
+    for shape in shapes() {
+        let counts = match shape.block {
+            512 => [(68, 0), (70, 0), (71, 4), (8192, 8125), (8193, 6112)],
+            _ => [(12, 0), (14, 0), (15, 4), (1024, 1013), (1025, 764)],
+        };
+        for (n, theirs) in counts {
+            let disk = calls.formatted(shape, n, DISK_GUID);
+            let found = (calls.free_blocks(&disk).0, listing::sfdisk_free(&disk.image().path).0);
+            assert_eq!(found, (shape.usable(n), theirs), "N {n}, {shape:?}");
+        }
     }
 }
 
 impl Calls {
-    /// A disk in that state, by a byte of the other copy's 33 blocks; the copy that is kept has no zeros behind its
-    /// header.
+    /// A disk in that state, by a byte of the other copy's blocks, counted from its header's; the copy that is kept
+    /// has no zeros behind its header.
     fn spoiled(&self, disk: &Disk, state: u64, at: usize) -> Disk {
+        let shape = disk.shape();
         let mut spoiled = disk.clone();
         if state == BACKUP_ONLY {
-            spoiled.head[512 + at] ^= 0x10;
-            spoiled.tail[16_384 + 92..].fill(0x5A);
+            spoiled.head[shape.header_in_head() + at] ^= 0x10;
+            spoiled.tail[shape.header_in_tail() + HEADER_LEN..].fill(0x5A);
         } else {
-            spoiled.tail[(16_384 + at) % TAIL_LEN] ^= 0x10;
-            spoiled.head[512 + 92..1024].fill(0x5A);
+            spoiled.tail[(shape.header_in_tail() + at) % shape.tail_len] ^= 0x10;
+            spoiled.head[shape.header_in_head() + HEADER_LEN..shape.entries_in_head()].fill(0x5A);
         }
         assert_eq!((self.state)(&spoiled), Ok(state), "byte {at}");
         spoiled
     }
 
     /// A disk in state 2: another unique GUID in the backup copy's slot 1.
-    fn two_tables(&self) -> Disk {
-        let (mut disk, other) = self.changed(16);
+    fn two_tables(&self, shape: Shape) -> Disk {
+        let (mut disk, other) = self.changed(shape, 16);
         disk.tail = other.tail;
         disk
     }
@@ -262,7 +301,7 @@ impl Calls {
 fn repaired(disk: &Disk) -> Disk {
     let image = disk.image();
     peer::printed("cgpt", [Path::new("repair"), &image.path]);
-    Disk::read(&image.path).expect("an image")
+    Disk::read(&image.path, disk.block).expect("an image")
 }
 
 /// `cgpt repair` writes what the implementation writes.
@@ -270,17 +309,20 @@ pub fn cgpt_repairs_to_the_same_bytes(calls: &Calls) {
     if !peer::present("cgpt", "cgpt") {
         return;
     }
-    for disk in calls.disks(14) {
-        for state in [PRIMARY_ONLY, BACKUP_ONLY] {
-            // Signature, CRC, own block, last usable block, disk GUID and CRC of the entries; in the entries.
-            for at in [0, 16, 24, 48, 56, 88, 512, 512 + 40, 16_895] {
-                let spoiled = calls.spoiled(&disk, state, at);
-                let difference = calls.repair_difference(&spoiled, state);
-                assert_eq!(difference, None, "N {}, state {state}, byte {at}", disk.n);
+    for shape in shapes() {
+        let block = shape.block as usize;
+        for disk in calls.disks(shape, 14) {
+            for state in [PRIMARY_ONLY, BACKUP_ONLY] {
+                // Signature, CRC, own block, last usable block, disk GUID and CRC of the entries; in the entries.
+                for at in [0, 16, 24, 48, 56, 88, block, block + 40, shape.tail_len - 1] {
+                    let spoiled = calls.spoiled(&disk, state, at);
+                    let difference = calls.repair_difference(&spoiled, state);
+                    assert_eq!(difference, None, "N {}, state {state}, byte {at}, {shape:?}", disk.n);
+                }
             }
         }
+        assert_eq!(calls.repair_difference(&calls.two_tables(shape), DIFFERENT), None);
     }
-    assert_eq!(calls.repair_difference(&calls.two_tables(), DIFFERENT), None);
 }
 
 /// It leaves what stood behind the header that it writes.
@@ -288,8 +330,11 @@ pub fn cgpt_repairs_without_the_rest_of_the_header_block(calls: &Calls) {
     if !peer::present("cgpt", "cgpt") {
         return;
     }
-    let mut disk = calls.spoiled(&calls.filled(5000, 14, 1), PRIMARY_ONLY, 0);
-    disk.tail[16_384 + 300] = 0x77;
-    let difference = calls.repair_difference(&disk, PRIMARY_ONLY);
-    assert_eq!(difference, Some(format!("tail {:04X}", 16_384 + 300)));
+    for shape in shapes() {
+        let mut disk = calls.spoiled(&calls.filled(shape, 5000, 14, 1), PRIMARY_ONLY, 0);
+        let at = shape.header_in_tail() + 300;
+        disk.tail[at] = 0x77;
+        let difference = calls.repair_difference(&disk, PRIMARY_ONLY);
+        assert_eq!(difference, Some(format!("tail {at:04X}")), "{shape:?}");
+    }
 }

@@ -15,6 +15,7 @@
 use second::{NewPartition, RULES};
 use std::io::{self, Write};
 
+const BLOCK: u64 = 512;
 const HEAD_LEN: usize = 17_408;
 const TAIL_LEN: usize = 16_896;
 /// Where the two header blocks begin in head and tail.
@@ -90,7 +91,7 @@ impl Disk {
     }
 
     fn format(&mut self, out: &mut impl Write) -> io::Result<()> {
-        let number = second::gpt_format(&RULES, &mut self.head, &mut self.tail, self.n, &DISK_GUID);
+        let number = second::gpt_format(&RULES, &mut self.head, &mut self.tail, self.n, BLOCK, &DISK_GUID);
         self.line(out, "format", number, "")
     }
 
@@ -103,7 +104,7 @@ impl Disk {
         let new = NewPartition { kind: &KIND, unique: &unique, size, attributes: 0, name: &name };
         let (mut slot, mut first) = (0, 0);
         let (head, tail) = (&mut self.head, &mut self.tail);
-        let number = second::gpt_add(&RULES, head, tail, self.n, &new, &mut slot, &mut first);
+        let number = second::gpt_add(&RULES, head, tail, self.n, BLOCK, &new, &mut slot, &mut first);
         if number == 0 {
             self.granted += size;
             self.sizes[slot as usize] = size;
@@ -112,7 +113,7 @@ impl Disk {
     }
 
     fn delete(&mut self, out: &mut impl Write, slot: u64) -> io::Result<()> {
-        let number = second::gpt_delete(&RULES, &mut self.head, &mut self.tail, self.n, slot);
+        let number = second::gpt_delete(&RULES, &mut self.head, &mut self.tail, self.n, BLOCK, slot);
         if number == 0 {
             self.back += self.sizes[slot as usize];
         }
@@ -120,7 +121,7 @@ impl Disk {
     }
 
     fn resize(&mut self, out: &mut impl Write, slot: u64, size: u64) -> io::Result<()> {
-        let number = second::gpt_resize(&RULES, &mut self.head, &mut self.tail, self.n, slot, size);
+        let number = second::gpt_resize(&RULES, &mut self.head, &mut self.tail, self.n, BLOCK, slot, size);
         if number == 0 {
             let before = self.sizes[slot as usize];
             self.granted += size.saturating_sub(before);
@@ -133,10 +134,10 @@ impl Disk {
     /// State, free counts, sums and bytes.
     fn close(&self, out: &mut impl Write) -> io::Result<()> {
         let mut state = 0;
-        let number = second::gpt_read(&RULES, &self.head, &self.tail, self.n, &mut state);
+        let number = second::gpt_read(&RULES, &self.head, &self.tail, self.n, BLOCK, &mut state);
         self.line(out, "state", number, &format!(" {state}"))?;
         let (mut free, mut longest) = (0, 0);
-        let number = second::gpt_free(&RULES, &self.head, &self.tail, self.n, &mut free, &mut longest);
+        let number = second::gpt_free(&RULES, &self.head, &self.tail, self.n, BLOCK, &mut free, &mut longest);
         self.line(out, "free", number, &format!(" {free} longest {longest}"))?;
         writeln!(out, "disk {} granted {} back {}", self.n, self.granted, self.back)?;
         let crc = |bytes| second::crc32(&RULES, bytes);

@@ -1,6 +1,8 @@
 mod operands;
+mod shape;
 
 pub use operands::*;
+pub use shape::*;
 
 use super::Row;
 
@@ -23,18 +25,13 @@ pub struct LedgerRules {
     pub refusal_grants: u64,
 }
 
-/// The disk: Q1 to Q3, R25 to R30, D1 to D24.
+/// The disk: Q1 to Q3, R25 to R30, D1 to D24, and `02.l1` to `02.l7`, the sentences of request l of document 02.
 #[derive(Clone, Copy, Debug)]
 pub struct GptRules {
-    /// Q1.
-    pub block_len: usize,
-    /// Q2.
-    pub n_min: u64,
-    pub n_max: u64,
-    /// Q3.
-    pub head_len: usize,
-    pub tail_len: usize,
-    pub tail_start: Place,
+    /// 02.l3: of each block size.
+    pub shapes: [Shape; 2],
+    /// 02.l3: the bits of the number that names the block size.
+    pub block_size_mask: u64,
     /// Q6.
     pub little_endian: bool,
     /// R4, D15: lengths of the other lent buffers.
@@ -43,7 +40,7 @@ pub struct GptRules {
     pub unique_len: usize,
     pub name_units: usize,
 
-    /// R25 to R30.
+    /// R25 to R30, each after 02.l7.
     pub format_order: &'static [Row],
     pub read_order: &'static [Row],
     pub table_order: &'static [Row],
@@ -80,9 +77,6 @@ pub struct GptRules {
     pub entry_len: usize,
     /// D1: "all 16,384 entry bytes".
     pub entries_crc_len: usize,
-    /// D2.
-    pub primary: CopyPlace,
-    pub backup: CopyPlace,
     /// D4.
     pub header_crc_len: usize,
     pub header_crc_own_byte: u8,
@@ -93,8 +87,6 @@ pub struct GptRules {
     /// D6.
     pub unused_len: usize,
     /// D7.
-    pub entry_first_min: Place,
-    pub entry_last_max: Place,
     pub first_at_most_last: bool,
     pub zero_kind_bad: bool,
     pub zero_unique_bad: bool,
@@ -129,12 +121,9 @@ pub struct GptRules {
     pub rename_stops_at_zero: bool,
     /// D18.
     pub resize_last_less: u64,
-    pub resize_last_max: Place,
     pub resize_judges_others: bool,
     pub resize_zeroes_attributes: bool,
     /// D21.
-    pub usable_first: Place,
-    pub usable_last: Place,
     pub free_of: Option<Which>,
     /// D23.
     pub edit_slip: Option<EditSlip>,
@@ -161,24 +150,21 @@ const fn unjudged(at: usize, len: usize, holds: Holds) -> Field {
 }
 
 pub const GPT: GptRules = GptRules {
-    block_len: 512,
-    n_min: 68,
-    n_max: 4_294_967_296,
-    head_len: 17_408,
-    tail_len: 16_896,
-    tail_start: Place::FromEnd(33),
+    shapes: SHAPES,
+    block_size_mask: u64::MAX,
     little_endian: true,
     disk_guid_len: 16,
     kind_len: 16,
     unique_len: 16,
     name_units: 36,
 
-    format_order: &[Row::WrongLength, Row::BadBlockCount, Row::ZeroDiskGuid],
-    read_order: &[Row::WrongLength, Row::BadBlockCount, Row::NoGoodCopy],
-    table_order: &[Row::WrongLength, Row::BadBlockCount, Row::NoGoodCopy],
-    free_order: &[Row::WrongLength, Row::BadBlockCount, Row::NoGoodCopy],
-    repair_order: &[Row::WrongLength, Row::BadBlockCount, Row::NoGoodCopy],
+    format_order: &[Row::BlockSize, Row::WrongLength, Row::BadBlockCount, Row::ZeroDiskGuid],
+    read_order: &[Row::BlockSize, Row::WrongLength, Row::BadBlockCount, Row::NoGoodCopy],
+    table_order: &[Row::BlockSize, Row::WrongLength, Row::BadBlockCount, Row::NoGoodCopy],
+    free_order: &[Row::BlockSize, Row::WrongLength, Row::BadBlockCount, Row::NoGoodCopy],
+    repair_order: &[Row::BlockSize, Row::WrongLength, Row::BadBlockCount, Row::NoGoodCopy],
     add_order: &[
+        Row::BlockSize,
         Row::WrongLength,
         Row::BadBlockCount,
         Row::NoGoodCopy,
@@ -191,6 +177,7 @@ pub const GPT: GptRules = GptRules {
         Row::NoRoom,
     ],
     delete_order: &[
+        Row::BlockSize,
         Row::WrongLength,
         Row::BadBlockCount,
         Row::NoGoodCopy,
@@ -199,6 +186,7 @@ pub const GPT: GptRules = GptRules {
         Row::UnusedSlot,
     ],
     rename_order: &[
+        Row::BlockSize,
         Row::WrongLength,
         Row::BadBlockCount,
         Row::NoGoodCopy,
@@ -208,6 +196,7 @@ pub const GPT: GptRules = GptRules {
         Row::BadName,
     ],
     resize_order: &[
+        Row::BlockSize,
         Row::WrongLength,
         Row::BadBlockCount,
         Row::NoGoodCopy,
@@ -239,8 +228,8 @@ pub const GPT: GptRules = GptRules {
         field(20, 4, Holds::Number(0)),
         field(24, 8, Holds::OwnBlock),
         field(32, 8, Holds::OtherBlock),
-        field(40, 8, Holds::Block(Place::FromStart(34))),
-        field(48, 8, Holds::Block(Place::FromEnd(34))),
+        field(40, 8, Holds::FirstUsable),
+        field(48, 8, Holds::LastUsable),
         unjudged(56, 16, Holds::DiskGuid),
         field(72, 8, Holds::EntriesBlock),
         field(80, 4, Holds::Number(128)),
@@ -250,15 +239,11 @@ pub const GPT: GptRules = GptRules {
     count: 128,
     entry_len: 128,
     entries_crc_len: 16_384,
-    primary: CopyPlace { header: Place::FromStart(1), entries: Place::FromStart(2) },
-    backup: CopyPlace { header: Place::FromEnd(1), entries: Place::FromEnd(33) },
     header_crc_len: 92,
     header_crc_own_byte: 0,
     entry: EntryFields { kind: 0, unique: 16, first: 32, last: 40, attributes: 48, name: 56 },
     last_past: 0,
     unused_len: 128,
-    entry_first_min: Place::FromStart(34),
-    entry_last_max: Place::FromEnd(34),
     first_at_most_last: true,
     zero_kind_bad: true,
     zero_unique_bad: true,
@@ -280,7 +265,7 @@ pub const GPT: GptRules = GptRules {
         unjudged(450, 1, Holds::Number(0xEE)),
         unjudged(451, 3, Holds::Bytes(&[0xFF, 0xFF, 0xFF])),
         unjudged(454, 4, Holds::Number(1)),
-        unjudged(458, 4, Holds::Block(Place::FromEnd(1))),
+        unjudged(458, 4, Holds::RecordSize),
         unjudged(510, 2, Holds::Bytes(&[0x55, 0xAA])),
     ],
     format_tail_byte: 0,
@@ -290,11 +275,8 @@ pub const GPT: GptRules = GptRules {
     rename_units: 36,
     rename_stops_at_zero: false,
     resize_last_less: 1,
-    resize_last_max: Place::FromEnd(34),
     resize_judges_others: true,
     resize_zeroes_attributes: false,
-    usable_first: Place::FromStart(34),
-    usable_last: Place::FromEnd(34),
     free_of: None,
     edit_slip: None,
     repair_rewrites_same: false,

@@ -21,13 +21,16 @@ impl Place {
 pub enum Holds {
     Bytes(&'static [u8]),
     Number(u64),
-    Block(Place),
+    FirstUsable,
+    LastUsable,
     OwnBlock,
     OtherBlock,
     EntriesBlock,
     DiskGuid,
     HeaderCrc,
     EntriesCrc,
+    /// The blocks of the record of block 0.
+    RecordSize,
 }
 
 #[derive(Clone, Copy, Debug)]
@@ -98,7 +101,7 @@ pub enum Longest {
     LastRun,
 }
 
-/// Bytes 92 to 511 of a repaired header's block.
+/// The bytes after a repaired header, to the end of its block.
 #[derive(Clone, Copy, Debug, PartialEq, Eq)]
 pub enum Tail {
     Zero,
