@@ -1,6 +1,6 @@
 // The GPT calls on a disk of 512-byte or 4,096-byte blocks. The caller lends the head (blocks 0 to 33, or 0 to 5) and the tail (the last 33 blocks, or 5),
 // and says N, the number of blocks, and the bytes of a block.
-// Every call takes any buffers and any numbers; its contract is one equation with `formatBy` or `stepBy` of gpt_model for its answer and both buffers afterwards.
+// Every call takes any buffers and any numbers; its contract is one equation with `formatBy` or `stepBy` of gpt_model, for its answer and both buffers.
 // A call asks for the shape of its block size first, then gpt_calls on a disk of that shape.
 use gpt_calls::Added;
 use gpt_calls::Counted;

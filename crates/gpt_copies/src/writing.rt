@@ -30,7 +30,8 @@ fn put_header(b: &mut [u8], side: Side, n: u64, shape: Shape, guid: &[u8], crc: 
 fn renew_header(b: &mut [u8], side: Side, n: u64, shape: Shape, crc: u32)
     requires { ⌜ (length (now b) ≡ lentBytes shape (sideOf side)) × Fits shape n ⌝ }
     ensures { λ _. ⌜ ((es : List ℕ) → crc ≡ crcOf es
-        → now (b .exit) ≡ put (headerAt shape (sideOf side)) (header shape n (sideOf side) (guidIn shape (sideOf side) (now (b .entry))) es) (now (b .entry))) ⌝ }
+        → now (b .exit) ≡ put (headerAt shape (sideOf side))
+        (header shape n (sideOf side) (guidIn shape (sideOf side) (now (b .entry))) es) (now (b .entry))) ⌝ }
 {
     let mut guid = [0u8; 16];
     octets::copy(&mut guid, 0, gpt_places::guid_in(&b[..], side, shape));
@@ -71,7 +72,8 @@ pub fn crc_with(table: &[u8], i: usize, e: &[u8]) -> u32
 
 // The same entry in both copies, whose tables hold the same bytes: one CRC serves both.
 pub fn put_both(head: &mut [u8], tail: &mut [u8], n: u64, shape: Shape, i: usize, e: &[u8])
-    requires { ⌜ (length (now head) ≡ lentBytes shape primary) × (length (now tail) ≡ lentBytes shape backup) × Fits shape n × (i < slotCount) × (length (now e) ≡ entryBytes)
+    requires { ⌜ (length (now head) ≡ lentBytes shape primary) × (length (now tail) ≡ lentBytes shape backup) × Fits shape n
+        × (i < slotCount) × (length (now e) ≡ entryBytes)
         × (entriesIn shape primary (now head) ≡ entriesIn shape backup (now tail)) ⌝ }
     ensures { λ _. ⌜ (now (head .exit) ≡ withTable shape n primary (guidIn shape primary (now (head .entry)))
         (putChunk entryBytes i (now (e .entry)) (entriesIn shape primary (now (head .entry)))) (now (head .entry)))

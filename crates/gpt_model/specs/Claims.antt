@@ -48,7 +48,8 @@ pub record Formats (g : Shape) (n : ℕ) (guid h t : List ℕ) : Type 0 where
 -- from every start afresh
 abbrev pub Demand3From : Type 0
 Demand3From =
-    (g : Shape) → headerBytes ≤ g .block → (n : ℕ) (es : List ℕ) (r : Snapshot) → StartsAfresh g n es r → (cs : List Call) → Sound g n (afterAll (step g n) cs r)
+    (g : Shape) → headerBytes ≤ g .block → (n : ℕ) (es : List ℕ) (r : Snapshot) → StartsAfresh g n es r
+    → (cs : List Call) → Sound g n (afterAll (step g n) cs r)
 
 -- D19: Demand 3 is one claim about the whole list, not one for each call.
 abbrev pub Demand3 : Type 0

@@ -89,14 +89,20 @@ impl Disk {
     }
 
     fn stored(&self) -> testkit::disk::Disk {
-        testkit::disk::Disk { head: self.head.clone(), tail: self.tail.clone(), n: N }
+        testkit::disk::Disk {
+            head: self.head.clone(),
+            tail: self.tail.clone(),
+            n: N,
+            block: self.block.bytes(),
+        }
     }
 
     /// A disk with blocks of 512 bytes, as all that are written to files.
     pub fn in_file(path: &Path) -> Disk {
-        let stored = testkit::disk::Disk::read(path).expect("the disk's file");
+        let block = BlockSize::Bytes512;
+        let stored = testkit::disk::Disk::read(path, block.bytes()).expect("the disk's file");
         assert_eq!(stored.n, N);
-        Disk { head: stored.head, tail: stored.tail, block: BlockSize::Bytes512 }
+        Disk { head: stored.head, tail: stored.tail, block }
     }
 
     /// The first block of each used entry.

@@ -44,7 +44,8 @@ mod tests {
         assert_eq!(crates("# NAME: imports\na:\nb: a io\n"), ["a", "b"]);
         let table = "x\n| crate | says | callable |\n|---|---|---|\n| `a` | b | no (inner) |\n| `c` | d | yes |\n\n| `e` | f | yes |\n";
         assert_eq!(described(table), [("a".to_string(), false), ("c".to_string(), true)]);
-        let table = "| No. | Sentence |\n|---|---|\n| E1 | Wrong. | x |\n| l7 | 6. | x |\n| `W9` | no rule | x |\n";
+        let table =
+            "| No. | Sentence |\n|---|---|\n| E1 | Wrong. | x |\n| l7 | 6. | x |\n| `W9` | no rule | x |\n";
         assert_eq!(rules(table), [("E1", "Wrong."), ("l7", "6.")]);
     }
 }

@@ -7,7 +7,7 @@ pub const RULES_TO_BREAK: &[&str] = &[
     "Q1", "Q2", "Q3", "Q6", "R1", "R2", "R3", "R4", "R5", "R6", "R7", "R8", "R9", "R10", "R11", "R12", "R13",
     "R25", "R26", "R27", "R28", "R29", "R30", "D1", "D2", "D3", "D4", "D5", "D6", "D7", "D8", "D9", "D10",
     "D11", "D12", "D13", "D14", "D15", "D16", "D17", "D18", "D19", "D20", "D21", "D22", "D23", "D24", "E1",
-    "E2", "02.l1", "02.l2", "02.l3", "02.l7",
+    "E2", "l1", "l2", "l3", "l7",
 ];
 
 pub fn all() -> Vec<Variant> {
@@ -63,7 +63,7 @@ fn rows() -> Vec<Variant> {
 
 /// Another number for each refusal.
 const NUMBERS: &[(Row, &str, u32)] = &[
-    (Row::BlockSize, "02.l7", 2),
+    (Row::BlockSize, "l7", 2),
     (Row::WrongLength, "R4", 2),
     (Row::BadBlockCount, "R5", 1),
     (Row::ZeroDiskGuid, "R6", 4),

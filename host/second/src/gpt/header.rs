@@ -29,7 +29,7 @@ pub fn is_good(subject: &Subject, block: &[u8]) -> bool {
     judged.all(|field| part(block, field.at, field.len) == value(subject, field, block))
 }
 
-/// D13, 02.l2: block 0 of a formatted disk.
+/// D13, l2: block 0 of a formatted disk.
 pub fn block_0(geometry: Geometry) -> Vec<u8> {
     let subject = Subject { geometry, which: Which::Primary, disk_guid: &[], entries: &[] };
     let mut bytes = vec![0; geometry.shape.block_0_len];

@@ -32,7 +32,7 @@ pub struct Geometry<'a> {
 }
 
 impl<'a> Geometry<'a> {
-    /// 02.l3: of a disk with blocks of that size; `None` for another size.
+    /// l3: of a disk with blocks of that size; `None` for another size.
     pub fn named(rules: &'a Rules, n: u64, block: u64) -> Option<Geometry<'a>> {
         let block = block & rules.gpt.block_size_mask;
         let mut shapes = rules.gpt.shapes.iter();

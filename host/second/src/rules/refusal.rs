@@ -47,7 +47,7 @@ pub enum Row {
 /// What a refusal returns and leaves.
 #[derive(Clone, Copy, Debug)]
 pub struct RefusalRules {
-    /// R4 to R24, 02.l7; 255 for the answer that no area is there.
+    /// R4 to R24, l7; 255 for the answer that no area is there.
     pub numbers: [(Row, u32); 37],
     /// R1: how many bytes of an output buffer a refusal zeroes.
     pub zeroes: usize,

@@ -18,8 +18,8 @@ pub fn variants() -> Vec<Variant> {
         for (name, rule, change) in slips.into_iter().flatten() {
             let rule = match (k, rule) {
                 (0, rule) => rule,
-                (_, "D13") => "02.l2",
-                _ => "02.l1",
+                (_, "D13") => "l2",
+                _ => "l1",
             };
             let name = format!("{name}-at-{}", shape.block_len);
             variants.push(variant(name, rule, |r| change(&mut r.gpt.shapes[k])));
@@ -35,24 +35,24 @@ fn names() -> Vec<Variant> {
             .into_iter()
             .chain([(1, 4095, 4096), (1, 1024, 4096), (1, 4096, 4097), (1, 4096, 8192), (1, 4096, u64::MAX)])
             .map(|(k, min, max)| {
-                variant(format!("{min}-to-{max}-taken-as-{}", SHAPES[k].block_len), "02.l7", |r| {
+                variant(format!("{min}-to-{max}-taken-as-{}", SHAPES[k].block_len), "l7", |r| {
                     (r.gpt.shapes[k].named_min, r.gpt.shapes[k].named_max) = (min, max);
                 })
             })
             .collect();
     variants.extend([
-        variant("blocks-of-512-refused", "02.l3", |r| r.gpt.shapes[0].named_min = 513),
-        variant("blocks-of-4096-refused", "02.l3", |r| r.gpt.shapes[1].named_min = 4097),
-        variant("block-sizes-exchanged", "02.l3", |r| {
+        variant("blocks-of-512-refused", "l3", |r| r.gpt.shapes[0].named_min = 513),
+        variant("blocks-of-4096-refused", "l3", |r| r.gpt.shapes[1].named_min = 4097),
+        variant("block-sizes-exchanged", "l3", |r| {
             r.gpt.shapes = [named(SHAPES[0], 4096), named(SHAPES[1], 512)];
         }),
-        variant("always-blocks-of-512", "02.l3", |r| r.gpt.shapes[1] = named(SHAPES[0], 4096)),
-        variant("always-blocks-of-4096", "02.l3", |r| r.gpt.shapes[0] = named(SHAPES[1], 512)),
-        variant("block-size-of-32-bits", "02.l7", |r| r.gpt.block_size_mask = 0xFFFF_FFFF),
-        variant("block-size-of-16-bits", "02.l7", |r| r.gpt.block_size_mask = 0xFFFF),
-        variant("format-BlockSize-last", "02.l7", |r| r.gpt.format_order = last(r.gpt.format_order)),
-        variant("read-BlockSize-last", "02.l7", |r| r.gpt.read_order = last(r.gpt.read_order)),
-        variant("add-BlockSize-last", "02.l7", |r| r.gpt.add_order = last(r.gpt.add_order)),
+        variant("always-blocks-of-512", "l3", |r| r.gpt.shapes[1] = named(SHAPES[0], 4096)),
+        variant("always-blocks-of-4096", "l3", |r| r.gpt.shapes[0] = named(SHAPES[1], 512)),
+        variant("block-size-of-32-bits", "l7", |r| r.gpt.block_size_mask = 0xFFFF_FFFF),
+        variant("block-size-of-16-bits", "l7", |r| r.gpt.block_size_mask = 0xFFFF),
+        variant("format-BlockSize-last", "l7", |r| r.gpt.format_order = last(r.gpt.format_order)),
+        variant("read-BlockSize-last", "l7", |r| r.gpt.read_order = last(r.gpt.read_order)),
+        variant("add-BlockSize-last", "l7", |r| r.gpt.add_order = last(r.gpt.add_order)),
     ]);
     variants
 }

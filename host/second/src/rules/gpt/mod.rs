@@ -25,12 +25,12 @@ pub struct LedgerRules {
     pub refusal_grants: u64,
 }
 
-/// The disk: Q1 to Q3, R25 to R30, D1 to D24, and `02.l1` to `02.l7`, the sentences of request l of document 02.
+/// The disk: Q1 to Q3, R25 to R30, D1 to D24, and l1 to l7, the sentences of request l of document 02.
 #[derive(Clone, Copy, Debug)]
 pub struct GptRules {
-    /// 02.l3: of each block size.
+    /// l3: of each block size.
     pub shapes: [Shape; 2],
-    /// 02.l3: the bits of the number that names the block size.
+    /// l3: the bits of the number that names the block size.
     pub block_size_mask: u64,
     /// Q6.
     pub little_endian: bool,
@@ -40,7 +40,7 @@ pub struct GptRules {
     pub unique_len: usize,
     pub name_units: usize,
 
-    /// R25 to R30, each after 02.l7.
+    /// R25 to R30, each after l7.
     pub format_order: &'static [Row],
     pub read_order: &'static [Row],
     pub table_order: &'static [Row],

@@ -1,9 +1,9 @@
 use super::{CopyPlace, Place};
 
-/// What the block size decides. Q1 to D21 say it of 512 bytes, 02.l1 and 02.l2 of 4,096 bytes.
+/// What the block size decides. Q1 to D21 say it of 512 bytes, l1 and l2 of 4,096 bytes.
 #[derive(Clone, Copy, Debug)]
 pub struct Shape {
-    /// 02.l3: the caller names the block size by these numbers.
+    /// l3: the caller names the block size by these numbers.
     pub named_min: u64,
     pub named_max: u64,
     /// Q1.
