@@ -1,6 +1,6 @@
 # make run        prove and build what the main job needs, and run it
 # make archive    prove the C interface and write the archive that a C or Rust program links, target/staticlib/libusigrambal.a
-# make shared     the same as a shared library, target/sharedlib/libusigrambal.so.0
+# make shared     the same as a shared library, target/sharedlib/libusigrambal.so.1
 # make install    the command with man pages and completion, the C header, archive and shared library, to PREFIX (default: /usr/local), below DESTDIR if given
 # make uninstall  remove from PREFIX what install wrote there
 # make test       the gate: format, every proof, every test
@@ -14,7 +14,8 @@ SECONDS_PER_CALL = 30
 BENCH =
 C_CRATES = c_text c_disk c_flash c_layout
 ARCHIVE = target/staticlib/libusigrambal.a
-SHARED = target/sharedlib/libusigrambal.so.0
+SONAME = libusigrambal.so.1
+SHARED = target/sharedlib/$(SONAME)
 COMMAND = target/command/release/usigrambal
 PAGES = target/pages
 SOURCES = crates.txt $(shell find crates -name '*.rt' -o -name '*.antt')
@@ -39,9 +40,9 @@ $(SHARED): $(ARCHIVE)
 	@echo 'linking the shared library'
 	mkdir -p target/sharedlib
 	echo '{ global: usi_*; local: *; };' >target/sharedlib/exports
-	gcc -shared -Wl,--whole-archive $(ARCHIVE) -Wl,--no-whole-archive -Wl,-soname,libusigrambal.so.0 -Wl,--version-script=target/sharedlib/exports \
+	gcc -shared -Wl,--whole-archive $(ARCHIVE) -Wl,--no-whole-archive -Wl,-soname,$(SONAME) -Wl,--version-script=target/sharedlib/exports \
 	    -Wl,-z,defs -Wl,-z,now -Wl,-z,text -o $(SHARED)
-	ln -sf libusigrambal.so.0 target/sharedlib/libusigrambal.so
+	ln -sf $(SONAME) target/sharedlib/libusigrambal.so
 
 # Linked as host/command/.cargo/config.toml says, statically; dynamically where this machine has no static C library.
 command: $(ARCHIVE)
@@ -63,8 +64,8 @@ install: command pages shared
 	install -D -m 755 $(COMMAND) "$(to)/bin/usigrambal"
 	install -D -m 644 include/usigrambal.h "$(to)/include/usigrambal.h"
 	install -D -m 644 $(ARCHIVE) "$(to)/lib/libusigrambal.a"
-	install -D -m 755 $(SHARED) "$(to)/lib/libusigrambal.so.0"
-	ln -sf libusigrambal.so.0 "$(to)/lib/libusigrambal.so"
+	install -D -m 755 $(SHARED) "$(to)/lib/$(SONAME)"
+	ln -sf $(SONAME) "$(to)/lib/libusigrambal.so"
 	install -D -m 644 python/usigrambal.py "$(to)/share/usigrambal/usigrambal.py"
 	install -d "$(to)/lib/pkgconfig" "$(to)/share/man/man1"
 	printf '%s\n' 'prefix=$(PREFIX)' 'includedir=$${prefix}/include' 'libdir=$${prefix}/lib' '' 'Name: usigrambal' \
@@ -74,7 +75,7 @@ install: command pages shared
 	install -D -m 644 $(PAGES)/usigrambal.bash "$(to)/share/bash-completion/completions/usigrambal"
 
 uninstall:
-	rm -f "$(to)/bin/usigrambal" "$(to)/include/usigrambal.h" "$(to)"/lib/libusigrambal.a "$(to)"/lib/libusigrambal.so "$(to)"/lib/libusigrambal.so.0 \
+	rm -f "$(to)/bin/usigrambal" "$(to)/include/usigrambal.h" "$(to)"/lib/libusigrambal.a "$(to)"/lib/libusigrambal.so "$(to)/lib/$(SONAME)" \
 	    "$(to)/lib/pkgconfig/usigrambal.pc" "$(to)"/share/man/man1/usigrambal.1 "$(to)"/share/man/man1/usigrambal-*.1 \
 	    "$(to)/share/bash-completion/completions/usigrambal"
 	rm -rf "$(to)/share/usigrambal"

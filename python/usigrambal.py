@@ -1,4 +1,4 @@
-"""Usigrambal from Python: flash layouts (FMD), flash maps (FMAP) and GPT disks, by the shared library libusigrambal.so.0.
+"""Usigrambal from Python: flash layouts (FMD), flash maps (FMAP) and GPT disks, by the shared library libusigrambal.so.1.
 
 Standard library alone. Buffers go in as bytes (or bytearray), numbers as int. A call that changes a buffer answers the changed
 one as new bytes and leaves its argument alone. A refused call raises Refused, which has the number and its words.
@@ -18,7 +18,7 @@ import ctypes
 import enum
 import os
 
-__version__ = "0.1.0"
+__version__ = "0.2.0"
 
 BLOCK_SIZES = (512, 4096)
 ENTRIES_LEN = 16384
@@ -122,7 +122,7 @@ class State(enum.IntEnum):
 def _library():
     """The shared library, with the types of its calls."""
     here = os.path.dirname(os.path.abspath(__file__))
-    name = "libusigrambal.so.0"
+    name = "libusigrambal.so.1"
     named = os.environ.get("USIGRAMBAL_LIBRARY")
     places = [os.path.join(here, *parts, name) for parts in ((), ("..", "..", "lib"), ("..", "target", "sharedlib"))]
     path = named or next((place for place in places if os.path.exists(place)), name)
