@@ -12,6 +12,7 @@ mod words;
 pub use edits::{add, delete, rename, repair, resize};
 pub use format::format;
 pub use look::{free, show, verify};
+pub use words::copies;
 
 use crate::failure::{words, Failure};
 use std::fs::File;
