@@ -6,7 +6,7 @@ use crate::storage::{about, attached, in_use, open, put, unusable, Access, Opene
 use std::fs::File;
 use std::os::unix::fs::FileExt;
 use std::path::Path;
-use usigrambal::{BlockSize, Disk, Refusal, State};
+use usigrambal::{BlockSize, Disk};
 
 /// On the heap: the stack may be small.
 #[derive(Clone, PartialEq, Eq)]
@@ -92,39 +92,11 @@ impl Ends {
     }
 }
 
-/// Reads a disk and tells of it. A file for which no block size is asked, and which reads with the other one alone, is
-/// told of with that.
-pub fn look<T>(
-    path: &Path,
-    asked: Option<BlockSize>,
-    tell: impl Fn(&mut Ends) -> Result<T, Failure>,
-) -> Result<T, Failure> {
+/// Opens a disk for reading, and reads it.
+pub fn read(path: &Path, asked: Option<BlockSize>) -> Result<(Opened, Ends), Failure> {
     let opened = open(path, Access::Read).on("disk", path)?;
-    let mut ends = Ends::read(path, &opened, asked).on("disk", path)?;
-    tell(&mut ends).or_else(|failure| match readable_otherwise(&failure, path, &opened, &ends) {
-        Some((mut other, _)) if ends.by == By::Default => tell(&mut other),
-        Some((other, state)) => Err(failure.hint(told_otherwise(&ends, &other, state))),
-        None => Err(failure),
-    })
-}
-
-/// Where a disk does not read: it with the other block size and its state, if it reads with that.
-fn readable_otherwise(failure: &Failure, path: &Path, opened: &Opened, ends: &Ends) -> Option<(Ends, State)> {
-    let unread = matches!(failure.refusal(), Some(Refusal::BlockCount | Refusal::NeitherGood));
-    let whole = unread && opened.facts.ragged(ends.block.other()).is_none();
-    let mut other = whole.then(|| ends.otherwise(path, opened).ok()).flatten()?;
-    let state = other.disk().state().ok()?;
-    Some((other, state))
-}
-
-fn told_otherwise(ends: &Ends, other: &Ends, state: State) -> String {
-    let (own, found, copies) = (ends.block, other.block, crate::gpt::copies(state));
-    match ends.by {
-        By::Device => {
-            format!("a table for blocks of {found} bytes is there ({copies}), but the device's have {own}")
-        }
-        _ => format!("with --block {found} it reads: {copies}"),
-    }
+    let ends = Ends::read(path, &opened, asked).on("disk", path)?;
+    Ok((opened, ends))
 }
 
 /// Makes an edit. It is first tried on a disk that is open for reading only: so a refusal, a dry run and an edit
@@ -135,16 +107,10 @@ pub fn edit<T>(
     call: impl Fn(&mut Disk) -> Result<T, Failure>,
     look: impl Fn(&Opened, &Ends) -> Result<(), Failure>,
 ) -> Result<Edited<T>, Failure> {
-    let opened = open(path, Access::Read)?;
-    let before = Ends::read(path, &opened, mode.block)?;
+    let (opened, before) = read(path, mode.block)?;
     let block = before.block;
     let mut after = before.clone();
-    let answer = call(&mut after.disk()).map_err(|failure| {
-        match readable_otherwise(&failure, path, &opened, &before) {
-            Some((other, state)) => failure.hint(told_otherwise(&before, &other, state)),
-            None => failure,
-        }
-    })?;
+    let answer = call(&mut after.disk())?;
     let changed = after != before;
     if mode.dry_run {
         let tried = tried(path, mode, &opened, &before, look);

@@ -1,8 +1,8 @@
 //! The verbs that edit a table.
 
 use super::hints::{advised, no_guid, of_add, of_resize, slot};
-use super::random_guid;
 use super::words::{copies, described, in_words};
+use super::{otherwise, random_guid};
 use crate::arguments::Given;
 use crate::block::{self, operand};
 use crate::disk::{self, Edited, Mode};
@@ -140,8 +140,9 @@ fn edited<T>(
     call: impl Fn(&mut Disk) -> Result<T, Failure>,
     tell: impl Fn(&T, &How) -> (String, Vec<(&'static str, Json)>),
 ) -> Result<Report, Failure> {
-    let edit = disk::edit(given.path(0), mode, call, |_, _| Ok(())).on("disk", given.path(0))?;
-    Ok(told(given, edit, tell))
+    let path = given.path(0);
+    let edit = disk::edit(path, mode, call, |_, _| Ok(())).on("disk", path);
+    Ok(told(given, edit.map_err(|failure| otherwise::advised(failure, path, mode.block))?, tell))
 }
 
 pub fn mode(given: &Given, anew: bool) -> Result<Mode, Failure> {

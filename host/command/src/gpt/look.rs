@@ -1,10 +1,11 @@
 //! The verbs that only read.
 
 use super::hints::advised;
+use super::otherwise;
 use super::words::{copies, described, drawing, partition_table, run_table, runs_json};
 use crate::arguments::Given;
 use crate::block::{self, is_file, operand, By};
-use crate::disk::{self, Ends};
+use crate::disk::Ends;
 use crate::failure::Failure;
 use crate::json::Json;
 use crate::paths::{quoted, shown};
@@ -24,7 +25,7 @@ pub fn show(given: &Given) -> Result<Report, Failure> {
     if !(1..=BAR_MAX).contains(&width) {
         return Err(Failure::usage(format!("--width must be 1 to {BAR_MAX}")));
     }
-    disk::look(given.path(0), block::asked(given)?, |ends| shown_disk(given, ends, width as usize))
+    otherwise::read(given.path(0), block::asked(given)?, |ends| shown_disk(given, ends, width as usize))
 }
 
 fn shown_disk(given: &Given, ends: &mut Ends, width: usize) -> Result<Report, Failure> {
@@ -82,7 +83,7 @@ fn note(block: BlockSize, by: By) -> String {
 }
 
 pub fn free(given: &Given) -> Result<Report, Failure> {
-    disk::look(given.path(0), block::asked(given)?, |ends| counted(given.path(0), ends))
+    otherwise::read(given.path(0), block::asked(given)?, |ends| counted(given.path(0), ends))
 }
 
 fn counted(path: &Path, ends: &mut Ends) -> Result<Report, Failure> {
@@ -108,7 +109,7 @@ fn counted(path: &Path, ends: &mut Ends) -> Result<Report, Failure> {
 }
 
 pub fn verify(given: &Given) -> Result<Report, Failure> {
-    disk::look(given.path(0), block::asked(given)?, |ends| verified(given.path(0), ends))
+    otherwise::read(given.path(0), block::asked(given)?, |ends| verified(given.path(0), ends))
 }
 
 fn verified(path: &Path, ends: &mut Ends) -> Result<Report, Failure> {
@@ -154,7 +155,7 @@ fn record(path: &Path, block: BlockSize, empty: bool) -> String {
     match is_file(path) && block != BlockSize::Bytes512 {
         true => {
             let device = format!("losetup -b {block} -f --show {}", quoted(path));
-            format!("{kept}; sgdisk -e on the device that {device} makes writes the record")
+            format!("{kept}; {device} makes a device of it, on which sgdisk -e writes the record")
         }
         false => format!("{kept}; sgdisk -e {} writes the record", quoted(path)),
     }

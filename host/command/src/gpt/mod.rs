@@ -5,6 +5,7 @@ mod format;
 mod found;
 mod hints;
 mod look;
+mod otherwise;
 mod probe;
 mod why;
 mod words;
@@ -12,7 +13,6 @@ mod words;
 pub use edits::{add, delete, rename, repair, resize};
 pub use format::format;
 pub use look::{free, show, verify};
-pub use words::copies;
 
 use crate::failure::{words, Failure};
 use std::fs::File;
