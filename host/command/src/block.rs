@@ -50,16 +50,23 @@ pub fn of(path: &Path, facts: &Facts, asked: Option<BlockSize>) -> Result<(Block
 
 fn of_device(path: &Path, bytes: u64, asked: Option<BlockSize>) -> Result<BlockSize, Failure> {
     let own = BlockSize::try_from(bytes).map_err(|refused| {
-        let hint = format!("the device has logical blocks of {}", plural(bytes, "byte"));
+        let way = as_device(path, BlockSize::Bytes512);
+        let hint = format!("the device has logical blocks of {}; {way}", plural(bytes, "byte"));
         Failure::from(refused).hint(hint).on("disk", path)
     })?;
     match asked.filter(|asked| *asked != own) {
         Some(asked) => {
             let what = format!("has logical blocks of {own} bytes, and --block says {asked}");
-            Err(about(path, &what).hint("a device goes by its own block size; --block is for files"))
+            Err(about(path, &what).hint(format!("a device goes by its own; {}", as_device(path, asked))))
         }
         None => Ok(own),
     }
+}
+
+/// How a disk is given other blocks than its own, for this command and for others.
+pub fn as_device(path: &Path, size: BlockSize) -> String {
+    let path = quoted(path);
+    format!("losetup -b {size} -f --show {path} makes a device of it with blocks of {size} bytes")
 }
 
 /// Whether its block size can be chosen.

@@ -2,6 +2,7 @@
 
 use crate::block::{self, operand, By};
 use crate::failure::{Failure, On};
+use crate::sizes::plural;
 use crate::storage::{about, attached, in_use, open, put, unusable, Access, Opened, Unwritten};
 use std::fs::File;
 use std::os::unix::fs::FileExt;
@@ -62,8 +63,13 @@ impl Ends {
 
     fn read(path: &Path, opened: &Opened, asked: Option<BlockSize>) -> Result<Ends, Failure> {
         let (block, by) = block::of(path, &opened.facts, asked)?;
-        match opened.facts.ragged(block) {
-            Some(fault) => Err(about(path, &fault)),
+        let (ragged, other) = (opened.facts.ragged(block), block.other());
+        match ragged.map(|fault| about(path, &fault)) {
+            Some(failure) if opened.facts.ragged(other).is_none() => {
+                let blocks = plural(opened.facts.bytes / other.bytes(), "block");
+                Err(failure.hint(format!("with --block {other} it has {blocks}")))
+            }
+            Some(failure) => Err(failure),
             None => Ends::with(path, opened, block, by),
         }
     }

@@ -4,7 +4,7 @@ use super::hints::advised;
 use super::otherwise;
 use super::words::{copies, described, drawing, partition_table, run_table, runs_json};
 use crate::arguments::Given;
-use crate::block::{self, is_file, operand, By};
+use crate::block::{self, as_device, is_file, operand, By};
 use crate::disk::Ends;
 use crate::failure::Failure;
 use crate::json::Json;
@@ -153,10 +153,7 @@ fn record(path: &Path, block: BlockSize, empty: bool) -> String {
     }
     let kept = "gpt repair leaves block 0 as it is";
     match is_file(path) && block != BlockSize::Bytes512 {
-        true => {
-            let device = format!("losetup -b {block} -f --show {}", quoted(path));
-            format!("{kept}; {device} makes a device of it, on which sgdisk -e writes the record")
-        }
+        true => format!("{kept}; {}, on which sgdisk -e writes the record", as_device(path, block)),
         false => format!("{kept}; sgdisk -e {} writes the record", quoted(path)),
     }
 }

@@ -2,7 +2,7 @@
 
 use super::why;
 use super::words::copies;
-use crate::block::By;
+use crate::block::{as_device, By};
 use crate::disk::{self, Ends};
 use crate::failure::Failure;
 use crate::storage::Opened;
@@ -23,7 +23,7 @@ pub fn read<T>(
         if found {
             tell(&mut other)
         } else {
-            Err(hinted(failure, &mut ends, &mut other))
+            Err(hinted(failure, path, &mut ends, &mut other))
         }
     })
 }
@@ -32,7 +32,7 @@ pub fn read<T>(
 pub fn advised(failure: Failure, path: &Path, asked: Option<BlockSize>) -> Failure {
     let Ok((opened, mut ends)) = disk::read(path, asked) else { return failure };
     match other(&failure, path, &opened, &ends) {
-        Some(mut other) => hinted(failure, &mut ends, &mut other),
+        Some(mut other) => hinted(failure, path, &mut ends, &mut other),
         None => failure,
     }
 }
@@ -48,13 +48,14 @@ fn other(failure: &Failure, path: &Path, opened: &Opened, ends: &Ends) -> Option
     }
 }
 
-fn hinted(failure: Failure, ends: &mut Ends, other: &mut Ends) -> Failure {
+fn hinted(failure: Failure, path: &Path, ends: &mut Ends, other: &mut Ends) -> Failure {
     let (own, found, by) = (ends.block, other.block, ends.by);
     let (held, holds) = (ends.disk(), other.disk());
     match holds.state() {
         Ok(state) if by == By::Device => failure.hint(format!(
-            "a table for blocks of {found} bytes is there ({}), but the device has blocks of {own}",
-            copies(state)
+            "a table for blocks of {found} bytes is there ({}), but the device has blocks of {own}; {}",
+            copies(state),
+            as_device(path, found)
         )),
         Ok(state) => failure.hint(format!("with --block {found} it reads: {}", copies(state))),
         Err(_) if why::signed(&holds) && !why::signed(&held) => failure.hint(format!(

@@ -194,6 +194,20 @@ pub fn disk(folder: &Folder, name: &str, n: u64) -> PathBuf {
     path
 }
 
+/// A disk image of n blocks of 4096 bytes, formatted.
+pub fn disk_of_4096(folder: &Folder, name: &str, n: u64) -> PathBuf {
+    let path = folder.sparse(name, n * 4096);
+    at_4096("format", &path, &[]).done();
+    path
+}
+
+/// `gpt VERB DISK`, more words, and `--block 4096`.
+pub fn at_4096(verb: &str, disk: &Path, more: &[&str]) -> Ended {
+    let words = [OsStr::new("gpt"), OsStr::new(verb), disk.as_os_str()];
+    let more = more.iter().chain(&["--block", "4096"]).map(OsStr::new);
+    run(&words.into_iter().chain(more).collect::<Vec<_>>())
+}
+
 pub fn add(disk: &Path, size: &str, name: &str) -> Json {
     let words = ["gpt", "add", "--json", "--size", size, "--name", name].map(OsStr::new);
     run(&[&words[..], &[disk.as_os_str()]].concat()).json()
