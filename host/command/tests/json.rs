@@ -152,6 +152,11 @@ fn disks(printed: &mut Printed, folder: &Folder) {
     call("gpt repair disk.img");
     spoil(&folder.path("disk.img"), 0);
     call("gpt format disk.img --replace");
+    call("gpt show disk.img --block 1024");
+    folder.sparse("long.img", 44 * 4096);
+    call("gpt format long.img --block 4096");
+    call("gpt show long.img");
+    call("gpt add long.img --size 1");
 }
 
 fn images(printed: &mut Printed, folder: &Folder) {
