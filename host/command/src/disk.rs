@@ -135,7 +135,7 @@ pub fn edit<T>(
     let mut after = before.clone();
     let answer = call(&mut after.disk())?;
     write(path, &opened.file, &before, &after, mode.anew)?;
-    Ok(Edited { answer, block, changed: after != before, warning: opened.reread() })
+    Ok(Edited { answer, block: before.block, changed: after != before, warning: opened.reread() })
 }
 
 /// A dry run: a new table is refused as it would be; an edit tells that the disk is in use.
