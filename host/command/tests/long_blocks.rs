@@ -213,7 +213,10 @@ fn formatting_over_the_other_block_size() {
     let folder = Folder::new();
     let long = disk_of_4096(&folder, "long.img", 44);
     at_4096("add", &long, &["--size", "1"]).done();
-    run!["gpt", "format", long].needed("holds a good GPT with 1 partition, for blocks of 4096 bytes;");
+    let ended = run!["gpt", "format", long];
+    let anew = "--replace writes an empty table for blocks of 512 bytes over it";
+    assert_eq!(ended.hint(), format!("{anew}, with --block 4096 one for 4096"));
+    ended.needed("holds a good GPT with 1 partition, for blocks of 4096 bytes;");
     at_4096("format", &long, &[]).needed("holds a good GPT with 1 partition; nothing was written");
     let short = disk(&folder, "short.img", 352);
     add(&short, "1", "a");
@@ -239,6 +242,19 @@ fn formatting_over_the_other_block_size() {
     at_4096("format", &short, &[]).needed("holds a good GPT with 0 partitions; nothing was written");
     assert_eq!(run!["gpt", "show", long, "--json"].json().text("block_by"), "default");
     assert_eq!(run!["gpt", "show", short, "--json"].json().text("block_by"), "table");
+}
+
+/// A header of the other block size, without anything else.
+#[test]
+fn formatting_over_a_header_of_the_other_block_size() {
+    let folder = Folder::new();
+    let path = folder.sparse("disk.img", 1 << 20);
+    let file = File::options().write(true).open(&path).expect("an image");
+    file.write_all_at(b"EFI PART", 4096).expect("bytes");
+    let why = "primary copy: its revision is 0, where this library has 65536; backup copy: no GPT signature";
+    let said = format!("holds a GPT that is not good ({why}), for blocks of 4096 bytes; nothing was written");
+    run!["gpt", "format", path].needed(&said);
+    run!["gpt", "format", path, "--replace"].done();
 }
 
 /// All 00 or all FF in the first 128 KiB and the last 5 blocks; what stands between is not looked at.

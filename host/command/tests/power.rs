@@ -311,6 +311,47 @@ fn killed_while_it_formats_longer_blocks() {
     run!["gpt", "verify", path].done();
 }
 
+/// A new table over one of the other block size, cut in between: its backup is there, and the primary of the old one.
+/// Both are told, and a repair goes by the word alone.
+#[test]
+fn killed_between_two_block_sizes() {
+    let copies = |first: bool| match first {
+        true => "the backup copy is not good; the primary is used",
+        false => "the primary copy is not good; the backup is used",
+    };
+    for (old, new) in [("4096", "512"), ("512", "4096")] {
+        for kept in [old, new] {
+            let folder = Folder::new();
+            let path = folder.sparse("disk.img", 100 * 4096);
+            run!["gpt", "format", path, "--block", old].done();
+            run!["gpt", "add", path, "--block", old, "--size", "8K"].done();
+            let text = path.to_str().expect("UTF-8");
+            let words = ["gpt", "format", text, "--replace", "--block", new];
+            assert_eq!(disturbed("kill:2", &folder.path("log"), &words).status, None);
+            let ended = run!["gpt", "verify", path];
+            assert!(ended.out.starts_with(&format!("{text}: {}\n", copies(old == "512"))), "{}", ended.out);
+            let other = format!("one for blocks of 4096 bytes ({})", copies(old == "4096"));
+            let warning = format!("usigrambal: warning: {text} has another table too, {other}\n");
+            assert_eq!((ended.status, ended.err), (Some(1), warning));
+            let before = fs::read(&path).expect("an image");
+            for extra in ["--json", "--dry-run"] {
+                let said = format!("{text} has a copy of a table for blocks of 512 bytes, and {other}");
+                assert!(run!["gpt", "repair", path, extra].err.contains(&said));
+            }
+            run!["gpt", "repair", path].usage("--block says which one is meant");
+            assert!(fs::read(&path).expect("an image") == before);
+            run!["gpt", "repair", path, "--block", kept].done();
+            let shown = json::parse(&run!["gpt", "show", path, "--json"].out).expect("JSON");
+            assert_eq!(
+                (shown.number("state"), shown.number("block_bytes").to_string()),
+                (1, kept.to_string())
+            );
+            assert_eq!(shown.list("partitions").len(), usize::from(kept == old));
+            run!["gpt", "repair", path, "--block", kept].done();
+        }
+    }
+}
+
 /// On a block device a carry writes in place.
 #[test]
 fn a_short_write_of_a_flash_device() {

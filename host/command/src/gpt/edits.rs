@@ -5,13 +5,14 @@ use super::words::{copies, described, in_words};
 use super::{otherwise, random_guid};
 use crate::arguments::Given;
 use crate::block::{self, operand};
-use crate::disk::{self, Edited, Mode};
+use crate::disk::{self, Edited, Ends, Mode};
 use crate::failure::{Failure, On};
 use crate::json::Json;
 use crate::paths::shown;
 use crate::report::Report;
 use crate::show::printable;
 use crate::sizes::{self, of_blocks, Size};
+use crate::storage::Opened;
 use usigrambal::{BlockSize, Disk, Guid, Name, NewPartition, Partition, State};
 
 pub fn add(given: &Given) -> Result<Report, Failure> {
@@ -96,7 +97,8 @@ pub fn rename(given: &Given) -> Result<Report, Failure> {
 pub fn repair(given: &Given) -> Result<Report, Failure> {
     let (path, mode) = (given.path(0), mode(given, false)?);
     let call = |disk: &mut Disk| disk.repair().map_err(|refused| advised(refused, path, disk));
-    edited(given, mode, call, |state, how| {
+    let look = |opened: &Opened, ends: &Ends| otherwise::decided(path, opened, ends);
+    edited_if(given, mode, look, call, |state, how| {
         let was = how.word("was", "would be");
         let what = match state {
             State::Same => "nothing to repair".to_string(),
@@ -140,8 +142,19 @@ fn edited<T>(
     call: impl Fn(&mut Disk) -> Result<T, Failure>,
     tell: impl Fn(&T, &How) -> (String, Vec<(&'static str, Json)>),
 ) -> Result<Report, Failure> {
+    edited_if(given, mode, |_, _| Ok(()), call, tell)
+}
+
+/// The same, after a look at what is open.
+fn edited_if<T>(
+    given: &Given,
+    mode: Mode,
+    look: impl Fn(&Opened, &Ends) -> Result<(), Failure>,
+    call: impl Fn(&mut Disk) -> Result<T, Failure>,
+    tell: impl Fn(&T, &How) -> (String, Vec<(&'static str, Json)>),
+) -> Result<Report, Failure> {
     let path = given.path(0);
-    let edit = disk::edit(path, mode, call, |_, _| Ok(())).on("disk", path);
+    let edit = disk::edit(path, mode, call, look).on("disk", path);
     Ok(told(given, edit.map_err(|failure| otherwise::advised(failure, path, mode.block))?, tell))
 }
 

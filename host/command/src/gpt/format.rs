@@ -4,6 +4,7 @@ use super::edits::{guid, mode, told};
 use super::found::{self, Found};
 use super::hints::advised;
 use crate::arguments::Given;
+use crate::block::is_file;
 use crate::disk::{self, Ends};
 use crate::failure::{Failure, On};
 use crate::paths::shown;
@@ -66,7 +67,12 @@ fn kept(given: &Given, found: &Found) -> Failure {
     let path = given.path(0);
     let boot_code =
         found.boot_code.then(|| "block 0 has boot code, which a new table overwrites".to_string());
-    needed(path, &format!("holds {}; nothing was written", found.what))
-        .hint("--replace writes an empty table over it")
-        .warn(boot_code)
+    let hint = match found.other.filter(|_| is_file(path)) {
+        Some(other) => format!(
+            "--replace writes an empty table for blocks of {} bytes over it, with --block {other} one for {other}",
+            other.other()
+        ),
+        None => "--replace writes an empty table over it".to_string(),
+    };
+    needed(path, &format!("holds {}; nothing was written", found.what)).hint(hint).warn(boot_code)
 }

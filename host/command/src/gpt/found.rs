@@ -22,6 +22,8 @@ pub struct Found {
     /// With its article.
     pub what: String,
     pub boot_code: bool,
+    /// The other block size, if a table for it is there.
+    pub other: Option<BlockSize>,
 }
 
 /// None where head, tail and the first 128 KiB are all 00 or all FF. A table of the other block size has its headers
@@ -32,15 +34,15 @@ pub fn look(path: &Path, opened: &Opened, ends: &Ends) -> Result<Option<Found>, 
     let Some(first) = first_byte(&front, ends) else { return Ok(None) };
     let own = table(&mut ends.clone());
     let mut other = ends.otherwise(path, opened)?;
-    let of_others = table(&mut other).map(|table| format!("{table}, for blocks of {} bytes", other.block));
-    let records = records(ends.block_0(), own.is_some() || of_others.is_some(), ends.block);
-    let found: Vec<String> =
-        [own, of_others, records, probe::signature(path)].into_iter().flatten().collect();
+    let foreign = table(&mut other).map(|table| format!("{table}, for blocks of {} bytes", other.block));
+    let records = records(ends.block_0(), own.is_some() || foreign.is_some(), ends.block);
+    let of_other = foreign.is_some().then_some(other.block);
+    let found: Vec<String> = [own, foreign, records, probe::signature(path)].into_iter().flatten().collect();
     let what = match found.is_empty() {
         true => format!("bytes that are neither all 00 nor all FF, {first}"),
         false => found.join(" and "),
     };
-    Ok(Some(Found { what, boot_code: !even(&front[..BOOT_CODE_LEN]) }))
+    Ok(Some(Found { what, boot_code: !even(&front[..BOOT_CODE_LEN]), other: of_other }))
 }
 
 fn even(bytes: &[u8]) -> bool {

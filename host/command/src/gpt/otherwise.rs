@@ -1,50 +1,82 @@
-//! A disk that does not read with one block size may have a table for the other.
+//! A disk may have a table for the other block size: instead of its own, or beside a copy of its own.
 
 use super::why;
 use super::words::copies;
 use crate::block::{as_device, By};
 use crate::disk::{self, Ends};
 use crate::failure::Failure;
+use crate::paths::shown;
+use crate::report::Report;
 use crate::storage::Opened;
 use std::path::Path;
-use usigrambal::{BlockSize, Refusal};
+use usigrambal::{BlockSize, Refusal, State};
 
 /// Reads a disk and tells of it. A file for which no block size is asked, and which reads with the other one alone, is
 /// told of with that.
-pub fn read<T>(
+pub fn read(
     path: &Path,
     asked: Option<BlockSize>,
-    tell: impl Fn(&mut Ends) -> Result<T, Failure>,
-) -> Result<T, Failure> {
+    tell: impl Fn(&mut Ends) -> Result<Report, Failure>,
+) -> Result<Report, Failure> {
     let (opened, mut ends) = disk::read(path, asked)?;
-    tell(&mut ends).or_else(|failure| {
-        let Some(mut other) = other(&failure, path, &opened, &ends) else { return Err(failure) };
-        let found = ends.by == By::Default && other.disk().state().is_ok();
-        if found {
-            tell(&mut other)
-        } else {
-            Err(hinted(failure, path, &mut ends, &mut other))
+    let failure = match tell(&mut ends) {
+        Ok(report) => {
+            let beside = beside(path, &opened, &ends);
+            return Ok(
+                report.warn(beside.map(|table| format!("{} has another table too, {table}", shown(path))))
+            );
         }
-    })
+        Err(failure) => failure,
+    };
+    let Some(mut other) = instead(&failure, path, &opened, &ends) else { return Err(failure) };
+    if ends.by == By::Default && other.disk().state().is_ok() {
+        return tell(&mut other);
+    }
+    Err(hinted(failure, path, &mut ends, &mut other))
+}
+
+/// Whether it is clear which table of a file is to be written where neither has two good copies.
+pub fn decided(path: &Path, opened: &Opened, ends: &Ends) -> Result<(), Failure> {
+    match beside(path, opened, ends).filter(|_| ends.by == By::Default) {
+        Some(table) => {
+            let own = format!("{} has a copy of a table for blocks of {} bytes", shown(path), ends.block);
+            Err(Failure::usage(format!("{own}, and {table}")).hint("--block says which one is meant"))
+        }
+        None => Ok(()),
+    }
+}
+
+/// A table for the other block size of which a copy is good too. None where both own copies are: they leave it no room.
+fn beside(path: &Path, opened: &Opened, ends: &Ends) -> Option<String> {
+    if ends.clone().disk().state() == Ok(State::Same) {
+        return None;
+    }
+    let mut other = whole_otherwise(path, opened, ends)?;
+    let state = other.disk().state().ok()?;
+    Some(format!("one for blocks of {} bytes ({})", other.block, copies(state)))
 }
 
 /// The failure of an edit, with what the other block size finds.
 pub fn advised(failure: Failure, path: &Path, asked: Option<BlockSize>) -> Failure {
     let Ok((opened, mut ends)) = disk::read(path, asked) else { return failure };
-    match other(&failure, path, &opened, &ends) {
+    match instead(&failure, path, &opened, &ends) {
         Some(mut other) => hinted(failure, path, &mut ends, &mut other),
         None => failure,
     }
 }
 
-/// The disk with the other block size, where it is no table that was refused.
-fn other(failure: &Failure, path: &Path, opened: &Opened, ends: &Ends) -> Option<Ends> {
-    let unread = matches!(failure.refusal(), Some(Refusal::BlockCount | Refusal::NeitherGood));
-    let whole = opened.facts.ragged(ends.block.other()).is_none();
-    if unread && whole {
-        ends.otherwise(path, opened).ok()
-    } else {
-        None
+/// The disk with the other block size, where reading was refused.
+fn instead(failure: &Failure, path: &Path, opened: &Opened, ends: &Ends) -> Option<Ends> {
+    match failure.refusal() {
+        Some(Refusal::BlockCount | Refusal::NeitherGood) => whole_otherwise(path, opened, ends),
+        _ => None,
+    }
+}
+
+fn whole_otherwise(path: &Path, opened: &Opened, ends: &Ends) -> Option<Ends> {
+    match opened.facts.ragged(ends.block.other()) {
+        Some(_) => None,
+        None => ends.otherwise(path, opened).ok(),
     }
 }
 
