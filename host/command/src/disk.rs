@@ -65,7 +65,7 @@ impl Ends {
         let (block, by) = block::of(path, &opened.facts, asked)?;
         let (ragged, other) = (opened.facts.ragged(block), block.other());
         match ragged.map(|fault| about(path, &fault)) {
-            Some(failure) if opened.facts.ragged(other).is_none() => {
+            Some(failure) if by == By::Option && opened.facts.ragged(other).is_none() => {
                 let blocks = plural(opened.facts.bytes / other.bytes(), "block");
                 Err(failure.hint(format!("with --block {other} it has {blocks}")))
             }

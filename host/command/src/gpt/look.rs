@@ -28,7 +28,7 @@ pub fn show(given: &Given) -> Result<Report, Failure> {
     otherwise::read(given.path(0), block::asked(given)?, |ends| shown_disk(given, ends, width as usize))
 }
 
-fn shown_disk(given: &Given, ends: &mut Ends, width: usize) -> Result<Report, Failure> {
+fn shown_disk(given: &Given, ends: &mut Ends, width: usize) -> Result<(State, Report), Failure> {
     let (path, block, by) = (given.path(0), ends.block, ends.by);
     let unprotected = (!ends.protected()).then(|| NO_RECORD.to_string());
     let disk = ends.disk();
@@ -54,7 +54,7 @@ fn shown_disk(given: &Given, ends: &mut Ends, width: usize) -> Result<Report, Fa
             ("free_runs", runs_json(&runs, block)),
             ("drawing", drawing.into()),
         ];
-        return Ok(Report::new("", json).warn(unprotected));
+        return Ok((state, Report::new("", json).warn(unprotected)));
     }
     let mut text = format!("{}: {} of {block} bytes\n", shown(path), of_blocks(disk.n, block));
     text += &note(block, by);
@@ -71,7 +71,7 @@ fn shown_disk(given: &Given, ends: &mut Ends, width: usize) -> Result<Report, Fa
         false => partition_table(&partitions, block),
     };
     text += &format!("\n{}\n{drawing}\n", run_table(&runs, block));
-    Ok(Report::new(text, Vec::new()).warn(unprotected))
+    Ok((state, Report::new(text, Vec::new()).warn(unprotected)))
 }
 
 /// A line where the block size was found by reading.
@@ -86,10 +86,11 @@ pub fn free(given: &Given) -> Result<Report, Failure> {
     otherwise::read(given.path(0), block::asked(given)?, |ends| counted(given.path(0), ends))
 }
 
-fn counted(path: &Path, ends: &mut Ends) -> Result<Report, Failure> {
+fn counted(path: &Path, ends: &mut Ends) -> Result<(State, Report), Failure> {
     let (block, by) = (ends.block, ends.by);
     let disk = ends.disk();
-    let free = disk.free().map_err(|refused| advised(refused, path, &disk))?;
+    let state = disk.state().map_err(|refused| advised(refused, path, &disk))?;
+    let free = disk.free()?;
     let runs = disk.free_runs()?;
     let mut text = format!("{}:\n{}", shown(path), note(block, by));
     text += &format!("free:        {}\n", of_blocks(free.blocks, block));
@@ -105,14 +106,14 @@ fn counted(path: &Path, ends: &mut Ends) -> Result<Report, Failure> {
         ("longest_run", free.longest_run.into()),
         ("free_runs", runs_json(&runs, block)),
     ];
-    Ok(Report::new(text, json))
+    Ok((state, Report::new(text, json)))
 }
 
 pub fn verify(given: &Given) -> Result<Report, Failure> {
     otherwise::read(given.path(0), block::asked(given)?, |ends| verified(given.path(0), ends))
 }
 
-fn verified(path: &Path, ends: &mut Ends) -> Result<Report, Failure> {
+fn verified(path: &Path, ends: &mut Ends) -> Result<(State, Report), Failure> {
     let (block, by, protected) = (ends.block, ends.by, ends.protected());
     let disk = ends.disk();
     let state = disk.state().map_err(|refused| advised(refused, path, &disk))?;
@@ -142,7 +143,7 @@ fn verified(path: &Path, ends: &mut Ends) -> Result<Report, Failure> {
         ("hint", hint.into()),
     ];
     let report = Report::new(text, json);
-    Ok(if alike && protected { report } else { report.found() })
+    Ok((state, if alike && protected { report } else { report.found() }))
 }
 
 /// How the record of block 0 is written. sgdisk takes every file with 512.

@@ -11,33 +11,32 @@ use crate::storage::Opened;
 use std::path::Path;
 use usigrambal::{BlockSize, Refusal, State};
 
-/// Reads a disk and tells of it. A file for which no block size is asked, and which reads with the other one alone, is
-/// told of with that.
+/// Reads a disk and tells of it and of its state. A file for which no block size is asked, and which reads with the
+/// other one alone, is told of with that.
 pub fn read(
     path: &Path,
     asked: Option<BlockSize>,
-    tell: impl Fn(&mut Ends) -> Result<Report, Failure>,
+    tell: impl Fn(&mut Ends) -> Result<(State, Report), Failure>,
 ) -> Result<Report, Failure> {
     let (opened, mut ends) = disk::read(path, asked)?;
-    let failure = match tell(&mut ends) {
-        Ok(report) => {
-            let beside = beside(path, &opened, &ends);
-            return Ok(
-                report.warn(beside.map(|table| format!("{} has another table too, {table}", shown(path))))
-            );
+    match tell(&mut ends) {
+        Ok((state, report)) => {
+            let beside = beside(path, &opened, &ends, state);
+            Ok(report.warn(beside.map(|table| format!("{} has another table too, {table}", shown(path)))))
         }
-        Err(failure) => failure,
-    };
-    let Some(mut other) = instead(&failure, path, &opened, &ends) else { return Err(failure) };
-    if ends.by == By::Default && other.disk().state().is_ok() {
-        return tell(&mut other);
+        Err(failure) if unread(&failure) => match whole_otherwise(path, &opened, &ends) {
+            Some(mut other) if ends.by == By::Default && reads(&other) => tell(&mut other).map(|told| told.1),
+            Some(other) => Err(hinted(failure, path, ends, other)),
+            None => Err(failure),
+        },
+        Err(failure) => Err(failure),
     }
-    Err(hinted(failure, path, &mut ends, &mut other))
 }
 
-/// Whether it is clear which table of a file is to be written where neither has two good copies.
+/// Whether it is clear which table of a file is to be written, where two have a good copy.
 pub fn decided(path: &Path, opened: &Opened, ends: &Ends) -> Result<(), Failure> {
-    match beside(path, opened, ends).filter(|_| ends.by == By::Default) {
+    let state = ends.clone().disk().state()?;
+    match beside(path, opened, ends, state).filter(|_| ends.by == By::Default) {
         Some(table) => {
             let own = format!("{} has a copy of a table for blocks of {} bytes", shown(path), ends.block);
             Err(Failure::usage(format!("{own}, and {table}")).hint("--block says which one is meant"))
@@ -46,9 +45,9 @@ pub fn decided(path: &Path, opened: &Opened, ends: &Ends) -> Result<(), Failure>
     }
 }
 
-/// A table for the other block size of which a copy is good too. None where both own copies are: they leave it no room.
-fn beside(path: &Path, opened: &Opened, ends: &Ends) -> Option<String> {
-    if ends.clone().disk().state() == Ok(State::Same) {
+/// A table for the other block size of which a copy is good too. Two good copies of a disk's own leave it no room.
+fn beside(path: &Path, opened: &Opened, ends: &Ends, state: State) -> Option<String> {
+    if matches!(state, State::Same | State::Different) {
         return None;
     }
     let mut other = whole_otherwise(path, opened, ends)?;
@@ -56,21 +55,25 @@ fn beside(path: &Path, opened: &Opened, ends: &Ends) -> Option<String> {
     Some(format!("one for blocks of {} bytes ({})", other.block, copies(state)))
 }
 
-/// The failure of an edit, with what the other block size finds.
+/// The failure of an edit, with what the other block size finds where it does not read.
 pub fn advised(failure: Failure, path: &Path, asked: Option<BlockSize>) -> Failure {
-    let Ok((opened, mut ends)) = disk::read(path, asked) else { return failure };
-    match instead(&failure, path, &opened, &ends) {
-        Some(mut other) => hinted(failure, path, &mut ends, &mut other),
+    if !unread(&failure) {
+        return failure;
+    }
+    let Ok((opened, ends)) = disk::read(path, asked) else { return failure };
+    match whole_otherwise(path, &opened, &ends) {
+        Some(other) => hinted(failure, path, ends, other),
         None => failure,
     }
 }
 
-/// The disk with the other block size, where reading was refused.
-fn instead(failure: &Failure, path: &Path, opened: &Opened, ends: &Ends) -> Option<Ends> {
-    match failure.refusal() {
-        Some(Refusal::BlockCount | Refusal::NeitherGood) => whole_otherwise(path, opened, ends),
-        _ => None,
-    }
+/// Whether it was reading that was refused.
+fn unread(failure: &Failure) -> bool {
+    matches!(failure.refusal(), Some(Refusal::BlockCount | Refusal::NeitherGood))
+}
+
+fn reads(ends: &Ends) -> bool {
+    ends.clone().disk().state().is_ok()
 }
 
 fn whole_otherwise(path: &Path, opened: &Opened, ends: &Ends) -> Option<Ends> {
@@ -80,7 +83,7 @@ fn whole_otherwise(path: &Path, opened: &Opened, ends: &Ends) -> Option<Ends> {
     }
 }
 
-fn hinted(failure: Failure, path: &Path, ends: &mut Ends, other: &mut Ends) -> Failure {
+fn hinted(failure: Failure, path: &Path, mut ends: Ends, mut other: Ends) -> Failure {
     let (own, found, by) = (ends.block, other.block, ends.by);
     let (held, holds) = (ends.disk(), other.disk());
     match holds.state() {
