@@ -36,9 +36,14 @@ fn a_disk_on_a_device() {
 
 #[test]
 fn a_device_in_use() {
+    in_use("512");
+    in_use("4096");
+}
+
+fn in_use(block: &str) {
     let folder = Folder::new();
     let file = folder.sparse("disk.img", 1 << 20);
-    let Some(device) = Loop::new(&file, &[]) else { return };
+    let Some(device) = Loop::new(&file, &["-b", block]) else { return };
     let path = &device.0;
     run!["gpt", "format", path].done();
     let held = File::options().read(true).custom_flags(O_EXCL).open(path).expect("a device");
