@@ -4,6 +4,7 @@ mod common;
 
 use common::{at_4096, disk, disk_of_4096, spoil, Ended, Folder};
 use std::fs;
+use std::os::unix::fs::FileExt;
 use std::path::Path;
 use testkit::json::{self, Json};
 
@@ -97,6 +98,12 @@ fn a_table_that_is_not_good_with_either() {
         assert_eq!(refused.hint(), format!("both copies: the header's CRC is wrong; {look} what is there"));
         refused.refused(10);
     }
+    // A header of its own goes first.
+    let file = fs::File::options().write(true).open(&image).expect("an image");
+    file.write_all_at(b"EFI PART", 512).expect("bytes");
+    let ended = run!["gpt", "show", image];
+    assert!(ended.hint().starts_with("primary copy: its revision is 0"), "{}", ended.err);
+    ended.refused(10);
 }
 
 /// Refusal 6 comes before all others, also where the file is not there.

@@ -273,6 +273,9 @@ fn formatting_where_nothing_is() {
     let behind = format!("{words}, in the last 5 blocks; nothing was written");
     at_4096("format", &with("c.img", len - 20_480), &[]).needed(&behind);
     at_4096("format", &with("d.img", (128 << 10) - 1), &[]).needed(&format!("{words}, from byte 131071 on;"));
+    let short = folder.sparse("short.img", 44 * 4096);
+    spoil(&short, (128 << 10) - 1);
+    at_4096("format", &short, &[]).needed(&format!("{words}, from byte 131071 on;"));
     let path = folder.file("erased.img", vec![0xFF; len as usize]);
     at_4096("format", &path, &[]).done();
     let bytes = fs::read(&path).expect("an image");
