@@ -52,6 +52,7 @@ fn options_of(verb: &Verb) -> String {
         let Some(value) = choice.value else { continue };
         let offered = match value {
             "FILE" => "return".to_string(),
+            "512|4096" => "words='512 4096'".to_string(),
             "TYPE" => format!("words='{}'", Guid::SHORT_NAMES.join(" ")),
             _ => "words=''".to_string(),
         };

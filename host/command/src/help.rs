@@ -7,10 +7,11 @@ const WIDTH: usize = 100;
 pub const ABOUT: &str = "flash layouts, flash maps and GPT disks";
 
 pub const SIZES: &str = "\
-SIZE: a bare number is blocks of 512 bytes; with B, K, M, G or T (KiB, MiB ...: powers of 1,024) it is bytes,
+SIZE: a bare number is blocks of the disk; with B, K, M, G or T (KiB, MiB ...: powers of 1,024) it is bytes,
       which must be whole blocks. Numbers are decimal, or 0x and hex digits.
-DISK, IMAGE: a file or a block device. Of a disk only the first 34 and the last 33 blocks are read and written,
-      the backup copy first. Several disks in one call are answered in turn; the exit status is the largest.
+DISK, IMAGE: a file or a block device. Of a disk only the first 34 and the last 33 blocks are read and written
+      (6 and 5 where they have 4096 bytes), the backup copy first. A device has its own block size, a file that of
+      --block. Several disks in one call are answered in turn; the exit status is the largest.
 -- ends the options, so that a name may begin with -.
 ";
 

@@ -2,6 +2,7 @@
 
 mod answers;
 mod arguments;
+mod block;
 mod completion;
 mod disk;
 mod failure;

@@ -1,6 +1,6 @@
 //! Numbers and sizes, as they are typed and as they are shown.
 
-pub const BLOCK_LEN: u64 = 512;
+use usigrambal::BlockSize;
 
 const UNITS: [(&str, u32); 5] = [("B", 0), ("K", 10), ("M", 20), ("G", 30), ("T", 40)];
 
@@ -12,27 +12,47 @@ pub fn number(text: &str) -> Result<u64, String> {
     }
 }
 
-/// A size in blocks: a bare number is blocks; with B, K, M, G or T it is bytes, which must be whole blocks.
-pub fn blocks(text: &str) -> Result<u64, String> {
-    let wrong = || {
-        format!(
-            "\"{text}\" is no size (a number of blocks, or of bytes with B, K, M, G or T: 2048, 10M, 1GiB)"
-        )
-    };
-    let (value, unit) = digits(text).ok_or_else(wrong)?;
-    if unit.is_empty() {
-        return fits(text, value);
+/// A size as it was typed: a bare number is blocks; with B, K, M, G or T it is bytes.
+#[derive(Debug)]
+pub struct Size<'a> {
+    text: &'a str,
+    /// None where it is beyond 128 bits.
+    value: Option<u128>,
+    in_bytes: bool,
+}
+
+impl Size<'_> {
+    pub fn parse(text: &str) -> Result<Size<'_>, String> {
+        let wrong = || {
+            format!(
+                "\"{text}\" is no size (a number of blocks, or of bytes with B, K, M, G or T: 2048, 10M, 1GiB)"
+            )
+        };
+        let (value, unit) = digits(text).ok_or_else(wrong)?;
+        if unit.is_empty() {
+            return Ok(Size { text, value, in_bytes: false });
+        }
+        let letter = unit.strip_suffix("iB").unwrap_or(unit);
+        let (_, shift) = UNITS.into_iter().find(|(name, _)| *name == letter).ok_or_else(wrong)?;
+        if unit == "BiB" {
+            return Err(wrong());
+        }
+        let value = value.and_then(|value| value.checked_mul(1 << shift));
+        Ok(Size { text, value, in_bytes: true })
     }
-    let letter = unit.strip_suffix("iB").unwrap_or(unit);
-    let (_, shift) = UNITS.into_iter().find(|(name, _)| *name == letter).ok_or_else(wrong)?;
-    if unit == "BiB" {
-        return Err(wrong());
+
+    /// Bytes must be whole blocks.
+    pub fn blocks(&self, block: BlockSize) -> Result<u64, String> {
+        let Size { text, value, in_bytes } = *self;
+        if !in_bytes {
+            return fits(text, value);
+        }
+        let len = u128::from(block.bytes());
+        if value.is_some_and(|bytes| bytes % len != 0) {
+            return Err(format!("{text} is no whole number of blocks of {block} bytes"));
+        }
+        fits(text, value.map(|bytes| bytes / len))
     }
-    let bytes = value.and_then(|value| value.checked_mul(1 << shift));
-    if bytes.is_some_and(|bytes| bytes % u128::from(BLOCK_LEN) != 0) {
-        return Err(format!("{text} is no whole number of blocks of {BLOCK_LEN} bytes"));
-    }
-    fits(text, bytes.map(|bytes| bytes / u128::from(BLOCK_LEN)))
 }
 
 /// The value of the digits in front (none where it is beyond 128 bits), and what follows them.
@@ -62,8 +82,8 @@ pub fn human(bytes: u64) -> String {
 }
 
 /// A number of blocks with its size: `2048 blocks (1 MiB)`.
-pub fn of_blocks(blocks: u64) -> String {
-    format!("{} ({})", plural(blocks, "block"), human(blocks.saturating_mul(BLOCK_LEN)))
+pub fn of_blocks(blocks: u64, block: BlockSize) -> String {
+    format!("{} ({})", plural(blocks, "block"), human(blocks.saturating_mul(block.bytes())))
 }
 
 /// A number of things: `1 area`, `2 areas`.
@@ -87,34 +107,47 @@ mod tests {
         assert!(number(&"9".repeat(60)).is_err());
     }
 
+    fn blocks(text: &str, block: BlockSize) -> Result<u64, String> {
+        Size::parse(text).and_then(|size| size.blocks(block))
+    }
+
     #[test]
     fn sizes() {
         let expected = [
-            ("0", 0),
-            ("2048", 2048),
-            ("0x800", 2048),
-            ("512B", 1),
-            ("1K", 2),
-            ("0x10K", 32),
-            ("10M", 20_480),
-            ("10MiB", 20_480),
-            ("1G", 1 << 21),
-            ("2T", 1 << 32),
-            ("2TiB", 1 << 32),
-            ("18446744073709551615", u64::MAX),
-            ("9223372036854775807K", u64::MAX - 1),
+            ("0", 0, 0),
+            ("2048", 2048, 2048),
+            ("0x800", 2048, 2048),
+            ("4096B", 8, 1),
+            ("4K", 8, 1),
+            ("0x10K", 32, 4),
+            ("10M", 20_480, 2560),
+            ("10MiB", 20_480, 2560),
+            ("1G", 1 << 21, 1 << 18),
+            ("2T", 1 << 32, 1 << 29),
+            ("16TiB", 1 << 35, 1 << 32),
+            ("18446744073709551615", u64::MAX, u64::MAX),
+            ("9223372036854775804K", u64::MAX - 7, (u64::MAX - 7) / 8),
         ];
-        for (text, blocks_asked) in expected {
-            assert_eq!(blocks(text), Ok(blocks_asked), "{text}");
+        for (text, of_512, of_4096) in expected {
+            assert_eq!(blocks(text, BlockSize::Bytes512), Ok(of_512), "{text}");
+            assert_eq!(blocks(text, BlockSize::Bytes4096), Ok(of_4096), "{text}");
         }
         for wrong in ["", "K", "1k", "1KB", "1BiB", "1.5G", "-1", "1 M", "0x", "1MM", "10iB"] {
-            assert!(blocks(wrong).unwrap_err().contains("is no size"), "{wrong}");
+            assert!(Size::parse(wrong).unwrap_err().contains("is no size"), "{wrong}");
         }
-        assert!(blocks("1000B").unwrap_err().contains("no whole number of blocks"));
-        for large in ["18446744073709551616", "9223372036854775808K", "18446744073709551615T"] {
-            assert!(blocks(large).unwrap_err().contains("too large"), "{large}");
+        assert_eq!((blocks("512B", BlockSize::Bytes512), blocks("1K", BlockSize::Bytes512)), (Ok(1), Ok(2)));
+        for (ragged, block) in [("1000B", BlockSize::Bytes512), ("1K", BlockSize::Bytes4096)] {
+            let said = format!("{ragged} is no whole number of blocks of {block} bytes");
+            assert_eq!(blocks(ragged, block), Err(said));
         }
-        assert!(blocks(&format!("{}T", "9".repeat(60))).unwrap_err().contains("too large"));
+        for block in BlockSize::ALL {
+            for large in ["18446744073709551616", "73786976294838206464K", "18446744073709551615T"] {
+                assert!(blocks(large, block).unwrap_err().contains("too large"), "{large}");
+            }
+            assert!(blocks(&format!("{}T", "9".repeat(60)), block).unwrap_err().contains("too large"));
+        }
+        assert!(blocks("9223372036854775808K", BlockSize::Bytes512).unwrap_err().contains("too large"));
+        assert_eq!(blocks("9223372036854775808K", BlockSize::Bytes4096), Ok(1 << 61));
     }
 
     #[test]
@@ -127,7 +160,8 @@ mod tests {
         assert_eq!(human(2 << 40), "2 TiB");
         assert_eq!(human(u64::MAX), "16777215.9 TiB");
         assert_eq!((plural(0, "area"), plural(1, "area")), ("0 areas".into(), "1 area".into()));
-        assert_eq!(of_blocks(1), "1 block (512 B)");
-        assert_eq!(of_blocks(2048), "2048 blocks (1 MiB)");
+        assert_eq!(of_blocks(1, BlockSize::Bytes512), "1 block (512 B)");
+        assert_eq!(of_blocks(2048, BlockSize::Bytes512), "2048 blocks (1 MiB)");
+        assert_eq!(of_blocks(2048, BlockSize::Bytes4096), "2048 blocks (8 MiB)");
     }
 }

@@ -4,10 +4,11 @@ mod common;
 
 use common::{add, Ended, Folder, Loop};
 use std::fs::{self, File};
-use std::os::unix::fs::{FileExt, OpenOptionsExt};
+use std::os::unix::fs::{symlink, FileExt, OpenOptionsExt};
 use std::path::PathBuf;
 use std::process::{Command, Stdio};
 use std::time::{Duration, Instant};
+use testkit::{listing, peer};
 
 const O_EXCL: i32 = 0o200;
 
@@ -35,9 +36,14 @@ fn a_disk_on_a_device() {
 
 #[test]
 fn a_device_in_use() {
+    in_use("512");
+    in_use("4096");
+}
+
+fn in_use(block: &str) {
     let folder = Folder::new();
     let file = folder.sparse("disk.img", 1 << 20);
-    let Some(device) = Loop::new(&file, &[]) else { return };
+    let Some(device) = Loop::new(&file, &["-b", block]) else { return };
     let path = &device.0;
     run!["gpt", "format", path].done();
     let held = File::options().read(true).custom_flags(O_EXCL).open(path).expect("a device");
@@ -59,13 +65,174 @@ fn a_device_in_use() {
     assert_eq!(run!["gpt", "show", path, "--json"].json().list("partitions").len(), 2);
 }
 
+/// A device goes by its own blocks: no word is needed.
 #[test]
 fn logical_blocks_of_4096_bytes() {
     let folder = Folder::new();
     let file = folder.sparse("disk.img", 1 << 20);
     let Some(device) = Loop::new(&file, &["-b", "4096"]) else { return };
-    for verb in ["show", "free", "verify", "format", "repair"] {
-        run!["gpt", verb, device.0].unusable("has logical blocks of 4096 bytes; only 512 can be used");
+    let path = &device.0;
+    let formatted = run!["gpt", "format", path].done();
+    assert!(formatted.contains("256 blocks (1 MiB) of 4096 bytes, usable 6 to 250"), "{formatted}");
+    assert_eq!(add(path, "100K", "a").number("last"), 30);
+    assert_eq!(add(path, "1", "b").number("first"), 31);
+    run!["gpt", "resize", path, "2", "36K"].done();
+    run!["gpt", "rename", path, "2", "c"].done();
+    run!["gpt", "delete", path, "1"].done();
+    run!["gpt", "add", path, "--size", "1M"].refused(25);
+    run!["gpt", "add", path, "--size", "1K"].usage("1K is no whole number of blocks of 4096 bytes");
+    for words in [&[][..], &["--block", "4096"]] {
+        let mut command = common::command();
+        let output = command.args(["gpt", "show", "--json"]).arg(path).args(words).output();
+        let shown = Ended::from(output.expect("the command")).json();
+        assert_eq!((shown.number("blocks"), shown.number("block_bytes")), (256, 4096));
+        assert_eq!((shown.text("block_by"), shown.number("state")), ("device", 1));
+        let part = &shown.list("partitions")[0];
+        assert_eq!((part.text("name"), part.number("first"), part.number("last")), ("c", 31, 39));
+    }
+    run!["gpt", "verify", path].done();
+    common::spoil(path, 4096);
+    let ended = run!["gpt", "verify", path];
+    let repair = format!("hint: usigrambal gpt repair {} makes both copies alike\n", path.display());
+    assert!(ended.status == Some(1) && ended.out.ends_with(&repair), "{}", ended.out);
+    run!["gpt", "repair", path].done();
+    // The bytes are in the file behind it.
+    assert_eq!(run!["gpt", "verify", file, "--json"].json().text("block_by"), "table");
+    common::at_4096("verify", &file, &[]).done();
+}
+
+/// sgdisk, sfdisk and cgpt list a device with such blocks as the command does.
+#[test]
+fn other_tools_list_longer_blocks() {
+    let folder = Folder::new();
+    let file = folder.sparse("disk.img", 64 << 20);
+    let Some(device) = Loop::new(&file, &["-b", "4096"]) else { return };
+    let path = &device.0;
+    run!["gpt", "format", path].done();
+    for (size, kind, name, attributes) in [
+        ("10M", "system", "EFI System", "0x1"),
+        ("2048", "linux", "boot", "4"),
+        ("4MiB", "swap", "swap", "0"),
+        ("4K", "msft", "", "0x8000000000000000"),
+    ] {
+        let ended = run![
+            "gpt",
+            "add",
+            path,
+            "--size",
+            size,
+            "--type",
+            kind,
+            "--name",
+            name,
+            "--attributes",
+            attributes
+        ];
+        ended.done();
+    }
+    run!["gpt", "delete", path, "3"].done();
+    run!["gpt", "resize", path, "2", "4M"].done();
+    let shown = common::partitions(&run!["gpt", "show", path, "--json"].json());
+    // By hand: 10 MiB are 2560 blocks from 6 on; 2048 blocks follow, of which 1024 stay; 1024 were behind these.
+    let places: Vec<_> = shown.iter().map(|row| (row.slot, row.first, row.last)).collect();
+    assert_eq!(places, [(1, 6, 2565), (2, 2566, 3589), (4, 5638, 5638)]);
+    if peer::present("sgdisk", "gdisk") {
+        assert_eq!(listing::sgdisk(path), shown);
+        let verdict = peer::printed("sgdisk", ["-v".as_ref(), path.as_os_str()]);
+        assert!(verdict.contains("No problems found"), "{verdict}");
+    }
+    if peer::present("sfdisk", "fdisk") {
+        let listed = peer::printed("sfdisk", ["-d".as_ref(), path.as_os_str()]);
+        assert!(listed.contains("\nfirst-lba: 6\nlast-lba: 16378\nsector-size: 4096\n"), "{listed}");
+        // By a name without digits, behind which it puts a partition's number.
+        let name = folder.path("device");
+        symlink(path, &name).expect("a link");
+        assert_eq!(listing::sfdisk(&name), shown);
+    }
+    if peer::present("cgpt", "cgpt") {
+        assert_eq!(listing::cgpt(path, [1, 2, 4]), shown);
+    }
+}
+
+/// A table of sgdisk's and one of sfdisk's.
+#[test]
+fn longer_blocks_of_other_tools() {
+    let folder = Folder::new();
+    let file = folder.sparse("disk.img", 4 << 20);
+    let Some(device) = Loop::new(&file, &["-b", "4096"]) else { return };
+    let path = &device.0;
+    if peer::present("sgdisk", "gdisk") {
+        peer::run("sgdisk", ["-a", "1", "-n", "1:100:149", "-c", "1:a", path.to_str().expect("UTF-8")]);
+        let placed = add(path, "94", "b");
+        assert_eq!((placed.number("number"), placed.number("first"), placed.number("last")), (2, 6, 99));
+        run!["gpt", "verify", path].done();
+    }
+    if peer::present("sfdisk", "fdisk") {
+        let script = "label: gpt\nfirst-lba: 6\nstart=100, size=50, name=a\n";
+        let options = ["-q", "--wipe", "always", path.to_str().expect("UTF-8")];
+        peer::feed("sfdisk", options, script);
+        assert_eq!(add(path, "94", "b").number("last"), 99);
+        run!["gpt", "verify", path].done();
+    }
+}
+
+/// --block may say what the device has, and nothing else.
+#[test]
+fn a_device_and_the_option() {
+    let folder = Folder::new();
+    for (own, asked) in [("512", "4096"), ("4096", "512")] {
+        let file = folder.sparse(&format!("{own}.img"), 1 << 20);
+        let Some(device) = Loop::new(&file, &["-b", own]) else { return };
+        let said = format!("has logical blocks of {own} bytes, and --block says {asked}");
+        for verb in ["show", "free", "verify", "format", "repair"] {
+            let ended = run!["gpt", verb, device.0, "--block", asked];
+            let way = format!("losetup -b {asked} -f --show {}", device.0.display());
+            let made = format!("{way} makes a device of it with blocks of {asked} bytes");
+            assert_eq!(ended.hint(), format!("a device goes by its own; {made}"));
+            ended.unusable(&said);
+        }
+        assert!(fs::read(&file).expect("a file").iter().all(|byte| *byte == 0));
+        run!["gpt", "format", device.0, "--block", own].done();
+    }
+}
+
+/// A disk that was written by way of another adapter: the hint says what is there, and how it is reached.
+#[test]
+fn a_device_with_a_table_of_other_blocks() {
+    let folder = Folder::new();
+    let file = common::disk(&folder, "disk.img", 2048);
+    add(&file, "10", "a");
+    let Some(device) = Loop::new(&file, &["-b", "4096"]) else { return };
+    let path = device.0.display();
+    let way = format!("losetup -b 512 -f --show {path} makes a device of it with blocks of 512 bytes");
+    let there = "a table for blocks of 512 bytes is there (both copies are good and the same)";
+    for verb in ["show", "free", "verify", "repair"] {
+        let refused = run!["gpt", verb, device.0];
+        assert_eq!(refused.hint(), format!("{there}, but the device has blocks of 4096; {way}"));
+        refused.refused(10);
+    }
+    run!["gpt", "format", device.0].needed("holds a good GPT with 1 partition, for blocks of 512 bytes");
+    let Some(other) = Loop::new(&device.0, &["-b", "512"]) else { return };
+    let shown = run!["gpt", "show", other.0, "--json"].json();
+    assert_eq!((shown.number("block_bytes"), shown.list("partitions").len()), (512, 1));
+}
+
+/// Blocks of neither size.
+#[test]
+fn other_logical_blocks() {
+    let folder = Folder::new();
+    let file = folder.sparse("disk.img", 1 << 20);
+    for bytes in ["1024", "2048"] {
+        let Some(device) = Loop::new(&file, &["-b", bytes]) else { return };
+        let path = device.0.display();
+        for verb in ["show", "free", "verify", "format", "repair"] {
+            let refused = run!["gpt", verb, device.0];
+            let way =
+                format!("losetup -b 512 -f --show {path} makes a device of it with blocks of 512 bytes");
+            assert_eq!(refused.hint(), format!("the device has logical blocks of {bytes} bytes; {way}"));
+            let said = format!("{path}: the block size is neither 512 nor 4096: {bytes} bytes");
+            assert_eq!(refused.refused(6), said);
+        }
     }
     assert!(fs::read(&file).expect("a file").iter().all(|byte| *byte == 0));
 }

@@ -75,3 +75,28 @@ fn examples_run_as_they_stand() {
     }
     assert!(run_lines >= 14, "{run_lines}");
 }
+
+/// Of every verb on disks; both values are offered behind it.
+#[test]
+fn the_block_size_is_an_option_of_every_verb_on_disks() {
+    let (_, verbs) = VERBS[2];
+    for verb in verbs {
+        let help = run!["gpt", verb, "--help"].done();
+        assert!(help.contains("[--block 512|4096]") && help.contains("\n  --block 512|4096 "), "{help}");
+    }
+    let folder = Folder::new();
+    let script = folder.file("usigrambal.bash", run!["--page", "usigrambal.bash"].done());
+    let offered = |words: &str| {
+        let line = format!(
+            "source {}; COMP_WORDS=({words} ''); COMP_CWORD=$((${{#COMP_WORDS[@]}} - 1)); _usigrambal; echo \"${{COMPREPLY[*]}}\"",
+            script.display()
+        );
+        let output = Command::new("bash").args(["-uc", &line]).output().expect("bash");
+        Ended::from(output).out
+    };
+    for verb in verbs {
+        assert_eq!(offered(&format!("usigrambal gpt {verb} disk.img --block")), "512 4096\n");
+    }
+    let page = run!["--page", "usigrambal-gpt.1"].done();
+    assert_eq!(page.matches("\\fB\\-\\-block\\fP \\fI512|4096\\fP").count(), verbs.len());
+}

@@ -109,10 +109,11 @@ fn odd_name(folder: &Folder, name: &str) {
     let path = folder.path(name);
     let file = File::options().read(true).write(true).open(&path).expect("a disk");
     let len = file.metadata().expect("a length").len();
-    let (mut head, mut tail) = ([0; usigrambal::HEAD_LEN], [0; usigrambal::TAIL_LEN]);
+    let block = usigrambal::BlockSize::Bytes512;
+    let (mut head, mut tail) = (vec![0; block.head_len()], vec![0; block.tail_len()]);
     let tail_at = len - tail.len() as u64;
     file.read_exact_at(&mut head, 0).and_then(|()| file.read_exact_at(&mut tail, tail_at)).expect("a disk");
-    let mut disk = usigrambal::Disk { head: &mut head, tail: &mut tail, n: len / 512 };
+    let mut disk = usigrambal::Disk { head: &mut head, tail: &mut tail, n: len / 512, block };
     let mut units = [0; 36];
     units[0] = 0xD800;
     disk.rename(1, &usigrambal::Name(units)).expect("a name");
@@ -151,6 +152,11 @@ fn disks(printed: &mut Printed, folder: &Folder) {
     call("gpt repair disk.img");
     spoil(&folder.path("disk.img"), 0);
     call("gpt format disk.img --replace");
+    call("gpt show disk.img --block 1024");
+    folder.sparse("long.img", 44 * 4096);
+    call("gpt format long.img --block 4096");
+    call("gpt show long.img");
+    call("gpt add long.img --size 1");
 }
 
 fn images(printed: &mut Printed, folder: &Folder) {

@@ -3,9 +3,9 @@
 mod common;
 
 use common::{disk, spoil, Folder};
+use std::ffi::OsStr;
 use std::fs;
 use std::path::{Path, PathBuf};
-use testkit::json::Json;
 use testkit::listing::{self, Partition};
 use testkit::{fmaptool, peer};
 
@@ -31,21 +31,7 @@ fn filled(folder: &Folder) -> PathBuf {
 
 /// The rows of `gpt show --json`.
 fn shown(image: &Path) -> Vec<Partition> {
-    let json = run!["gpt", "show", image, "--json"].json();
-    json.list("partitions").iter().map(row).collect()
-}
-
-fn row(partition: &Json) -> Partition {
-    let bits = partition.text("attributes").trim_start_matches("0x");
-    Partition {
-        slot: partition.number("number"),
-        first: partition.number("first"),
-        last: partition.number("last"),
-        kind: partition.text("type").to_string(),
-        unique: partition.text("guid").to_string(),
-        attributes: u64::from_str_radix(bits, 16).expect("a hex number"),
-        name: partition.text("name").to_string(),
-    }
+    common::partitions(&run!["gpt", "show", image, "--json"].json())
 }
 
 /// By hand: first and last block of each slot, from 34 on, the lowest room first.
@@ -86,6 +72,33 @@ fn sfdisk_and_cgpt_read_the_disk() {
     if peer::present("cgpt", "cgpt") {
         assert_eq!(listing::cgpt(&image, PLACES.map(|(slot, ..)| slot)), shown(&image));
     }
+}
+
+/// fdisk alone takes a file with a block size.
+#[test]
+fn fdisk_reads_longer_blocks() {
+    if !peer::present("fdisk", "fdisk") {
+        return;
+    }
+    let folder = Folder::new();
+    let image = common::disk_of_4096(&folder, "disk.img", 16_384);
+    for (size, kind, name) in [("10M", "system", "EFI"), ("2048", "linux", "boot"), ("4K", "swap", "swap")] {
+        common::at_4096("add", &image, &["--size", size, "--type", kind, "--name", name]).done();
+    }
+    let columns = "Start,End,Type-UUID,UUID,Name";
+    let options = ["-b", "4096", "-l", "-o", columns].map(OsStr::new);
+    let listed = peer::printed("fdisk", options.into_iter().chain([image.as_os_str()]));
+    let rows = listed.lines().skip_while(|line| !line.starts_with("Start")).skip(1);
+    let rows: Vec<String> = rows.map(|row| row.split_whitespace().collect::<Vec<_>>().join(" ")).collect();
+    let row = |part: &Partition| {
+        let Partition { first, last, kind, unique, name, .. } = part;
+        format!("{first} {last} {kind} {unique} {name}")
+    };
+    let own = shown(&image);
+    // By hand: 2560 blocks from 6 on, 2048 and 1 behind them.
+    let places: Vec<_> = own.iter().map(|part| (part.first, part.last)).collect();
+    assert_eq!(places, [(6, 2565), (2566, 4613), (4614, 4614)]);
+    assert_eq!(rows, own.iter().map(row).collect::<Vec<_>>(), "{listed}");
 }
 
 #[test]

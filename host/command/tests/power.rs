@@ -2,7 +2,7 @@
 
 mod common;
 
-use common::{add, disk, Ended, Folder, Loop};
+use common::{add, at_4096, disk, disk_of_4096, Ended, Folder, Loop};
 use std::fs;
 use std::path::{Path, PathBuf};
 use std::process::Command;
@@ -239,6 +239,116 @@ fn the_order_of_writes() {
     for words in [&["repair"][..], &["show"], &["verify"], &["free"], &["delete", "7"]] {
         let (verb, rest) = words.split_first().expect("a verb");
         assert_eq!(written(&[&["gpt", verb, text], rest].concat()), "", "{words:?}");
+    }
+}
+
+/// The same with blocks of 4096 bytes: 6 in front, 5 behind.
+#[test]
+fn the_order_of_longer_blocks() {
+    let folder = Folder::new();
+    let path = disk_of_4096(&folder, "disk.img", 100);
+    let text = path.to_str().expect("UTF-8");
+    let written = |words: &[&str]| {
+        let log = folder.path("log");
+        let _ = fs::remove_file(&log);
+        disturbed("", &log, words);
+        fs::read_to_string(&log).unwrap_or_default()
+    };
+    let tail = format!("write {} 20480\nflush 0 0\n", 95 * 4096);
+    let head = "write 0 24576\nflush 0 0\n";
+    let block = ["--block", "4096"];
+    let at = |words: &[&str]| written(&[&["gpt"], words, &block].concat());
+    assert_eq!(at(&["add", text, "--size", "20"]), format!("{tail}{head}"));
+    assert_eq!(at(&["format", text, "--replace"]), format!("{tail}{head}"));
+    common::spoil(&path, 4096);
+    assert_eq!(at(&["repair", text]), head);
+    common::spoil(&path, 99 * 4096);
+    assert_eq!(at(&["repair", text]), tail);
+    // What reads with 4096 alone is not written without the word.
+    for words in [&["add", text, "--size", "20"][..], &["repair", text], &["show", text], &["format", text]] {
+        assert_eq!(written(&[&["gpt"], words].concat()), "", "{words:?}");
+    }
+}
+
+/// With blocks of 4096 bytes: what is left reads, in that state, and the repair that is advised makes it whole.
+#[test]
+fn longer_blocks_that_are_cut() {
+    for (how, state, partitions, said) in [
+        ("kill:2", 2, 1, ""),
+        ("full:2", 2, 1, "the backup copy was written, the primary copy was not: No space"),
+        ("short:2", 2, 1, "the primary copy was not wholly: 600 of 24576 bytes were written"),
+        ("short:1", 3, 1, "the backup copy was not wholly: 600 of 20480 bytes were written"),
+    ] {
+        let folder = Folder::new();
+        let path = disk_of_4096(&folder, "disk.img", 100);
+        at_4096("add", &path, &["--size", "10"]).done();
+        let text = path.to_str().expect("UTF-8");
+        let words = ["gpt", "add", text, "--size", "20", "--block", "4096"];
+        let ended = disturbed(how, &folder.path("log"), &words);
+        assert!(ended.err.contains(said), "{how}: {}", ended.err);
+        let repair = format!("usigrambal gpt repair {text} --block 4096 makes both copies alike");
+        assert!(how == "kill:2" || ended.hint().starts_with(&repair), "{how}: {}", ended.err);
+        let shown = run!["gpt", "show", path, "--json"].json();
+        assert_eq!((shown.number("state"), shown.list("partitions").len()), (state, partitions), "{how}");
+        at_4096("repair", &path, &[]).done();
+        run!["gpt", "verify", path].done();
+        let shown = run!["gpt", "show", path, "--json"].json();
+        assert_eq!(shown.list("partitions").len(), partitions, "{how}");
+    }
+}
+
+/// A new table that was cut: the backup alone is there, and the reading verbs find it.
+#[test]
+fn killed_while_it_formats_longer_blocks() {
+    let folder = Folder::new();
+    let path = folder.sparse("disk.img", 100 * 4096);
+    let text = path.to_str().expect("UTF-8");
+    let words = ["gpt", "format", text, "--block", "4096"];
+    assert_eq!(disturbed("kill:2", &folder.path("log"), &words).status, None);
+    let shown = json::parse(&run!["gpt", "show", path, "--json"].out).expect("JSON");
+    assert_eq!((shown.number("state"), shown.number("block_bytes")), (4, 4096));
+    at_4096("format", &path, &["--replace"]).done();
+    run!["gpt", "verify", path].done();
+}
+
+/// A new table over one of the other block size, cut in between: its backup is there, and the primary of the old one.
+/// Both are told, and a repair goes by the word alone.
+#[test]
+fn killed_between_two_block_sizes() {
+    let copies = |first: bool| match first {
+        true => "the backup copy is not good; the primary is used",
+        false => "the primary copy is not good; the backup is used",
+    };
+    for (old, new) in [("4096", "512"), ("512", "4096")] {
+        for kept in [old, new] {
+            let folder = Folder::new();
+            let path = folder.sparse("disk.img", 100 * 4096);
+            run!["gpt", "format", path, "--block", old].done();
+            run!["gpt", "add", path, "--block", old, "--size", "8K"].done();
+            let text = path.to_str().expect("UTF-8");
+            let words = ["gpt", "format", text, "--replace", "--block", new];
+            assert_eq!(disturbed("kill:2", &folder.path("log"), &words).status, None);
+            let ended = run!["gpt", "verify", path];
+            assert!(ended.out.starts_with(&format!("{text}: {}\n", copies(old == "512"))), "{}", ended.out);
+            let other = format!("one for blocks of 4096 bytes ({})", copies(old == "4096"));
+            let warning = format!("usigrambal: warning: {text} has another table too, {other}\n");
+            assert_eq!((ended.status, ended.err), (Some(1), warning));
+            let before = fs::read(&path).expect("an image");
+            for extra in ["--json", "--dry-run"] {
+                let said = format!("{text} has a copy of a table for blocks of 512 bytes, and {other}");
+                assert!(run!["gpt", "repair", path, extra].err.contains(&said));
+            }
+            run!["gpt", "repair", path].usage("--block says which one is meant");
+            assert!(fs::read(&path).expect("an image") == before);
+            run!["gpt", "repair", path, "--block", kept].done();
+            let shown = json::parse(&run!["gpt", "show", path, "--json"].out).expect("JSON");
+            assert_eq!(
+                (shown.number("state"), shown.number("block_bytes").to_string()),
+                (1, kept.to_string())
+            );
+            assert_eq!(shown.list("partitions").len(), usize::from(kept == old));
+            run!["gpt", "repair", path, "--block", kept].done();
+        }
     }
 }
 

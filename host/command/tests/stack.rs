@@ -46,6 +46,15 @@ fn every_call_runs_with_a_stack_of_128_kib() {
         "usigrambal gpt rename disk.img 9 nine",
         "usigrambal gpt verify disk.img",
         "printf x | dd of=disk.img bs=1 seek=512 conv=notrunc status=none; usigrambal gpt repair disk.img",
+        "truncate -s 64M long.img; usigrambal gpt format long.img --block 4096",
+        "for k in $(seq 128); do usigrambal gpt add long.img --size 3 --name p$k --block 4096; done",
+        "usigrambal gpt show long.img disk.img",
+        "usigrambal gpt delete long.img p7 --block 4096",
+        "usigrambal gpt resize long.img 8 2 --block 4096",
+        "usigrambal gpt rename long.img 9 nine --block 4096",
+        "printf x | dd of=long.img bs=1 seek=4096 conv=notrunc status=none; usigrambal gpt repair long.img --block 4096",
+        "usigrambal gpt verify long.img",
+        "usigrambal gpt format long.img --replace",
     ] {
         let ended = small(&folder, line);
         assert_eq!(ended.status, Some(0), "{line}\n{}", ended.err);

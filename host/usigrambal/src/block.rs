@@ -1,4 +1,6 @@
+use crate::refused::Detail;
 use crate::{Refusal, Refused};
+use std::fmt;
 
 /// The 128 entries of a table, each of 128 bytes (rule D1).
 pub(crate) const ENTRY_LEN: usize = 128;
@@ -13,6 +15,9 @@ pub enum BlockSize {
 
 impl BlockSize {
     pub const ALL: [BlockSize; 2] = [BlockSize::Bytes512, BlockSize::Bytes4096];
+
+    /// Rule Q2: the largest number of blocks of a disk, with either size.
+    pub const MOST_BLOCKS: u64 = 1 << 32;
 
     pub const fn bytes(self) -> u64 {
         match self {
@@ -36,9 +41,21 @@ impl BlockSize {
         self.head_len() as u64 / self.bytes()
     }
 
+    /// How many blocks the tail has.
+    pub const fn tail_blocks(self) -> u64 {
+        self.tail_len() as u64 / self.bytes()
+    }
+
     /// Rule Q2: the least number of blocks of a disk.
     pub const fn least_blocks(self) -> u64 {
         2 * self.first_usable()
+    }
+
+    pub const fn other(self) -> BlockSize {
+        match self {
+            BlockSize::Bytes512 => BlockSize::Bytes4096,
+            BlockSize::Bytes4096 => BlockSize::Bytes512,
+        }
     }
 
     /// Where the disk GUID stands in the head.
@@ -52,31 +69,51 @@ const GUID_IN_HEADER: usize = 56;
 /// Where the disk GUID stands in the tail.
 pub(crate) const GUID_IN_TAIL: usize = ENTRIES_LEN + GUID_IN_HEADER;
 
+impl fmt::Display for BlockSize {
+    fn fmt(&self, f: &mut fmt::Formatter<'_>) -> fmt::Result {
+        write!(f, "{}", self.bytes())
+    }
+}
+
 impl TryFrom<u64> for BlockSize {
     type Error = Refused;
 
     fn try_from(bytes: u64) -> Result<BlockSize, Refused> {
         let found = BlockSize::ALL.into_iter().find(|block| block.bytes() == bytes);
-        found.ok_or(Refusal::BlockSize.into())
+        found.ok_or(Refused::from(Refusal::BlockSize).about(&[Detail::BlockBytes(bytes)]))
     }
 }
 
 #[cfg(test)]
 mod tests {
     use super::*;
+    use crate::raw;
 
     #[test]
     fn the_numbers_of_both_shapes() {
-        let numbers =
-            BlockSize::ALL.map(|b| (b.head_len(), b.tail_len(), b.first_usable(), b.least_blocks()));
-        assert_eq!(numbers, [(17_408, 16_896, 34, 68), (24_576, 20_480, 6, 12)]);
+        let numbers = BlockSize::ALL
+            .map(|b| (b.head_len(), b.tail_len(), b.first_usable(), b.tail_blocks(), b.least_blocks()));
+        assert_eq!(numbers, [(17_408, 16_896, 34, 33, 68), (24_576, 20_480, 6, 5, 12)]);
     }
 
     #[test]
+    fn each_has_the_other() {
+        for block in BlockSize::ALL {
+            assert_eq!(block.other().other(), block);
+            assert_ne!(block.other(), block);
+        }
+    }
+
+    /// What is refused here the library refuses before all else: buffers and number of blocks are wrong too.
+    #[test]
     fn another_size_is_refused() {
-        assert_eq!(BlockSize::try_from(4096), Ok(BlockSize::Bytes4096));
+        for block in BlockSize::ALL {
+            assert_eq!(BlockSize::try_from(block.bytes()), Ok(block));
+            assert_eq!(raw::gpt_read(&[], &[], 0, block.bytes(), &mut 0), 1);
+        }
         for other in [0, 511, 513, 1024, 4095, u64::MAX] {
             assert_eq!(BlockSize::try_from(other).unwrap_err().number(), 6);
+            assert_eq!(raw::gpt_read(&[], &[], 0, other, &mut 0), 6);
         }
     }
 }

@@ -256,23 +256,21 @@ mod tests {
         result.unwrap_err().to_string()
     }
 
-    /// Samples S2 to S5, by the wrapper.
-    #[test]
-    fn a_disk_of_100_blocks() {
-        let block = BlockSize::Bytes512;
+    /// Samples S2 to S5, by the wrapper: 33 usable blocks from `start` on.
+    fn small_history(block: BlockSize, n: u64, start: u64) {
         let (mut head, mut tail) = (vec![0xA5; block.head_len()], vec![0xA5; block.tail_len()]);
-        let mut disk = Disk { head: &mut head, tail: &mut tail, n: 100, block };
+        let mut disk = Disk { head: &mut head, tail: &mut tail, n, block };
         assert_eq!(words(disk.state()), "10: neither GPT copy is good");
         assert_eq!(words(disk.format(Guid([0; 16]))), "3: the disk GUID is all zero");
         disk.format(Guid([1; 16])).unwrap();
-        assert_eq!(disk.add(&new_partition(10, 1)), Ok(Placed { slot: 1, first: 34 }));
-        assert_eq!(disk.add(&new_partition(5, 2)), Ok(Placed { slot: 2, first: 44 }));
+        assert_eq!(disk.add(&new_partition(10, 1)), Ok(Placed { slot: 1, first: start }));
+        assert_eq!(disk.add(&new_partition(5, 2)), Ok(Placed { slot: 2, first: start + 10 }));
         disk.delete(1).unwrap();
-        assert_eq!(disk.add(&new_partition(11, 1)), Ok(Placed { slot: 1, first: 49 }));
-        assert_eq!(disk.add(&new_partition(10, 3)), Ok(Placed { slot: 3, first: 34 }));
+        assert_eq!(disk.add(&new_partition(11, 1)), Ok(Placed { slot: 1, first: start + 15 }));
+        assert_eq!(disk.add(&new_partition(10, 3)), Ok(Placed { slot: 3, first: start }));
         assert_eq!(disk.free(), Ok(Free { blocks: 7, longest_run: 7 }));
-        assert_eq!(disk.usable(), Ok(Run { first: 34, last: 66 }));
-        assert_eq!(disk.free_runs(), Ok(vec![Run { first: 60, last: 66 }]));
+        assert_eq!(disk.usable(), Ok(Run { first: start, last: start + 32 }));
+        assert_eq!(disk.free_runs(), Ok(vec![Run { first: start + 26, last: start + 32 }]));
         assert_eq!(disk.guid(), Ok(Guid([1; 16])));
         assert_eq!(words(disk.resize(1, 19)), "25: no room: slot 1 cannot have 19 blocks");
         assert_eq!(words(disk.add(&new_partition(4096, 4))), "25: no room: no run of 4096 free blocks");
@@ -282,26 +280,36 @@ mod tests {
         assert_eq!(disk.free_runs(), Ok(Vec::new()));
         disk.rename(1, &Name::new("boot").unwrap()).unwrap();
         let partitions = disk.partitions().unwrap();
-        let told: Vec<_> = partitions.iter().map(|p| (p.slot, p.first, p.last, p.name.to_text())).collect();
+        let told: Vec<_> =
+            partitions.iter().map(|p| (p.slot, p.first - start, p.last - start, p.name.to_text())).collect();
         let name = || String::from("Größe");
-        assert_eq!(told, [(1, 49, 66, "boot".into()), (2, 44, 48, name()), (3, 34, 43, name())]);
+        assert_eq!(told, [(1, 15, 32, "boot".into()), (2, 10, 14, name()), (3, 0, 9, name())]);
         assert_eq!(partitions[2].unique, Guid([3; 16]));
         assert_eq!(partitions[2].attributes, 5);
     }
 
     #[test]
-    fn repair_tells_the_state_found() {
-        let block = BlockSize::Bytes512;
+    fn a_small_disk_of_each_block_size() {
+        small_history(BlockSize::Bytes512, 100, 34);
+        small_history(BlockSize::Bytes4096, 44, 6);
+    }
+
+    /// Header and entries of the head begin at these bytes.
+    fn repaired(block: BlockSize, header: usize, entries: usize) {
         let (mut head, mut tail) = (vec![0; block.head_len()], vec![0; block.tail_len()]);
-        let mut disk = Disk { head: &mut head, tail: &mut tail, n: 67, block };
-        assert_eq!(words(disk.state()), "2: the number of blocks is outside its range: 67 blocks");
+        let mut disk = Disk { head: &mut head, tail: &mut tail, n: block.least_blocks() - 1, block };
+        let few = format!("2: the number of blocks is outside its range: {} blocks", disk.n);
+        assert_eq!(words(disk.state()), few);
+        disk.n = (1 << 32) + 1;
+        assert_eq!(disk.state().unwrap_err().number(), 2);
         disk.n = 1 << 32;
         disk.format(Guid([1; 16])).unwrap();
-        let whole = Run { first: 34, last: (1 << 32) - 34 };
+        let first = block.first_usable();
+        let whole = Run { first, last: (1 << 32) - first };
         assert_eq!(disk.free_runs(), Ok(vec![whole]));
         assert_eq!(disk.free(), Ok(Free { blocks: whole.blocks(), longest_run: whole.blocks() }));
-        disk.head[512] = 0;
-        disk.head[block.guid_in_head()] = 9;
+        disk.head[header] = 0;
+        disk.head[header + 56] = 9;
         assert_eq!(disk.guid(), Ok(Guid([1; 16])));
         assert_eq!(disk.state(), Ok(State::BackupOnly));
         assert_eq!(disk.entries().unwrap().as_ptr(), disk.tail.as_ptr());
@@ -309,7 +317,23 @@ mod tests {
         assert_eq!(disk.state(), Ok(State::Same));
         disk.tail[16_384] = 0;
         assert_eq!(disk.repair(), Ok(State::PrimaryOnly));
-        assert_eq!(disk.entries().unwrap().as_ptr(), disk.head[1024..].as_ptr());
+        assert_eq!(disk.entries().unwrap().as_ptr(), disk.head[entries..].as_ptr());
+    }
+
+    #[test]
+    fn repair_tells_the_state_found() {
+        repaired(BlockSize::Bytes512, 512, 1024);
+        repaired(BlockSize::Bytes4096, 4096, 8192);
+    }
+
+    /// The lengths belong to the block size.
+    #[test]
+    fn head_and_tail_of_the_other_block_size() {
+        for block in BlockSize::ALL {
+            let (mut head, mut tail) = (vec![0; block.head_len()], vec![0; block.tail_len()]);
+            let mut disk = Disk { head: &mut head, tail: &mut tail, n: 100, block: block.other() };
+            assert_eq!(words(disk.format(Guid([1; 16]))), "1: a lent buffer has a wrong length");
+        }
     }
 
     #[test]

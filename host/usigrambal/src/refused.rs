@@ -18,6 +18,8 @@ pub struct Refused {
 /// The argument that a refusal is about.
 #[derive(Clone, Copy, Debug, PartialEq, Eq)]
 pub(crate) enum Detail {
+    /// A disk with blocks of so many bytes.
+    BlockBytes(u64),
     /// A disk of so many blocks.
     Blocks(u64),
     Slot(u64),
@@ -70,6 +72,7 @@ impl From<Refusal> for Refused {
 impl Detail {
     fn fits(self, refusal: Refusal) -> bool {
         match self {
+            Detail::BlockBytes(_) => refusal == Refusal::BlockSize,
             Detail::Blocks(_) => refusal == Refusal::BlockCount,
             Detail::Bytes(_) => refusal == Refusal::ImageLength,
             Detail::Text(_) => refusal == Refusal::TextTooLong,
@@ -87,6 +90,7 @@ impl Detail {
 impl fmt::Display for Detail {
     fn fmt(&self, f: &mut fmt::Formatter<'_>) -> fmt::Result {
         match self {
+            Detail::BlockBytes(bytes) => write!(f, "{bytes} byte{}", s(*bytes)),
             Detail::Blocks(n) => write!(f, "{n} block{}", s(*n)),
             Detail::Bytes(len) => bytes(f, *len, IMAGE_MAX),
             Detail::Text(len) => bytes(f, *len, TEXT_MAX),
@@ -155,5 +159,7 @@ mod tests {
         assert_eq!(refused(Refusal::NoRoom, &[Detail::NewSize(1)]), "25: no room: no run of 1 free block");
         let one = refused(Refusal::BlockCount, &[Detail::Blocks(1)]);
         assert_eq!(one, "2: the number of blocks is outside its range: 1 block");
+        let bytes = refused(Refusal::BlockSize, &[Detail::BlockBytes(1024)]);
+        assert_eq!(bytes, "6: the block size is neither 512 nor 4096: 1024 bytes");
     }
 }

@@ -1,70 +1,78 @@
 //! The verbs that edit a table.
 
 use super::hints::{advised, no_guid, of_add, of_resize, slot};
-use super::random_guid;
 use super::words::{copies, described, in_words};
+use super::{otherwise, random_guid};
 use crate::arguments::Given;
-use crate::disk::{self, Edited, Mode};
+use crate::block::{self, operand};
+use crate::disk::{self, Edited, Ends, Mode};
 use crate::failure::{Failure, On};
 use crate::json::Json;
-use crate::paths::{quoted, shown};
+use crate::paths::shown;
 use crate::report::Report;
 use crate::show::printable;
-use crate::sizes::{self, of_blocks};
-use usigrambal::{Disk, Guid, Name, NewPartition, Partition, State};
+use crate::sizes::{self, of_blocks, Size};
+use crate::storage::Opened;
+use usigrambal::{BlockSize, Disk, Guid, Name, NewPartition, Partition, State};
 
 pub fn add(given: &Given) -> Result<Report, Failure> {
-    let path = given.path(0);
+    let (path, mode) = (given.path(0), mode(given, false)?);
     let kind = given.text("--type")?.unwrap_or("linux");
-    let new = NewPartition {
-        kind: Guid::parse_type(kind).map_err(|refused| no_guid(refused, path, "--type", kind))?,
-        size: sizes::blocks(given.text("--size")?.unwrap_or_default())?,
-        unique: guid(given)?,
-        attributes: given.text("--attributes")?.map_or(Ok(0), sizes::number)?,
-        name: name(given.text("--name")?.unwrap_or_default())?,
-    };
+    let kind = Guid::parse_type(kind).map_err(|refused| no_guid(refused, path, "--type", kind))?;
+    let size = Size::parse(given.text("--size")?.unwrap_or_default())?;
+    let unique = guid(given)?;
+    let attributes = given.text("--attributes")?.map_or(Ok(0), sizes::number)?;
+    let name = name(given.text("--name")?.unwrap_or_default())?;
     let call = |disk: &mut Disk| {
-        let placed = disk.add(&new).map_err(|refused| of_add(refused, path, disk, new.unique))?;
+        let new = NewPartition { kind, unique, size: size.blocks(disk.block)?, attributes, name };
+        let placed = disk.add(&new).map_err(|refused| of_add(refused, path, disk, unique))?;
         partition(disk, placed.slot)
     };
-    edited(given, call, |added, word| {
-        (format!("{} {}\n", word("added", "would add"), in_words(added)), described(added))
+    edited(given, mode, call, |added, how| {
+        let text = format!("{} {}\n", how.word("added", "would add"), in_words(added, how.block));
+        (text, described(added, how.block))
     })
 }
 
 pub fn delete(given: &Given) -> Result<Report, Failure> {
-    let (path, text) = (given.path(0), given.word(1, "PARTITION")?);
+    let (path, mode) = (given.path(0), mode(given, false)?);
+    let text = given.word(1, "PARTITION")?;
     let call = |disk: &mut Disk| {
         let slot = slot(disk, path, text)?;
         let held = partition(disk, slot);
         disk.delete(slot).map_err(|refused| advised(refused, path, disk))?;
         held
     };
-    edited(given, call, |deleted, word| {
-        (format!("{} {}\n", word("deleted", "would delete"), in_words(deleted)), described(deleted))
+    edited(given, mode, call, |deleted, how| {
+        let text = format!("{} {}\n", how.word("deleted", "would delete"), in_words(deleted, how.block));
+        (text, described(deleted, how.block))
     })
 }
 
 pub fn resize(given: &Given) -> Result<Report, Failure> {
-    let (path, text) = (given.path(0), given.word(1, "PARTITION")?);
-    let size = sizes::blocks(given.word(2, "SIZE")?)?;
+    let (path, mode) = (given.path(0), mode(given, false)?);
+    let text = given.word(1, "PARTITION")?;
+    let size = Size::parse(given.word(2, "SIZE")?)?;
     let call = |disk: &mut Disk| {
+        let size = size.blocks(disk.block)?;
         let slot = slot(disk, path, text)?;
         let held = partition(disk, slot);
         disk.resize(slot, size).map_err(|refused| of_resize(refused, path, disk, slot))?;
         Ok((held?, partition(disk, slot)?))
     };
-    edited(given, call, |(before, after), word| {
-        let was = of_blocks(before.run().blocks());
-        let text = format!("{} {}; before: {was}\n", word("resized", "would resize"), in_words(after));
-        let mut json = described(after);
+    edited(given, mode, call, |(before, after), how| {
+        let was = of_blocks(before.run().blocks(), how.block);
+        let told = in_words(after, how.block);
+        let text = format!("{} {told}; before: {was}\n", how.word("resized", "would resize"));
+        let mut json = described(after, how.block);
         json.push(("blocks_before", before.run().blocks().into()));
         (text, json)
     })
 }
 
 pub fn rename(given: &Given) -> Result<Report, Failure> {
-    let (path, text) = (given.path(0), given.word(1, "PARTITION")?);
+    let (path, mode) = (given.path(0), mode(given, false)?);
+    let text = given.word(1, "PARTITION")?;
     let name = name(given.word(2, "NAME")?)?;
     let call = |disk: &mut Disk| {
         let slot = slot(disk, path, text)?;
@@ -72,25 +80,26 @@ pub fn rename(given: &Given) -> Result<Report, Failure> {
         disk.rename(slot, &name).map_err(|refused| advised(refused, path, disk))?;
         Ok((held?, partition(disk, slot)?))
     };
-    edited(given, call, |(before, after), word| {
+    edited(given, mode, call, |(before, after), how| {
         let was = before.name.to_text();
         let text = format!(
             "{} {}; before: \"{}\"\n",
-            word("renamed", "would rename"),
-            in_words(after),
+            how.word("renamed", "would rename"),
+            in_words(after, how.block),
             printable(&was)
         );
-        let mut json = described(after);
+        let mut json = described(after, how.block);
         json.push(("name_before", was.into()));
         (text, json)
     })
 }
 
 pub fn repair(given: &Given) -> Result<Report, Failure> {
-    let path = given.path(0);
+    let (path, mode) = (given.path(0), mode(given, false)?);
     let call = |disk: &mut Disk| disk.repair().map_err(|refused| advised(refused, path, disk));
-    edited(given, call, |state, word| {
-        let was = word("was", "would be");
+    let look = |opened: &Opened, ends: &Ends| otherwise::decided(path, opened, ends);
+    edited_if(given, mode, look, call, |state, how| {
+        let was = how.word("was", "would be");
         let what = match state {
             State::Same => "nothing to repair".to_string(),
             State::BackupOnly => format!("the primary {was} written from the backup"),
@@ -109,38 +118,71 @@ pub fn guid(given: &Given) -> Result<Guid, Failure> {
     }
 }
 
-/// Chooses between what was done and what would be.
-type Word<'a> = dyn Fn(&'static str, &'static str) -> &'static str + 'a;
+/// How an edit is told.
+pub struct How {
+    dry_run: bool,
+    pub block: BlockSize,
+}
+
+impl How {
+    /// Chooses between what was done and what would be.
+    pub fn word(&self, done: &'static str, would: &'static str) -> &'static str {
+        if self.dry_run {
+            would
+        } else {
+            done
+        }
+    }
+}
 
 /// Makes an edit and tells of it.
 fn edited<T>(
     given: &Given,
+    mode: Mode,
     call: impl Fn(&mut Disk) -> Result<T, Failure>,
-    tell: impl Fn(&T, &Word) -> (String, Vec<(&'static str, Json)>),
+    tell: impl Fn(&T, &How) -> (String, Vec<(&'static str, Json)>),
 ) -> Result<Report, Failure> {
-    let mode = mode(given, false);
-    let edit = disk::edit(given.path(0), mode, call, |_, _| Ok(())).on("disk", given.path(0))?;
-    Ok(told(given, edit, tell))
+    edited_if(given, mode, |_, _| Ok(()), call, tell)
 }
 
-pub fn mode(given: &Given, anew: bool) -> Mode {
-    Mode { dry_run: given.has("--dry-run"), force: given.has("--force"), anew }
+/// The same, after a look at what is open.
+fn edited_if<T>(
+    given: &Given,
+    mode: Mode,
+    look: impl Fn(&Opened, &Ends) -> Result<(), Failure>,
+    call: impl Fn(&mut Disk) -> Result<T, Failure>,
+    tell: impl Fn(&T, &How) -> (String, Vec<(&'static str, Json)>),
+) -> Result<Report, Failure> {
+    let path = given.path(0);
+    let edit = disk::edit(path, mode, call, look).on("disk", path);
+    Ok(told(given, edit.map_err(|failure| otherwise::advised(failure, path, mode.block))?, tell))
+}
+
+pub fn mode(given: &Given, anew: bool) -> Result<Mode, Failure> {
+    let block = block::asked(given)?;
+    Ok(Mode { dry_run: given.has("--dry-run"), force: given.has("--force"), anew, block })
 }
 
 pub fn told<T>(
     given: &Given,
     edit: Edited<T>,
-    tell: impl Fn(&T, &Word) -> (String, Vec<(&'static str, Json)>),
+    tell: impl Fn(&T, &How) -> (String, Vec<(&'static str, Json)>),
 ) -> Report {
-    let (path, dry_run) = (given.path(0), given.has("--dry-run"));
-    let (text, told) = tell(&edit.answer, &|done, would| if dry_run { would } else { done });
-    let mut json = vec![("disk", path.into()), ("dry_run", dry_run.into()), ("changed", edit.changed.into())];
+    let (path, block) = (given.path(0), edit.block);
+    let how = How { dry_run: given.has("--dry-run"), block };
+    let (text, told) = tell(&edit.answer, &how);
+    let mut json = vec![
+        ("disk", path.into()),
+        ("block_bytes", block.bytes().into()),
+        ("dry_run", how.dry_run.into()),
+        ("changed", edit.changed.into()),
+    ];
     json.extend(told);
-    let written = (edit.changed && !dry_run).then(|| {
+    let written = (edit.changed && !how.dry_run).then(|| {
         format!(
             "{} was written, both copies; usigrambal gpt show {} shows the table",
             shown(path),
-            quoted(path)
+            operand(path, block)
         )
     });
     Report::new(text, json).warn(edit.warning).written(written)

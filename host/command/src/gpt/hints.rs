@@ -2,41 +2,34 @@
 
 use super::why;
 use super::words::copies;
+use crate::block::{is_file, operand};
 use crate::failure::Failure;
-use crate::paths::quoted;
 use crate::show::printable;
-use crate::sizes::{human, of_blocks, plural, BLOCK_LEN};
+use crate::sizes::{human, of_blocks, plural};
 use std::path::Path;
-use usigrambal::{Disk, Guid, Partition, Refusal, Refused, State};
+use usigrambal::{BlockSize, Disk, Guid, Partition, Refusal, Refused, State};
 
 pub const TYPES: &str = "system, msft, data, linux, swap";
-
-/// Rule Q2.
-const BLOCKS_MIN: u64 = 68;
-const BLOCKS_MAX: u64 = 1 << 32;
 
 /// A refusal of reading, and of every edit.
 pub fn advised(refused: Refused, path: &Path, disk: &Disk) -> Failure {
     let hint = match refused.refusal {
-        Refusal::BlockCount => Some(format!(
-            "a disk has {BLOCKS_MIN} to {BLOCKS_MAX} blocks of {BLOCK_LEN} bytes ({} to {})",
-            human(BLOCKS_MIN * BLOCK_LEN),
-            human(BLOCKS_MAX * BLOCK_LEN)
-        )),
+        Refusal::BlockCount => Some(block_count(path, disk)),
         Refusal::NoDiskGuid => Some("without --guid a random one is taken".into()),
         Refusal::NeitherGood => Some(format!(
             "{}; usigrambal gpt format {} --dry-run tells what is there",
             why::both(disk),
-            quoted(path)
+            operand(path, disk.block)
         )),
-        Refusal::NotTheSame => disk.state().ok().map(|state| repairable(state, path)),
+        Refusal::NotTheSame => disk.state().ok().map(|state| repairable(state, path, disk.block)),
         Refusal::NoSuchSlot | Refusal::SlotUnused => disk.partitions().ok().map(|held| used(&held)),
-        Refusal::NoSize => Some(format!("the least is {}", of_blocks(1))),
+        Refusal::NoSize => Some(format!("the least is {}", of_blocks(1, disk.block))),
         Refusal::NoType => Some(format!("a type is a GUID that is not zero, or one of {TYPES}")),
         Refusal::BadPartitionName => Some("a name ends at its first zero".into()),
-        Refusal::NoUnusedSlot => {
-            Some(format!("all numbers are in use; usigrambal gpt delete {} NUMBER frees one", quoted(path)))
-        }
+        Refusal::NoUnusedSlot => Some(format!(
+            "all numbers are in use; usigrambal gpt delete {} NUMBER frees one",
+            operand(path, disk.block)
+        )),
         _ => None,
     };
     let failure = Failure::from(refused).on("disk", path);
@@ -46,12 +39,24 @@ pub fn advised(refused: Refused, path: &Path, disk: &Disk) -> Failure {
     }
 }
 
-fn repairable(state: State, path: &Path) -> String {
+fn block_count(path: &Path, disk: &Disk) -> String {
+    let (least, most) = (disk.block.least_blocks(), BlockSize::MOST_BLOCKS);
+    let bytes = |blocks: u64, block: BlockSize| human(blocks * block.bytes());
+    let (from, to) = (bytes(least, disk.block), bytes(most, disk.block));
+    let limits = format!("a disk has {least} to {most} blocks of {} bytes ({from} to {to})", disk.block);
+    let longer = BlockSize::Bytes4096;
+    match disk.n > most && disk.block != longer && is_file(path) {
+        true => format!("{limits}; with --block {longer} a file has up to {}", bytes(most, longer)),
+        false => limits,
+    }
+}
+
+fn repairable(state: State, path: &Path, block: BlockSize) -> String {
     let (to, from) = match state {
         State::BackupOnly => ("primary", "backup"),
         _ => ("backup", "primary"),
     };
-    let repair = format!("usigrambal gpt repair {}", quoted(path));
+    let repair = format!("usigrambal gpt repair {}", operand(path, block));
     format!("{}; {repair} writes the {to} from the {from}", copies(state))
 }
 
@@ -92,11 +97,11 @@ pub fn of_add(refused: Refused, path: &Path, disk: &Disk, unique: Guid) -> Failu
     match (refused.refusal, disk.free(), disk.free_runs(), disk.partitions()) {
         (Refusal::NoRoom, Ok(free), Ok(runs), _) => failure.hint(match runs.len() {
             0 => "no block is free".to_string(),
-            1 => format!("the one free run has {}", of_blocks(free.longest_run)),
+            1 => format!("the one free run has {}", of_blocks(free.longest_run, disk.block)),
             many => format!(
                 "the longest free run has {}; {} are free in {many} runs",
-                of_blocks(free.longest_run),
-                of_blocks(free.blocks)
+                of_blocks(free.longest_run, disk.block),
+                of_blocks(free.blocks, disk.block)
             ),
         }),
         (Refusal::BadUniqueGuid, _, _, Ok(held)) => {
@@ -119,7 +124,7 @@ pub fn of_resize(refused: Refused, path: &Path, disk: &Disk, slot: u64) -> Failu
             Some(own) => {
                 let behind = runs.iter().find(|run| run.first == own.last + 1);
                 let last = behind.map_or(own.last, |run| run.last);
-                let most = of_blocks(last - own.first + 1);
+                let most = of_blocks(last - own.first + 1, disk.block);
                 failure.hint(format!(
                     "partition {slot} begins at block {} and can have at most {most}",
                     own.first

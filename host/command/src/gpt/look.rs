@@ -1,15 +1,18 @@
 //! The verbs that only read.
 
 use super::hints::advised;
+use super::otherwise;
 use super::words::{copies, described, drawing, partition_table, run_table, runs_json};
 use crate::arguments::Given;
-use crate::disk;
+use crate::block::{self, as_device, is_file, operand, By};
+use crate::disk::Ends;
 use crate::failure::Failure;
 use crate::json::Json;
 use crate::paths::{quoted, shown};
 use crate::report::Report;
-use crate::sizes::{self, of_blocks, BLOCK_LEN};
-use usigrambal::State;
+use crate::sizes::{self, of_blocks};
+use std::path::Path;
+use usigrambal::{BlockSize, State};
 
 const NO_RECORD: &str =
     "block 0 has no protective record (EE at byte 450, 55 AA at byte 510): other systems see no table";
@@ -22,19 +25,24 @@ pub fn show(given: &Given) -> Result<Report, Failure> {
     if !(1..=BAR_MAX).contains(&width) {
         return Err(Failure::usage(format!("--width must be 1 to {BAR_MAX}")));
     }
-    let path = given.path(0);
-    let mut ends = disk::read(path)?;
+    otherwise::read(given.path(0), block::asked(given)?, |ends| shown_disk(given, ends, width as usize))
+}
+
+fn shown_disk(given: &Given, ends: &mut Ends, width: usize) -> Result<(State, Report), Failure> {
+    let (path, block, by) = (given.path(0), ends.block, ends.by);
     let unprotected = (!ends.protected()).then(|| NO_RECORD.to_string());
     let disk = ends.disk();
     let state = disk.state().map_err(|refused| advised(refused, path, &disk))?;
     let (partitions, runs) = (disk.partitions()?, disk.free_runs()?);
     let (guid, free, usable) = (disk.guid()?, disk.free()?, disk.usable()?);
-    let drawing = drawing(&partitions, &runs, width as usize);
+    let drawing = drawing(&partitions, &runs, width);
     if given.has("--json") {
+        let described = |partition| Json::Object(described(partition, block));
         let json = vec![
             ("disk", path.into()),
             ("blocks", disk.n.into()),
-            ("block_bytes", BLOCK_LEN.into()),
+            ("block_bytes", block.bytes().into()),
+            ("block_by", by.name().into()),
             ("guid", guid.to_string().into()),
             ("state", (state as u64).into()),
             ("copies", copies(state).into()),
@@ -42,66 +50,81 @@ pub fn show(given: &Given) -> Result<Report, Failure> {
             ("last_usable", usable.last.into()),
             ("free_blocks", free.blocks.into()),
             ("longest_run", free.longest_run.into()),
-            ("partitions", partitions.iter().map(|partition| Json::Object(described(partition))).collect()),
-            ("free_runs", runs_json(&runs)),
+            ("partitions", partitions.iter().map(described).collect()),
+            ("free_runs", runs_json(&runs, block)),
             ("drawing", drawing.into()),
         ];
-        return Ok(Report::new("", json).warn(unprotected));
+        return Ok((state, Report::new("", json).warn(unprotected)));
     }
-    let mut text = format!("{}: {} of {BLOCK_LEN} bytes\n", shown(path), of_blocks(disk.n));
+    let mut text = format!("{}: {} of {block} bytes\n", shown(path), of_blocks(disk.n, block));
+    text += &note(block, by);
     text += &format!("disk GUID:     {guid}\n");
     text += &format!("table:         {}\n", copies(state));
     text += &format!("usable blocks: {} to {}\n", usable.first, usable.last);
     text += &format!(
         "free:          {}, longest run {}\n\n",
-        of_blocks(free.blocks),
-        of_blocks(free.longest_run)
+        of_blocks(free.blocks, block),
+        of_blocks(free.longest_run, block)
     );
-    text += &if partitions.is_empty() { "no partitions\n".to_string() } else { partition_table(&partitions) };
-    text += &format!("\n{}\n{drawing}\n", run_table(&runs));
-    Ok(Report::new(text, Vec::new()).warn(unprotected))
+    text += &match partitions.is_empty() {
+        true => "no partitions\n".to_string(),
+        false => partition_table(&partitions, block),
+    };
+    text += &format!("\n{}\n{drawing}\n", run_table(&runs, block));
+    Ok((state, Report::new(text, Vec::new()).warn(unprotected)))
+}
+
+/// A line where the block size was found by reading.
+fn note(block: BlockSize, by: By) -> String {
+    match by {
+        By::Table => format!("note: read with --block {block}, as it does not read with {}\n", block.other()),
+        _ => String::new(),
+    }
 }
 
 pub fn free(given: &Given) -> Result<Report, Failure> {
-    let path = given.path(0);
-    let mut ends = disk::read(path)?;
+    otherwise::read(given.path(0), block::asked(given)?, |ends| counted(given.path(0), ends))
+}
+
+fn counted(path: &Path, ends: &mut Ends) -> Result<(State, Report), Failure> {
+    let (block, by) = (ends.block, ends.by);
     let disk = ends.disk();
-    let free = disk.free().map_err(|refused| advised(refused, path, &disk))?;
+    let state = disk.state().map_err(|refused| advised(refused, path, &disk))?;
+    let free = disk.free()?;
     let runs = disk.free_runs()?;
-    let mut text = format!("{}:\n", shown(path));
-    text +=
-        &format!("free:        {}\nlongest run: {}\n", of_blocks(free.blocks), of_blocks(free.longest_run));
+    let mut text = format!("{}:\n{}", shown(path), note(block, by));
+    text += &format!("free:        {}\n", of_blocks(free.blocks, block));
+    text += &format!("longest run: {}\n", of_blocks(free.longest_run, block));
     if !runs.is_empty() {
-        text += &format!("\n{}", run_table(&runs));
+        text += &format!("\n{}", run_table(&runs, block));
     }
     let json = vec![
         ("disk", path.into()),
+        ("block_bytes", block.bytes().into()),
+        ("block_by", by.name().into()),
         ("free_blocks", free.blocks.into()),
         ("longest_run", free.longest_run.into()),
-        ("free_runs", runs_json(&runs)),
+        ("free_runs", runs_json(&runs, block)),
     ];
-    Ok(Report::new(text, json))
+    Ok((state, Report::new(text, json)))
 }
 
 pub fn verify(given: &Given) -> Result<Report, Failure> {
-    let path = given.path(0);
-    let mut ends = disk::read(path)?;
-    let protected = ends.protected();
+    otherwise::read(given.path(0), block::asked(given)?, |ends| verified(given.path(0), ends))
+}
+
+fn verified(path: &Path, ends: &mut Ends) -> Result<(State, Report), Failure> {
+    let (block, by, protected) = (ends.block, ends.by, ends.protected());
     let disk = ends.disk();
     let state = disk.state().map_err(|refused| advised(refused, path, &disk))?;
     let alike = state == State::Same;
-    let mut text = format!("{}: {}\n", shown(path), copies(state));
+    let mut text = format!("{}: {}\n{}", shown(path), copies(state), note(block, by));
     if !protected {
         text += &format!("{}: {NO_RECORD}\n", shown(path));
     }
     let empty = disk.partitions().is_ok_and(|partitions| partitions.is_empty());
-    let record = match empty {
-        true => {
-            format!("usigrambal gpt format {} --replace writes the record, with an empty table", quoted(path))
-        }
-        false => format!("gpt repair leaves block 0 as it is; sgdisk -e {} writes the record", quoted(path)),
-    };
-    let repair = format!("usigrambal gpt repair {} makes both copies alike", quoted(path));
+    let record = record(path, block, empty);
+    let repair = format!("usigrambal gpt repair {} makes both copies alike", operand(path, block));
     let hint = match (alike, protected) {
         (true, true) => None,
         (false, true) => Some(repair),
@@ -111,6 +134,8 @@ pub fn verify(given: &Given) -> Result<Report, Failure> {
     text.extend(hint.iter().map(|hint| format!("hint: {hint}\n")));
     let json = vec![
         ("disk", path.into()),
+        ("block_bytes", block.bytes().into()),
+        ("block_by", by.name().into()),
         ("verified", (alike && protected).into()),
         ("state", (state as u64).into()),
         ("copies", copies(state).into()),
@@ -118,5 +143,18 @@ pub fn verify(given: &Given) -> Result<Report, Failure> {
         ("hint", hint.into()),
     ];
     let report = Report::new(text, json);
-    Ok(if alike && protected { report } else { report.found() })
+    Ok((state, if alike && protected { report } else { report.found() }))
+}
+
+/// How the record of block 0 is written. sgdisk takes every file with 512.
+fn record(path: &Path, block: BlockSize, empty: bool) -> String {
+    if empty {
+        let operand = operand(path, block);
+        return format!("usigrambal gpt format {operand} --replace writes the record, with an empty table");
+    }
+    let kept = "gpt repair leaves block 0 as it is";
+    match is_file(path) && block != BlockSize::Bytes512 {
+        true => format!("{kept}; {}, on which sgdisk -e writes the record", as_device(path, block)),
+        false => format!("{kept}; sgdisk -e {} writes the record", quoted(path)),
+    }
 }

@@ -4,7 +4,6 @@
 use usigrambal::{crc32, Disk};
 
 const SIGNATURE: &[u8] = b"EFI PART";
-const BLOCK: usize = 512;
 const ENTRIES_LEN: usize = 16_384;
 const HEADER_LEN: usize = 92;
 
@@ -18,13 +17,15 @@ struct Copy<'a> {
 }
 
 fn primary<'a>(disk: &'a Disk) -> Copy<'a> {
-    let (header, entries) = (&disk.head[BLOCK..2 * BLOCK], &disk.head[2 * BLOCK..]);
+    let block = disk.block.bytes() as usize;
+    let (header, entries) = (&disk.head[block..2 * block], &disk.head[2 * block..]);
     Copy { header, entries, own: 1, other: disk.n.wrapping_sub(1), entries_at: 2 }
 }
 
 fn backup<'a>(disk: &'a Disk) -> Copy<'a> {
     let (entries, header) = disk.tail.split_at(ENTRIES_LEN);
-    Copy { header, entries, own: disk.n.wrapping_sub(1), other: 1, entries_at: disk.n.wrapping_sub(33) }
+    let entries_at = disk.n.wrapping_sub(disk.block.tail_blocks());
+    Copy { header, entries, own: disk.n.wrapping_sub(1), other: 1, entries_at }
 }
 
 /// Whether a header's signature stands in either copy.
@@ -34,7 +35,7 @@ pub fn signed(disk: &Disk) -> bool {
 
 /// Both copies, neither of which is good.
 pub fn both(disk: &Disk) -> String {
-    let (first, second) = (fault(&primary(disk), disk.n), fault(&backup(disk), disk.n));
+    let (first, second) = (fault(&primary(disk), disk), fault(&backup(disk), disk));
     match first == second {
         true => format!("both copies: {first}"),
         false => format!("primary copy: {first}; backup copy: {second}"),
@@ -52,7 +53,8 @@ fn header_crc(header: &[u8]) -> u64 {
     crc32(&covered).into()
 }
 
-fn fault(copy: &Copy, n: u64) -> String {
+fn fault(copy: &Copy, disk: &Disk) -> String {
+    let first = disk.block.first_usable();
     let stands = |at, len| number(copy.header, at, len);
     if !copy.header.starts_with(SIGNATURE) {
         return "no GPT signature".to_string();
@@ -65,8 +67,8 @@ fn fault(copy: &Copy, n: u64) -> String {
         ("header size", 12, 4, HEADER_LEN as u64),
         ("own block", 24, 8, copy.own),
         ("other copy's block", 32, 8, copy.other),
-        ("first usable block", 40, 8, 34),
-        ("last usable block", 48, 8, n.wrapping_sub(34)),
+        ("first usable block", 40, 8, first),
+        ("last usable block", 48, 8, disk.n.wrapping_sub(first)),
         ("entries' block", 72, 8, copy.entries_at),
         ("number of entries", 80, 4, 128),
         ("entry size", 84, 4, 128),
@@ -84,56 +86,73 @@ fn fault(copy: &Copy, n: u64) -> String {
 #[cfg(test)]
 mod tests {
     use super::*;
-    use usigrambal::{Guid, HEAD_LEN, TAIL_LEN};
+    use usigrambal::{BlockSize, Guid};
 
     /// Spoils a formatted disk of 100 blocks, with the CRCs made anew where asked for.
-    fn told(spoil: impl Fn(&mut Disk), crc: bool) -> String {
-        let (mut head, mut tail) = ([0; HEAD_LEN], [0; TAIL_LEN]);
-        let mut disk = Disk { head: &mut head, tail: &mut tail, n: 100 };
+    fn told(block: BlockSize, spoil: impl Fn(&mut Disk), crc: bool) -> String {
+        let (mut head, mut tail) = (vec![0; block.head_len()], vec![0; block.tail_len()]);
+        let mut disk = Disk { head: &mut head, tail: &mut tail, n: 100, block };
         disk.format(Guid([1; 16])).expect("a table");
         spoil(&mut disk);
-        for block in [&mut disk.head[BLOCK..2 * BLOCK], &mut disk.tail[ENTRIES_LEN..]] {
-            let sum = header_crc(block) as u32;
+        let len = block.bytes() as usize;
+        for header in [&mut disk.head[len..2 * len], &mut disk.tail[ENTRIES_LEN..]] {
+            let sum = header_crc(header) as u32;
             if crc {
-                block[16..20].copy_from_slice(&sum.to_le_bytes());
+                header[16..20].copy_from_slice(&sum.to_le_bytes());
             }
         }
         assert!(disk.state().is_err());
         both(&disk)
     }
 
-    #[test]
-    fn each_fault_is_named() {
+    fn each_fault(block: BlockSize, first_usable: u64, last_usable: u64) {
+        let len = block.bytes() as usize;
         let clear = |disk: &mut Disk| {
             disk.head.fill(0);
             disk.tail.fill(0);
         };
-        assert_eq!(told(clear, false), "both copies: no GPT signature");
+        assert_eq!(told(block, clear, false), "both copies: no GPT signature");
         let both_bytes = |at: usize, value: u8| {
             move |disk: &mut Disk| {
-                disk.head[BLOCK + at] = value;
+                disk.head[len + at] = value;
                 disk.tail[ENTRIES_LEN + at] = value;
             }
         };
-        assert_eq!(told(both_bytes(60, 9), false), "both copies: the header's CRC is wrong");
-        let first = "both copies: its first usable block is 48, where this library has 34";
-        assert_eq!(told(both_bytes(40, 48), true), first);
+        assert_eq!(told(block, both_bytes(60, 9), false), "both copies: the header's CRC is wrong");
+        let first =
+            format!("both copies: its first usable block is 48, where this library has {first_usable}");
+        assert_eq!(told(block, both_bytes(40, 48), true), first);
+        let last = format!("both copies: its last usable block is 48, where this library has {last_usable}");
+        assert_eq!(told(block, both_bytes(48, 48), true), last);
         assert_eq!(
-            told(both_bytes(80, 64), true),
+            told(block, both_bytes(80, 64), true),
             "both copies: its number of entries is 64, where this library has 128"
         );
         let entries = |disk: &mut Disk| {
-            disk.head[2 * BLOCK] = 1;
+            disk.head[2 * len] = 1;
             disk.tail[0] = 1;
         };
-        assert_eq!(told(entries, false), "both copies: the entries' CRC is wrong");
+        assert_eq!(told(block, entries, false), "both copies: the entries' CRC is wrong");
         let mixed = |disk: &mut Disk| {
-            disk.head[BLOCK] = 0;
+            disk.head[len] = 0;
             disk.tail[0] = 1;
         };
         assert_eq!(
-            told(mixed, false),
+            told(block, mixed, false),
             "primary copy: no GPT signature; backup copy: the entries' CRC is wrong"
         );
+        let swapped = |disk: &mut Disk| {
+            disk.head[len] = 0;
+            disk.tail[ENTRIES_LEN + 72] = 2;
+        };
+        let said = told(block, swapped, true);
+        let at = 100 - block.tail_blocks();
+        assert!(said.ends_with(&format!("its entries' block is 2, where this library has {at}")), "{said}");
+    }
+
+    #[test]
+    fn each_fault_is_named() {
+        each_fault(BlockSize::Bytes512, 34, 66);
+        each_fault(BlockSize::Bytes4096, 6, 94);
     }
 }

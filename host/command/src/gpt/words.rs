@@ -2,8 +2,8 @@
 
 use crate::json::Json;
 use crate::show::{bar, printable, Item, Side, Table};
-use crate::sizes::{human, of_blocks, BLOCK_LEN};
-use usigrambal::{Guid, Name, Partition, Run, State};
+use crate::sizes::{human, of_blocks};
+use usigrambal::{BlockSize, Guid, Name, Partition, Run, State};
 
 pub fn copies(state: State) -> &'static str {
     match state {
@@ -18,18 +18,18 @@ fn kind(guid: Guid) -> String {
     guid.short_name().map_or_else(|| guid.to_string(), str::to_string)
 }
 
-pub fn in_words(partition: &Partition) -> String {
+pub fn in_words(partition: &Partition, block: BlockSize) -> String {
     let Partition { slot, first, last, .. } = partition;
-    let size = of_blocks(partition.run().blocks());
+    let size = of_blocks(partition.run().blocks(), block);
     let name = printable(&partition.name.to_text());
     format!("partition {slot}: blocks {first} to {last}, {size}, {}, \"{name}\"", kind(partition.kind))
 }
 
-pub fn described(partition: &Partition) -> Vec<(&'static str, Json)> {
+pub fn described(partition: &Partition, block: BlockSize) -> Vec<(&'static str, Json)> {
     let name = partition.name.to_text();
     let exact = Name::new(&name) == Some(partition.name);
     let mut fields = vec![("number", partition.slot.into())];
-    fields.extend(blocks_of(partition.run()));
+    fields.extend(blocks_of(partition.run(), block));
     fields.extend([
         ("type", partition.kind.to_string().into()),
         ("type_name", partition.kind.short_name().into()),
@@ -43,21 +43,21 @@ pub fn described(partition: &Partition) -> Vec<(&'static str, Json)> {
     fields
 }
 
-fn blocks_of(run: Run) -> Vec<(&'static str, Json)> {
+fn blocks_of(run: Run, block: BlockSize) -> Vec<(&'static str, Json)> {
     let blocks = run.blocks();
     vec![
         ("first", run.first.into()),
         ("last", run.last.into()),
         ("blocks", blocks.into()),
-        ("bytes", (blocks * BLOCK_LEN).into()),
+        ("bytes", (blocks * block.bytes()).into()),
     ]
 }
 
-pub fn runs_json(runs: &[Run]) -> Json {
-    runs.iter().map(|run| Json::Object(blocks_of(*run))).collect()
+pub fn runs_json(runs: &[Run], block: BlockSize) -> Json {
+    runs.iter().map(|run| Json::Object(blocks_of(*run, block))).collect()
 }
 
-pub fn partition_table(partitions: &[Partition]) -> String {
+pub fn partition_table(partitions: &[Partition], block: BlockSize) -> String {
     let mut table = Table::new([
         ("Number", Side::Right),
         ("First", Side::Right),
@@ -76,7 +76,7 @@ pub fn partition_table(partitions: &[Partition]) -> String {
             partition.first.to_string(),
             partition.last.to_string(),
             blocks.to_string(),
-            human(blocks * BLOCK_LEN),
+            human(blocks * block.bytes()),
             kind(partition.kind),
             partition.unique.to_string(),
             format!("{:#x}", partition.attributes),
@@ -87,7 +87,7 @@ pub fn partition_table(partitions: &[Partition]) -> String {
 }
 
 /// The free runs in the order of their blocks.
-pub fn run_table(runs: &[Run]) -> String {
+pub fn run_table(runs: &[Run], block: BlockSize) -> String {
     let mut table = Table::new([
         ("  Free", Side::Right),
         ("First", Side::Right),
@@ -102,7 +102,7 @@ pub fn run_table(runs: &[Run]) -> String {
             run.first.to_string(),
             run.last.to_string(),
             blocks.to_string(),
-            human(blocks * BLOCK_LEN),
+            human(blocks * block.bytes()),
         ]);
     }
     table.text()

@@ -19,6 +19,7 @@ use std::fs::{self, Metadata};
 use std::io;
 use std::os::unix::fs::{FileTypeExt, MetadataExt};
 use std::path::Path;
+use usigrambal::BlockSize;
 
 #[derive(Clone, Copy, Debug, PartialEq, Eq)]
 pub enum Kind {
@@ -50,19 +51,11 @@ impl Kind {
 }
 
 impl Facts {
-    /// Why it can be no disk; how many blocks are too few or too many is for the library to refuse.
-    pub fn no_disk(&self) -> Option<String> {
-        let block_len = crate::sizes::BLOCK_LEN;
-        match self.logical_block {
-            Some(logical) if logical != block_len => {
-                return Some(format!("has logical blocks of {logical} bytes; only {block_len} can be used"))
-            }
-            _ => {}
-        }
-        let bytes = self.bytes;
-        let ragged = !bytes.is_multiple_of(block_len);
-        let size = crate::sizes::plural(bytes, "byte");
-        ragged.then(|| format!("has {size}, which is no multiple of the block size, {block_len}"))
+    /// Why it can be no disk with such blocks; how many are too few or too many is for the library to refuse.
+    pub fn ragged(&self, block: BlockSize) -> Option<String> {
+        let ragged = !self.bytes.is_multiple_of(block.bytes());
+        let size = crate::sizes::plural(self.bytes, "byte");
+        ragged.then(|| format!("has {size}, which is no multiple of the block size, {block}"))
     }
 
     /// Why it can't be written.
@@ -151,16 +144,15 @@ mod tests {
     }
 
     #[test]
-    fn a_disk_has_whole_blocks_of_512_bytes() {
-        for suitable in [file(0), file(512), file(1 << 41), device(1 << 20, 512)] {
-            assert_eq!(suitable.no_disk(), None, "{suitable:?}");
+    fn a_disk_has_whole_blocks() {
+        for whole in [file(0), file(4096), file(1 << 44), device(1 << 20, 512)] {
+            assert!(BlockSize::ALL.iter().all(|block| whole.ragged(*block).is_none()), "{whole:?}");
         }
         let ragged = "has 513 bytes, which is no multiple of the block size, 512";
-        assert_eq!(file(513).no_disk(), Some(ragged.to_string()));
-        for logical in [1024, 2048, 4096] {
-            let said = format!("has logical blocks of {logical} bytes; only 512 can be used");
-            assert_eq!(device(1 << 20, logical).no_disk(), Some(said));
-        }
+        assert_eq!(file(513).ragged(BlockSize::Bytes512), Some(ragged.to_string()));
+        assert_eq!(file(4608).ragged(BlockSize::Bytes512), None);
+        let ragged = "has 4608 bytes, which is no multiple of the block size, 4096";
+        assert_eq!(file(4608).ragged(BlockSize::Bytes4096), Some(ragged.to_string()));
     }
 
     #[test]

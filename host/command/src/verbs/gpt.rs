@@ -1,6 +1,6 @@
 //! The verbs on disks.
 
-use super::{flag, value, Verb, DRY, EDIT, FORCE, JSON};
+use super::{flag, value, Verb, BLOCK, BLOCK_WRITTEN, DRY, EDIT, FORCE, JSON};
 use crate::gpt;
 use crate::json::Json;
 
@@ -12,7 +12,7 @@ pub static VERBS: &[Verb] = &[
         group: "gpt",
         name: "show",
         operands: &["DISK..."],
-        options: &[value("--width", "N", "columns of the drawing, 64 if not given"), JSON],
+        options: &[value("--width", "N", "columns of the drawing, 64 if not given"), BLOCK, JSON],
         required: 0,
         about: "Show the partitions of a disk, the state of its two table copies, its free runs, \
                 and its blocks drawn to scale: a partition as its number and =, free blocks as dots.",
@@ -28,7 +28,7 @@ pub static VERBS: &[Verb] = &[
         group: "gpt",
         name: "free",
         operands: &["DISK..."],
-        options: &[JSON],
+        options: &[BLOCK, JSON],
         required: 0,
         about: "Count the free blocks of a disk, tell the longest run of them, and list the runs.",
         examples: &["usigrambal gpt free disk.img", "usigrambal gpt free disk.img /dev/sdb --json"],
@@ -41,6 +41,7 @@ pub static VERBS: &[Verb] = &[
         operands: &["DISK"],
         options: &[
             value("--guid", "GUID", "the disk GUID; a random one if not given"),
+            BLOCK_WRITTEN,
             DRY,
             flag("--replace", "write over what is there (not if it is in use)"),
             FORCE,
@@ -48,10 +49,11 @@ pub static VERBS: &[Verb] = &[
         ],
         required: 0,
         about: "Write an empty table in both copies, and block 0, on a disk that holds nothing: \
-                its first 128 KiB and last 33 blocks are all 00 or all FF. What is there is named, and --replace \
+                its first 128 KiB and its last 33 blocks (5 of 4096 bytes) are all 00 or all FF. What is there is named, and --replace \
                 goes on. Bytes between head and tail stay.",
         examples: &[
             "truncate -s 64M disk.img && usigrambal gpt format disk.img",
+            "truncate -s 64M disk.img && usigrambal gpt format disk.img --block 4096",
             "usigrambal gpt format disk.img --guid 01234567-89AB-4CDE-8F01-23456789ABCD --replace",
         ],
         always: &[],
@@ -67,6 +69,7 @@ pub static VERBS: &[Verb] = &[
             value("--guid", "GUID", "its unique GUID; a random one if not given"),
             value("--name", "NAME", "its name, at most 36 UTF-16 units; none if not given"),
             value("--attributes", "NUMBER", "its 64 attribute bits; 0 if not given"),
+            BLOCK_WRITTEN,
             DRY,
             FORCE,
             JSON,
@@ -128,7 +131,7 @@ pub static VERBS: &[Verb] = &[
         group: "gpt",
         name: "verify",
         operands: &["DISK..."],
-        options: &[JSON],
+        options: &[BLOCK, JSON],
         required: 0,
         about: "Check both copies of the table, and the record of block 0 by which other systems see it. \
                 Exit status 0 only if the copies are good and the same and the record is there, 1 where one of them is not.",

@@ -56,4 +56,11 @@ const fn value(name: &'static str, value: &'static str, about: &'static str) -> 
 const JSON: Choice = flag("--json", "print one JSON document instead of text");
 const DRY: Choice = flag("--dry-run", "tell what would be done, and write nothing");
 const FORCE: Choice = flag("--force", "write even if the file or device is in use");
-const EDIT: &[Choice] = &[DRY, FORCE, JSON];
+const BLOCK: Choice = value(
+    "--block",
+    "512|4096",
+    "bytes of a block of a file; if not given 512, or 4096 where that alone reads",
+);
+const BLOCK_WRITTEN: Choice =
+    value("--block", "512|4096", "bytes of a block of a file; 512 if not given (a device has its own)");
+const EDIT: &[Choice] = &[BLOCK_WRITTEN, DRY, FORCE, JSON];

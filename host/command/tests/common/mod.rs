@@ -9,6 +9,7 @@ use std::process::{Command, Output, Stdio};
 use std::sync::atomic::{AtomicU32, Ordering};
 use std::sync::OnceLock;
 use testkit::json::{self, Json};
+use testkit::listing::Partition;
 
 /// A folder of a test's own, removed when it is dropped.
 pub struct Folder(pub PathBuf);
@@ -194,9 +195,40 @@ pub fn disk(folder: &Folder, name: &str, n: u64) -> PathBuf {
     path
 }
 
+/// A disk image of n blocks of 4096 bytes, formatted.
+pub fn disk_of_4096(folder: &Folder, name: &str, n: u64) -> PathBuf {
+    let path = folder.sparse(name, n * 4096);
+    at_4096("format", &path, &[]).done();
+    path
+}
+
+/// `gpt VERB DISK`, more words, and `--block 4096`.
+pub fn at_4096(verb: &str, disk: &Path, more: &[&str]) -> Ended {
+    let words = [OsStr::new("gpt"), OsStr::new(verb), disk.as_os_str()];
+    let more = more.iter().chain(&["--block", "4096"]).map(OsStr::new);
+    run(&words.into_iter().chain(more).collect::<Vec<_>>())
+}
+
 pub fn add(disk: &Path, size: &str, name: &str) -> Json {
     let words = ["gpt", "add", "--json", "--size", size, "--name", name].map(OsStr::new);
     run(&[&words[..], &[disk.as_os_str()]].concat()).json()
+}
+
+/// The partitions of a document of `gpt show`.
+pub fn partitions(shown: &Json) -> Vec<Partition> {
+    let row = |partition: &Json| {
+        let bits = partition.text("attributes").trim_start_matches("0x");
+        Partition {
+            slot: partition.number("number"),
+            first: partition.number("first"),
+            last: partition.number("last"),
+            kind: partition.text("type").to_string(),
+            unique: partition.text("guid").to_string(),
+            attributes: u64::from_str_radix(bits, 16).expect("a hex number"),
+            name: partition.text("name").to_string(),
+        }
+    };
+    shown.list("partitions").iter().map(row).collect()
 }
 
 /// Changes a byte of a file.
