@@ -13,7 +13,7 @@ ghost use lib.ListN.{length};
 ghost use Rattle.gpt_model.specs.Sizes.{shapeOf, stepBy, formatBy};
 ghost use Rattle.gpt_model.specs.Calls.{read as readCall, freeCounts, repair as repairCall, edit, delete as deleteCall};
 ghost use Rattle.gpt_model.specs.Calls.{resize as resizeCall, rename as renameCall, add as addCall, newPartition};
-ghost use Rattle.gpt_places.specs.Shapes.{Legal};
+ghost use Rattle.gpt_places.specs.Invariants.{Legal};
 ghost use Rattle.gpt_calls.specs.Answers.{doneOf, readingOf, countedOf, addedOf};
 ghost use Rattle.c_disk.specs.Effects.{resultOf, valuesOf, gptEffect, tablePlace, tablePlaceBy, lengthNumber};
 

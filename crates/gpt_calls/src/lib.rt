@@ -18,7 +18,7 @@ ghost use Rattle.gpt_model.specs.Table.{tableBytes, rangesOf};
 ghost use Rattle.gpt_model.specs.Disk.{lastUsable, mostBlocks};
 ghost use Rattle.gpt_model.specs.Calls.{accepted, outcome, step, format as formatOn, read as readCall, freeCounts, repair as repairCall, edit};
 ghost use Rattle.gpt_model.specs.Calls.{add as addCall, delete as deleteCall, resize as resizeCall, rename as renameCall};
-ghost use Rattle.gpt_places.specs.Shapes.{Legal, Fits};
+ghost use Rattle.gpt_places.specs.Invariants.{Legal, Fits};
 ghost use Rattle.gpt_calls.specs.Answers.{doneOf, readingOf, addedOf, countedOf, handed, entriesOn};
 
 pub enum Done {

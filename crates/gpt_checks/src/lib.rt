@@ -19,7 +19,7 @@ ghost use Rattle.gpt_model.specs.Table.{tableBytes, unused, entries};
 ghost use Rattle.gpt_model.specs.Disk.{lastUsable, mostBlocks, tableOf};
 ghost use Rattle.gpt_model.specs.Calls.{lentRows, openRows, formatRows, carries, slotRows, addRows, startFor, tableRows, rowsOf, edit};
 ghost use Rattle.gpt_model.specs.Calls.{add as addCall, delete as deleteCall, resize as resizeCall, rename as renameCall};
-ghost use Rattle.gpt_places.specs.Shapes.{Legal, Fits};
+ghost use Rattle.gpt_places.specs.Invariants.{Legal, Fits};
 ghost use Rattle.gpt_checks.specs.Checks.{stopOf, rowAfter, stopBy, startBy};
 ghost use Rattle.gpt_checks.specs.Refusals.{numberOf};
 

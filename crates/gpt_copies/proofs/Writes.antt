@@ -19,7 +19,7 @@ use Rattle.gpt_model.specs.Disk.{Shape, Side, primary, backup, lentBytes, heade
 use Rattle.gpt_model.specs.Disk.{block0, freshHead, freshTail}
 use Rattle.gpt_model.proofs.Copies.{length-header, places-apart, length-guid, length-entries}
 use Rattle.gpt_model.proofs.Writes.{entry-written, fresh-head, fresh-tail}
-use Rattle.gpt_places.specs.Shapes.{Legal}
+use Rattle.gpt_places.specs.Invariants.{Legal}
 use Rattle.gpt_places.proofs.Places.{wide, header-end, block-end, length-cut}
 
 -- a list filled with zeros

@@ -4,7 +4,7 @@ ghost use mathlib.Core.Bool.{false};
 ghost use lib.ListN.{length};
 ghost use Rattle.octets.specs.Bytes.{same};
 ghost use Rattle.gpt_model.specs.Disk.{primary, backup, lentBytes, entriesIn, goodCopy, stateOf, state as stateOn};
-ghost use Rattle.gpt_places.specs.Shapes.{Fits};
+ghost use Rattle.gpt_places.specs.Invariants.{Fits};
 ghost use Rattle.gpt_places.specs.Sides.{sideOf};
 ghost use Rattle.gpt_copies.specs.States.{stateNumber};
 use super::State;

@@ -8,7 +8,7 @@ ghost use Rattle.crc_lanes.specs.Crc.{crc32 as crcOf};
 ghost use Rattle.gpt_model.specs.Table.{writeAll, entryBytes, slotCount, tableBytes};
 ghost use Rattle.gpt_model.specs.Disk.{primary, backup, lentBytes, headerAt, entriesAt, guidIn, entriesIn, header, withTable, withCopy};
 ghost use Rattle.gpt_model.specs.Disk.{mostBlocks, block0, freshHead, freshTail};
-ghost use Rattle.gpt_places.specs.Shapes.{Legal, Fits};
+ghost use Rattle.gpt_places.specs.Invariants.{Legal, Fits};
 ghost use Rattle.gpt_places.specs.Sides.{sideOf};
 use gpt_model::Shape;
 use gpt_places::ENTRY;

@@ -12,7 +12,7 @@ ghost use lib.ListN.{length};
 ghost use Rattle.octets.specs.Rows.{refusal};
 ghost use Rattle.gpt_model.specs.Disk.{lastUsable, primary, backup, lentBytes, guidIn, entriesIn, tableOf, withCopy};
 ghost use Rattle.gpt_model.specs.Calls.{accepted, outcome, startFor, step, rowsOf, edit};
-ghost use Rattle.gpt_places.specs.Shapes.{Legal, Fits};
+ghost use Rattle.gpt_places.specs.Invariants.{Legal, Fits};
 ghost use Rattle.gpt_model.specs.Calls.{add as addCall, delete as deleteCall, resize as resizeCall, rename as renameCall};
 
 pub fn delete(head: &mut [u8], tail: &mut [u8], n: u64, shape: Shape, slot: u64)

@@ -9,7 +9,7 @@ use Rattle.octets.specs.Bytes.{part}
 use Rattle.octets.proofs.Parts.{length-part, part-part}
 use Rattle.gpt_model.specs.Disk.{Shape, Side, primary, backup, lentBytes, headerAt, entriesAt, guidIn}
 use Rattle.gpt_model.proofs.Copies.{header-inside, block-inside, entries-inside}
-use Rattle.gpt_places.specs.Shapes.{Legal}
+use Rattle.gpt_places.specs.Invariants.{Legal}
 use Rattle.gpt_places.specs.Sides.{behind}
 
 module _ (g : Shape) (ok : Legal g) where

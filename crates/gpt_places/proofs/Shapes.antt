@@ -6,15 +6,16 @@ use native.Mathlib.Omega.{arith}
 use Rattle.gpt_model.specs.Disk.{Shape, disk512, disk4096}
 use Rattle.gpt_model.specs.Sizes.{shapeOf}
 use Rattle.gpt_model.proofs.Sizes.{by-size}
-use Rattle.gpt_places.specs.Shapes.{Legal, shapeBy}
+use Rattle.gpt_places.specs.Invariants.{Legal}
+use Rattle.gpt_places.specs.Shapes.{shapeBy}
 use Rattle.gpt_places.specs.declared.BlockSize.{BlockSize}
 use Rattle.gpt_places.specs.declared.BlockSize.the-variants.{Known, Other}
 
 legal512 : Legal disk512
-legal512 = record { wide = omega arith; narrow = omega arith; behind = omega arith; some = omega arith }
+legal512 = record { wide = omega arith; narrow = omega arith; behind = omega arith; range = omega arith }
 
 legal4096 : Legal disk4096
-legal4096 = record { wide = omega arith; narrow = omega arith; behind = omega arith; some = omega arith }
+legal4096 = record { wide = omega arith; narrow = omega arith; behind = omega arith; range = omega arith }
 
 pub shape-legal : (size : ℕ) (g : Shape) → shapeOf size ≡ some g → Legal g
 shape-legal = by-size (λ size g. Legal g) legal512 legal4096

@@ -1,3 +1,4 @@
--- What the code relies on in a shape, and the sides of a disk in the words of gpt_model.
+-- The shape of a block size and the sides of a disk, in the words of gpt_model; what the code relies on.
 pub mod Shapes
 pub mod Sides
+pub mod Invariants

@@ -6,7 +6,7 @@ ghost use lib.ListN.{length, take, drop};
 ghost use Rattle.crc_lanes.specs.Crc.{crc32 as crcOf};
 ghost use Rattle.gpt_model.specs.Table.{writeAll};
 ghost use Rattle.gpt_model.specs.Disk.{Shape as AnyShape, primary, headerBytes, lentBytes, entriesIn, headerFields, header};
-ghost use Rattle.gpt_places.specs.Shapes.{Fits};
+ghost use Rattle.gpt_places.specs.Invariants.{Fits};
 ghost use Rattle.gpt_places.specs.Sides.{sideOf, goodHeader};
 use super::ENTRY;
 use super::HEADER;

@@ -215,18 +215,21 @@ fn a_flush_that_fails() {
     assert_eq!(tried.repaired(2), 1);
 }
 
+/// What a call writes and flushes, in order.
+fn logged(folder: &Folder, words: &[&str]) -> String {
+    let log = folder.path("log");
+    let _ = fs::remove_file(&log);
+    disturbed("", &log, words);
+    fs::read_to_string(&log).unwrap_or_default()
+}
+
 /// Backup, flush, primary, flush; a copy that does not change is not written, and what is refused writes nothing.
 #[test]
 fn the_order_of_writes() {
     let folder = Folder::new();
     let path = disk(&folder, "disk.img", 1000);
     let text = path.to_str().expect("UTF-8");
-    let written = |words: &[&str]| {
-        let log = folder.path("log");
-        let _ = fs::remove_file(&log);
-        disturbed("", &log, words);
-        fs::read_to_string(&log).unwrap_or_default()
-    };
+    let written = |words: &[&str]| logged(&folder, words);
     let tail = format!("write {} 16896\nflush 0 0\n", 967 * 512);
     let head = "write 0 17408\nflush 0 0\n";
     assert_eq!(written(&["gpt", "add", text, "--size", "20"]), format!("{tail}{head}"));
@@ -248,12 +251,7 @@ fn the_order_of_longer_blocks() {
     let folder = Folder::new();
     let path = disk_of_4096(&folder, "disk.img", 100);
     let text = path.to_str().expect("UTF-8");
-    let written = |words: &[&str]| {
-        let log = folder.path("log");
-        let _ = fs::remove_file(&log);
-        disturbed("", &log, words);
-        fs::read_to_string(&log).unwrap_or_default()
-    };
+    let written = |words: &[&str]| logged(&folder, words);
     let tail = format!("write {} 20480\nflush 0 0\n", 95 * 4096);
     let head = "write 0 24576\nflush 0 0\n";
     let block = ["--block", "4096"];
