@@ -1,5 +1,6 @@
 -- The block size that a caller names: its shape, the calls by it, and demand 3 of them.
 use mathlib.Core.Path.{_≡_, refl, sym, ap, subst, _∙_}
+use mathlib.Core.Logic.{_↔_}
 use mathlib.Core.Bool.{Bool, true, false, cond}
 use mathlib.Core.List.{List, []}
 use mathlib.Core.Option.{Option, none, some}
@@ -8,7 +9,7 @@ use native.Mathlib.Omega.{arith}
 use lib.Dec.{eqb}
 use borrow.Author.Tests.{eqb-true, leb-true, le-leb, ne-eqb}
 use Rattle.octets.proofs.Bools.{and-l, and-r, and-i, some-none}
-use Rattle.gpt_model.specs.Disk.{Shape, disk512, disk4096, headerBytes, inRange, primary, backup, lentBytes}
+use Rattle.gpt_model.specs.Disk.{Shape, disk512, disk4096, lastUsable, usable, inRange, primary, backup, entriesBlock, lentBytes, headerBytes}
 use Rattle.gpt_model.specs.Calls.{Call, refused, accepted, outcome, step, format}
 use Rattle.gpt_model.specs.Sizes.{shapeOf, onShape, stepBy, formatBy}
 use Rattle.gpt_model.specs.Lists.{afterAll, startAfter}
@@ -83,32 +84,30 @@ demand3-by size g e n guid h t f cs =
     × Sound g n (afterAll (λ h t c. onShape s h t (λ g. step g n h t c)) cs (startAfter (onShape s h t (λ g. format g n guid h t)))))
     (sym e) (demand3 g n guid h t f cs)
 
-demand3-at : (size : ℕ) (g : Shape) → shapeOf size ≡ some g → headerBytes ≤ g .block → (least : ℕ)
-    → ((n : ℕ) → least ≤ n → n ≤ 4294967296 → inRange g n ≡ true) → Demand3At size g least (lentBytes g primary) (lentBytes g backup)
-demand3-at size g e wide least range n guid h t lo hi lg z lh lt =
+-- N is in the range of a shape, in plain numbers
+in-range : (g : Shape) (n : ℕ) → (inRange g n ≡ true) ↔ ((2 * g .first ≤ n) × (n ≤ 4294967296))
+in-range g n = (λ e. (leb-true _ _ (and-l _ _ e), leb-true _ _ (and-r _ _ e)), λ w. and-i _ _ (le-leb _ _ (w .0)) (le-leb _ _ (w .1)))
+
+demand3-at : (size : ℕ) (g : Shape) → shapeOf size ≡ some g → headerBytes ≤ g .block → Demand3At size g (2 * g .first) (lentBytes g primary) (lentBytes g backup)
+demand3-at size g e wide n guid h t lo hi lg z lh lt =
     demand3-by size g e n guid h t
-    (record { wide = wide; range = range n lo hi; len-guid = lg; nonzero = z; len-head = lh; len-tail = lt })
-
-pub numbers512 : Numbers512
-numbers512 = record {
-  head = refl;
-  tail = refl;
-  range = λ n. (λ e. (leb-true _ _ (and-l _ _ e), leb-true _ _ (and-r _ _ e)), λ w. and-i _ _ (le-leb _ _ (w .0)) (le-leb _ _ (w .1)));
-  first = refl;
-  blocks = λ n h. (omega arith, omega arith, omega arith);
-}
-
-pub numbers4096 : Numbers4096
-numbers4096 = record {
-  head = refl;
-  tail = refl;
-  range = λ n. (λ e. (leb-true _ _ (and-l _ _ e), leb-true _ _ (and-r _ _ e)), λ w. and-i _ _ (le-leb _ _ (w .0)) (le-leb _ _ (w .1)));
-  first = refl;
-  blocks = λ n h. (omega arith, omega arith, omega arith);
-}
+    (record { wide = wide; range = in-range g n .1 (lo, hi); len-guid = lg; nonzero = z; len-head = lh; len-tail = lt })
 
 pub demand3At512 : Demand3At512
-demand3At512 = demand3-at 512 disk512 (shapesBySize .0) (omega arith) 68 (λ n a b. numbers512 .range n .1 (a, b))
+demand3At512 = demand3-at 512 disk512 (shapesBySize .0) (omega arith)
 
 pub demand3At4096 : Demand3At4096
-demand3At4096 = demand3-at 4096 disk4096 (shapesBySize .1) (omega arith) 12 (λ n a b. numbers4096 .range n .1 (a, b))
+demand3At4096 = demand3-at 4096 disk4096 (shapesBySize .1) (omega arith)
+
+-- ---- the numbers
+
+-- the last usable block, the block before the backup's entries, and how many blocks are usable, by the first usable block
+usable-blocks : (g : Shape) (n : ℕ) → 1 ≤ g .first → 2 * g .first ≤ n
+    → (lastUsable g n ≡ n - g .first) × (entriesBlock g backup n ≡ n - (g .first - 1)) × (usable g n ≡ n - (2 * g .first - 1))
+usable-blocks g n b l = (refl, omega arith, omega arith)
+
+pub numbers512 : Numbers512
+numbers512 = record { head = refl; tail = refl; range = in-range disk512; first = refl; blocks = λ n l. usable-blocks disk512 n (omega arith) l }
+
+pub numbers4096 : Numbers4096
+numbers4096 = record { head = refl; tail = refl; range = in-range disk4096; first = refl; blocks = λ n l. usable-blocks disk4096 n (omega arith) l }
