@@ -24,7 +24,7 @@ use Rattle.gpt_model.specs.Calls.{Edit, add, delete, resize, rename, car
 use Rattle.gpt_model.specs.Lists.{Ledger, bookEdit}
 use Rattle.gpt_model.proofs.Room.{Room, room-get, start-some}
 use Rattle.gpt_model.proofs.Fields.{length-new, new-type, new-unique, new-first, new-last, length-sized, sized-type, sized-unique, sized-first, sized-last, length-named, named-type, named-unique, named-first, named-last}
-use Rattle.gpt_model.proofs.Entries.{same-sym, range-unused, range-used, used-type, unused-zeros, Used, ok-used, used-ok, unused-ok, ok-bounded, PairOk, getD-range, length-rangesOf, entryAt, good-at, good-pair, room-apart}
+use Rattle.gpt_model.proofs.Entries.{same-sym, range-unused, range-used, unused-type, typed-alike, unused-zeros, Used, ok-used, used-ok, unused-ok, ok-bounded, PairOk, getD-range, length-rangesOf, entryAt, good-at, good-pair, room-apart}
 
 nonzero : (x : ℕ) → eqb x 0 ≡ false → 0 < x
 nonzero x e = let w : x ≢ 0 = eqb-false x 0 e in omega arith
@@ -32,6 +32,10 @@ nonzero x e = let w : x ≢ 0 = eqb-false x 0 e in omega arith
 pub some-orZero : (o : Option ℕ) → isNone o ≡ false → o ≡ some (orZero o)
 some-orZero none e = absurd (true≢false e)
 some-orZero (some s) e = refl
+
+-- the entry of an accepted add is used
+new-used : (p : NewPartition) (s : ℕ) → length (p .kind) ≡ 16 → isZero (p .kind) ≡ false → unused (newEntry p s) ≡ false
+new-used p s lt zt = unused-type (newEntry p s) ∙ ap isZero (new-type p s lt) ∙ zt
 
 -- the edit d, whose reply begins with k, writes the entry e into slot i of the table es
 pub record Fits (first last : ℕ) (es : List ℕ) (d : Edit) (k i : ℕ) (e : List ℕ) : Type 0 where
@@ -119,7 +123,7 @@ module _ (first last : ℕ) (small : last < 256 ^ 8) (es : List ℕ) (len : leng
 
       used′ : Used first last e′
       used′ = record {
-        type = ap isZero (named-type e le′ name) ∙ w .type;
+        used = typed-alike e′ e (named-type e le′ name) ∙ u;
         unique = ap isZero (named-unique e le′ name) ∙ w .unique;
         low = rw (named-first e le′ name) (w .low);
         mid = rw (named-first e le′ name, named-last e le′ name) (w .mid);
@@ -127,7 +131,7 @@ module _ (first last : ℕ) (small : last < 256 ^ 8) (es : List ℕ) (len : leng
       }
 
       range-same : rangeOf e′ ≡ rangeOf e
-      range-same = range-used e′ (used-type e′ (used′ .type)) ∙ ap₂ spans (named-first e le′ name) (named-last e le′ name) ∙ sym (range-used e u)
+      range-same = range-used e′ (used′ .used) ∙ ap₂ spans (named-first e le′ name) (named-last e le′ name) ∙ sym (range-used e u)
 
   resizes : (k size : ℕ) → refusal (tableRows first last es (resize k size)) ≡ none → FitsEdit first last es (resize k size)
   resizes k size z = record {
@@ -177,7 +181,7 @@ module _ (first last : ℕ) (small : last < 256 ^ 8) (es : List ℕ) (len : leng
 
       used′ : Used first last e′
       used′ = record {
-        type = ap isZero (sized-type e le′ l) ∙ w .type;
+        used = typed-alike e′ e (sized-type e le′ l) ∙ u;
         unique = ap isZero (sized-unique e le′ l) ∙ w .unique;
         low = rw (sized-first e le′ l) (w .low);
         mid = rw (sized-first e le′ l, sized-last e le′ l fits) (let p = pos in omega arith);
@@ -185,7 +189,7 @@ module _ (first last : ℕ) (small : last < 256 ^ 8) (es : List ℕ) (len : leng
       }
 
       range-now : rangeOf e′ ≡ spans f l
-      range-now = range-used e′ (used-type e′ (used′ .type)) ∙ ap₂ spans (sized-first e le′ l) (sized-last e le′ l fits)
+      range-now = range-used e′ (used′ .used) ∙ ap₂ spans (sized-first e le′ l) (sized-last e le′ l fits)
 
       size-now : rangeSize (rangeOf e′) ≡ size
       size-now = ap rangeSize range-now ∙ (let p = pos in omega arith)
@@ -241,7 +245,7 @@ module _ (first last : ℕ) (small : last < 256 ^ 8) (es : List ℕ) (len : leng
 
       used′ : Used first last e′
       used′ = record {
-        type = ap isZero (new-type p s lt) ∙ zt;
+        used = new-used p s lt zt;
         unique = ap isZero unique-is ∙ zu;
         low = rw first-is low;
         mid = rw (first-is, last-is) (omega arith);
@@ -249,7 +253,7 @@ module _ (first last : ℕ) (small : last < 256 ^ 8) (es : List ℕ) (len : leng
       }
 
       range-now : rangeOf e′ ≡ spans s l
-      range-now = range-used e′ (used-type e′ (used′ .type)) ∙ ap₂ spans first-is last-is
+      range-now = range-used e′ (used′ .used) ∙ ap₂ spans first-is last-is
 
       size-now : rangeSize (rangeOf e′) ≡ p .size
       size-now = ap rangeSize range-now ∙ omega arith

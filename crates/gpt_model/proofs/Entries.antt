@@ -60,19 +60,19 @@ pub range-used : (e : List ℕ) → unused e ≡ false → rangeOf e ≡ spans (
 unfolding rangeOf
 range-used e q = rw (q, rangeOf)
 
-pub used-type : (e : List ℕ) → isZero (typeOf e) ≡ false → unused e ≡ false
+-- the one law that knows what an unused entry is; all others hold whatever it is, but for those over the bytes of Stored
+pub unused-type : (e : List ℕ) → unused e ≡ isZero (typeOf e)
 unfolding unused
-used-type e q = go (bool-cases (unused e))
-  where
-    go : (unused e ≡ true) ⊎ (unused e ≡ false) → unused e ≡ false
-    go (inr f) = f
-    go (inl f) = absurd (clash (zero-part 0 16 e f) q)
+unused-type e = refl
 
 pub zero-unused : (e : List ℕ) → isZero e ≡ true → unused e ≡ true
-unfolding unused
-zero-unused e q = q
+zero-unused e q = unused-type e ∙ zero-part 0 16 e q
 
-unused-nil : unused [] ≡ true
+-- an entry with the type GUID of another is used where that one is
+pub typed-alike : (e d : List ℕ) → typeOf e ≡ typeOf d → unused e ≡ unused d
+typed-alike e d q = unused-type e ∙ ap isZero q ∙ sym (unused-type d)
+
+pub unused-nil : unused [] ≡ true
 unused-nil = zero-unused [] refl
 
 pub unused-zeros : (k : ℕ) → unused (zeros k) ≡ true
@@ -80,7 +80,7 @@ unused-zeros k = zero-unused (zeros k) (zero-zeros k)
 
 -- what is known of a used entry
 pub record Used (first last : ℕ) (e : List ℕ) : Type 0 where
-  pub type : isZero (typeOf e) ≡ false
+  pub used : unused e ≡ false
   pub unique : isZero (uniqueOf e) ≡ false
   pub low : first ≤ firstOf e
   pub mid : firstOf e ≤ lastOf e
@@ -90,17 +90,17 @@ pub ok-used : (first last : ℕ) (e : List ℕ) → entryOk first last e ≡ tru
 unfolding entryOk
 ok-used first last e k u = go (or-cases _ _ k)
   where
-    go : (unused e ≡ true) ⊎ ((not (isZero (typeOf e)) and not (isZero (uniqueOf e)) and bounded first last (rangeOf e)) ≡ true) → Used first last e
+    go : (unused e ≡ true) ⊎ ((not (isZero (uniqueOf e)) and bounded first last (rangeOf e)) ≡ true) → Used first last e
     go (inl f) = absurd (clash f u)
     go (inr f) =
         let b = bounded-get first last (firstOf e) (lastOf e) (subst (λ (s : BlockRange). bounded first last s ≡ true) (range-used e u) (and-r _ _ f)) in
-        record { type = not-t _ (and-l _ _ (and-l _ _ f)); unique = not-t _ (and-r _ _ (and-l _ _ f)); low = b .0; mid = b .1; high = b .2 }
+        record { used = u; unique = not-t _ (and-l _ _ f); low = b .0; mid = b .1; high = b .2 }
 
 pub used-ok : (first last : ℕ) (e : List ℕ) → Used first last e → entryOk first last e ≡ true
 unfolding entryOk
 used-ok first last e u =
-    or-ir _ _ (and-i _ _ (and-i _ _ (ap not (u .type)) (ap not (u .unique)))
-    (subst (λ (s : BlockRange). bounded first last s ≡ true) (sym (range-used e (used-type e (u .type))))
+    or-ir _ _ (and-i _ _ (ap not (u .unique))
+    (subst (λ (s : BlockRange). bounded first last s ≡ true) (sym (range-used e (u .used)))
     (bounded-make first last (firstOf e) (lastOf e) (u .low) (u .mid) (u .high))))
 
 pub unused-ok : (first last : ℕ) (e : List ℕ) → unused e ≡ true → entryOk first last e ≡ true
@@ -190,7 +190,7 @@ free-apart first last f l (spans g m) k h w = go (bool-cases (ltb l g)) (bool-ca
 
 -- ---- the table
 
-range-nil : rangeOf [] ≡ noBlocks
+pub range-nil : rangeOf [] ≡ noBlocks
 range-nil = range-unused [] unused-nil
 
 pub getD-range : (es : List ℕ) (i : ℕ) → getD (rangesOf es) i noBlocks ≡ rangeOf (getD (entries es) i [])

@@ -1,7 +1,7 @@
 -- Fields written at their byte positions read back; the fields of an entry that a call makes or changes.
 use mathlib.Core.Path.{_≡_, refl, sym, ap, _∙_}
 use mathlib.Core.Bool.{Bool, true}
-use mathlib.Core.List.{List, [], _∷_}
+use mathlib.Core.List.{List, [], _∷_, _++_}
 use Prim.Native.Nat.{ℕ, zero, suc, _+_, _-_, _*_, _^_, _≤_, _<_}
 use native.Mathlib.Nat.{not-suc-le-zero, le-of-suc-le-suc}
 use native.Mathlib.Omega.{arith}
@@ -13,7 +13,7 @@ use Rattle.octets.specs.Bytes.{le, unle, part, put, zeros}
 use Rattle.octets.proofs.Bools.{and-l, and-r}
 use Rattle.octets.proofs.Numbers.{length-le, unle-le}
 use Rattle.octets.proofs.Parts.{length-zeros}
-use Rattle.octets.proofs.Puts.{length-put, put-comm, part-put-above, part-put-same}
+use Rattle.octets.proofs.Puts.{length-put, then, put-all, put-comm, part-put-above, part-put-same}
 use Rattle.gpt_model.specs.Table.{writeAll, typeOf, uniqueOf, firstOf, lastOf, nameBytes}
 use Rattle.gpt_model.specs.declared.NewPartition.{NewPartition}
 use Rattle.gpt_model.specs.Calls.{newFields, newEntry}
@@ -101,6 +101,27 @@ module _ (p : NewPartition) (s : ℕ) where
   pub new-name : length (p .name) ≡ 36 → part 56 72 (newEntry p s) ≡ nameBytes (p .name)
   new-name e =
       field-reads fs (zeros 128) 5 56 72 (nameBytes (p .name)) (omega arith) refl refl (length-name (p .name) ∙ omega arith) (omega (arith, length-zeros 128))
+
+  -- its 128 bytes are the fields, one behind the other
+  pub new-whole : length (p .kind) ≡ 16 → length (p .unique) ≡ 16 → length (p .name) ≡ 36
+      → newEntry p s ≡ p .kind ++ p .unique ++ le 8 s ++ le 8 (s + p .size - 1) ++ le 8 (p .attributes) ++ nameBytes (p .name)
+  new-whole lt lu ln =
+      let z = zeros 128 in
+      let x1 = p .kind in
+      let x2 = x1 ++ p .unique in
+      let x3 = x2 ++ le 8 s in
+      let x4 = x3 ++ le 8 (s + p .size - 1) in
+      let x5 = x4 ++ le 8 (p .attributes) in
+      let l2 : length x2 ≡ 32 = length-append x1 (p .unique) ∙ omega arith in
+      let l3 : length x3 ≡ 40 = length-append x2 (le 8 s) ∙ omega (arith, length-le 8 s) in
+      let l4 : length x4 ≡ 48 = length-append x3 (le 8 (s + p .size - 1)) ∙ omega (arith, length-le 8 (s + p .size - 1)) in
+      let l5 : length x5 ≡ 56 = length-append x4 (le 8 (p .attributes)) ∙ omega (arith, length-le 8 (p .attributes)) in
+      let l6 : length (x5 ++ nameBytes (p .name)) ≡ 128 = length-append x5 (nameBytes (p .name)) ∙ omega (arith, length-name (p .name)) in
+      let p2 = then z x1 _ (p .unique) _ 0 16 refl refl (omega arith) in
+      let p3 = then z x2 _ (le 8 s) _ 0 32 p2 refl (omega (arith, l2)) in
+      let p4 = then z x3 _ (le 8 (s + p .size - 1)) _ 0 40 p3 refl (omega (arith, l3)) in
+      let p5 = then z x4 _ (le 8 (p .attributes)) _ 0 48 p4 refl (omega (arith, l4)) in
+      then z x5 _ (nameBytes (p .name)) _ 0 56 p5 refl (omega (arith, l5)) ∙ put-all _ z (l6 ∙ sym (length-zeros 128))
 
 -- ---- an entry whose last block is set, and one whose name is set
 

@@ -1,4 +1,4 @@
--- Laws that the crates above cite, and the theorems (Demand3, Sizes, Touches, SameSize; over bytes StoredTable to StoredRepair).
+-- Laws that the crates above cite, and the theorems (Demand3, Sizes, Touches, SameSize, Stale; over bytes StoredTable to StoredRepair).
 pub mod Room
 pub mod Counts
 pub mod Longest
@@ -21,4 +21,5 @@ pub mod StoredHeader
 pub mod StoredCopies
 pub mod StoredFormat
 pub mod StoredEdits
+pub mod Stale
 pub mod StoredRepair

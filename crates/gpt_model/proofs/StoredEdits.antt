@@ -67,7 +67,7 @@ module _ (es : List ℕ) (long : length es ≡ 16384) (i : ℕ) (hi : i < 128) w
   replaced e l = putChunk-put 128 128 i e es l hi long
 
   -- and with w of its bytes replaced
-  within : (v : List ℕ) (at : ℕ) → at + length v ≤ 128 → length (put at v (entryAt es i)) ≡ 128 → putChunk 128 i (put at v (entryAt es i)) es ≡ put (i * 128 + at) v es
+  pub within : (v : List ℕ) (at : ℕ) → at + length v ≤ 128 → length (put at v (entryAt es i)) ≡ 128 → putChunk 128 i (put at v (entryAt es i)) es ≡ put (i * 128 + at) v es
   within v at h l =
       replaced (put at v (entryAt es i)) l ∙ ap (λ (x : List ℕ). put (i * 128) (put at v x) es) (entry-is es i hi)
       ∙ put-inside v es (i * 128) 128 at (omega arith) h

@@ -17,7 +17,7 @@ use Rattle.gpt_model.specs.Stored.{EntryUsed, entryType, entryUnique, en
 use Rattle.gpt_model.specs.Claims.{InSomeByBytes}
 use Rattle.gpt_model.proofs.Room.{blockIn-make, blockIn-get, blockIn-none}
 use Rattle.gpt_model.proofs.Counts.{apart-get}
-use Rattle.gpt_model.proofs.Entries.{range-unused, range-used, Used, ok-used, used-ok, unused-ok, ok-bounded, free-apart, getD-range, length-rangesOf, entryAt, good-at, good-pair, good-make}
+use Rattle.gpt_model.proofs.Entries.{unused-type, range-unused, range-used, Used, ok-used, used-ok, unused-ok, ok-bounded, free-apart, getD-range, length-rangesOf, entryAt, good-at, good-pair, good-make}
 
 -- ---- entry i
 
@@ -40,9 +40,8 @@ module _ (es : List ℕ) (i : ℕ) (h : i < 128) where
   last-is : lastOf (entryAt es i) ≡ entryLast es i
   last-is = ap unle (field-is 40 8 (omega arith))
 
-  pub used-is : unused (entryAt es i) ≡ isZero (part (i * 128) 128 es)
-  unfolding unused
-  used-is = ap isZero entry-is
+  pub used-is : unused (entryAt es i) ≡ isZero (entryType es i)
+  used-is = unused-type (entryAt es i) ∙ ap isZero type-is
 
   range-is : EntryUsed es i → rangeOf (entryAt es i) ≡ spans (entryFirst es i) (entryLast es i)
   range-is u = range-used (entryAt es i) (used-is ∙ u) ∙ ap (λ (f : ℕ). spans f (lastOf (entryAt es i))) first-is ∙ ap (spans (entryFirst es i)) last-is
@@ -73,7 +72,7 @@ inSomeByBytes es b = (
 module _ (first last : ℕ) (es : List ℕ) where
   rules-get : goodTable first last es ≡ true → TableRules first last es
   rules-get k = record {
-    guids = λ i h u. let w = own i h u in (ap isZero (sym (type-is es i h)) ∙ w .type, ap isZero (sym (unique-is es i h)) ∙ w .unique);
+    unique = λ i h u. ap isZero (sym (unique-is es i h)) ∙ own i h u .unique;
     range = λ i h u. let w = own i h u in
         let f = first-is es i h in
         let l = last-is es i h in
@@ -97,14 +96,13 @@ module _ (first last : ℕ) (es : List ℕ) where
     where
       own : (i : ℕ) → (h : i < 128) → EntryUsed es i → Used first last (entryAt es i)
       own i h u =
-          let z = r .guids i h u in
           let w = r .range i h u in
           let a = w .0 in
           let b = w .1 in
           let c = w .2 in
           let f = first-is es i h in
           let l = last-is es i h in
-          record { type = ap isZero (type-is es i h) ∙ z .0; unique = ap isZero (unique-is es i h) ∙ z .1; low = omega arith; mid = omega arith; high = omega arith }
+          record { used = used-is es i h ∙ u; unique = ap isZero (unique-is es i h) ∙ r .unique i h u; low = omega arith; mid = omega arith; high = omega arith }
 
       each : (i : ℕ) → i < 128 → (unused (entryAt es i) ≡ true) ⊎ (unused (entryAt es i) ≡ false) → entryOk first last (entryAt es i) ≡ true
       each i h (inl u) = unused-ok first last (entryAt es i) u

@@ -2,22 +2,22 @@
 use mathlib.Core.Path.{_≡_}
 use mathlib.Core.Logic.{_≢_, _↔_}
 use mathlib.Core.Bool.{true, false}
-use mathlib.Core.List.{List, [], _∷_, _++_}
+use mathlib.Core.List.{List, [], _∷_, _++_, map}
 use mathlib.Core.Option.{none, some}
 use Prim.Native.Nat.{ℕ, suc, _+_, _-_, _*_, _≤_, _<_}
-use lib.ListN.{length, getD}
+use lib.ListN.{length, getD, set}
 use Rattle.octets.specs.Rows.{refusal}
-use Rattle.octets.specs.Bytes.{zeros, isZero}
-use Rattle.gpt_model.specs.Table.{entryBytes, uniqueOf, firstOf, lastOf, unused, noBlocks, slotCount, tableBytes, rangesOf}
+use Rattle.octets.specs.Bytes.{le, part, put, zeros, isZero, flat}
+use Rattle.gpt_model.specs.Table.{entryBytes, uniqueOf, firstOf, lastOf, unused, noBlocks, slotCount, tableBytes, rangesOf, goodTable}
 use Rattle.gpt_model.specs.Disk.{Shape, disk512, disk4096, lastUsable, usable, inRange, Side, primary, backup, entriesBlock, lentBytes}
-use Rattle.gpt_model.specs.Disk.{headerAt, entriesAt, headerBytes, goodCopy, state, lent, tableOf}
+use Rattle.gpt_model.specs.Disk.{headerAt, entriesAt, headerBytes, guidIn, goodCopy, state, lent, tableOf, withTable}
 use Rattle.gpt_model.specs.Ranges.{blockIn, inSome, FreeFrom, taken}
 use Rattle.gpt_model.specs.declared.NewPartition.{NewPartition}
 use Rattle.gpt_model.specs.Calls.{Edit, add, delete, resize, rename, Call, read, freeCounts, repair, edit, refused, accepted, outcome}
 use Rattle.gpt_model.specs.Calls.{entryOf, addRows, change, edited, lengthsOf, openRows, rowsOf, step, format}
 use Rattle.gpt_model.specs.Sizes.{shapeOf, stepBy, formatBy}
 use Rattle.gpt_model.specs.Lists.{Ledger, sizeWas, bookEdit, Snapshot, afterAll, answers, applied, startAfter, rangesIn, StartsAfresh}
-use Rattle.gpt_model.specs.Stored.{EntryHolds, HeadGood, TailGood, SizesOk, ReadSays, FormatSays, Outside, EditSays, RepairSays}
+use Rattle.gpt_model.specs.Stored.{SameUsed, EntryHolds, HeadGood, TailGood, SizesOk, ReadSays, FormatSays, Outside, EditSays, RepairSays}
 
 -- ---- demand 3
 
@@ -183,6 +183,37 @@ ResizeToSame =
     (g : Shape) (n : ℕ) (h t : List ℕ) (k : ℕ) → headerBytes ≤ g .block → ((i : ℕ) → getD h i 0 < 256) → refusal (rowsOf g n h t (edit (delete k))) ≡ none
     → let e = entryOf (tableOf g n h t) k in
     step g n h t (edit (resize k (suc (lastOf e) - firstOf e))) ≡ outcome (accepted []) h t
+
+-- ---- stale bytes: what an unused entry holds behind its type GUID
+
+-- f1: By UEFI a zero type GUID alone marks an unused entry. Where another tool deletes by clearing the type GUID of entry i alone, in both copies and with
+-- right CRCs, the disk still reads as state 1, and entry i alone gives up its blocks.
+abbrev pub ClearedReads : Type 0
+ClearedReads =
+    (g : Shape) (n : ℕ) (h t : List ℕ) (i : ℕ) → headerBytes ≤ g .block → i < slotCount → step g n h t read .answer ≡ accepted (1 ∷ [])
+    → let es = put (i * entryBytes) (zeros 16) (tableOf g n h t) in
+    let h′ = withTable g n primary (guidIn g primary h) es h in
+    let t′ = withTable g n backup (guidIn g backup t) es t in
+    (step g n h′ t′ read .answer ≡ accepted (1 ∷ [])) × (tableOf g n h′ t′ ≡ es) × (rangesOf es ≡ set (rangesOf (tableOf g n h t)) i noBlocks)
+
+-- f2: the entry rules ignore the other bytes: a table is good or not by its used entries alone
+abbrev pub GoodByUsed : Type 0
+GoodByUsed = (first last : ℕ) (es es′ : List ℕ) → SameUsed es es′ → goodTable first last es ≡ goodTable first last es′
+
+-- and so does every call that comes next: what it answers, with refusals 13 and 22 to 25, slot and first block of an add, and free counts
+abbrev pub AnswersByUsed : Type 0
+AnswersByUsed =
+    (g : Shape) (n : ℕ) (h t h′ t′ : List ℕ) → step g n h t read .answer ≡ accepted (1 ∷ []) → step g n h′ t′ read .answer ≡ accepted (1 ∷ [])
+    → SameUsed (tableOf g n h t) (tableOf g n h′ t′) → (c : Call) → step g n h t c .answer ≡ step g n h′ t′ c .answer
+
+-- f4: adding overwrites all of them: the entry's 128 bytes are what the add was given and its first and last block, one behind the other
+abbrev pub AddOverwrites : Type 0
+AddOverwrites =
+    (g : Shape) (n : ℕ) (h t : List ℕ) (p : NewPartition) (i s : ℕ) → headerBytes ≤ g .block
+    → let o = step g n h t (edit (add p)) in
+    o .answer ≡ accepted (suc i ∷ s ∷ [])
+    → part (i * entryBytes) entryBytes (tableOf g n (o .head) (o .tail))
+    ≡ p .kind ++ p .unique ++ le 8 s ++ le 8 (s + p .size - 1) ++ le 8 (p .attributes) ++ flat (map (le 2) (p .name))
 
 -- ---- the definitions go by what Stored says in bytes
 

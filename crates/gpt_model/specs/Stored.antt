@@ -17,10 +17,6 @@ use Rattle.gpt_model.specs.Calls.{Edit, add, delete, resize, rename, Ans
 
 -- ---- a table: 128 entries of 128 bytes, counted from 0
 
--- D6: An entry is unused when all its 128 bytes are zero .. a used entry is one that is not unused.
-abbrev pub EntryUsed : List ℕ → ℕ → Type 0
-EntryUsed es i = isZero (part (i * 128) 128 es) ≡ false
-
 -- D5: type GUID 0, unique GUID 16, first block 32, last block (inclusive) 40
 abbrev pub entryType : List ℕ → ℕ → List ℕ
 entryType es i = part (i * 128) 16 es
@@ -34,13 +30,21 @@ entryFirst es i = unle (part (i * 128 + 32) 8 es)
 abbrev pub entryLast : List ℕ → ℕ → ℕ
 entryLast es i = unle (part (i * 128 + 40) 8 es)
 
+-- D6: An entry is unused when its type GUID is zero; a used entry is one that is not unused.
+abbrev pub EntryUsed : List ℕ → ℕ → Type 0
+EntryUsed es i = isZero (entryType es i) ≡ false
+
+-- the two tables have the same used entries: each entry is used in neither, or has the same bytes in both
+abbrev pub SameUsed : List ℕ → List ℕ → Type 0
+SameUsed es es′ = (i : ℕ) → i < 128 → ((¬ EntryUsed es i) × (¬ EntryUsed es′ i)) ⊎ (part (i * 128) 128 es ≡ part (i * 128) 128 es′)
+
 -- D21: A block lies in a partition when it is one of first to last of a used entry
 abbrev pub EntryHolds : List ℕ → ℕ → ℕ → Type 0
 EntryHolds es i b = EntryUsed es i × (entryFirst es i ≤ b) × (b ≤ entryLast es i)
 
 pub record TableRules (first last : ℕ) (es : List ℕ) : Type 0 where
-  -- D7: A used entry has nonzero type and unique GUID
-  pub guids : (i : ℕ) → i < 128 → EntryUsed es i → (isZero (entryType es i) ≡ false) × (isZero (entryUnique es i) ≡ false)
+  -- D7: A used entry has a nonzero unique GUID
+  pub unique : (i : ℕ) → i < 128 → EntryUsed es i → isZero (entryUnique es i) ≡ false
   -- and 34 ≤ first ≤ last ≤ N−34
   pub range : (i : ℕ) → i < 128 → EntryUsed es i → (first ≤ entryFirst es i) × (entryFirst es i ≤ entryLast es i) × (entryLast es i ≤ last)
   -- unique GUIDs differ

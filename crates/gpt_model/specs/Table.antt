@@ -30,9 +30,9 @@ lastOf e = field 40 8 e
 abbrev pub nameBytes : List ℕ → List ℕ
 nameBytes units = flat (map (le 2) units)
 
--- D6: An entry is unused when all its 128 bytes are zero. All else goes by this definition; a used entry is one that is not unused.
+-- D6: An entry is unused when its type GUID is zero. All else goes by this definition; a used entry is one that is not unused.
 unfoldable pub unused : List ℕ → Bool
-unused e = isZero e
+unused e = isZero (typeOf e)
 
 -- what an entry takes: nothing where it is unused, else the blocks from its first to its last
 pub data BlockRange : Type 0 where
@@ -58,9 +58,9 @@ apart noBlocks t = true
 apart (spans f l) noBlocks = true
 apart (spans f l) (spans g m) = ltb l g or ltb m f
 
--- D7: A used entry has nonzero type and unique GUID and 34 ≤ first ≤ last ≤ N−34
+-- D7: A used entry has a nonzero unique GUID and 34 ≤ first ≤ last ≤ N−34. f2: the entry rules ignore the other bytes of an unused one
 unfoldable pub entryOk : ℕ → ℕ → List ℕ → Bool
-entryOk first last e = unused e or (not (isZero (typeOf e)) and not (isZero (uniqueOf e)) and bounded first last (rangeOf e))
+entryOk first last e = unused e or (not (isZero (uniqueOf e)) and bounded first last (rangeOf e))
 
 -- D7: unique GUIDs differ; ranges share no block
 unfoldable pub pairOk : List ℕ → List ℕ → Bool

@@ -12,17 +12,12 @@ use lib.ListN.{length, getD, set, take, drop, length-set, length-drop}
 use lib.Seq.{length-take-le, getD-set-same, getD-set-other}
 use borrow.Author.Tests.{lt-ltb, le-ltb}
 use Rattle.octets.specs.Tests.{_and_, _or_, any, findIx}
-use Rattle.octets.specs.Bytes.{part, isZero, same}
+use Rattle.octets.specs.Bytes.{part, same}
 use Rattle.octets.proofs.Bools.{bool-cases, clash, and-false-l}
 use Rattle.octets.proofs.Chunks.{chunk-part, length-chunks}
 use Rattle.gpt_model.specs.Table.{unused, uniqueOf, entries}
 use Rattle.gpt_model.specs.Calls.{carries}
-use Rattle.gpt_model.proofs.Entries.{zero-unused}
-
--- the one law that knows what an unused entry is; all others hold whatever it is
-pub unused-is : (e : List ℕ) → unused e ≡ isZero e
-unfolding unused
-unused-is e = refl
+use Rattle.gpt_model.proofs.Entries.{unused-nil}
 
 pub entry-at : (t : List ℕ) (i : ℕ) → i < 128 → length t ≡ 16384
     → (take (128 * i + 128 - 128 * i) (drop (128 * i) t) ≡ getD (entries t) i []) × (length (take (128 * i + 128 - 128 * i) (drop (128 * i) t)) ≡ 128)
@@ -68,7 +63,7 @@ carries-same unique e q = sym (rw q)
 
 module _ (es : List (List ℕ)) (but i : ℕ) (h : i < length es) where
   pub left-out : i ≡ but → unused (getD (set es but []) i []) ≡ true
-  left-out q = ap unused (ap (λ (k : ℕ). getD (set es k []) i []) (sym q) ∙ getD-set-same es i [] [] h) ∙ zero-unused [] refl
+  left-out q = ap unused (ap (λ (k : ℕ). getD (set es k []) i []) (sym q) ∙ getD-set-same es i [] [] h) ∙ unused-nil
 
   pub left-in : (i ≡ but → ⊥) → getD (set es but []) i [] ≡ getD es i []
   left-in q = getD-set-other es but i [] [] q

@@ -19,7 +19,7 @@ use Rattle.octets.proofs.Tests.{pairs-get, pairs-make, all-get, all-make, all-d
 use Rattle.octets.proofs.Parts.{getD-part, part-part}
 use Rattle.octets.proofs.Equal.{same-true, same-refl, field-same}
 use Rattle.octets.proofs.Chunks.{chunk-part, length-chunk}
-use Rattle.gpt_model.specs.Table.{BlockRange, noBlocks, spans, rangeOf, bounded, apart, typeOf, uniqueOf, firstOf, lastOf, unused, entryOk, pairOk, entries, goodTable}
+use Rattle.gpt_model.specs.Table.{BlockRange, noBlocks, spans, rangeOf, bounded, apart, uniqueOf, firstOf, lastOf, unused, entryOk, pairOk, entries, goodTable}
 use Rattle.gpt_model.proofs.Entries.{range-used, pair-make}
 use Rattle.gpt_table.specs.Invariants.{used, Decoded, differ, Guids, ranges, Reordered, Ascending, InOrder}
 use Rattle.gpt_table.proofs.Entries.{length-entries}
@@ -44,21 +44,17 @@ module _ (first last f l : ℕ) where
 
 module _ (first last : ℕ) (e : List ℕ) where
   module _ (u : unused e ≡ false) where
-    ok-used : entryOk first last e ≡ (not (isZero (typeOf e)) and not (isZero (uniqueOf e)) and bounded first last (spans (firstOf e) (lastOf e)))
+    ok-used : entryOk first last e ≡ (not (isZero (uniqueOf e)) and bounded first last (spans (firstOf e) (lastOf e)))
     unfolding entryOk _or_
-    ok-used = rw u (ap (λ (s : BlockRange). not (isZero (typeOf e)) and not (isZero (uniqueOf e)) and bounded first last s) (range-used e u))
+    ok-used = rw u (ap (λ (s : BlockRange). not (isZero (uniqueOf e)) and bounded first last s) (range-used e u))
 
-    pub ok-type : isZero (typeOf e) ≡ true → entryOk first last e ≡ false
+    pub ok-unique : isZero (uniqueOf e) ≡ true → entryOk first last e ≡ false
     unfolding _and_
-    ok-type w = ok-used ∙ rw w
+    ok-unique w = ok-used ∙ rw w
 
-    pub ok-unique : isZero (typeOf e) ≡ false → isZero (uniqueOf e) ≡ true → entryOk first last e ≡ false
+    pub ok-range : isZero (uniqueOf e) ≡ false → entryOk first last e ≡ bounded first last (spans (firstOf e) (lastOf e))
     unfolding _and_
-    ok-unique w z = ok-used ∙ rw (w, z)
-
-    pub ok-range : isZero (typeOf e) ≡ false → isZero (uniqueOf e) ≡ false → entryOk first last e ≡ bounded first last (spans (firstOf e) (lastOf e))
-    unfolding _and_
-    ok-range w z = ok-used ∙ rw (w, z)
+    ok-range w = ok-used ∙ rw w
 
 ok-bounded : (first last : ℕ) (e : List ℕ) → unused e ≡ false → entryOk first last e ≡ true → bounded first last (rangeOf e) ≡ true
 unfolding entryOk _or_

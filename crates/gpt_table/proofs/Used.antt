@@ -15,7 +15,7 @@ use Rattle.octets.proofs.Bools.{bool-cases}
 use Rattle.gpt_model.specs.Ranges.{blockIn, inSome}
 use Rattle.gpt_model.specs.Table.{noBlocks, spans, unused, rangeOf}
 use Rattle.gpt_model.proofs.Walk.{getD-map}
-use Rattle.gpt_model.proofs.Entries.{zero-unused, range-unused, range-used}
+use Rattle.gpt_model.proofs.Entries.{range-unused, range-used, range-nil}
 use Rattle.gpt_table.specs.Invariants.{used, Decoded, ranges}
 
 -- ---- the used ones of a list
@@ -152,7 +152,7 @@ getD-ranges f l (suc n) zero h = refl
 getD-ranges f l (suc n) (suc i) h = getD-ranges (drop 1 f) (drop 1 l) n i (le-of-suc-le-suc h) ∙ ap₂ spans (getD-tail f i) (getD-tail l i)
 
 pub slot-nil : rangeOf [] ≡ noBlocks
-slot-nil = range-unused [] (zero-unused [] refl)
+slot-nil = range-nil
 
 pub ranges-slots : (es : List (List ℕ)) (f l : List ℕ) (n : ℕ) → Decoded es 32 f l n → ((i : ℕ) → i < n → unused (getD es i []) ≡ false)
     → ranges f l n ≡ map rangeOf es

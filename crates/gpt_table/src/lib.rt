@@ -34,12 +34,12 @@ pub fn entry<'a>(t: &'a [u8], i: usize) -> &'a [u8]
     &t[start..end]
 }
 
-// The only function that knows which bytes an unused entry has (D6).
+// The only function that knows how an unused entry is told (D6: when its type GUID is zero).
 fn unused(e: &[u8]) -> bool
     requires { ⌜ length (now e) ≡ entryBytes ⌝ }
     ensures { λ r. ⌜ r ≡ unusedIn (now (e .entry)) ⌝ }
 {
-    octets::is_zero(e)
+    octets::is_zero(&e[0..UNIQUE_AT])
 }
 
 pub fn is_unused(t: &[u8], i: usize) -> bool

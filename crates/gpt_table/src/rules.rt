@@ -34,9 +34,6 @@ fn entry_ok(e: &[u8], first: Block, last: Block) -> bool
     if crate::unused(e) {
         return true;
     }
-    if octets::is_zero(&e[0..UNIQUE_AT]) {
-        return false;
-    }
     if octets::is_zero(&e[UNIQUE_AT..FIRST_AT]) {
         return false;
     }

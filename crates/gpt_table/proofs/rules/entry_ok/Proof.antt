@@ -5,7 +5,7 @@ use borrow.Author.Needs.{needs}
 use Rattle.octets.specs.Bytes.{part}
 use Rattle.gpt_model.specs.Table.{bounded, spans}
 use Rattle.gpt_model.proofs.Entries.{unused-ok}
-use Rattle.gpt_table.proofs.Good.{ok-type, ok-unique, ok-range}
+use Rattle.gpt_table.proofs.Good.{ok-unique, ok-range}
 use Rattle.gpt_table.proofs.rules.entry_ok.Statement.{statement}
 use Rattle.gpt_table.proofs.rules.entry_ok.Tie as tie
 
@@ -31,28 +31,7 @@ returns-2 : tie.Need-returns-2
 unfolding part
 returns-2 c =
     let c3 = c .before .before .before in
-    sym (ok-type _ _ _ (sym (c3 .before .unused .ensures) ∙ c3 .if1 .left) (sym (c .before .is-zero .ensures) ∙ c .if2 .taken))
-
-sub-is-zero-2 : tie.Need-sub-is-zero-2
-sub-is-zero-2 c = search needs
-
-part-is-zero-start-2 : tie.Need-part-is-zero-start-2
-part-is-zero-start-2 c = search needs
-
-part-is-zero-end-2 : tie.Need-part-is-zero-end-2
-part-is-zero-end-2 c = search needs
-
-is-zero-requires-2 : tie.Need-is-zero-requires-2
-is-zero-requires-2 c κs = search needs
-
-returns-3 : tie.Need-returns-3
-unfolding part
-returns-3 c =
-    let c3 = c .before .before .before in
-    let c6 = c3 .before .before .before in
-    let used = sym (c6 .before .unused .ensures) ∙ c6 .if1 .left in
-    let type = sym (c3 .before .is-zero .ensures) ∙ c3 .if2 .left in
-    sym (ok-unique _ _ _ used type (sym (c .before .is-zero2 .ensures) ∙ c .if3 .taken))
+    sym (ok-unique _ _ _ (sym (c3 .before .unused .ensures) ∙ c3 .if1 .left) (sym (c .before .is-zero .ensures) ∙ c .if2 .taken))
 
 load64-requires : tie.Need-load64-requires
 load64-requires c κs = search needs
@@ -63,18 +42,16 @@ load64-requires-2 c κs = search needs
 bounded-requires : tie.Need-bounded-requires
 bounded-requires c κs = search needs
 
-returns-4 : tie.Need-returns-4
+returns-3 : tie.Need-returns-3
 unfolding part
-returns-4 c =
+returns-3 c =
     let c3 = c .before .before .before in
     let c6 = c3 .before .before .before in
-    let c9 = c6 .before .before .before in
-    let a = c9 .before .before .before .args in
-    let used = sym (c9 .before .unused .ensures) ∙ c9 .if1 .left in
-    let type = sym (c6 .before .is-zero .ensures) ∙ c6 .if2 .left in
-    let unique = sym (c3 .before .is-zero2 .ensures) ∙ c3 .if3 .left in
+    let a = c6 .before .before .before .args in
+    let used = sym (c6 .before .unused .ensures) ∙ c6 .if1 .left in
+    let unique = sym (c3 .before .is-zero .ensures) ∙ c3 .if2 .left in
     c .bounded .ensures ∙ ap₂ (λ (x y : ℕ). bounded (a .first .0) (a .last .0) (spans x y)) (c .before .before .load64 .ensures) (c .before .load642 .ensures)
-    ∙ sym (ok-range (a .first .0) (a .last .0) (now (a .e)) used type unique)
+    ∙ sym (ok-range (a .first .0) (a .last .0) (now (a .e)) used unique)
 
 pub entry-ok-spec : {M : Type 1} → statement M
 entry-ok-spec =
@@ -87,12 +64,7 @@ entry-ok-spec =
     part-is-zero-end
     is-zero-requires
     returns-2
-    sub-is-zero-2
-    part-is-zero-start-2
-    part-is-zero-end-2
-    is-zero-requires-2
-    returns-3
     load64-requires
     load64-requires-2
     bounded-requires
-    returns-4)
+    returns-3)

@@ -1,0 +1,318 @@
+-- Stale bytes, which an unused entry holds behind its type GUID: nothing that is judged or answered goes by them, and an add leaves none.
+use mathlib.Core.Path.{_≡_, refl, sym, ap, ap₂, subst, subst₂, _∙_}
+use mathlib.Core.Logic.{_⊎_, inl, inr, ⊎-elim}
+use mathlib.Core.Bool.{Bool, true, false, not, cond}
+use mathlib.Core.List.{List, [], _∷_, _++_, map}
+use mathlib.Core.Option.{Option, none, some}
+use Prim.Native.Nat.{ℕ, zero, suc, _+_, _-_, _*_, _<_, suc-le-suc}
+use native.Mathlib.Nat.{zero-lt-suc}
+use native.Mathlib.Omega.{arith}
+use lib.Dec.{leb, eqb}
+use lib.ListN.{length, getD, set, List·getD-map}
+use borrow.Author.Tests.{eqb-true}
+use Rattle.octets.specs.Tests.{_and_, _or_, any, findIx}
+use Rattle.octets.specs.Rows.{row, pickRow, refusal}
+use Rattle.octets.specs.Bytes.{le, part, put, zeros, isZero, putChunk}
+use Rattle.octets.proofs.Bools.{and-l, and-r, and-false-l, and-false-r, bool-cases, clash}
+use Rattle.octets.proofs.Equal.{zero-zeros}
+use Rattle.octets.proofs.Parts.{length-zeros}
+use Rattle.octets.proofs.Puts.{length-put}
+use Rattle.octets.proofs.Rows.{pick-true, pick-false}
+use Rattle.octets.proofs.Chunks.{length-chunks, length-chunk}
+use Rattle.gpt_model.specs.Table.{nameBytes, unused, rangeOf, entryOk, entries, rangesOf, goodTable}
+use Rattle.gpt_model.specs.Disk.{Shape, lastUsable, inRange, primary, backup, lentBytes, guidIn, state, tableOf, withTable}
+use Rattle.gpt_model.specs.Calls.{Edit, add, delete, resize, rename, Call, read, freeCounts, repair, edit, accepted, Outcome, unlessRefused, badName, entryOf, carries, lowestUnused, startFor, orZero, fitsAt, newEntry, tableRows, change, edited, lengthsOf, rowsOf, acceptedOutcome, step}
+use Rattle.gpt_model.specs.Stored.{EntryUsed, SameUsed}
+use Rattle.gpt_model.specs.Claims.{ClearedReads, GoodByUsed, AnswersByUsed, AddOverwrites}
+use Rattle.gpt_model.proofs.Fields.{part-put-at, new-whole}
+use Rattle.gpt_model.proofs.Entries.{unused-type, unused-nil, range-unused, range-nil, unused-ok, PairOk, entryAt, good-at, good-pair, good-make, ranges-put, at-same, good-put}
+use Rattle.gpt_model.proofs.Edits.{FitsEdit}
+use Rattle.gpt_model.proofs.Copies.{length-entries}
+use Rattle.gpt_model.proofs.States.{Holds, one-primary, readable-good, edit-holds}
+use Rattle.gpt_model.proofs.Outcomes.{step-accepted, accepted-none, repair-answer, row1, row2, open-common, edit-decides, edit-stops, open-none}
+use Rattle.gpt_model.proofs.Steps.{lens, len-table, edit-fits, edit-held}
+use Rattle.gpt_model.proofs.StoredTable.{entry-is, used-is}
+use Rattle.gpt_model.proofs.StoredEdits.{within}
+
+-- ---- lists that a function maps alike
+
+same-map : {A B : Type 0} (f : A → B) (xs ys : List A) (d : A) → length xs ≡ length ys
+    → ((i : ℕ) → i < length xs → f (getD xs i d) ≡ f (getD ys i d)) → map f xs ≡ map f ys
+same-map f [] [] d l e = refl
+same-map f [] (y ∷ ys) d l e = absurd (omega arith)
+same-map f (x ∷ xs) [] d l e = absurd (omega arith)
+same-map f (x ∷ xs) (y ∷ ys) d l e = ap₂ _∷_ (e 0 (zero-lt-suc _)) (same-map f xs ys d (omega arith) (λ i h. e (suc i) (suc-le-suc h)))
+
+any-map : {A : Type 0} (p : A → Bool) (xs : List A) → any p xs ≡ any (λ b. b) (map p xs)
+any-map p [] = refl
+any-map p (x ∷ xs) = ap (λ (b : Bool). p x or b) (any-map p xs)
+
+find-map : {A : Type 0} (p : A → Bool) (xs : List A) → findIx p xs ≡ findIx (λ b. b) (map p xs)
+find-map p [] = refl
+find-map p (x ∷ xs) = ap (λ (k : ℕ). elim (p x) [ true ↦ zero | false ↦ suc k ]) (find-map p xs)
+
+same-bool : (a b : Bool) → (a ≡ true → b ≡ true) → (b ≡ true → a ≡ true) → a ≡ b
+same-bool true b f g = sym (f refl)
+same-bool false true f g = g refl
+same-bool false false f g = refl
+
+-- ---- two tables with the same used entries
+
+same-back : (es es′ : List ℕ) → SameUsed es es′ → SameUsed es′ es
+same-back es es′ s i h = ⊎-elim (λ u. inl (u .1, u .0)) (λ e. inr (sym e)) (s i h)
+
+module _ (es es′ : List ℕ) (s : SameUsed es es′) where
+  unused-at : (tb : List ℕ) (i : ℕ) → i < 128 → (¬ EntryUsed tb i) → unused (entryAt tb i) ≡ true
+  unused-at tb i h n = ⊎-elim (λ q. q) (λ q. absurd (n (sym (used-is tb i h) ∙ q))) (bool-cases (unused (entryAt tb i)))
+
+  both : (i : ℕ) → i < 128 → ((unused (entryAt es i) ≡ true) × (unused (entryAt es′ i) ≡ true)) ⊎ (entryAt es i ≡ entryAt es′ i)
+  both i h = ⊎-elim (λ u. inl (unused-at es i h (u .0), unused-at es′ i h (u .1))) (λ e. inr (entry-is es i h ∙ e ∙ sym (entry-is es′ i h))) (s i h)
+
+  -- what takes every unused entry for the empty one
+  by-used : {B : Type 0} (f : List ℕ → B) → ((e : List ℕ) → unused e ≡ true → f e ≡ f []) → map f (entries es) ≡ map f (entries es′)
+  by-used f w =
+      same-map f (entries es) (entries es′) [] (length-chunks 128 128 es ∙ sym (length-chunks 128 128 es′))
+      (λ i h. ⊎-elim (λ u. w _ (u .0) ∙ sym (w _ (u .1))) (λ e. ap f e) (both i (omega (arith, length-chunks 128 128 es))))
+
+  entry-by : {B : Type 0} (f : List ℕ → B) → ((e : List ℕ) → unused e ≡ true → f e ≡ f []) → (k : ℕ) → f (entryOf es k) ≡ f (entryOf es′ k)
+  entry-by {B = B} f w k =
+      sym (List·getD-map f (entries es) (k - 1) []) ∙ ap (λ (l : List B). getD l (k - 1) (f [])) (by-used f w) ∙ List·getD-map f (entries es′) (k - 1) []
+
+  any-by : (p : List ℕ → Bool) → ((e : List ℕ) → unused e ≡ true → p e ≡ p []) → any p (entries es) ≡ any p (entries es′)
+  any-by p w = any-map p (entries es) ∙ ap (any (λ b. b)) (by-used p w) ∙ sym (any-map p (entries es′))
+
+  as-nil : (e : List ℕ) → unused e ≡ true → unused e ≡ unused []
+  as-nil e q = q ∙ sym unused-nil
+
+  same-ranges : rangesOf es ≡ rangesOf es′
+  same-ranges = by-used rangeOf (λ e q. range-unused e q ∙ sym range-nil)
+
+  same-carried : (unique : List ℕ) → any (carries unique) (entries es) ≡ any (carries unique) (entries es′)
+  same-carried unique = any-by (carries unique) (λ e q. and-false-l _ _ (ap not q) ∙ sym (and-false-l _ _ (ap not unused-nil)))
+
+  same-lowest : lowestUnused es ≡ lowestUnused es′
+  same-lowest = find-map unused (entries es) ∙ ap (findIx (λ b. b)) (by-used unused as-nil) ∙ sym (find-map unused (entries es′))
+
+  -- an entry without its stale bytes
+  abbrev seen : List ℕ → List ℕ
+  seen e = cond (unused e) [] e
+
+  same-used : (k : ℕ) → unused (entryOf es k) ≡ false → entryOf es k ≡ entryOf es′ k
+  same-used k u =
+      let u′ = sym (entry-by unused as-nil k) ∙ u in
+      sym (ap (λ (b : Bool). cond b [] (entryOf es k)) u) ∙ entry-by seen (λ e q. rw (q, unused-nil) refl) k ∙ ap (λ (b : Bool). cond b [] (entryOf es′ k)) u′
+
+  module _ (first last : ℕ) where
+    same-refusal : (d : Edit) → refusal (tableRows first last es d) ≡ refusal (tableRows first last es′ d)
+    same-refusal (add p) = rw (same-carried (p .unique), any-by unused as-nil, same-ranges)
+    same-refusal (delete k) = ap (λ (b : Bool). refusal (row (not (leb 1 k and leb k 128)) 12 ∷ row b 13 ∷ [])) (entry-by unused as-nil k)
+    same-refusal (rename k name) =
+        ap (λ (b : Bool). refusal (row (not (leb 1 k and leb k 128)) 12 ∷ row b 13 ∷ row (badName name) 23 ∷ [])) (entry-by unused as-nil k)
+    same-refusal (resize k size) = ap (pickRow (not (leb 1 k and leb k 128)) 12) (go (bool-cases (unused (entryOf es k))))
+      where
+        behind : List ℕ → Option ℕ
+        behind tb = pickRow (eqb size 0) 20 (pickRow (not (fitsAt last tb k size)) 25 none)
+
+        go : (unused (entryOf es k) ≡ true) ⊎ (unused (entryOf es k) ≡ false)
+            → pickRow (unused (entryOf es k)) 13 (behind es) ≡ pickRow (unused (entryOf es′ k)) 13 (behind es′)
+        go (inl q) = pick-true _ 13 _ q ∙ sym (pick-true _ 13 _ (sym (entry-by unused as-nil k) ∙ q))
+        go (inr q) = rw (same-used k q, same-ranges)
+
+    same-values : (d : Edit) → change first last es d .values ≡ change first last es′ d .values
+    same-values (add p) = rw (same-lowest, same-ranges)
+    same-values (delete k) = refl
+    same-values (resize k size) = refl
+    same-values (rename k name) = refl
+
+    good-same : goodTable first last es ≡ true → goodTable first last es′ ≡ true
+    good-same k = good-make first last es′ each two
+      where
+        each : (i : ℕ) → i < 128 → entryOk first last (entryAt es′ i) ≡ true
+        each i h =
+            ⊎-elim (λ u. unused-ok first last _ (u .1)) (λ e. subst (λ (x : List ℕ). entryOk first last x ≡ true) e (good-at first last es k i h)) (both i h)
+
+        two : (i j : ℕ) → i < 128 → j < 128 → i < j → PairOk (entryAt es′ i) (entryAt es′ j)
+        two i j hi hj l u v = go (both i hi) (both j hj) u v
+          where
+            go : ((unused (entryAt es i) ≡ true) × (unused (entryAt es′ i) ≡ true)) ⊎ (entryAt es i ≡ entryAt es′ i)
+                → ((unused (entryAt es j) ≡ true) × (unused (entryAt es′ j) ≡ true)) ⊎ (entryAt es j ≡ entryAt es′ j)
+                → PairOk (entryAt es′ i) (entryAt es′ j)
+            go (inl p) q a b = absurd (clash (p .1) a)
+            go (inr p) (inl q) a b = absurd (clash (q .1) b)
+            go (inr p) (inr q) a b = subst₂ PairOk p q (good-pair first last es k i j hi hj (λ r. omega arith)) a b
+
+pub goodByUsed : GoodByUsed
+goodByUsed first last es es′ s = same-bool _ _ (good-same es es′ s first last) (good-same es′ es (same-back es es′ s) first last)
+
+-- ---- a disk that reads as state 1
+
+module _ (g : Shape) (n : ℕ) (h t : List ℕ) (one : step g n h t read .answer ≡ accepted (1 ∷ [])) where
+  read-none : refusal (rowsOf g n h t read) ≡ none
+  read-none = accepted-none g n h t read (1 ∷ []) one
+
+  state-one : state g n h t ≡ 1
+  state-one =
+      let a : accepted (state g n h t ∷ []) ≡ accepted (1 ∷ []) = ap (λ (o : Outcome). o .answer) (sym (step-accepted g n h t read read-none)) ∙ one in
+      cc
+
+  -- an edit is refused for its lengths, or by the table
+  edit-refusal : (d : Edit) → refusal (rowsOf g n h t (edit d)) ≡ pickRow (not (lengthsOf d)) 1 (refusal (tableRows (g .first) (lastUsable g n) (tableOf g n h t) d))
+  edit-refusal d = go (bool-cases (lengthsOf d))
+    where
+      rest : Option ℕ
+      rest = refusal (tableRows (g .first) (lastUsable g n) (tableOf g n h t) d)
+
+      go : (lengthsOf d ≡ true) ⊎ (lengthsOf d ≡ false) → refusal (rowsOf g n h t (edit d)) ≡ pickRow (not (lengthsOf d)) 1 rest
+      go (inl l) =
+          let w = row1 g n h t true read-none in
+          edit-decides g n h t d (open-none g n h t d (w .0) (w .1) l (row2 g n h t true read-none) state-one) ∙ sym (pick-false _ 1 rest (ap not l))
+      go (inr l) = edit-stops g n h t d 1 (pick-true _ 1 _ (ap not (and-false-r _ _ l))) ∙ sym (pick-true _ 1 rest (ap not l))
+
+module _ (g : Shape) (n : ℕ) (h t h′ t′ : List ℕ) where
+  -- refused alike, and with the same values where it is accepted
+  same-answer : (c : Call) → refusal (rowsOf g n h t c) ≡ refusal (rowsOf g n h′ t′ c)
+      → acceptedOutcome g n h t c .answer ≡ acceptedOutcome g n h′ t′ c .answer → step g n h t c .answer ≡ step g n h′ t′ c .answer
+  unfolding step
+  same-answer c r a = go (refusal (rowsOf g n h t c)) ∙ ap (λ (q : Option ℕ). unlessRefused q h′ t′ (acceptedOutcome g n h′ t′ c) .answer) r
+    where
+      go : (q : Option ℕ) → unlessRefused q h t (acceptedOutcome g n h t c) .answer ≡ unlessRefused q h′ t′ (acceptedOutcome g n h′ t′ c) .answer
+      go none = a
+      go (some k) = refl
+
+pub answersByUsed : AnswersByUsed
+answersByUsed g n h t h′ t′ one one′ s c = go c
+  where
+    es : List ℕ
+    es = tableOf g n h t
+
+    es′ : List ℕ
+    es′ = tableOf g n h′ t′
+
+    common : refusal (rowsOf g n h t read) ≡ refusal (rowsOf g n h′ t′ read)
+    common = read-none g n h t one ∙ sym (read-none g n h′ t′ one′)
+
+    go : (c : Call) → step g n h t c .answer ≡ step g n h′ t′ c .answer
+    go read = one ∙ sym one′
+    go freeCounts = same-answer g n h t h′ t′ freeCounts common (rw (same-ranges es es′ s))
+    go repair =
+        same-answer g n h t h′ t′ repair common
+        (repair-answer g n h t ∙ ap (λ (x : ℕ). accepted (x ∷ [])) (state-one g n h t one ∙ sym (state-one g n h′ t′ one′)) ∙ sym (repair-answer g n h′ t′))
+    go (edit d) =
+        same-answer g n h t h′ t′ (edit d)
+        (edit-refusal g n h t one d ∙ ap (pickRow (not (lengthsOf d)) 1) (same-refusal es es′ s (g .first) (lastUsable g n) d) ∙ sym (edit-refusal g n h′ t′ one′ d))
+        (ap accepted (same-values es es′ s (g .first) (lastUsable g n) d))
+
+-- ---- a type GUID cleared by another tool
+
+pub clearedReads : ClearedReads
+clearedReads g n h t i wide hi one = (
+  ap (λ (o : Outcome). o .answer) (step-accepted g n h′ t′ read again) ∙ ap (λ (x : ℕ). accepted (x ∷ [])) (w .reads),
+  w .table,
+  ap rangesOf (sym is) ∙ ranges-put first last es len i e hi le′ ∙ ap (set (rangesOf es) i) (range-unused e un),
+)
+  where
+    first : ℕ
+    first = g .first
+
+    last : ℕ
+    last = lastUsable g n
+
+    es : List ℕ
+    es = tableOf g n h t
+
+    -- the type GUID of entry i zeroed
+    cleared : List ℕ
+    cleared = put (i * 128) (zeros 16) es
+
+    sizes : (length h ≡ lentBytes g primary) × (length t ≡ lentBytes g backup) × (true ≡ true)
+    sizes = row1 g n h t true (read-none g n h t one)
+
+    range : inRange g n ≡ true
+    range = row2 g n h t true (read-none g n h t one)
+
+    len : length es ≡ 16384
+    len = ap length (one-primary g n h t (state-one g n h t one)) ∙ length-entries g wide primary h (sizes .0)
+
+    good : goodTable first last es ≡ true
+    good = readable-good g n h t (λ z. omega (arith, state-one g n h t one))
+
+    e : List ℕ
+    e = put 0 (zeros 16) (entryAt es i)
+
+    la : length (entryAt es i) ≡ 128
+    la = length-chunk 128 128 i es hi len
+
+    le′ : length e ≡ 128
+    le′ = length-put 0 (zeros 16) (entryAt es i) ∙ la
+
+    un : unused e ≡ true
+    un = unused-type e ∙ ap isZero (part-put-at (zeros 16) (entryAt es i) 0 16 (length-zeros 16) (omega (arith, la))) ∙ zero-zeros 16
+
+    is : putChunk 128 i e es ≡ cleared
+    is = within es len i hi (zeros 16) 0 (omega (arith, length-zeros 16)) le′ ∙ ap (λ (x : ℕ). put x (zeros 16) es) (omega arith)
+
+    h′ : List ℕ
+    h′ = withTable g n primary (guidIn g primary h) cleared h
+
+    t′ : List ℕ
+    t′ = withTable g n backup (guidIn g backup t) cleared t
+
+    w : Holds g n h′ t′ cleared
+    w =
+        edit-holds g wide n h t (sizes .0) (sizes .1) cleared (length-put (i * 128) (zeros 16) es ∙ len)
+        (subst (λ (x : List ℕ). goodTable first last x ≡ true) is
+        (good-put first last es len i e hi le′ good (unused-ok first last e un) (λ j hj ne a b. absurd (clash un a))))
+        (state-one g n h t one)
+
+    again : refusal (rowsOf g n h′ t′ read) ≡ none
+    again = open-common g n h′ t′ (delete 0) (open-none g n h′ t′ (delete 0) (w .len-head) (w .len-tail) refl range (w .reads))
+
+-- ---- an add
+
+pub addOverwrites : AddOverwrites
+addOverwrites g n h t p i s wide a =
+    subst₂
+    (λ (j b : ℕ). part (j * 128) 128 (tableOf g n (step g n h t (edit (add p)) .head) (step g n h t (edit (add p)) .tail))
+    ≡ p .kind ++ p .unique ++ le 8 b ++ le 8 (b + p .size - 1) ++ le 8 (p .attributes) ++ nameBytes (p .name))
+    slot-is start-is
+    (ap (part (j * 128) 128) table ∙ sym (entry-is (edited first last es (add p)) j (f .index)) ∙ at-same first last es len j (newEntry p b) (f .index) (f .len)
+    ∙ new-whole p b (eqb-true _ _ (and-l _ _ (and-l _ _ l))) (eqb-true _ _ (and-r _ _ (and-l _ _ l))) (eqb-true _ _ (and-r _ _ l)))
+  where
+    first : ℕ
+    first = g .first
+
+    last : ℕ
+    last = lastUsable g n
+
+    es : List ℕ
+    es = tableOf g n h t
+
+    j : ℕ
+    j = lowestUnused es
+
+    b : ℕ
+    b = orZero (startFor first last es p)
+
+    e : refusal (rowsOf g n h t (edit (add p))) ≡ none
+    e = accepted-none g n h t (edit (add p)) (suc i ∷ s ∷ []) a
+
+    answered : accepted (suc j ∷ b ∷ []) ≡ accepted (suc i ∷ s ∷ [])
+    answered = ap (λ (o : Outcome). o .answer) (sym (step-accepted g n h t (edit (add p)) e)) ∙ a
+
+    slot-is : j ≡ i
+    slot-is = let q = answered in cc
+
+    start-is : b ≡ s
+    start-is = let q = answered in cc
+
+    l : lengthsOf (add p) ≡ true
+    l = lens g wide n h t (add p) e .2
+
+    len : length es ≡ 16384
+    len = len-table g wide n h t (add p) e
+
+    f : FitsEdit first last es (add p)
+    f = edit-fits g wide n h t (add p) e
+
+    table : tableOf g n (step g n h t (edit (add p)) .head) (step g n h t (edit (add p)) .tail) ≡ edited first last es (add p)
+    table = ap (λ (o : Outcome). tableOf g n (o .head) (o .tail)) (step-accepted g n h t (edit (add p)) e) ∙ edit-held g wide n h t (add p) e .table
