@@ -7,25 +7,28 @@ use mathlib.Core.Option.{Option, none, some}
 use Prim.Native.Nat.{ℕ, zero, suc, _+_, _-_, _*_, _<_, suc-le-suc}
 use native.Mathlib.Nat.{zero-lt-suc}
 use native.Mathlib.Omega.{arith}
-use lib.Dec.{leb, eqb}
+use lib.Dec.{leb}
 use lib.ListN.{length, getD, set, List·getD-map}
 use borrow.Author.Tests.{eqb-true}
 use Rattle.octets.specs.Tests.{_and_, _or_, any, findIx}
-use Rattle.octets.specs.Rows.{row, pickRow, refusal}
+use Rattle.octets.specs.Rows.{Row, pickRow, refusal}
 use Rattle.octets.specs.Bytes.{le, part, put, zeros, isZero, putChunk}
 use Rattle.octets.proofs.Bools.{and-l, and-r, and-false-l, and-false-r, bool-cases, clash}
 use Rattle.octets.proofs.Equal.{zero-zeros}
 use Rattle.octets.proofs.Parts.{length-zeros}
 use Rattle.octets.proofs.Puts.{length-put}
-use Rattle.octets.proofs.Rows.{pick-true, pick-false}
+use Rattle.octets.proofs.Rows.{rowsFrom, pick-true, pick-false}
 use Rattle.octets.proofs.Chunks.{length-chunks, length-chunk}
 use Rattle.gpt_model.specs.Table.{nameBytes, unused, rangeOf, entryOk, entries, rangesOf, goodTable}
 use Rattle.gpt_model.specs.Disk.{Shape, lastUsable, inRange, primary, backup, lentBytes, guidIn, state, tableOf, withTable}
-use Rattle.gpt_model.specs.Calls.{Edit, add, delete, resize, rename, Call, read, freeCounts, repair, edit, accepted, Outcome, unlessRefused, badName, entryOf, carries, lowestUnused, startFor, orZero, fitsAt, newEntry, tableRows, change, edited, lengthsOf, rowsOf, acceptedOutcome, step}
+use Rattle.gpt_model.specs.Calls.{Edit, add, delete, resize, rename, Call, read, freeCounts, repair, edit, accepted, Outcome, unlessRefused}
+use Rattle.gpt_model.specs.Calls.{entryOf, carries, orZero, slotRows, lowestUnused, newEntry, startFor, tableRows, change, edited}
+use Rattle.gpt_model.specs.Calls.{lengthsOf, rowsOf, acceptedOutcome, step}
 use Rattle.gpt_model.specs.Stored.{EntryUsed, SameUsed}
 use Rattle.gpt_model.specs.Claims.{ClearedReads, GoodByUsed, AnswersByUsed, AddOverwrites}
 use Rattle.gpt_model.proofs.Fields.{part-put-at, new-whole}
-use Rattle.gpt_model.proofs.Entries.{unused-type, unused-nil, range-unused, range-nil, unused-ok, PairOk, entryAt, good-at, good-pair, good-make, ranges-put, at-same, good-put}
+use Rattle.gpt_model.proofs.Entries.{unused-type, unused-nil, range-unused, range-nil, unused-ok, PairOk}
+use Rattle.gpt_model.proofs.Entries.{entryAt, good-at, good-pair, good-make, ranges-put, at-same, good-put}
 use Rattle.gpt_model.proofs.Edits.{FitsEdit}
 use Rattle.gpt_model.proofs.Copies.{length-entries}
 use Rattle.gpt_model.proofs.States.{Holds, one-primary, readable-good, edit-holds}
@@ -105,17 +108,20 @@ module _ (es es′ : List ℕ) (s : SameUsed es es′) where
   module _ (first last : ℕ) where
     same-refusal : (d : Edit) → refusal (tableRows first last es d) ≡ refusal (tableRows first last es′ d)
     same-refusal (add p) = rw (same-carried (p .unique), any-by unused as-nil, same-ranges)
-    same-refusal (delete k) = ap (λ (b : Bool). refusal (row (not (leb 1 k and leb k 128)) 12 ∷ row b 13 ∷ [])) (entry-by unused as-nil k)
-    same-refusal (rename k name) =
-        ap (λ (b : Bool). refusal (row (not (leb 1 k and leb k 128)) 12 ∷ row b 13 ∷ row (badName name) 23 ∷ [])) (entry-by unused as-nil k)
-    same-refusal (resize k size) = ap (pickRow (not (leb 1 k and leb k 128)) 12) (go (bool-cases (unused (entryOf es k))))
+    same-refusal (delete k) = rw (entry-by unused as-nil k)
+    same-refusal (rename k name) = rw (entry-by unused as-nil k)
+    same-refusal (resize k size) = go (bool-cases (unused (entryOf es k)))
       where
-        behind : List ℕ → Option ℕ
-        behind tb = pickRow (eqb size 0) 20 (pickRow (not (fitsAt last tb k size)) 25 none)
+        behind : List ℕ → List Row
+        behind tb = rowsFrom 20 (tableRows first last tb (resize k size))
+
+        -- 12 or 13, whatever the rows behind them are
+        stops : (tb : List ℕ) (rs : List Row) → unused (entryOf tb k) ≡ true → refusal (slotRows tb k ++ rs) ≡ pickRow (not (leb 1 k and leb k 128)) 12 (some 13)
+        stops tb rs q = ap (pickRow (not (leb 1 k and leb k 128)) 12) (pick-true _ 13 _ q)
 
         go : (unused (entryOf es k) ≡ true) ⊎ (unused (entryOf es k) ≡ false)
-            → pickRow (unused (entryOf es k)) 13 (behind es) ≡ pickRow (unused (entryOf es′ k)) 13 (behind es′)
-        go (inl q) = pick-true _ 13 _ q ∙ sym (pick-true _ 13 _ (sym (entry-by unused as-nil k) ∙ q))
+            → refusal (tableRows first last es (resize k size)) ≡ refusal (tableRows first last es′ (resize k size))
+        go (inl q) = stops es (behind es) q ∙ sym (stops es′ (behind es′) (sym (entry-by unused as-nil k) ∙ q))
         go (inr q) = rw (same-used k q, same-ranges)
 
     same-values : (d : Edit) → change first last es d .values ≡ change first last es′ d .values
@@ -156,7 +162,8 @@ module _ (g : Shape) (n : ℕ) (h t : List ℕ) (one : step g n h t read .answer
       cc
 
   -- an edit is refused for its lengths, or by the table
-  edit-refusal : (d : Edit) → refusal (rowsOf g n h t (edit d)) ≡ pickRow (not (lengthsOf d)) 1 (refusal (tableRows (g .first) (lastUsable g n) (tableOf g n h t) d))
+  edit-refusal : (d : Edit)
+      → refusal (rowsOf g n h t (edit d)) ≡ pickRow (not (lengthsOf d)) 1 (refusal (tableRows (g .first) (lastUsable g n) (tableOf g n h t) d))
   edit-refusal d = go (bool-cases (lengthsOf d))
     where
       rest : Option ℕ
@@ -199,7 +206,9 @@ answersByUsed g n h t h′ t′ one one′ s c = go c
         (repair-answer g n h t ∙ ap (λ (x : ℕ). accepted (x ∷ [])) (state-one g n h t one ∙ sym (state-one g n h′ t′ one′)) ∙ sym (repair-answer g n h′ t′))
     go (edit d) =
         same-answer g n h t h′ t′ (edit d)
-        (edit-refusal g n h t one d ∙ ap (pickRow (not (lengthsOf d)) 1) (same-refusal es es′ s (g .first) (lastUsable g n) d) ∙ sym (edit-refusal g n h′ t′ one′ d))
+        (edit-refusal g n h t one d
+        ∙ ap (pickRow (not (lengthsOf d)) 1) (same-refusal es es′ s (g .first) (lastUsable g n) d)
+        ∙ sym (edit-refusal g n h′ t′ one′ d))
         (ap accepted (same-values es es′ s (g .first) (lastUsable g n) d))
 
 -- ---- a type GUID cleared by another tool
@@ -275,7 +284,9 @@ addOverwrites g n h t p i s wide a =
     (λ (j b : ℕ). part (j * 128) 128 (tableOf g n (step g n h t (edit (add p)) .head) (step g n h t (edit (add p)) .tail))
     ≡ p .kind ++ p .unique ++ le 8 b ++ le 8 (b + p .size - 1) ++ le 8 (p .attributes) ++ nameBytes (p .name))
     slot-is start-is
-    (ap (part (j * 128) 128) table ∙ sym (entry-is (edited first last es (add p)) j (f .index)) ∙ at-same first last es len j (newEntry p b) (f .index) (f .len)
+    (ap (part (j * 128) 128) table
+    ∙ sym (entry-is (edited first last es (add p)) j (f .index))
+    ∙ at-same first last es len j (newEntry p b) (f .index) (f .len)
     ∙ new-whole p b (eqb-true _ _ (and-l _ _ (and-l _ _ l))) (eqb-true _ _ (and-r _ _ (and-l _ _ l))) (eqb-true _ _ (and-r _ _ l)))
   where
     first : ℕ
