@@ -1,19 +1,19 @@
 -- Stale bytes, which an unused entry holds behind its type GUID: nothing that is judged or answered goes by them, and an add leaves none.
-use mathlib.Core.Path.{_≡_, refl, sym, ap, ap₂, subst, subst₂, _∙_}
+use mathlib.Core.Path.{_≡_, refl, sym, ap, subst, subst₂, _∙_}
 use mathlib.Core.Logic.{_⊎_, inl, inr, ⊎-elim}
 use mathlib.Core.Bool.{Bool, true, false, not, cond}
 use mathlib.Core.List.{List, [], _∷_, _++_, map}
 use mathlib.Core.Option.{Option, none, some}
-use Prim.Native.Nat.{ℕ, zero, suc, _+_, _-_, _*_, _<_, suc-le-suc}
-use native.Mathlib.Nat.{zero-lt-suc}
+use Prim.Native.Nat.{ℕ, suc, _+_, _-_, _*_, _<_}
 use native.Mathlib.Omega.{arith}
 use lib.Dec.{leb}
 use lib.ListN.{length, getD, set, List·getD-map}
 use borrow.Author.Tests.{eqb-true}
-use Rattle.octets.specs.Tests.{_and_, _or_, any, findIx}
+use Rattle.octets.specs.Tests.{_and_, any, findIx}
 use Rattle.octets.specs.Rows.{Row, pickRow, refusal}
 use Rattle.octets.specs.Bytes.{le, part, put, zeros, isZero, putChunk}
-use Rattle.octets.proofs.Bools.{and-l, and-r, and-false-l, and-false-r, bool-cases, clash}
+use Rattle.octets.proofs.Bools.{and-l, and-r, and-false-l, and-false-r, bool-cases, eq-from, clash}
+use Rattle.octets.proofs.Tests.{map-same, any-map, findIx-map}
 use Rattle.octets.proofs.Equal.{zero-zeros}
 use Rattle.octets.proofs.Parts.{length-zeros}
 use Rattle.octets.proofs.Puts.{length-put}
@@ -37,28 +37,6 @@ use Rattle.gpt_model.proofs.Steps.{lens, len-table, edit-fits, edit-hel
 use Rattle.gpt_model.proofs.StoredTable.{entry-is, used-is}
 use Rattle.gpt_model.proofs.StoredEdits.{within}
 
--- ---- lists that a function maps alike
-
-same-map : {A B : Type 0} (f : A → B) (xs ys : List A) (d : A) → length xs ≡ length ys
-    → ((i : ℕ) → i < length xs → f (getD xs i d) ≡ f (getD ys i d)) → map f xs ≡ map f ys
-same-map f [] [] d l e = refl
-same-map f [] (y ∷ ys) d l e = absurd (omega arith)
-same-map f (x ∷ xs) [] d l e = absurd (omega arith)
-same-map f (x ∷ xs) (y ∷ ys) d l e = ap₂ _∷_ (e 0 (zero-lt-suc _)) (same-map f xs ys d (omega arith) (λ i h. e (suc i) (suc-le-suc h)))
-
-any-map : {A : Type 0} (p : A → Bool) (xs : List A) → any p xs ≡ any (λ b. b) (map p xs)
-any-map p [] = refl
-any-map p (x ∷ xs) = ap (λ (b : Bool). p x or b) (any-map p xs)
-
-find-map : {A : Type 0} (p : A → Bool) (xs : List A) → findIx p xs ≡ findIx (λ b. b) (map p xs)
-find-map p [] = refl
-find-map p (x ∷ xs) = ap (λ (k : ℕ). elim (p x) [ true ↦ zero | false ↦ suc k ]) (find-map p xs)
-
-same-bool : (a b : Bool) → (a ≡ true → b ≡ true) → (b ≡ true → a ≡ true) → a ≡ b
-same-bool true b f g = sym (f refl)
-same-bool false true f g = g refl
-same-bool false false f g = refl
-
 -- ---- two tables with the same used entries
 
 same-back : (es es′ : List ℕ) → SameUsed es es′ → SameUsed es′ es
@@ -74,7 +52,7 @@ module _ (es es′ : List ℕ) (s : SameUsed es es′) where
   -- what takes every unused entry for the empty one
   by-used : {B : Type 0} (f : List ℕ → B) → ((e : List ℕ) → unused e ≡ true → f e ≡ f []) → map f (entries es) ≡ map f (entries es′)
   by-used f w =
-      same-map f (entries es) (entries es′) [] (length-chunks 128 128 es ∙ sym (length-chunks 128 128 es′))
+      map-same f (entries es) (entries es′) [] (length-chunks 128 128 es ∙ sym (length-chunks 128 128 es′))
       (λ i h. ⊎-elim (λ u. w _ (u .0) ∙ sym (w _ (u .1))) (λ e. ap f e) (both i (omega (arith, length-chunks 128 128 es))))
 
   entry-by : {B : Type 0} (f : List ℕ → B) → ((e : List ℕ) → unused e ≡ true → f e ≡ f []) → (k : ℕ) → f (entryOf es k) ≡ f (entryOf es′ k)
@@ -94,7 +72,7 @@ module _ (es es′ : List ℕ) (s : SameUsed es es′) where
   same-carried unique = any-by (carries unique) (λ e q. and-false-l _ _ (ap not q) ∙ sym (and-false-l _ _ (ap not unused-nil)))
 
   same-lowest : lowestUnused es ≡ lowestUnused es′
-  same-lowest = find-map unused (entries es) ∙ ap (findIx (λ b. b)) (by-used unused as-nil) ∙ sym (find-map unused (entries es′))
+  same-lowest = findIx-map unused (entries es) ∙ ap (findIx (λ b. b)) (by-used unused as-nil) ∙ sym (findIx-map unused (entries es′))
 
   -- an entry without its stale bytes
   abbrev seen : List ℕ → List ℕ
@@ -148,7 +126,7 @@ module _ (es es′ : List ℕ) (s : SameUsed es es′) where
             go (inr p) (inr q) a b = subst₂ PairOk p q (good-pair first last es k i j hi hj (λ r. omega arith)) a b
 
 pub goodByUsed : GoodByUsed
-goodByUsed first last es es′ s = same-bool _ _ (good-same es es′ s first last) (good-same es′ es (same-back es es′ s) first last)
+goodByUsed first last es es′ s = eq-from _ _ (good-same es es′ s first last) (good-same es′ es (same-back es es′ s) first last)
 
 -- ---- a disk that reads as state 1
 

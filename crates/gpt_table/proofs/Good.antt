@@ -14,7 +14,7 @@ use lib.Seq.{set-out, take-add, drop-drop, drop-cons}
 use borrow.Author.Tests.{leb-true, eqb-true, eq-eqb, ne-eqb, lt-leb, le-leb, lt-ltb, le-ltb}
 use Rattle.octets.specs.Tests.{_and_, _or_, all, pairs}
 use Rattle.octets.specs.Bytes.{unle, part, field, isZero, same}
-use Rattle.octets.proofs.Bools.{and-l, and-r, and-i, bool-cases, clash}
+use Rattle.octets.proofs.Bools.{and-l, and-r, and-i, bool-cases, eq-from, clash}
 use Rattle.octets.proofs.Tests.{pairs-get, pairs-make, all-get, all-make, all-done, getD-map}
 use Rattle.octets.proofs.Parts.{getD-part, part-part}
 use Rattle.octets.proofs.Equal.{same-true, same-refl, field-same}
@@ -24,7 +24,7 @@ use Rattle.gpt_model.proofs.Entries.{range-used, pair-make}
 use Rattle.gpt_table.specs.Invariants.{used, Decoded, differ, Guids, ranges, Reordered, Ascending, InOrder}
 use Rattle.gpt_table.proofs.Entries.{length-entries}
 use Rattle.gpt_table.proofs.Used.{used-yes, used-no, used-each, low-at, high-at, length-ranges, getD-ranges}
-use Rattle.gpt_table.proofs.Reorders.{eq-from, reordered-all, reordered-pairs}
+use Rattle.gpt_table.proofs.Reorders.{reordered-all, reordered-pairs}
 use Rattle.gpt_table.proofs.Exchanges.{ascends}
 
 -- ---- one entry

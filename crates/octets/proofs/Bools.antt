@@ -84,6 +84,11 @@ pub not-f : (a : Bool) → not a ≡ false → a ≡ true
 not-f true e = refl
 not-f false e = absurd (true≢false e)
 
+pub eq-from : (a b : Bool) → (a ≡ true → b ≡ true) → (b ≡ true → a ≡ true) → a ≡ b
+eq-from true b f g = sym (f refl)
+eq-from false true f g = g refl
+eq-from false false f g = refl
+
 pub clash : {a : Bool} → a ≡ true → a ≡ false → ⊥
 clash p q = true≢false (sym p ∙ q)
 

@@ -1,11 +1,12 @@
 -- Laws of tests over lists: at an index, from every index, and along a loop.
-use mathlib.Core.Path.{_≡_, refl, sym, _∙_}
+use mathlib.Core.Path.{_≡_, refl, sym, ap, ap₂, _∙_}
 use mathlib.Core.Logic.{_⊎_, inl, inr}
 use mathlib.Core.Bool.{Bool, true, false, false≢true}
 use mathlib.Core.List.{List, [], _∷_, _++_, map, reverseAux, reverse}
 use Prim.Native.Nat.{ℕ, zero, suc, _+_, _≤_, _<_, suc-le-suc}
 use native.Mathlib.Nat.{le-of-suc-le-suc, not-suc-le-zero, zero-lt-suc, add-zero, add-suc, suc-add}
 use native.Mathlib.Numerals.{add-one}
+use native.Mathlib.Omega.{arith}
 use lib.ListN.{length, getD, take, drop, drop-of-length-le}
 use lib.Seq.{drop-cons}
 use Rattle.octets.specs.Tests.{_and_, _or_, all, any, pairs, findIx}
@@ -144,3 +145,21 @@ module _ {A B : Type 0} where
   getD-map f [] i y d h = absurd (not-suc-le-zero h)
   getD-map f (x ∷ xs) zero y d h = refl
   getD-map f (x ∷ xs) (suc i) y d h = getD-map f xs i y d (le-of-suc-le-suc h)
+
+  -- two lists that f maps element by element to the same
+  pub map-same : (f : A → B) (xs ys : List A) (d : A) → length xs ≡ length ys
+      → ((i : ℕ) → i < length xs → f (getD xs i d) ≡ f (getD ys i d)) → map f xs ≡ map f ys
+  map-same f [] [] d l e = refl
+  map-same f [] (y ∷ ys) d l e = absurd (omega arith)
+  map-same f (x ∷ xs) [] d l e = absurd (omega arith)
+  map-same f (x ∷ xs) (y ∷ ys) d l e = ap₂ _∷_ (e 0 (zero-lt-suc _)) (map-same f xs ys d (omega arith) (λ i h. e (suc i) (suc-le-suc h)))
+
+-- a test over a list is one over its results
+module _ {A : Type 0} where
+  pub any-map : (p : A → Bool) (xs : List A) → any p xs ≡ any (λ b. b) (map p xs)
+  any-map p [] = refl
+  any-map p (x ∷ xs) = ap (λ (b : Bool). p x or b) (any-map p xs)
+
+  pub findIx-map : (p : A → Bool) (xs : List A) → findIx p xs ≡ findIx (λ b. b) (map p xs)
+  findIx-map p [] = refl
+  findIx-map p (x ∷ xs) = ap (λ (k : ℕ). elim (p x) [ true ↦ zero | false ↦ suc k ]) (findIx-map p xs)
