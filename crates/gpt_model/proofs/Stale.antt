@@ -94,7 +94,8 @@ module _ (es es′ : List ℕ) (s : SameUsed es es′) where
         behind tb = rowsFrom 20 (tableRows first last tb (resize k size))
 
         -- 12 or 13, whatever the rows behind them are
-        stops : (tb : List ℕ) (rs : List Row) → unused (entryOf tb k) ≡ true → refusal (slotRows tb k ++ rs) ≡ pickRow (not (leb 1 k and leb k 128)) 12 (some 13)
+        stops : (tb : List ℕ) (rs : List Row) → unused (entryOf tb k) ≡ true
+            → refusal (slotRows tb k ++ rs) ≡ pickRow (not (leb 1 k and leb k 128)) 12 (some 13)
         stops tb rs q = ap (pickRow (not (leb 1 k and leb k 128)) 12) (pick-true _ 13 _ q)
 
         go : (unused (entryOf es k) ≡ true) ⊎ (unused (entryOf es k) ≡ false)

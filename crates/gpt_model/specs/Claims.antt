@@ -200,7 +200,7 @@ ClearedReads =
 abbrev pub GoodByUsed : Type 0
 GoodByUsed = (first last : ℕ) (es es′ : List ℕ) → SameUsed es es′ → goodTable first last es ≡ goodTable first last es′
 
--- and so does every call that comes next: what it answers, with refusals 13 and 22 to 25, slot and first block of an add, and free counts
+-- and what every call answers goes by them alone: refusals, slot and first block of an add, free counts
 abbrev pub AnswersByUsed : Type 0
 AnswersByUsed =
     (g : Shape) (n : ℕ) (h t h′ t′ : List ℕ) → step g n h t read .answer ≡ accepted (1 ∷ []) → step g n h′ t′ read .answer ≡ accepted (1 ∷ [])
