@@ -62,7 +62,7 @@ macro_rules! disk_tests {
                 an_add_overwrites_stale_bytes,
                 stale_bytes_are_compared_and_repaired,
                 stale_slots_are_places,
-                a_used_entry_without_a_unique_guid_is_bad,
+                a_type_makes_an_entry_a_used_one,
                 fixtures_read_as_their_tool_said,
                 sgdisk_lists_the_same,
                 sfdisk_lists_the_same,

@@ -146,22 +146,32 @@ pub fn stale_slots_are_places(calls: &Calls) {
             slots.iter().for_each(|slot| clear_type(calls, &mut disk, *slot));
             disk
         };
-        let new = |unique: &'static str| New { kind: "linux", unique, size: 1, attributes: 0, name: "a" };
+        let add = |disk: &mut Disk, size: u64, unique: &str| {
+            (calls.add)(disk, &New { kind: "linux", unique, size, attributes: 0, name: "a" })
+        };
         let uniques = ["00000000-0000-0000-0000-000000000001", "00000000-0000-0000-0000-000000000002"];
         let mut empty = without(&(1..=128).collect::<Vec<_>>());
         assert_eq!((calls.rows)(&empty), Ok(Vec::new()));
         assert_eq!((calls.free)(&empty), Ok((shape.usable(n), shape.usable(n))));
         assert_eq!((calls.delete)(&mut empty, 128), Err(13));
-        assert_eq!(uniques.map(|unique| (calls.add)(&mut empty, &new(unique))), [Ok(1), Ok(2)]);
+        let sizes = [shape.usable(n) - 1, 1];
+        assert_eq!([0, 1].map(|k| add(&mut empty, sizes[k], uniques[k])), [Ok(1), Ok(2)]);
         let mut one = without(&[77]);
-        assert_eq!(uniques.map(|unique| (calls.add)(&mut one, &new(unique))), [Ok(77), Err(24)]);
+        assert_eq!(uniques.map(|unique| add(&mut one, 1, unique)), [Ok(77), Err(24)]);
     }
 }
 
-/// A type GUID makes an entry a used one, which must have a unique GUID.
-pub fn a_used_entry_without_a_unique_guid_is_bad(calls: &Calls) {
+/// Each byte of its type GUID makes an entry a used one, which must have a unique GUID.
+pub fn a_type_makes_an_entry_a_used_one(calls: &Calls) {
     for shape in SHAPES {
         let mut disk = three(calls, shape);
+        for at in 0..16 {
+            let kind: [u8; 16] = std::array::from_fn(|place| u8::from(place == at));
+            disk.entry(STALE).into_iter().for_each(|entry| entry[..16].copy_from_slice(&kind));
+            disk.set_crcs(calls.crc32);
+            assert_eq!(calls.table(&disk).len(), 3, "byte {at}");
+            assert_eq!((calls.delete)(&mut disk.clone(), STALE), Ok(()), "byte {at}");
+        }
         disk.entry(STALE).into_iter().for_each(|entry| entry[16..32].fill(0));
         disk.set_crcs(calls.crc32);
         assert_eq!((calls.state)(&disk), Err(10));
