@@ -1,4 +1,4 @@
-//! Other tools on a slot that still holds bytes of a deleted partition: none of them overwrites all of these by itself.
+//! Other tools on a slot that still holds bytes of a deleted partition.
 
 use super::edits::{after, units, CGPT_BITS};
 use super::stale::{cleared, SIZES, STALE};
