@@ -167,7 +167,7 @@ static inline const char *usi_rule_words(uint64_t rule)
 #define USI_FIRST_USABLE(block) (UINT64_C(2) + USI_ENTRIES_LEN / (block))
 #define USI_BEHIND_LAST_USABLE(block) USI_FIRST_USABLE(block)
 
-/* A table: 128 entries, one a slot; an entry whose bytes are all zero is unused. Numbers are little-endian. */
+/* A table: 128 entries, one a slot; an entry whose type GUID is all zero is unused, whatever else it holds. Numbers are little-endian. */
 #define USI_ENTRIES_LEN 16384
 #define USI_ENTRY_LEN 128
 #define USI_SLOTS 128
@@ -276,7 +276,7 @@ uint32_t usi_fmap_carry(const uint8_t *old, size_t old_len, uint8_t *image, size
 /* Writes both copies with no entries, and block 0. Refusals in order: 6, 1, 2; 3 the disk GUID is all zero. */
 uint32_t usi_gpt_format(uint8_t *head, size_t head_len, uint8_t *tail, size_t tail_len, uint64_t n, uint64_t block, const uint8_t *guid, size_t guid_len);
 
-/* The state of the two copies: 1 both good with equal disk GUID and entries, 2 both good but different (the primary is used),
+/* The state of the two copies: 1 both good with equal disk GUID and entries (every byte of them), 2 both good but different (the primary is used),
  * 3 the primary only, 4 the backup only. Refusals in order: 6, 1, 2, 10. */
 uint32_t usi_gpt_read(const uint8_t *head, size_t head_len, const uint8_t *tail, size_t tail_len, uint64_t n, uint64_t block, uint64_t *state);
 
@@ -290,13 +290,14 @@ uint32_t usi_gpt_free(const uint8_t *head, size_t head_len, const uint8_t *tail,
                       uint64_t *longest);
 
 /* Adds a partition of size blocks in the lowest unused slot, at the lowest start with enough free blocks; answers slot and first block.
+ * All 128 bytes of the slot are written, whatever it held.
  * Refusals in order: 6, 1, 2, 10, 11; 20 size is 0; 21 the type is all zero; 22 the unique GUID is all zero or already in a used slot;
  * 23 the name has a unit other than zero after a zero one; 24 no unused slot; 25 no room. */
 uint32_t usi_gpt_add(uint8_t *head, size_t head_len, uint8_t *tail, size_t tail_len, uint64_t n, uint64_t block, const uint8_t *kind, size_t kind_len,
                      const uint8_t *unique, size_t unique_len, uint64_t size, uint64_t attributes, const uint16_t *name, size_t name_units,
                      uint64_t *slot, uint64_t *first);
 
-/* Zeroes a slot. Refusals in order: 6, 1, 2, 10, 11; 12 slot is not 1 to 128; 13 the slot is unused. */
+/* Zeroes a slot. Refusals in order: 6, 1, 2, 10, 11; 12 slot is not 1 to 128; 13 the slot is unused, even if it holds other bytes than zeros. */
 uint32_t usi_gpt_delete(uint8_t *head, size_t head_len, uint8_t *tail, size_t tail_len, uint64_t n, uint64_t block, uint64_t slot);
 
 /* Sets a partition's last block alone, to size blocks. Refusals in order: 6, 1, 2, 10, 11, 12, 13; 20 size is 0;

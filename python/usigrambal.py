@@ -312,7 +312,7 @@ def gpt_table(head, tail, n, block):
 
 
 def gpt_entries(head, tail, n, block):
-    """The 16,384 entry bytes of the copy in use. Refused: 6, 1, 2, 10."""
+    """The 16,384 entry bytes of the copy in use: 128 a slot, unused where the first 16, its type GUID, are zero. Refused: 6, 1, 2, 10."""
     in_tail, offset = gpt_table(head, tail, n, block)
     return bytes(tail if in_tail else head)[offset : offset + ENTRIES_LEN]
 

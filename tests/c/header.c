@@ -1,5 +1,5 @@
 /* Holds the constants of the header to what the calls do: each length is the one that is not refused, each field stands where a call wrote it;
- * and every disk call to its first refusal, a block size that is none. */
+ * every disk call to its first refusal, a block size that is none; and entries to what makes them unused, their type alone. */
 #include "usigrambal.h"
 
 #include <stdio.h>
@@ -93,6 +93,38 @@ static void disk(void) {
     head[block]--;
     HOLDS(usi_gpt_format(other, USI_HEAD_LEN(block), TAIL, N, block, two, USI_GUID_LEN) == USI_ACCEPTED);
     HOLDS(state() == USI_STATE_DIFFERENT);
+}
+
+static void put(uint8_t *at, uint32_t value) {
+    for (int k = 0; k < 4; k++) at[k] = (uint8_t)(value >> 8 * k);
+}
+
+/* The CRCs of a copy. */
+static void sum(uint8_t *header, const uint8_t *entries) {
+    put(header + 88, usi_crc32(entries, USI_ENTRIES_LEN));
+    put(header + 16, 0);
+    put(header + 16, usi_crc32(header, 92));
+}
+
+/* Slot 1 with a zero type and FF in all its other bytes: no partition, and an add writes over all of it. */
+static void unused(void) {
+    uint8_t written[USI_ENTRY_LEN], *entries[2];
+    uint64_t in_tail, offset;
+    HOLDS(format(USI_HEAD_LEN(block), USI_TAIL_LEN(block), N, USI_GUID_LEN) == USI_ACCEPTED);
+    HOLDS(add(USI_GUID_LEN, USI_NAME_UNITS) == USI_ACCEPTED);
+    HOLDS(usi_gpt_table(HEAD, TAIL, N, block, &in_tail, &offset) == USI_ACCEPTED && in_tail == 0);
+    entries[0] = head + offset;
+    entries[1] = tail;
+    memcpy(written, entries[0], USI_ENTRY_LEN);
+    for (int k = 0; k < 2; k++) {
+        memset(entries[k] + USI_ENTRY_TYPE, 0, USI_GUID_LEN);
+        memset(entries[k] + USI_ENTRY_UNIQUE, 0xFF, USI_ENTRY_LEN - USI_ENTRY_UNIQUE);
+        sum(k == 0 ? head + block : tail + USI_ENTRIES_LEN, entries[k]);
+    }
+    HOLDS(state() == USI_STATE_SAME);
+    HOLDS(usi_gpt_delete(HEAD, TAIL, N, block, 1) == USI_SLOT_UNUSED);
+    HOLDS(add(USI_GUID_LEN, USI_NAME_UNITS) == USI_ACCEPTED);
+    HOLDS(memcmp(entries[0], written, USI_ENTRY_LEN) == 0 && memcmp(entries[1], written, USI_ENTRY_LEN) == 0);
 }
 
 /* Each disk call, on the disk that is there, with the block size in hand. */
@@ -201,6 +233,7 @@ int main(void) {
         block = blocks[k];
         lengths();
         disk();
+        unused();
         block_sizes();
     }
     guid();
@@ -209,6 +242,6 @@ int main(void) {
     sprintf(version, "%d.%d.%d", USI_VERSION_MAJOR, USI_VERSION_MINOR, USI_VERSION_PATCH);
     HOLDS(strcmp(version, USI_VERSION) == 0);
     HOLDS(strcmp(usi_words(USI_NO_ROOM), "no room") == 0 && strcmp(usi_words(99), usi_words(100)) == 0);
-    printf("%d claims about the header's constants and block sizes hold\n", held);
+    printf("%d claims about the header's constants, block sizes and unused entries hold\n", held);
     return 0;
 }

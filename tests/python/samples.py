@@ -31,6 +31,22 @@ def formatted(n, block):
     return usi.gpt_format(bytes(usi.head_len(block)), bytes(usi.tail_len(block)), n, block, ONE)
 
 
+def replaced(part, at, stored):
+    return part[:at] + stored + part[at + len(stored) :]
+
+
+def summed(head, tail, block):
+    """Head and tail with the CRCs that belong to them."""
+
+    def header(stored, entries):
+        crc = lambda part: usi.crc32(part).to_bytes(4, "little")
+        stored = replaced(replaced(stored, 88, crc(entries)), 16, bytes(4))
+        return replaced(stored, 16, crc(stored[:92]))
+
+    entries = usi.ENTRIES_LEN
+    return head[:block] + header(head[block : 2 * block], head[2 * block :]) + head[2 * block :], tail[:entries] + header(tail[entries:], tail[:entries])
+
+
 class Names(unittest.TestCase):
     def test_refusals_and_rules(self):
         numbers = {name: int(number) for name, number in re.findall(r"^    USI_(\w+) = (\d+)", HEADER, re.M)}
@@ -198,6 +214,18 @@ class Samples(unittest.TestCase):
                     usi.gpt_read(head, tail, number, block)
                 with self.assertRaises(OverflowError):
                     usi.gpt_read(head, tail, 1 << 32, number)
+
+    def test_stale_bytes(self):
+        """A zero type GUID alone makes a slot unused, and an add writes all of it."""
+        for block in usi.BLOCK_SIZES:
+            size = 100, block
+            empty = formatted(*size)
+            *added, slot, first = usi.gpt_add(*empty, *size, TWO, ONE, 3, attributes=5, name="a")
+            stale = summed(*(replaced(part, at, bytes(16) + bytes([255] * 112)) for part, at in zip(added, (2 * block, 0))), block)
+            self.assertEqual(usi.gpt_entries(*stale, *size)[16:128], bytes([255] * 112))
+            self.assertEqual((usi.gpt_read(*stale, *size), usi.gpt_free(*stale, *size)), (State.SAME, usi.gpt_free(*empty, *size)))
+            self.refused(13, usi.gpt_delete, *stale, *size, slot)
+            self.assertEqual(usi.gpt_add(*stale, *size, TWO, ONE, 3, attributes=5, name="a"), (*added, slot, first))
 
     def test_crc32(self):
         self.assertEqual((usi.crc32(b"123456789"), usi.crc32(b"")), (0xCBF43926, 0))

@@ -112,7 +112,7 @@ impl Disk {
         assert_eq!(raw::gpt_table(&self.head, &self.tail, N, block, &mut in_tail, &mut offset), 0);
         let table = if in_tail == 0 { &self.head } else { &self.tail };
         let entries = table[offset as usize..].chunks_exact(ENTRY_LEN).take(128);
-        let used = entries.filter(|entry| entry.iter().any(|byte| *byte != 0));
+        let used = entries.filter(|entry| entry[..16].iter().any(|byte| *byte != 0));
         used.map(|entry| u64::from_le_bytes(entry[32..40].try_into().expect("eight bytes"))).collect()
     }
 

@@ -157,6 +157,12 @@ fn disks(printed: &mut Printed, folder: &Folder) {
     call("gpt format long.img --block 4096");
     call("gpt show long.img");
     call("gpt add long.img --size 1");
+    folder.sparse("stale.img", 100 * 512);
+    call("gpt format stale.img");
+    call("gpt add stale.img --size 1");
+    common::clear_types(&folder.path("stale.img"), 512, [1]);
+    call("gpt show stale.img");
+    call("gpt verify stale.img");
 }
 
 fn images(printed: &mut Printed, folder: &Folder) {

@@ -4,8 +4,9 @@ use std::io::{self, Read, Seek, SeekFrom, Write};
 use std::path::{Path, PathBuf};
 use std::sync::atomic::{AtomicU32, Ordering};
 
-/// The bytes of all entries, and of a header.
+/// The bytes of all entries, of one, and of a header.
 pub const ENTRIES_LEN: usize = 16_384;
+pub const ENTRY_LEN: usize = 128;
 pub const HEADER_LEN: usize = 92;
 
 /// What the block size decides.
@@ -134,6 +135,26 @@ impl Disk {
         file.write_all(&self.head)?;
         file.seek(SeekFrom::Start(self.shape().tail_at(self.n)))?;
         file.write_all(&self.tail)
+    }
+
+    /// The bytes of a slot, in the head and in the tail.
+    pub fn entry(&mut self, slot: u64) -> [&mut [u8]; 2] {
+        let at = (slot as usize - 1) * ENTRY_LEN;
+        let in_head = self.shape().entries_in_head() + at;
+        [&mut self.head[in_head..in_head + ENTRY_LEN], &mut self.tail[at..at + ENTRY_LEN]]
+    }
+
+    /// Makes the CRCs of each copy those of its own entries and header.
+    pub fn set_crcs(&mut self, crc32: impl Fn(&[u8]) -> u32) {
+        let shape = self.shape();
+        let (before, in_head) = self.head.split_at_mut(shape.entries_in_head());
+        let (in_tail, behind) = self.tail.split_at_mut(shape.header_in_tail());
+        for (header, entries) in [(&mut before[shape.header_in_head()..], in_head), (behind, in_tail)] {
+            header[88..92].copy_from_slice(&crc32(entries).to_le_bytes());
+            header[16..20].fill(0);
+            let sum = crc32(&header[..HEADER_LEN]);
+            header[16..20].copy_from_slice(&sum.to_le_bytes());
+        }
     }
 
     /// The first byte that another disk has otherwise.

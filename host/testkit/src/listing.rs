@@ -40,23 +40,30 @@ pub fn partition(line: &str) -> Option<Partition> {
     })
 }
 
-/// By `sgdisk -p` and `sgdisk -i`.
+/// By `sgdisk -p` and `sgdisk -i`: the latter denies an unused slot that still holds a first block.
 pub fn sgdisk(image: &Path) -> Vec<Partition> {
-    let image = image.to_str().expect("a path in UTF-8");
-    let table = printed("sgdisk", ["-p", image]);
-    let rows = table.lines().skip_while(|line| !line.starts_with("Number")).skip(1);
-    let slots = rows.filter_map(|row| row.split_whitespace().next()?.parse().ok());
-    slots.map(|slot| sgdisk_one(image, slot)).collect()
+    let text = image.to_str().expect("a path in UTF-8");
+    sgdisk_slots(image).into_iter().filter_map(|slot| sgdisk_one(text, slot)).collect()
 }
 
-fn sgdisk_one(image: &str, slot: u64) -> Partition {
+/// The slots of `sgdisk -p`.
+pub fn sgdisk_slots(image: &Path) -> Vec<u64> {
+    let table = printed("sgdisk", [Path::new("-p"), image]);
+    let rows = table.lines().skip_while(|line| !line.starts_with("Number")).skip(1);
+    rows.filter_map(|row| row.split_whitespace().next()?.parse().ok()).collect()
+}
+
+fn sgdisk_one(image: &str, slot: u64) -> Option<Partition> {
     let text = printed("sgdisk", ["-i", &slot.to_string(), image]);
+    if text.contains(&format!("Partition #{slot} does not exist.")) {
+        return None;
+    }
     let field = |label: &str| {
         let line = text.lines().find_map(|line| line.strip_prefix(label));
         line.unwrap_or_else(|| panic!("sgdisk -i {slot}: no {label}\n{text}")).trim()
     };
     let word = |label: &str| field(label).split(' ').next().unwrap_or("");
-    Partition {
+    Some(Partition {
         slot,
         first: word("First sector:").parse().expect("a block number"),
         last: word("Last sector:").parse().expect("a block number"),
@@ -64,10 +71,11 @@ fn sgdisk_one(image: &str, slot: u64) -> Partition {
         unique: word("Partition unique GUID:").to_string(),
         attributes: u64::from_str_radix(word("Attribute flags:"), 16).expect("a hex number"),
         name: field("Partition name:").trim_matches('\'').to_string(),
-    }
+    })
 }
 
-/// By `sfdisk -d`. Its words for attributes stand for the bits of the UEFI specification.
+/// By `sfdisk -d`. Its words for attributes stand for the bits of the UEFI specification. An unused slot that still
+/// holds a first block is a row too, with a type of zeros.
 pub fn sfdisk(image: &Path) -> Vec<Partition> {
     let image = image.to_str().expect("a path in UTF-8");
     let script = printed("sfdisk", ["-d", image]);

@@ -160,8 +160,18 @@ impl Disk<'_> {
 
     /// The used entries in the order of their slots.
     pub fn partitions(&self) -> Result<Vec<Partition>, Refused> {
-        let slots = self.entries()?.chunks_exact(ENTRY_LEN).zip(1..);
-        Ok(slots.filter(|(entry, _)| entry.iter().any(|b| *b != 0)).map(partition).collect())
+        Ok(self.slots()?.filter(|(entry, _)| used(entry)).map(partition).collect())
+    }
+
+    /// The unused slots that still hold bytes, in order. Another tool deleted the partition and left them; adding
+    /// overwrites them all (rule f4).
+    pub fn stale_slots(&self) -> Result<Vec<u64>, Refused> {
+        let stale = |entry: &[u8]| !used(entry) && entry.iter().any(|byte| *byte != 0);
+        Ok(self.slots()?.filter(|(entry, _)| stale(entry)).map(|(_, slot)| slot).collect())
+    }
+
+    fn slots(&self) -> Result<impl Iterator<Item = (&[u8], u64)>, Refused> {
+        Ok(self.entries()?.chunks_exact(ENTRY_LEN).zip(1..))
     }
 
     pub fn free(&self) -> Result<Free, Refused> {
@@ -226,6 +236,11 @@ fn named_state(number: u64) -> State {
         4 => State::BackupOnly,
         _ => unreachable!("the library answers states 1 to 4, not {number}"),
     }
+}
+
+/// Rule D6: the type GUID alone says so.
+fn used(entry: &[u8]) -> bool {
+    entry[..16].iter().any(|byte| *byte != 0)
 }
 
 fn partition((entry, slot): (&[u8], u64)) -> Partition {

@@ -1,6 +1,6 @@
 //! The verbs that edit a table.
 
-use super::hints::{advised, no_guid, of_add, of_resize, slot};
+use super::hints::{advised, no_guid, of_add, of_resize, of_slot, slot};
 use super::words::{copies, described, in_words};
 use super::{otherwise, random_guid};
 use crate::arguments::Given;
@@ -40,7 +40,7 @@ pub fn delete(given: &Given) -> Result<Report, Failure> {
     let call = |disk: &mut Disk| {
         let slot = slot(disk, path, text)?;
         let held = partition(disk, slot);
-        disk.delete(slot).map_err(|refused| advised(refused, path, disk))?;
+        disk.delete(slot).map_err(|refused| of_slot(refused, path, disk, slot))?;
         held
     };
     edited(given, mode, call, |deleted, how| {
@@ -77,7 +77,7 @@ pub fn rename(given: &Given) -> Result<Report, Failure> {
     let call = |disk: &mut Disk| {
         let slot = slot(disk, path, text)?;
         let held = partition(disk, slot);
-        disk.rename(slot, &name).map_err(|refused| advised(refused, path, disk))?;
+        disk.rename(slot, &name).map_err(|refused| of_slot(refused, path, disk, slot))?;
         Ok((held?, partition(disk, slot)?))
     };
     edited(given, mode, call, |(before, after), how| {

@@ -1,7 +1,7 @@
 //! What would help against a refusal of a call on a disk.
 
 use super::why;
-use super::words::copies;
+use super::words::{copies, numbers};
 use crate::block::{is_file, operand};
 use crate::failure::Failure;
 use crate::show::printable;
@@ -60,24 +60,12 @@ fn repairable(state: State, path: &Path, block: BlockSize) -> String {
     format!("{}; {repair} writes the {to} from the {from}", copies(state))
 }
 
-/// `partitions 1 to 3 and 7 are there`
-pub fn used(partitions: &[Partition]) -> String {
-    let mut runs: Vec<(u64, u64)> = Vec::new();
-    for partition in partitions {
-        match runs.last_mut() {
-            Some((_, last)) if *last + 1 == partition.slot => *last = partition.slot,
-            _ => runs.push((partition.slot, partition.slot)),
-        }
-    }
-    let told = |(first, last): &(u64, u64)| match last - first {
-        0 => first.to_string(),
-        1 => format!("{first}, {last}"),
-        _ => format!("{first} to {last}"),
-    };
-    match partitions.len() {
-        0 => "the table has no partitions".to_string(),
-        1 => format!("the one partition has number {}", told(&runs[0])),
-        _ => format!("the numbers in use are {}", runs.iter().map(told).collect::<Vec<_>>().join(", ")),
+fn used(partitions: &[Partition]) -> String {
+    let slots: Vec<u64> = partitions.iter().map(|partition| partition.slot).collect();
+    match slots[..] {
+        [] => "the table has no partitions".to_string(),
+        [one] => format!("the one partition has number {one}"),
+        _ => format!("the numbers in use are {}", numbers(&slots)),
     }
 }
 
@@ -113,9 +101,22 @@ pub fn of_add(refused: Refused, path: &Path, disk: &Disk, unique: Guid) -> Failu
     }
 }
 
+/// A refused edit of a slot.
+pub fn of_slot(refused: Refused, path: &Path, disk: &Disk, slot: u64) -> Failure {
+    let failure = advised(refused, path, disk);
+    match (refused.refusal, disk.stale_slots(), disk.partitions()) {
+        (Refusal::SlotUnused, Ok(stale), Ok(held)) if stale.contains(&slot) => failure.hint(format!(
+            "slot {slot} still holds bytes of a deleted partition, which delete does not clear; \
+             an add that takes the slot overwrites them all; {}",
+            used(&held)
+        )),
+        _ => failure,
+    }
+}
+
 /// A refused resize.
 pub fn of_resize(refused: Refused, path: &Path, disk: &Disk, slot: u64) -> Failure {
-    let failure = advised(refused, path, disk);
+    let failure = of_slot(refused, path, disk, slot);
     if refused.refusal != Refusal::NoRoom {
         return failure;
     }
@@ -198,6 +199,6 @@ mod tests {
         let told = |slots: &[u64]| used(&slots.iter().map(|slot| one(*slot)).collect::<Vec<_>>());
         assert_eq!(told(&[]), "the table has no partitions");
         assert_eq!(told(&[7]), "the one partition has number 7");
-        assert_eq!(told(&[1, 2, 4, 6, 7, 8, 128]), "the numbers in use are 1, 2, 4, 6 to 8, 128");
+        assert_eq!(told(&[1, 2, 4]), "the numbers in use are 1, 2, 4");
     }
 }

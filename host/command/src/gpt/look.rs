@@ -2,7 +2,7 @@
 
 use super::hints::advised;
 use super::otherwise;
-use super::words::{copies, described, drawing, partition_table, run_table, runs_json};
+use super::words::{copies, described, drawing, partition_table, run_table, runs_json, stale};
 use crate::arguments::Given;
 use crate::block::{self, as_device, is_file, operand, By};
 use crate::disk::Ends;
@@ -33,7 +33,7 @@ fn shown_disk(given: &Given, ends: &mut Ends, width: usize) -> Result<(State, Re
     let unprotected = (!ends.protected()).then(|| NO_RECORD.to_string());
     let disk = ends.disk();
     let state = disk.state().map_err(|refused| advised(refused, path, &disk))?;
-    let (partitions, runs) = (disk.partitions()?, disk.free_runs()?);
+    let (partitions, runs, slots) = (disk.partitions()?, disk.free_runs()?, disk.stale_slots()?);
     let (guid, free, usable) = (disk.guid()?, disk.free()?, disk.usable()?);
     let drawing = drawing(&partitions, &runs, width);
     if given.has("--json") {
@@ -51,6 +51,7 @@ fn shown_disk(given: &Given, ends: &mut Ends, width: usize) -> Result<(State, Re
             ("free_blocks", free.blocks.into()),
             ("longest_run", free.longest_run.into()),
             ("partitions", partitions.iter().map(described).collect()),
+            ("stale_slots", slots.into_iter().collect()),
             ("free_runs", runs_json(&runs, block)),
             ("drawing", drawing.into()),
         ];
@@ -62,10 +63,12 @@ fn shown_disk(given: &Given, ends: &mut Ends, width: usize) -> Result<(State, Re
     text += &format!("table:         {}\n", copies(state));
     text += &format!("usable blocks: {} to {}\n", usable.first, usable.last);
     text += &format!(
-        "free:          {}, longest run {}\n\n",
+        "free:          {}, longest run {}\n",
         of_blocks(free.blocks, block),
         of_blocks(free.longest_run, block)
     );
+    text.extend(stale(&slots).map(|words| format!("stale:         {words}\n")));
+    text += "\n";
     text += &match partitions.is_empty() {
         true => "no partitions\n".to_string(),
         false => partition_table(&partitions, block),
@@ -117,8 +120,11 @@ fn verified(path: &Path, ends: &mut Ends) -> Result<(State, Report), Failure> {
     let (block, by, protected) = (ends.block, ends.by, ends.protected());
     let disk = ends.disk();
     let state = disk.state().map_err(|refused| advised(refused, path, &disk))?;
-    let alike = state == State::Same;
+    let (alike, slots) = (state == State::Same, disk.stale_slots()?);
     let mut text = format!("{}: {}\n{}", shown(path), copies(state), note(block, by));
+    text.extend(
+        stale(&slots).map(|words| format!("note: {words}; that is no fault, and adding overwrites them\n")),
+    );
     if !protected {
         text += &format!("{}: {NO_RECORD}\n", shown(path));
     }
@@ -140,6 +146,7 @@ fn verified(path: &Path, ends: &mut Ends) -> Result<(State, Report), Failure> {
         ("state", (state as u64).into()),
         ("copies", copies(state).into()),
         ("protective_record", protected.into()),
+        ("stale_slots", slots.into_iter().collect()),
         ("hint", hint.into()),
     ];
     let report = Report::new(text, json);

@@ -133,6 +133,14 @@ mod tests {
             disk.tail[0] = 1;
         };
         assert_eq!(told(block, entries, false), "both copies: the entries' CRC is wrong");
+        // A type without a unique GUID, with the entries' CRC.
+        let bad_entry = |disk: &mut Disk| {
+            entries(disk);
+            let sum = crc32(&disk.tail[..ENTRIES_LEN]).to_le_bytes();
+            disk.head[len + 88..len + 92].copy_from_slice(&sum);
+            disk.tail[ENTRIES_LEN + 88..ENTRIES_LEN + 92].copy_from_slice(&sum);
+        };
+        assert_eq!(told(block, bad_entry, true), "both copies: an entry is not as the rules have it");
         let mixed = |disk: &mut Disk| {
             disk.head[len] = 0;
             disk.tail[0] = 1;

@@ -14,6 +14,36 @@ pub fn copies(state: State) -> &'static str {
     }
 }
 
+/// `1, 2, 4, 6 to 8`, of ascending ones.
+pub fn numbers(slots: &[u64]) -> String {
+    let mut runs: Vec<(u64, u64)> = Vec::new();
+    for slot in slots {
+        match runs.last_mut() {
+            Some((_, last)) if *last + 1 == *slot => *last = *slot,
+            _ => runs.push((*slot, *slot)),
+        }
+    }
+    let told = |(first, last): &(u64, u64)| match last - first {
+        0 => first.to_string(),
+        1 => format!("{first}, {last}"),
+        _ => format!("{first} to {last}"),
+    };
+    runs.iter().map(told).collect::<Vec<_>>().join(", ")
+}
+
+/// The unused slots that still hold bytes, where there are any.
+pub fn stale(slots: &[u64]) -> Option<String> {
+    match slots {
+        [] => None,
+        [one] => Some(format!("1 unused entry holds bytes of a deleted partition (slot {one})")),
+        many => Some(format!(
+            "{} unused entries hold bytes of deleted partitions (slots {})",
+            many.len(),
+            numbers(many)
+        )),
+    }
+}
+
 fn kind(guid: Guid) -> String {
     guid.short_name().map_or_else(|| guid.to_string(), str::to_string)
 }
@@ -116,4 +146,26 @@ pub fn drawing(partitions: &[Partition], runs: &[Run], width: usize) -> String {
     let items: Vec<Item> =
         items.into_iter().map(|(run, number)| Item { number, blocks: run.blocks() }).collect();
     bar(&items, width)
+}
+
+#[cfg(test)]
+mod tests {
+    use super::*;
+
+    #[test]
+    fn numbers_of_slots() {
+        assert_eq!(numbers(&[]), "");
+        assert_eq!(numbers(&[7]), "7");
+        assert_eq!(numbers(&[1, 2, 4, 6, 7, 8, 128]), "1, 2, 4, 6 to 8, 128");
+        assert_eq!(numbers(&(1..=128).collect::<Vec<_>>()), "1 to 128");
+    }
+
+    #[test]
+    fn stale_bytes_in_words() {
+        assert_eq!(stale(&[]), None);
+        let one = "1 unused entry holds bytes of a deleted partition (slot 2)";
+        assert_eq!(stale(&[2]).as_deref(), Some(one));
+        let many = "4 unused entries hold bytes of deleted partitions (slots 2, 5 to 7)";
+        assert_eq!(stale(&[2, 5, 6, 7]).as_deref(), Some(many));
+    }
 }

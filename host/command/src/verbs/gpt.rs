@@ -15,6 +15,7 @@ pub static VERBS: &[Verb] = &[
         options: &[value("--width", "N", "columns of the drawing, 64 if not given"), BLOCK, JSON],
         required: 0,
         about: "Show the partitions of a disk, the state of its two table copies, its free runs, \
+                which unused slots still hold bytes of deleted partitions, \
                 and its blocks drawn to scale: a partition as its number and =, free blocks as dots.",
         examples: &[
             "usigrambal gpt show disk.img",
@@ -75,7 +76,8 @@ pub static VERBS: &[Verb] = &[
             JSON,
         ],
         required: 1,
-        about: "Add a partition in the lowest unused slot, at the lowest block with room for it; tells slot, first and last block.",
+        about: "Add a partition in the lowest unused slot, at the lowest block with room for it; tells slot, first and last block. \
+                A slot whose type GUID is zero is unused; what else it holds is overwritten.",
         examples: &[
             "usigrambal gpt add disk.img --size 10M --name boot --type system",
             "usigrambal gpt add disk.img --size 2048 --attributes 0x4",
@@ -89,7 +91,7 @@ pub static VERBS: &[Verb] = &[
         operands: &["DISK", "PARTITION"],
         options: EDIT,
         required: 0,
-        about: "Delete a partition. PARTITION is its number, its name or its unique GUID.",
+        about: "Delete a partition: its slot becomes zero. PARTITION is its number, its name or its unique GUID.",
         examples: &["usigrambal gpt delete disk.img 2", "usigrambal gpt delete disk.img pages"],
         always: &[],
         run: gpt::delete,
@@ -134,7 +136,8 @@ pub static VERBS: &[Verb] = &[
         options: &[BLOCK, JSON],
         required: 0,
         about: "Check both copies of the table, and the record of block 0 by which other systems see it. \
-                Exit status 0 only if the copies are good and the same and the record is there, 1 where one of them is not.",
+                Exit status 0 only if the copies are good and the same and the record is there, 1 where one of them is not. \
+                Bytes of deleted partitions in unused slots are noted; they are no fault.",
         examples: &["usigrambal gpt verify disk.img && echo good", "usigrambal gpt verify disk.img /dev/sdb --json"],
         always: &UNVERIFIED,
         run: gpt::verify,

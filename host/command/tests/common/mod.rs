@@ -8,6 +8,7 @@ use std::path::{Path, PathBuf};
 use std::process::{Command, Output, Stdio};
 use std::sync::atomic::{AtomicU32, Ordering};
 use std::sync::OnceLock;
+use testkit::disk::Disk;
 use testkit::json::{self, Json};
 use testkit::listing::Partition;
 
@@ -238,6 +239,24 @@ pub fn spoil(path: &Path, at: u64) {
     let mut byte = [0];
     file.read_exact_at(&mut byte, at).expect("a byte");
     file.write_all_at(&[byte[0] ^ 1], at).expect("a byte");
+}
+
+/// Changes slots of a disk image in both copies, with the CRCs that belong to them.
+pub fn change_slots(
+    path: &Path,
+    block: u64,
+    slots: impl IntoIterator<Item = u64>,
+    change: impl Fn(&mut [u8]),
+) {
+    let mut disk = Disk::read(path, block).expect("a disk");
+    slots.into_iter().for_each(|slot| disk.entry(slot).into_iter().for_each(&change));
+    disk.set_crcs(usigrambal::crc32);
+    disk.write(path).expect("a disk");
+}
+
+/// Clears the type GUIDs of slots and no other byte of them: so cgpt deletes.
+pub fn clear_types(path: &Path, block: u64, slots: impl IntoIterator<Item = u64>) {
+    change_slots(path, block, slots, |entry| entry[..16].fill(0));
 }
 
 /// Says so where the test's own output is not shown.

@@ -1,4 +1,4 @@
-//! Prints an image as a fixture: the partitions as `sgdisk` or `sfdisk` lists them, and the bytes.
+//! Prints an image as a fixture: the partitions as `sgdisk`, `sfdisk` or `cgpt` lists them, and the bytes.
 //!
 //! usage: disk_fixture TOOL IMAGE [BLOCK]; TOOL `none` lists no partition; BLOCK is 512 where it is left out
 
@@ -17,6 +17,7 @@ fn main() {
     let partitions = match tool.as_str() {
         "sgdisk" => listing::sgdisk(image),
         "sfdisk" => listing::sfdisk(image),
+        "cgpt" => listing::cgpt(image, listing::cgpt_quick(image).into_iter().map(|(slot, ..)| slot)),
         "none" => Vec::new(),
         _ => panic!("disk_fixture: unknown tool {tool}"),
     };

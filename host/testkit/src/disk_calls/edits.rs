@@ -1,4 +1,5 @@
-//! The same edits by the implementation and by other tools, on the same disk, give the same bytes of head and tail.
+//! The same edits by the implementation and by other tools, on the same disk, give the same bytes of head and tail, or
+//! at least the same partitions.
 
 use super::{largest, shapes, Calls, New, DISK_GUID};
 use crate::disk::{Disk, Shape, HEADER_LEN};
@@ -10,7 +11,7 @@ use std::path::Path;
 
 /// The attributes that sfdisk and cgpt can set.
 const SFDISK_BITS: u64 = 0xFFFF_0000_0000_0007;
-const CGPT_BITS: u64 = 0xFFFF_0000_0000_0005;
+pub(super) const CGPT_BITS: u64 = 0xFFFF_0000_0000_0005;
 
 /// A tool, and which edits it makes as the rules say.
 #[derive(Clone, Copy)]
@@ -19,6 +20,23 @@ struct Tool {
     /// So many bytes of a header's block, at most, stay as they were.
     keeps: usize,
     likewise: fn(&Calls, &Disk, &Edit) -> bool,
+    /// Between our disk and the tool's, as far as they are to be the same.
+    difference: fn(&Calls, &Disk, &Disk) -> Option<String>,
+}
+
+fn of_bytes(_: &Calls, ours: &Disk, theirs: &Disk) -> Option<String> {
+    ours.difference(theirs)
+}
+
+/// In the state, the free blocks, and the partitions with the attributes that cgpt can set.
+fn of_tables(calls: &Calls, ours: &Disk, theirs: &Disk) -> Option<String> {
+    let told = |disk: &Disk| {
+        let mut rows = calls.table(disk);
+        rows.iter_mut().for_each(|row| row.attributes &= CGPT_BITS);
+        ((calls.state)(disk), (calls.free)(disk), rows)
+    };
+    let (ours, theirs) = (told(ours), told(theirs));
+    (ours != theirs).then(|| format!("{ours:?}\n{theirs:?}"))
 }
 
 /// Blocks of a disk, and how many edits it gets: the bytes are compared after each group of them.
@@ -58,7 +76,7 @@ fn compared(
             (0..plan.edits).map(|_| calls.edit(&mut ours, &mut random, likewise)).collect();
         (tool.by)(&image.path, &edits);
         let theirs = Disk::read(&image.path, shape.block).expect("an image");
-        if let Some(difference) = ours.difference(&theirs) {
+        if let Some(difference) = (tool.difference)(calls, &ours, &theirs) {
             let n = plan.n;
             return Some(format!("N {n}, {shape:?}, seed {seed}, group {group}: {difference}\n{edits:?}"));
         }
@@ -66,14 +84,14 @@ fn compared(
     None
 }
 
-/// The bytes are the same on each disk, and are not once a byte of an entry is changed.
-fn same_bytes(calls: &Calls, tool: &Tool, plans: impl Fn(Shape) -> Vec<Plan>) {
+/// There is no difference on any disk, and there is one once a byte of an entry is changed.
+fn no_difference(calls: &Calls, tool: &Tool, plans: impl Fn(Shape) -> Vec<Plan>) {
     for shape in shapes() {
-        same_bytes_of(calls, tool, shape, &plans(shape));
+        no_difference_of(calls, tool, shape, &plans(shape));
     }
 }
 
-fn same_bytes_of(calls: &Calls, tool: &Tool, shape: Shape, plans: &[Plan]) {
+fn no_difference_of(calls: &Calls, tool: &Tool, shape: Shape, plans: &[Plan]) {
     std::thread::scope(|scope| {
         for (plan, seed) in plans.iter().zip(1..) {
             scope.spawn(move || assert_eq!(compared(calls, tool, shape, *plan, seed, false), None));
@@ -93,8 +111,8 @@ pub fn sgdisk_makes_the_same_bytes(calls: &Calls) {
         return;
     }
     let plan = |n, edits| Plan { n, groups: 2, edits };
-    let tool = Tool { by: tool::sgdisk, keeps: 512, likewise: |_, _, _| true };
-    same_bytes(calls, &tool, |shape| {
+    let tool = Tool { by: tool::sgdisk, keeps: 512, likewise: |_, _, _| true, difference: of_bytes };
+    no_difference(calls, &tool, |shape| {
         vec![plan(100, 8), plan(5000, 30), plan(65_536, 30), plan(largest(shape), 20)]
     });
 }
@@ -113,35 +131,61 @@ pub fn sfdisk_makes_the_same_bytes(calls: &Calls) {
         by: |image, edits| edits.iter().for_each(|edit| tool::sfdisk(image, edit)),
         keeps: usize::MAX,
         likewise: |_, _, edit| !matches!(edit, Edit::Add(new) if new.attributes & !SFDISK_BITS != 0),
+        difference: of_bytes,
     };
-    same_bytes(calls, &tool, |shape| singly(shape, 8));
+    no_difference(calls, &tool, |shape| singly(shape, 8));
 }
 
 pub fn cgpt_makes_the_same_bytes(calls: &Calls) {
     if !peer::present("cgpt", "cgpt") {
         return;
     }
-    let tool = Tool {
-        by: |image, edits| edits.iter().for_each(|edit| tool::cgpt(image, edit)),
-        keeps: usize::MAX,
-        likewise: cgpt_likewise,
+    no_difference(calls, &by_cgpt(cgpt_likewise, of_bytes), |shape| singly(shape, 100));
+}
+
+/// Where it deletes it leaves stale bytes, and where it renames, the end of a longer name: the partitions are the same.
+pub fn cgpt_leaves_the_same_partitions(calls: &Calls) {
+    if !peer::present("cgpt", "cgpt") {
+        return;
+    }
+    let likewise = |_: &Calls, _: &Disk, edit: &Edit| match edit {
+        Edit::Add(new) => cgpt_adds(new),
+        Edit::Rename(_, name) => unit_count(name) < 36,
+        Edit::Delete(_) | Edit::Resize(_) => true,
     };
-    same_bytes(calls, &tool, |shape| singly(shape, 100));
+    no_difference(calls, &by_cgpt(likewise, of_tables), |shape| singly(shape, 60));
+}
+
+fn by_cgpt(
+    likewise: fn(&Calls, &Disk, &Edit) -> bool,
+    difference: fn(&Calls, &Disk, &Disk) -> Option<String>,
+) -> Tool {
+    let by = |image: &Path, edits: &[Edit]| edits.iter().for_each(|edit| tool::cgpt(image, edit));
+    Tool { by, keeps: usize::MAX, likewise, difference }
+}
+
+/// It cuts a name of 36 units.
+fn cgpt_adds(new: &Partition) -> bool {
+    unit_count(&new.name) < 36 && new.attributes & !CGPT_BITS == 0
 }
 
 /// It cuts a name of 36 units, clears the type alone where a slot is deleted, and leaves what a longer name had.
 fn cgpt_likewise(calls: &Calls, disk: &Disk, edit: &Edit) -> bool {
-    let units = |name: &str| name.encode_utf16().count();
+    let held = |slot: &u64| unit_count(&calls.row_of(disk, *slot).name);
     match edit {
-        Edit::Add(new) => units(&new.name) < 36 && new.attributes & !CGPT_BITS == 0,
+        Edit::Add(new) => cgpt_adds(new),
         Edit::Delete(_) => false,
-        Edit::Rename(slot, name) => units(name) < 36 && units(name) >= units(&calls.row_of(disk, *slot).name),
+        Edit::Rename(slot, name) => (held(slot)..36).contains(&unit_count(name)),
         Edit::Resize(_) => true,
     }
 }
 
+fn unit_count(name: &str) -> usize {
+    name.encode_utf16().count()
+}
+
 /// The disk after an edit by a tool.
-fn after(disk: &Disk, edit: impl Fn(&Path)) -> Disk {
+pub(super) fn after(disk: &Disk, edit: impl Fn(&Path)) -> Disk {
     let image = disk.image();
     edit(&image.path);
     Disk::read(&image.path, disk.block).expect("an image")
@@ -164,7 +208,7 @@ fn slot_1(disk: &Disk) -> &[u8] {
     &disk.head[disk.shape().entries_in_head()..][..128]
 }
 
-fn units(name: &str) -> Vec<u8> {
+pub(super) fn units(name: &str) -> Vec<u8> {
     name.encode_utf16().flat_map(u16::to_le_bytes).collect()
 }
 
@@ -180,7 +224,9 @@ fn cgpt_differs(calls: &Calls, shape: Shape) {
     let deleted = after(&disk, |image| tool::cgpt(image, &Edit::Delete(1)));
     assert_eq!(slot_1(&deleted)[..16], [0; 16]);
     assert_eq!(slot_1(&deleted)[16..], slot_1(&disk)[16..]);
-    assert_eq!((calls.state)(&deleted), Err(10));
+    let mut ours = disk.clone();
+    calls.delete_used(&mut ours, 1);
+    assert_eq!(of_tables(calls, &ours, &deleted), None);
     let renamed = after(&disk, |image| tool::cgpt(image, &Edit::Rename(1, "boot".into())));
     assert_eq!(slot_1(&renamed)[NAME..][..20], units("boot\0ystem"));
     let long = "x".repeat(36);

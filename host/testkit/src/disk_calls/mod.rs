@@ -3,13 +3,17 @@
 mod edits;
 mod peers;
 mod samples;
+mod stale;
+mod stale_peers;
 
 pub use edits::*;
 pub use peers::*;
 pub use samples::*;
+pub use stale::*;
+pub use stale_peers::*;
 
 use crate::device;
-use crate::disk::{Disk, Shape, ENTRIES_LEN, HEADER_LEN, SHAPES};
+use crate::disk::{Disk, Shape, SHAPES};
 use crate::edit::Edit;
 use crate::fixture;
 use crate::listing::{Free, Partition};
@@ -53,6 +57,12 @@ macro_rules! disk_tests {
                 samples_at_each_block_size,
                 formatting_writes_all_of_head_and_tail,
                 another_block_size_is_refused_first,
+                stale_bytes_are_no_partition,
+                edits_leave_stale_bytes,
+                an_add_overwrites_stale_bytes,
+                stale_bytes_are_compared_and_repaired,
+                stale_slots_are_places,
+                a_type_makes_an_entry_a_used_one,
                 fixtures_read_as_their_tool_said,
                 sgdisk_lists_the_same,
                 sfdisk_lists_the_same,
@@ -68,7 +78,11 @@ macro_rules! disk_tests {
                 sgdisk_makes_the_same_bytes,
                 sfdisk_makes_the_same_bytes,
                 cgpt_makes_the_same_bytes,
+                cgpt_leaves_the_same_partitions,
                 cgpt_differs_as_listed,
+                sgdisk_on_a_stale_slot,
+                sfdisk_on_a_stale_slot,
+                cgpt_on_a_stale_slot,
                 sgdisk_starts_at_the_longest_run,
                 sfdisk_starts_after_the_last_partition,
                 sgdisk_refuses_the_same,
@@ -161,19 +175,10 @@ impl Calls {
         }
     }
 
-    /// Changes a byte of a used entry, in both copies, and makes the CRCs right again.
+    /// Changes a byte of slot 1, in both copies, and makes the CRCs right again.
     fn change(&self, disk: &mut Disk, at: usize) {
-        let shape = disk.shape();
-        disk.head[shape.entries_in_head() + at] ^= 1;
-        disk.tail[at] ^= 1;
-        let entries = (self.crc32)(&disk.tail[..ENTRIES_LEN]);
-        let headers = [&mut disk.head[shape.header_in_head()..], &mut disk.tail[shape.header_in_tail()..]];
-        for header in headers {
-            header[88..92].copy_from_slice(&entries.to_le_bytes());
-            header[16..20].fill(0);
-            let sum = (self.crc32)(&header[..HEADER_LEN]);
-            header[16..20].copy_from_slice(&sum.to_le_bytes());
-        }
+        disk.entry(1).into_iter().for_each(|entry| entry[at] ^= 1);
+        disk.set_crcs(self.crc32);
     }
 }
 
