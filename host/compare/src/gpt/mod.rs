@@ -65,5 +65,5 @@ const NEW: &[Cell] = &[By(1, "type"), By(1, "unique"), Answer(21), Answer(22), A
 const SIZE: &[Cell] = &[Answer(20), Answer(25)];
 const NAME: &[Cell] = &[By(1, "name"), Answer(23)];
 const STALE: &[Cell] = &[On(stale::BESIDE), On(stale::ONE_COPY), On(stale::ALL)];
-const STALE_ADD: &[Cell] = &[On(stale::SLOT), By(25, stale::SLOT), On(stale::ALL)];
+const STALE_ADD: &[Cell] = &[On(stale::SLOT), On(stale::ALL)];
 const STALE_SLOT: &[Cell] = &[By(13, stale::SLOT), On(stale::BESIDE)];

@@ -44,6 +44,7 @@ fn entries(disk: &mut Disk, new: &[u8], random: &mut Random) -> Vec<Vec<u8>> {
     let (start, end) = (disk.shape.first_usable, disk.n - disk.shape.first_usable);
     let another = disk.entry(Side::Head, 1)[16..32].to_vec();
     let mut entries = vec![vec![0xFF; ENTRY_LEN], random.bytes(ENTRY_LEN), random.bytes(ENTRY_LEN)];
+    entries.iter_mut().for_each(|entry| entry[..GUID_LEN].fill(0));
     for unique in [&another[..], new, &[0; GUID_LEN]] {
         entries.push(entry(unique, (start + 5, start + 10), random));
     }
@@ -54,14 +55,12 @@ fn entries(disk: &mut Disk, new: &[u8], random: &mut Random) -> Vec<Vec<u8>> {
         let unique = random.bytes(GUID_LEN);
         entries.push(entry(&unique, range, random));
     }
-    entries.iter_mut().for_each(|entry| entry[..GUID_LEN].fill(0));
     entries
 }
 
 fn entry(unique: &[u8], (first, last): (u64, u64), random: &mut Random) -> Vec<u8> {
-    let kind = random.bytes(GUID_LEN);
     let rest = random.bytes(ENTRY_LEN - 48);
-    [&kind[..], unique, &first.to_le_bytes(), &last.to_le_bytes(), &rest].concat()
+    [&[0; GUID_LEN], unique, &first.to_le_bytes(), &last.to_le_bytes(), &rest].concat()
 }
 
 /// Slot 2 can have 9 blocks and slot 3 can have 21, the longest run 15.
@@ -108,7 +107,7 @@ fn meeting(run: &mut Run, disk: &Disk, call: &Call, what: &'static str) -> Outco
     Ok(())
 }
 
-/// All 128 slots stale, or all but one used: adds take them one after another until none is left.
+/// All 128 slots stale, or one and the others used: adds take them one after another until none is left.
 pub fn all_slots(run: &mut Run) -> Outcome {
     SHAPES.into_iter().try_for_each(|shape| all_slots_of(run, shape))
 }
@@ -116,13 +115,14 @@ pub fn all_slots(run: &mut Run) -> Outcome {
 fn all_slots_of(run: &mut Run, shape: Shape) -> Outcome {
     let used = rows::all_slots_used(run, shape);
     let all: Vec<usize> = (0..SLOTS).collect();
-    let stale = cleared(&used, &all);
-    for call in [Call::Read, Call::Table, Call::Free, Call::Repair] {
-        meeting(run, &stale, &call, ALL)?;
+    for stale in [cleared(&used, &all), alike(&used)] {
+        for call in [Call::Read, Call::Table, Call::Free, Call::Repair] {
+            meeting(run, &stale, &call, ALL)?;
+        }
+        let whole = sample::good_add(shape.usable(stale.n), &mut run.random);
+        meeting(run, &stale, &whole, ALL)?;
+        refill(run, stale, SLOTS)?;
     }
-    let whole = sample::good_add(shape.usable(stale.n), &mut run.random);
-    meeting(run, &stale, &whole, ALL)?;
-    refill(run, stale, SLOTS)?;
     for index in [0, 70, 127] {
         refill(run, cleared(&used, &[index]), 1)?;
     }
@@ -133,6 +133,17 @@ fn all_slots_of(run: &mut Run, shape: Shape) -> Outcome {
 fn cleared(disk: &Disk, indexes: &[usize]) -> Disk {
     let mut disk = disk.clone();
     indexes.iter().for_each(|index| disk.clear_type(&SIDES, *index));
+    disk.seal_both();
+    disk
+}
+
+/// The disk with the same stale bytes in every slot.
+fn alike(disk: &Disk) -> Disk {
+    let mut disk = cleared(disk, &[0]);
+    for side in SIDES {
+        let entry = disk.entry(side, 0).to_vec();
+        disk.entries(side).chunks_mut(ENTRY_LEN).for_each(|slot| slot.copy_from_slice(&entry));
+    }
     disk.seal_both();
     disk
 }
