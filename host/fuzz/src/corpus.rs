@@ -1,6 +1,6 @@
 //! The first inputs of each target, from the fixtures.
 
-use crate::disk::{ANY_BLOCK_SIZE, OTHER_BLOCK_SIZE};
+use crate::disk::{ALL_SLOTS, ANY_BLOCK_SIZE, CLEAR_TYPE, FLIP, MANY, OTHER_BLOCK_SIZE, PLACE};
 use crate::{disk, flash};
 use testkit::disk::{Shape, SHAPES};
 use testkit::fixture;
@@ -48,24 +48,40 @@ fn disks(call: &str) -> Vec<Vec<u8>> {
 }
 
 /// An empty disk of 33 usable blocks, one with a partition of each size to 3 by steps of a script, one of 230 blocks with
-/// partitions in all slots, and three that are refused for lengths or number of blocks.
-fn by_scripts(tag: u8, shape: Shape, arguments: &[u8]) -> [Vec<u8>; 6] {
-    let (first, least) = (shape.first_usable as u8, shape.least_blocks() as u8);
-    let place = |slot: u8, first: u8, size: u8| [1, slot, 0, first, size, 9, size, 0];
-    let steps = [[0, 0, 1], [1, 6, 2], [6, 26, 3]].map(|[slot, at, size]| place(slot, first + at, size));
-    let script = [&[0], &steps.concat()[..]].concat();
+/// partitions in all slots, those with stale entries, and three that are refused for lengths or number of blocks.
+fn by_scripts(tag: u8, shape: Shape, arguments: &[u8]) -> Vec<Vec<u8>> {
+    let least = shape.least_blocks() as u8;
     let input = |n: u8, lengths: [u8; 2], script: &[u8]| {
-        [&[n, tag, lengths[0], lengths[1]], arguments, script].concat()
+        [&[n, tag, lengths[0], lengths[1]], arguments, &[0], script].concat()
     };
     let n = least + 32;
-    [
-        input(n, [0, 0], &[0]),
-        input(n, [0, 0], &script),
-        input(230, [0, 0], &[0, 6, 128, 2]),
-        input(n, [0xF6, 0], &[0]),
-        input(least - 1, [0, 0xFF], &[0]),
-        input(least - 1, [0, 0], &[0]),
-    ]
+    let partitions = partitions(shape);
+    let mut inputs = vec![
+        input(n, [0, 0], &[]),
+        input(n, [0, 0], &partitions),
+        input(230, [0, 0], &[MANY, 128, 2]),
+        input(230, [0, 0], &[MANY, 128, 2, CLEAR_TYPE, ALL_SLOTS, 0]),
+        input(n, [0xF6, 0], &[]),
+        input(least - 1, [0, 0xFF], &[]),
+        input(least - 1, [0, 0], &[]),
+    ];
+    inputs.extend(stale(shape).iter().map(|steps| input(n, [0, 0], &[&partitions[..], steps].concat())));
+    inputs
+}
+
+/// Slots 1, 2 and 7, from the first, the seventh and the 27th usable block on; the last byte of their entries is not zero.
+fn partitions(shape: Shape) -> Vec<u8> {
+    [[0, 0, 1], [1, 6, 2], [6, 26, 3]].map(|[slot, at, size]| place(shape, slot, at, size, size)).concat()
+}
+
+fn place(shape: Shape, slot: u8, at: u8, size: u8, unique: u8) -> [u8; 8] {
+    [PLACE, slot, 0, shape.first_usable as u8 + at, size, 9, unique, 72 + 71]
+}
+
+/// What makes slot 1 stale: then its block is in another partition, or a stale byte is not the same in both copies.
+fn stale(shape: Shape) -> [Vec<u8>; 2] {
+    const CLEARED: [u8; 3] = [CLEAR_TYPE, 0, 0];
+    [[&CLEARED[..], &place(shape, 8, 0, 1, 7)].concat(), [&CLEARED[..], &[FLIP, 1, 100, 0]].concat()]
 }
 
 /// Images of 220 bytes by steps of a script, with areas FMAP, A and B, the latter two preserved; then B elsewhere, of another size, none.

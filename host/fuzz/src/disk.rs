@@ -20,6 +20,13 @@ const ZEROS: u8 = 4;
 
 const PUT: u8 = 0;
 const RUN: u8 = 2;
+pub const PLACE: u8 = 1;
+pub const MANY: u8 = 6;
+pub const CLEAR_TYPE: u8 = 8;
+pub const FLIP: u8 = 9;
+
+/// The slot that stands for all of them where types are cleared.
+pub const ALL_SLOTS: u8 = 128;
 
 /// Where a copy has its header and its entries.
 #[derive(Clone, Copy)]
@@ -110,13 +117,13 @@ pub fn script(lengths: &Lengths, input: &mut Input) -> [Vec<u8>; 2] {
 }
 
 fn step(disk: &mut Disk, input: &mut Input) {
-    match input.byte() % 9 {
+    match input.byte() % 10 {
         PUT => {
             let (which, at, len) =
                 (Side::of(input.byte()), input.number(0) as usize, usize::from(input.byte()));
             put(side(disk, which), at, input.bytes(len));
         }
-        1 => place(disk, input),
+        PLACE => place(disk, input),
         RUN => {
             let (which, at) = (Side::of(input.byte()), input.number(0) as usize);
             let (len, byte) = (input.number(0) as usize, input.byte());
@@ -125,8 +132,9 @@ fn step(disk: &mut Disk, input: &mut Input) {
         3 => seal(disk, Side::of(input.byte())),
         4 => header_number(disk, input),
         5 => entry_number(disk, input),
-        6 => many(disk, input),
+        MANY => many(disk, input),
         7 => copy_entry(disk, input),
+        CLEAR_TYPE => clear_type(disk, input),
         _ => {
             let (which, at, bit) = (Side::of(input.byte()), input.number(0) as usize, input.byte() % 8);
             if let Some(byte) = side(disk, which).get_mut(at) {
@@ -145,14 +153,28 @@ fn place(disk: &mut Disk, input: &mut Input) {
     let mut entry = [&[kind; 16], &[unique; 16], &first.to_le_bytes()[..], &last.to_le_bytes()].concat();
     entry.resize(ENTRY_LEN, 0);
     entry[56 + usize::from(name % 72)] = name / 72;
-    if sides & 3 != 1 {
-        put_entry(disk, Side::Head, slot, &entry);
-    }
-    if sides & 3 != 2 {
-        put_entry(disk, Side::Tail, slot, &entry);
+    sides_of(sides).iter().for_each(|which| put_entry(disk, *which, slot, &entry));
+}
+
+/// Both copies, or one.
+fn sides_of(byte: u8) -> &'static [Side] {
+    match byte & 3 {
+        1 => &[Side::Tail],
+        2 => &[Side::Head],
+        _ => &[Side::Head, Side::Tail],
     }
 }
 
+/// The type of an entry, or of all, in both copies or in one: another tool deletes so.
+fn clear_type(disk: &mut Disk, input: &mut Input) {
+    let (slot, sides) = (input.byte(), input.byte());
+    let slots = if slot < ALL_SLOTS { slot..slot + 1 } else { 0..ALL_SLOTS };
+    for slot in slots {
+        sides_of(sides).iter().for_each(|which| put_entry(disk, *which, usize::from(slot), &[0; 16]));
+    }
+}
+
+/// The first bytes of an entry, or all.
 fn put_entry(disk: &mut Disk, which: Side, slot: usize, entry: &[u8]) {
     let at = which.entries_at(disk.shape()) + slot * ENTRY_LEN;
     put(side(disk, which), at, entry);

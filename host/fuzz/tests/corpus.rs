@@ -1,8 +1,8 @@
 //! The targets over their first inputs, without a fuzzer.
 
 use fuzz::corpus::corpus;
-use fuzz::TARGETS;
-use second::rules::{CarrySlip, Row, Which};
+use fuzz::{Target, TARGETS};
+use second::rules::{CarrySlip, Row, Span, UsedIn, Which, WholeIn};
 use second::{Rules, RULES};
 
 #[test]
@@ -74,8 +74,7 @@ fn each_target_shows_a_wrong_answer() {
     for (target, (_, change)) in TARGETS.iter().zip(wrong) {
         let mut rules = RULES;
         change(&mut rules);
-        let shown = corpus(target.call).iter().any(|input| target.compare(&rules, input).is_err());
-        assert!(shown, "{}", target.call);
+        assert!(shows(target, &rules), "{}", target.call);
     }
 }
 
@@ -91,8 +90,7 @@ fn each_target_shows_a_wrong_refusal() {
     }
     for target in TARGETS.iter().filter(|target| target.call != "usi_crc32") {
         for rules in [&changing, &renumbered] {
-            let shown = corpus(target.call).iter().any(|input| target.compare(rules, input).is_err());
-            assert!(shown, "{}", target.call);
+            assert!(shows(target, rules), "{}", target.call);
         }
     }
 }
@@ -111,8 +109,44 @@ fn each_disk_target_shows_a_wrong_block_size() {
         for (number, change) in wrong.iter().enumerate() {
             let mut rules = RULES;
             change(&mut rules);
-            let shown = corpus(target.call).iter().any(|input| target.compare(&rules, input).is_err());
-            assert!(shown, "{}: {number}", target.call);
+            assert!(shows(target, &rules), "{}: {number}", target.call);
         }
     }
+}
+
+/// Each disk target but formatting is given stale entries: unused ones that are not all zero.
+#[test]
+fn each_disk_target_shows_stale_entries_taken_for_used_ones() {
+    let disk_calls = TARGETS.iter().filter(|target| target.call.starts_with("usi_gpt_"));
+    let mut rules = RULES;
+    rules.gpt.unused.by = Span { at: 0, len: 128 };
+    for target in disk_calls.filter(|target| target.call != "usi_gpt_format") {
+        assert!(shows(target, &rules), "{}", target.call);
+    }
+}
+
+/// What the calls do with the bytes of stale entries shows too.
+#[test]
+fn disk_targets_show_wrong_bytes_of_stale_entries() {
+    type Wrong = (&'static str, fn(&mut Rules));
+    let wrong: &[Wrong] = &[
+        ("usi_gpt_read", |r| r.gpt.unused.stale_zero_in = Some(WholeIn::Comparison)),
+        ("usi_gpt_repair", |r| r.gpt.unused.stale_zero_in = Some(WholeIn::Repair)),
+        ("usi_gpt_free", |r| r.gpt.unused.stale_used_in = Some(UsedIn::FreeCounts)),
+        ("usi_gpt_add", |r| r.gpt.unused.add_keeps = Span { at: 127, len: 1 }),
+        ("usi_gpt_delete", |r| r.gpt.unused.stale_used_in = Some(UsedIn::Delete)),
+        ("usi_gpt_resize", |r| r.gpt.unused.stale_used_in = Some(UsedIn::Resize)),
+        ("usi_gpt_rename", |r| r.gpt.unused.stale_used_in = Some(UsedIn::Rename)),
+    ];
+    for (call, change) in wrong {
+        let target = TARGETS.iter().find(|target| target.call == *call).expect("a target");
+        let mut rules = RULES;
+        change(&mut rules);
+        assert!(shows(target, &rules), "{call}");
+    }
+}
+
+/// Whether one of the target's first inputs shows a difference under these rules.
+fn shows(target: &Target, rules: &Rules) -> bool {
+    corpus(target.call).iter().any(|input| target.compare(rules, input).is_err())
 }

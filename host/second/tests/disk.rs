@@ -48,7 +48,7 @@ fn rows(Disk { head, tail, n, block }: &Disk) -> Result<Vec<Partition>, u32> {
     answered(second::gpt_table(&RULES, head, tail, *n, *block, &mut in_tail, &mut offset), ())?;
     let buffer = if in_tail == 0 { head } else { tail };
     let entries = &buffer[offset as usize..offset as usize + ENTRIES_LEN];
-    let used = entries.chunks(ENTRY_LEN).zip(1..).filter(|(entry, _)| entry.iter().any(|byte| *byte != 0));
+    let used = entries.chunks(ENTRY_LEN).zip(1..).filter(|(entry, _)| entry[..16] != [0; 16]);
     Ok(used.map(|(entry, slot)| partition(entry, slot)).collect())
 }
 

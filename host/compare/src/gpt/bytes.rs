@@ -1,6 +1,6 @@
 //! Good disks with one byte or one field changed.
 
-use super::call::Call;
+use super::call::{Call, GUID_LEN};
 use super::damage::HEADER_FIELDS;
 use super::disk::{Disk, Side, ENTRY_LEN, SIDES};
 use super::sample;
@@ -102,6 +102,8 @@ fn entries_of(run: &mut Run, disk: Disk) -> Outcome {
                 }
                 changed.call(run, &Call::Read)?;
                 changed.call(run, &Call::Free)?;
+                let (kind, unique) = (sample::guid(&mut run.random), sample::guid(&mut run.random));
+                changed.call(run, &sample::bare_add(1, kind, unique))?;
             }
         }
     }
@@ -146,6 +148,23 @@ fn guids_of(run: &mut Run, disk: Disk) -> Outcome {
         }
         changed.seal_both();
         look(run, &changed)?;
+    }
+    Ok(())
+}
+
+/// GUIDs given for the disk or for a type, zero but for one byte.
+pub fn sparse_guids(run: &mut Run) -> Outcome {
+    on_each(run, sparse_guids_of)
+}
+
+fn sparse_guids_of(run: &mut Run, disk: Disk) -> Outcome {
+    for place in 0..GUID_LEN {
+        let guid = sample::guid_with_one_byte(place, &mut run.random);
+        disk.clone().call(run, &Call::Format { guid: guid.clone() })?;
+        let mut added = disk.clone();
+        let unique = sample::guid(&mut run.random);
+        added.call(run, &sample::bare_add(2, guid, unique))?;
+        added.call(run, &Call::Free)?;
     }
     Ok(())
 }

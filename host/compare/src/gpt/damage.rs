@@ -23,7 +23,7 @@ pub const HEADER_FIELDS: [(usize, usize); 12] = [
 /// Damages one copy or both, in one of many ways.
 pub fn any(disk: &mut Disk, random: &mut Random) {
     let side = random.pick(&SIDES);
-    match random.below(12) {
+    match random.below(16) {
         0 => flip(disk.side(side), random),
         1 => fill(disk.header_tail(side), random),
         2 => fill(disk.block_0(), random),
@@ -33,8 +33,10 @@ pub fn any(disk: &mut Disk, random: &mut Random) {
         6 => crc_field(disk, side, random),
         7 => copy_header(disk, side),
         8 => sealed(disk, side, |disk| disk_guid(disk, &[side], random)),
-        9 => entry_damage(disk, &[side], random),
-        _ => entry_damage(disk, &SIDES, random),
+        9 => entry_damage(disk, &[side], change_entry, random),
+        10..=11 => entry_damage(disk, &SIDES, change_entry, random),
+        12 => entry_damage(disk, &[side], clear_type, random),
+        _ => entry_damage(disk, &SIDES, clear_type, random),
     }
 }
 
@@ -91,46 +93,57 @@ fn disk_guid(disk: &mut Disk, sides: &[Side], random: &mut Random) {
     sides.iter().for_each(|side| disk.header(*side)[56..72].copy_from_slice(&guid));
 }
 
+/// Changes an entry, given another one and the first and the last usable block.
+type Change = fn(&mut [u8], &[u8], (u64, u64), &mut Random);
+
 /// The same change of one entry in each of `sides`, CRCs right.
-fn entry_damage(disk: &mut Disk, sides: &[Side], random: &mut Random) {
+fn entry_damage(disk: &mut Disk, sides: &[Side], change: Change, random: &mut Random) {
     let used: Vec<usize> = disk.partitions(sides[0]).iter().map(|(index, ..)| *index).collect();
     let index = if used.is_empty() { random.below(SLOTS) } else { random.pick(&used) };
     let other = if used.is_empty() { random.below(SLOTS) } else { random.pick(&used) };
     let mut entry = disk.entry(sides[0], index).to_vec();
     let another = disk.entry(sides[0], other).to_vec();
     let first_usable = disk.shape.first_usable;
-    change_entry(&mut entry, &another, (first_usable, disk.n - first_usable), random);
+    change(&mut entry, &another, (first_usable, disk.n - first_usable), random);
     for side in sides {
         disk.entry(*side, index).copy_from_slice(&entry);
         disk.seal(*side);
     }
 }
 
-/// `usable` has the first and the last usable block.
+/// As a tool leaves a slot that clears the type: with the partition's bytes, or else those of another one, or any.
+fn clear_type(entry: &mut [u8], another: &[u8], _: (u64, u64), random: &mut Random) {
+    match random.below(6) {
+        0 => entry.copy_from_slice(another),
+        1 => fill(entry, random),
+        _ => {}
+    }
+    entry[..GUID_LEN].fill(0);
+}
+
 fn change_entry(entry: &mut [u8], another: &[u8], usable: (u64, u64), random: &mut Random) {
     let number = |entry: &[u8], at: usize| u64::from_le_bytes(entry[at..at + 8].try_into().expect("8"));
     let own_first = number(entry, 32);
     let (first, last) = (number(another, 32), number(another, 40));
     let mut set = |at: usize, value: u64| entry[at..at + 8].copy_from_slice(&value.to_le_bytes());
-    match random.below(19) {
-        0 => entry[..16].fill(0),
-        1 => entry[16..32].fill(0),
-        2 => entry[16..32].copy_from_slice(&another[16..32]),
-        3 => set(32, usable.0 - 1),
-        4 => set(32, usable.0),
-        5 => set(40, usable.1 + 1),
-        6 => set(40, usable.1),
-        7 => set(40, own_first.wrapping_sub(1)),
-        8 => set(40, first),
-        9 => set(40, first.wrapping_sub(1)),
-        10 => set(32, last),
-        11 => set(32, last.wrapping_add(1)),
-        12 => set(32, u64::MAX),
-        13 => set(40, u64::MAX),
-        14 => entry[48..56].copy_from_slice(&random.bytes(8)),
-        15 => entry[56..].copy_from_slice(&random.bytes(72)),
-        16 => entry.copy_from_slice(another),
-        17 => {
+    match random.below(18) {
+        0 => entry[16..32].fill(0),
+        1 => entry[16..32].copy_from_slice(&another[16..32]),
+        2 => set(32, usable.0 - 1),
+        3 => set(32, usable.0),
+        4 => set(40, usable.1 + 1),
+        5 => set(40, usable.1),
+        6 => set(40, own_first.wrapping_sub(1)),
+        7 => set(40, first),
+        8 => set(40, first.wrapping_sub(1)),
+        9 => set(32, last),
+        10 => set(32, last.wrapping_add(1)),
+        11 => set(32, u64::MAX),
+        12 => set(40, u64::MAX),
+        13 => entry[48..56].copy_from_slice(&random.bytes(8)),
+        14 => entry[56..].copy_from_slice(&random.bytes(72)),
+        15 => entry.copy_from_slice(another),
+        16 => {
             entry.fill(0);
             entry[random.below(ENTRY_LEN)] = 1 << random.below(8);
         }

@@ -176,11 +176,29 @@ impl Disk {
         SIDES.into_iter().for_each(|side| self.entry(side, index).copy_from_slice(&entry));
     }
 
-    /// Index, first and last block of each entry of the copy that is not all zero.
+    /// Makes an entry unused in each of the copies, whose CRCs are then still those of before.
+    pub fn clear_type(&mut self, sides: &[Side], index: usize) {
+        sides.iter().for_each(|side| self.entry(*side, index)[..GUID_LEN].fill(0));
+    }
+
+    /// Index, first and last block of each used entry of the copy.
     pub fn partitions(&mut self, side: Side) -> Vec<(usize, u64, u64)> {
+        self.ranges(side, |entry| !is_zero(&entry[..GUID_LEN]))
+    }
+
+    /// The same of each stale one: unused, but not all zero.
+    pub fn stale(&mut self, side: Side) -> Vec<(usize, u64, u64)> {
+        self.ranges(side, |entry| is_zero(&entry[..GUID_LEN]) && !is_zero(entry))
+    }
+
+    fn ranges(&mut self, side: Side, of: impl Fn(&[u8]) -> bool) -> Vec<(usize, u64, u64)> {
         let number = |entry: &[u8], at: usize| u64::from_le_bytes(entry[at..at + 8].try_into().expect("8"));
         let slots = self.entries(side).chunks(ENTRY_LEN).enumerate();
-        let used = slots.filter(|(_, entry)| entry.iter().any(|byte| *byte != 0));
-        used.map(|(index, entry)| (index, number(entry, 32), number(entry, 40))).collect()
+        let chosen = slots.filter(|(_, entry)| of(entry));
+        chosen.map(|(index, entry)| (index, number(entry, 32), number(entry, 40))).collect()
     }
+}
+
+fn is_zero(bytes: &[u8]) -> bool {
+    bytes.iter().all(|byte| *byte == 0)
 }

@@ -1,7 +1,7 @@
 //! Lists of calls on one disk.
 
 use super::call::Call;
-use super::disk::{Disk, Reply, Side, SLOTS};
+use super::disk::{Disk, Reply, Side, SIDES, SLOTS};
 use super::{damage, sample};
 use crate::run::{Difference, Outcome, Run};
 use second::Ledger;
@@ -62,7 +62,7 @@ fn next_call(disk: &mut Disk, read: Reply, random: &mut Random) -> Call {
     }
 }
 
-/// A disk of any size with partitions in random slots.
+/// A disk of any size with partitions in random slots; of some disks a few slots or all are stale.
 fn crowded(run: &mut Run) -> Disk {
     let shape = run.random.pick(&SHAPES);
     let n = match run.random.below(4) {
@@ -83,6 +83,12 @@ fn crowded(run: &mut Run) -> Disk {
         }
         disk.place(index, first, last, &mut run.random);
         next = last + 1;
+    }
+    let stale = run.random.pick(&[0, 0, 1, 4]);
+    for (index, ..) in disk.partitions(Side::Head) {
+        if run.random.below(4) < stale {
+            disk.clear_type(&SIDES, index);
+        }
     }
     disk.seal_both();
     disk

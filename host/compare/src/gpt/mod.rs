@@ -5,46 +5,50 @@ mod disk;
 mod histories;
 mod rows;
 mod sample;
+mod stale;
 mod variants;
 
-use crate::run::Cell::{self, Answer, By, State};
+use crate::run::Cell::{self, Answer, By, On, State};
 use crate::topic::Topic;
 
 pub const TOPIC: Topic = Topic {
     parts: &[
         ("gpt: block 0 and header tails", bytes::unjudged),
         ("gpt: GUIDs of an entry", bytes::guids),
+        ("gpt: each byte of a GUID", bytes::sparse_guids),
         ("gpt: ranges of an entry", bytes::ranges),
         ("gpt: each row, and each two together", rows::each_two),
         ("gpt: each length", rows::each_length),
         ("gpt: N outside its range", rows::each_block_count),
         ("gpt: another block size", rows::each_block_size),
+        ("gpt: stale entries", stale::each_call),
         ("gpt: each byte of a header", bytes::headers),
         ("gpt: each field of a header", bytes::header_fields),
         ("gpt: each byte of an entry", bytes::entries),
+        ("gpt: all slots stale", stale::all_slots),
         ("gpt: N from the least to 2^32", histories::block_counts),
         ("gpt: lists of calls and their sums", histories::ledger),
         ("gpt: histories with damage", histories::damaged),
     ],
     cells: &[
         ("gpt_format", &[BLOCK, LENT, &[By(1, "guid"), Answer(3)]]),
-        ("gpt_read", &[BLOCK, LENT, READ]),
-        ("gpt_table", &[BLOCK, LENT, READ]),
-        ("gpt_free", &[BLOCK, LENT, READ]),
-        ("gpt_add", &[BLOCK, LENT, READ, NOT_SAME, NEW, SIZE, NAME]),
-        ("gpt_delete", &[BLOCK, LENT, READ, NOT_SAME, SLOT]),
-        ("gpt_rename", &[BLOCK, LENT, READ, NOT_SAME, SLOT, NAME]),
-        ("gpt_resize", &[BLOCK, LENT, READ, NOT_SAME, SLOT, SIZE]),
-        ("gpt_repair", &[BLOCK, LENT, READ]),
+        ("gpt_read", &[BLOCK, LENT, READ, STALE]),
+        ("gpt_table", &[BLOCK, LENT, READ, STALE]),
+        ("gpt_free", &[BLOCK, LENT, READ, STALE]),
+        ("gpt_add", &[BLOCK, LENT, READ, NOT_SAME, NEW, SIZE, NAME, STALE_ADD]),
+        ("gpt_delete", &[BLOCK, LENT, READ, NOT_SAME, SLOT, STALE_SLOT]),
+        ("gpt_rename", &[BLOCK, LENT, READ, NOT_SAME, SLOT, NAME, STALE_SLOT]),
+        ("gpt_resize", &[BLOCK, LENT, READ, NOT_SAME, SLOT, SIZE, STALE_SLOT]),
+        ("gpt_repair", &[BLOCK, LENT, READ, STALE]),
         ("gpt_format at 4096", &[LENT, &[By(1, "guid"), Answer(3)]]),
-        ("gpt_read at 4096", &[LENT, READ]),
-        ("gpt_table at 4096", &[LENT, READ]),
-        ("gpt_free at 4096", &[LENT, READ]),
-        ("gpt_add at 4096", &[LENT, READ, NOT_SAME, NEW, SIZE, NAME]),
-        ("gpt_delete at 4096", &[LENT, READ, NOT_SAME, SLOT]),
-        ("gpt_rename at 4096", &[LENT, READ, NOT_SAME, SLOT, NAME]),
-        ("gpt_resize at 4096", &[LENT, READ, NOT_SAME, SLOT, SIZE]),
-        ("gpt_repair at 4096", &[LENT, READ]),
+        ("gpt_read at 4096", &[LENT, READ, STALE]),
+        ("gpt_table at 4096", &[LENT, READ, STALE]),
+        ("gpt_free at 4096", &[LENT, READ, STALE]),
+        ("gpt_add at 4096", &[LENT, READ, NOT_SAME, NEW, SIZE, NAME, STALE_ADD]),
+        ("gpt_delete at 4096", &[LENT, READ, NOT_SAME, SLOT, STALE_SLOT]),
+        ("gpt_rename at 4096", &[LENT, READ, NOT_SAME, SLOT, NAME, STALE_SLOT]),
+        ("gpt_resize at 4096", &[LENT, READ, NOT_SAME, SLOT, SIZE, STALE_SLOT]),
+        ("gpt_repair at 4096", &[LENT, READ, STALE]),
     ],
     at_least: ("gpt_", 40_000),
     variants: variants::all,
@@ -60,3 +64,6 @@ const SLOT: &[Cell] = &[Answer(12), Answer(13)];
 const NEW: &[Cell] = &[By(1, "type"), By(1, "unique"), Answer(21), Answer(22), Answer(24)];
 const SIZE: &[Cell] = &[Answer(20), Answer(25)];
 const NAME: &[Cell] = &[By(1, "name"), Answer(23)];
+const STALE: &[Cell] = &[On(stale::BESIDE), On(stale::ONE_COPY), On(stale::ALL)];
+const STALE_ADD: &[Cell] = &[On(stale::SLOT), On(stale::ALL)];
+const STALE_SLOT: &[Cell] = &[By(13, stale::SLOT), On(stale::BESIDE)];

@@ -98,7 +98,7 @@ fn with_faults(run: &mut Run, some: &Disk, all: &Disk, call: &Call, faults: &[Fa
 
 /// Slots 2, 3 and 5 of a disk of 33 usable blocks, of which they have 2 to 4, 11 to 16 and the last; slots 1 and 4 are
 /// unused.
-fn some_slots_used(run: &mut Run, shape: Shape) -> Disk {
+pub fn some_slots_used(run: &mut Run, shape: Shape) -> Disk {
     let mut disk = Disk::formatted(shape, shape.least_blocks() + 32, &mut run.random);
     for (index, first, last) in [(1, 2, 4), (2, 11, 16), (4, 32, 32)] {
         let start = shape.first_usable;
@@ -109,7 +109,7 @@ fn some_slots_used(run: &mut Run, shape: Shape) -> Disk {
 }
 
 /// 128 partitions of one block, and 5 free blocks after them.
-fn all_slots_used(run: &mut Run, shape: Shape) -> Disk {
+pub fn all_slots_used(run: &mut Run, shape: Shape) -> Disk {
     let slots = SLOTS as u64;
     let mut disk = Disk::formatted(shape, shape.least_blocks() - 1 + slots + 5, &mut run.random);
     for index in 0..slots {

@@ -56,8 +56,13 @@ pub fn guid(random: &mut Random) -> Vec<u8> {
 
 /// All zero but for one byte.
 pub fn sparse_guid(random: &mut Random) -> Vec<u8> {
+    let place = random.below(GUID_LEN);
+    guid_with_one_byte(place, random)
+}
+
+pub fn guid_with_one_byte(place: usize, random: &mut Random) -> Vec<u8> {
     let mut guid = vec![0; GUID_LEN];
-    guid[random.below(GUID_LEN)] = 1 << random.below(8);
+    guid[place] = 1 << random.below(8);
     guid
 }
 
@@ -106,23 +111,31 @@ pub const BAD_SLOTS: [u64; 8] = [0, 129, 130, 255, 256, 257, (1 << 32) + 1, u64:
 
 /// A used slot more often than others.
 pub fn any_slot(disk: &mut Disk, random: &mut Random) -> u64 {
-    let used: Vec<u64> = disk.partitions(Side::Head).iter().map(|(index, ..)| *index as u64 + 1).collect();
+    let [used, stale] = [disk.partitions(Side::Head), disk.stale(Side::Head)];
+    let slot = |(index, ..): (usize, u64, u64)| index as u64 + 1;
     match random.below(10) {
         0 => random.pick(&BAD_SLOTS),
         1 => random.pick(&[1, 2, 127, 128]),
         2 => 1 + random.number_below(SLOTS as u64),
+        3 if !stale.is_empty() => slot(random.pick(&stale)),
         _ if used.is_empty() => 1,
-        _ => random.pick(&used),
+        _ => slot(random.pick(&used)),
     }
+}
+
+/// The partitions by the primary entries; at times the stale entries too, as if they were partitions.
+fn partitions(disk: &mut Disk, random: &mut Random) -> Vec<(usize, u64, u64)> {
+    let stale = if random.below(4) == 0 { disk.stale(Side::Head) } else { Vec::new() };
+    [disk.partitions(Side::Head), stale].concat()
 }
 
 /// Some are 2^64 or nearly so when the first usable block is added.
 const ODD_SIZES: [u64; 9] =
     [0, 1, 1 << 32, 1 << 63, u64::MAX - 34, u64::MAX - 33, u64::MAX - 6, u64::MAX - 5, u64::MAX];
 
-/// The lengths of the gaps between partitions, by the primary entries.
-fn gaps(disk: &mut Disk) -> Vec<u64> {
-    let mut ranges: Vec<_> = disk.partitions(Side::Head).into_iter().map(|(_, a, b)| (a, b)).collect();
+/// The lengths of the gaps between partitions.
+fn gaps(disk: &mut Disk, random: &mut Random) -> Vec<u64> {
+    let mut ranges: Vec<_> = partitions(disk, random).into_iter().map(|(_, a, b)| (a, b)).collect();
     ranges.sort();
     ranges.push((disk.end(), 0));
     let mut next = disk.shape.first_usable;
@@ -136,7 +149,7 @@ fn gaps(disk: &mut Disk) -> Vec<u64> {
 
 /// A gap's length or next to it, small, odd, or all free blocks.
 pub fn new_size(disk: &mut Disk, random: &mut Random) -> u64 {
-    let gaps = gaps(disk);
+    let gaps = gaps(disk, random);
     let gap = random.pick(&gaps);
     match random.below(12) {
         0 => random.pick(&ODD_SIZES),
@@ -151,7 +164,7 @@ pub fn new_size(disk: &mut Disk, random: &mut Random) -> u64 {
 
 /// The partition's size, or what the gap after it lets it have, and next to both.
 pub fn other_size(disk: &mut Disk, slot: u64, random: &mut Random) -> u64 {
-    let partitions = disk.partitions(Side::Head);
+    let partitions = partitions(disk, random);
     let Some((_, first, last)) = partitions.iter().find(|(index, ..)| *index as u64 + 1 == slot) else {
         return random.pick(&ODD_SIZES);
     };
@@ -170,13 +183,13 @@ pub fn other_size(disk: &mut Disk, slot: u64, random: &mut Random) -> u64 {
     }
 }
 
-/// A unique GUID that is taken, or taken but for its last byte, or any.
+/// A unique GUID that an entry has, or has but for one bit, or any.
 pub fn unique(disk: &mut Disk, random: &mut Random) -> Vec<u8> {
-    let used: Vec<usize> = disk.partitions(Side::Head).iter().map(|(index, ..)| *index).collect();
-    if used.is_empty() || random.below(4) > 0 {
+    let partitions = partitions(disk, random);
+    if partitions.is_empty() || random.below(4) > 0 {
         return any_guid(random);
     }
-    let index = random.pick(&used);
+    let (index, ..) = random.pick(&partitions);
     let mut guid = disk.entry(Side::Head, index)[16..32].to_vec();
     if random.below(2) == 0 {
         let any = random.below(GUID_LEN);
@@ -186,10 +199,24 @@ pub fn unique(disk: &mut Disk, random: &mut Random) -> Vec<u8> {
     guid
 }
 
+/// None, or any.
+fn attributes(random: &mut Random) -> u64 {
+    if random.below(3) == 0 {
+        0
+    } else {
+        random.number()
+    }
+}
+
 /// An add that no row but for slot or room refuses.
 pub fn good_add(size: u64, random: &mut Random) -> Call {
     let (kind, unique, name) = (sparse_guid(random), guid(random), good_name(random));
-    Call::Add { kind, unique, size, attributes: random.number(), name }
+    Call::Add { kind, unique, size, attributes: attributes(random), name }
+}
+
+/// An add without attributes and name.
+pub fn bare_add(size: u64, kind: Vec<u8>, unique: Vec<u8>) -> Call {
+    Call::Add { kind, unique, size, attributes: 0, name: vec![0; NAME_UNITS] }
 }
 
 /// Any call on the disk but formatting; edits most often.
@@ -208,7 +235,7 @@ pub fn any_call(disk: &mut Disk, random: &mut Random) -> Call {
             kind: any_guid(random),
             unique: unique(disk, random),
             size: new_size(disk, random),
-            attributes: random.number(),
+            attributes: attributes(random),
             name: any_name(random),
         },
     }

@@ -1,4 +1,5 @@
 mod shape;
+mod unused;
 
 use crate::topic::{number_variants, order_variants, variant, Order, Variant};
 use second::rules::{EditSlip, Holds, Longest, Row, Slot, Start, Tail, Unjudged, Which};
@@ -7,7 +8,7 @@ pub const RULES_TO_BREAK: &[&str] = &[
     "Q1", "Q2", "Q3", "Q6", "R1", "R2", "R3", "R4", "R5", "R6", "R7", "R8", "R9", "R10", "R11", "R12", "R13",
     "R25", "R26", "R27", "R28", "R29", "R30", "D1", "D2", "D3", "D4", "D5", "D6", "D7", "D8", "D9", "D10",
     "D11", "D12", "D13", "D14", "D15", "D16", "D17", "D18", "D19", "D20", "D21", "D22", "D23", "D24", "E1",
-    "E2", "l1", "l2", "l3", "l7",
+    "E2", "f1", "f2", "f3", "f4", "f5", "l1", "l2", "l3", "l7",
 ];
 
 pub fn all() -> Vec<Variant> {
@@ -18,6 +19,7 @@ pub fn all() -> Vec<Variant> {
         order_variants(ORDERS),
         headers(),
         entries(),
+        unused::variants(),
         reading(),
         writing(),
         sums(),
@@ -143,11 +145,7 @@ fn entries() -> Vec<Variant> {
         variant("name-at-57", "D5", |r| r.gpt.entry.name = 57),
         variant("name-at-48", "D5", |r| (r.gpt.entry.name, r.gpt.entry.attributes) = (48, 120)),
         variant("last-block-exclusive", "E1", |r| r.gpt.last_past = 1),
-        variant("unused-by-type", "D6", |r| r.gpt.unused_len = 16),
-        variant("unused-by-127-bytes", "D6", |r| r.gpt.unused_len = 127),
-        variant("unused-by-56-bytes", "D6", |r| r.gpt.unused_len = 56),
         variant("last-before-first", "D7", |r| r.gpt.first_at_most_last = false),
-        variant("zero-type-good", "D7", |r| r.gpt.zero_kind_bad = false),
         variant("zero-unique-good", "D7", |r| r.gpt.zero_unique_bad = false),
         variant("equal-uniques-good", "D7", |r| r.gpt.uniques_differ = false),
         variant("shared-blocks-good", "D7", |r| r.gpt.ranges_disjoint = false),
@@ -203,9 +201,7 @@ fn writing() -> Vec<Variant> {
         variant("start-in-highest-run", "D15", |r| r.gpt.start = Start::InHighestRun),
         variant("start-in-shortest-run", "D15", |r| r.gpt.start = Start::InShortestRun),
         variant("start-in-longest-run", "D15", |r| r.gpt.start = Start::InLongestRun),
-        variant("delete-clears-type", "D16", |r| r.gpt.delete_zeroes = 16),
-        variant("delete-keeps-name", "D16", |r| r.gpt.delete_zeroes = 56),
-        variant("delete-keeps-a-byte", "D16", |r| r.gpt.delete_zeroes = 127),
+        variant("delete-keeps-last-byte", "D16", |r| r.gpt.delete_zeroes = 127),
         variant("rename-of-35-units", "D17", |r| r.gpt.rename_units = 35),
         variant("rename-ends-at-zero", "D17", |r| r.gpt.rename_stops_at_zero = true),
         variant("resize-to-size-and-1", "D18", |r| r.gpt.resize_last_less = 0),

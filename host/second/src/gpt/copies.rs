@@ -2,7 +2,7 @@ use super::entry;
 use super::header::{self, Subject};
 use super::place::{buffer, entries_len, Geometry};
 use crate::bytes::{is_zero, part};
-use crate::rules::{Holds, Row, Rules, Unjudged, Which};
+use crate::rules::{Holds, Row, Rules, Unjudged, Which, WholeIn};
 
 /// What a good copy says.
 pub struct Copy {
@@ -80,6 +80,12 @@ impl<'a> Disk<'a> {
         copy.map_or(&[], |copy| &copy.entries)
     }
 
+    /// The bytes of one of these entries, used or not.
+    pub fn entry(&self, index: usize) -> &[u8] {
+        let len = self.geometry.rules.gpt.entry_len;
+        part(self.entries(), index * len, len)
+    }
+
     /// The rows that head, tail, N and block size alone decide.
     pub fn holds(&self, row: Row) -> bool {
         let Geometry { shape, n, .. } = self.geometry;
@@ -94,12 +100,15 @@ impl<'a> Disk<'a> {
     }
 }
 
-/// D10: whether two good copies have equal disk GUID and entries.
+/// D10, f3: whether two good copies have equal disk GUID and entries.
 fn are_same(rules: &Rules, primary: &Copy, backup: &Copy) -> bool {
-    let len = rules.gpt.same_entries_len;
     let tails = !rules.gpt.same_header_tails || primary.header_tail == backup.header_tail;
     let guids = !rules.gpt.same_disk_guid || primary.disk_guid == backup.disk_guid;
-    guids && tails && part(&primary.entries, 0, len) == part(&backup.entries, 0, len)
+    let entries = |copy: &Copy| {
+        let compared = part(&copy.entries, 0, rules.gpt.same_entries_len);
+        entry::whole(rules, WholeIn::Comparison, compared).into_owned()
+    };
+    guids && tails && entries(primary) == entries(backup)
 }
 
 /// D8: what the copy says, if it is good.

@@ -5,7 +5,7 @@ use super::write::Buffers;
 use super::{answer, leave_buffers, room};
 use crate::bytes::{is_zero, part, put};
 use crate::refuse::first_refusal;
-use crate::rules::{Row, Rules, Slot};
+use crate::rules::{Row, Rules, Slot, UsedIn};
 
 /// D15: adds a partition; answers its slot and first block.
 pub fn gpt_add(
@@ -19,21 +19,21 @@ pub fn gpt_add(
     first: &mut u64,
 ) -> u32 {
     let disk = Disk::of(rules, head, tail, n, block);
-    let used = entry::used(rules, disk.entries());
-    let runs = room::runs(disk.geometry, &used);
-    let free_slot = free_slot(rules, &used);
+    let used = |rule| entry::used(rules, rule, disk.entries());
+    let runs = |rule| room::runs(disk.geometry, &used(rule));
     let refusal = first_refusal(rules, rules.gpt.add_order, |row| match row {
         Row::WrongLength => disk.holds(row) || new_lengths_wrong(rules, new),
         Row::ZeroSize => new.size < rules.gpt.size_min,
         Row::ZeroType => is_zero(part(new.kind, 0, rules.gpt.zero_kind_len)),
-        Row::UniqueTaken => unique_taken(rules, &used, new.unique),
+        Row::UniqueTaken => unique_taken(rules, &used(UsedIn::UniqueTaken), new.unique),
         Row::BadName => entry::name_is_bad(rules, new.name),
-        Row::NoSlot => free_slot.is_none(),
-        Row::NoRoom => room::longest(rules.gpt.room, &runs) < new.size,
+        Row::NoSlot => free_slot(rules, &used(UsedIn::NoSlot)).is_none(),
+        Row::NoRoom => room::longest(rules.gpt.room, &runs(UsedIn::NoRoom)) < new.size,
         _ => disk.holds(row),
     });
-    let found = free_slot.zip(room::start(rules, &runs, new.size));
-    let added = found.map(|(index, start)| (index, entry::new_entry(rules, new, start)));
+    let start = room::start(rules, &runs(UsedIn::Start), new.size);
+    let found = free_slot(rules, &used(UsedIn::Slot)).zip(start);
+    let added = found.map(|(index, start)| (index, entry::new_entry(rules, new, start, disk.entry(index))));
     finish(Buffers { head, tail, geometry: disk.geometry }, refusal, added);
     let told = found.map(|(index, start)| {
         let end = start.wrapping_add(new.size);
@@ -45,7 +45,7 @@ pub fn gpt_add(
 /// D16.
 pub fn gpt_delete(rules: &Rules, head: &mut [u8], tail: &mut [u8], n: u64, block: u64, slot: u64) -> u32 {
     let disk = Disk::of(rules, head, tail, n, block);
-    let target = target(rules, &disk, slot);
+    let target = target(rules, UsedIn::Delete, &disk, slot);
     let refusal = first_refusal(rules, rules.gpt.delete_order, |row| match row {
         Row::NoSuchSlot => no_such_slot(rules, slot),
         Row::UnusedSlot => target.is_none(),
@@ -67,7 +67,7 @@ pub fn gpt_rename(
     name: &[u16],
 ) -> u32 {
     let disk = Disk::of(rules, head, tail, n, block);
-    let target = target(rules, &disk, slot);
+    let target = target(rules, UsedIn::Rename, &disk, slot);
     let refusal = first_refusal(rules, rules.gpt.rename_order, |row| match row {
         Row::WrongLength => disk.holds(row) || name.len() != rules.gpt.name_units,
         Row::NoSuchSlot => no_such_slot(rules, slot),
@@ -91,8 +91,8 @@ pub fn gpt_resize(
     size: u64,
 ) -> u32 {
     let disk = Disk::of(rules, head, tail, n, block);
-    let used = entry::used(rules, disk.entries());
-    let target = target(rules, &disk, slot);
+    let used = entry::used(rules, UsedIn::ResizeRoom, disk.entries());
+    let target = target(rules, UsedIn::Resize, &disk, slot);
     let refusal = first_refusal(rules, rules.gpt.resize_order, |row| match row {
         Row::NoSuchSlot => no_such_slot(rules, slot),
         Row::UnusedSlot => target.is_none(),
@@ -148,10 +148,10 @@ fn no_such_slot(rules: &Rules, slot: u64) -> bool {
     !(rules.gpt.slot_min..=rules.gpt.slot_max).contains(&slot)
 }
 
-/// The used entry in that slot.
-fn target(rules: &Rules, disk: &Disk, slot: u64) -> Option<Entry> {
+/// The used entry in that slot, which the call is about.
+fn target(rules: &Rules, call: UsedIn, disk: &Disk, slot: u64) -> Option<Entry> {
     let index = slot.checked_sub(rules.gpt.slot_base)?;
-    entry::used(rules, disk.entries()).into_iter().find(|entry| entry.index as u64 == index)
+    entry::used(rules, call, disk.entries()).into_iter().find(|entry| entry.index as u64 == index)
 }
 
 fn renamed_units<'a>(rules: &Rules, name: &'a [u16]) -> &'a [u16] {

@@ -1,6 +1,7 @@
 use super::place::Geometry;
 use crate::bytes::{is_zero, number, part, put, stored};
-use crate::rules::{Rules, Unjudged};
+use crate::rules::{Rules, Unjudged, UsedIn, WholeIn};
+use std::borrow::Cow;
 
 const GUID_LEN: usize = 16;
 const NUMBER_LEN: usize = 8;
@@ -8,7 +9,6 @@ const NUMBER_LEN: usize = 8;
 /// A used entry; `last` is the partition's last block.
 pub struct Entry {
     pub index: usize,
-    pub kind: Vec<u8>,
     pub unique: Vec<u8>,
     pub first: u64,
     pub last: u64,
@@ -22,18 +22,30 @@ impl Entry {
     }
 }
 
-/// D5, D6: the used entries.
-pub fn used(rules: &Rules, entries: &[u8]) -> Vec<Entry> {
+/// D5, D6, f2: the entries that a rule about used ones is about.
+pub fn used(rules: &Rules, rule: UsedIn, entries: &[u8]) -> Vec<Entry> {
     let slots = entries.chunks(rules.gpt.entry_len).enumerate();
+    let stale_too = rules.gpt.unused.stale_used_in == Some(rule);
     slots
-        .filter(|(_, bytes)| is_used(rules, bytes))
+        .filter(|(_, bytes)| is_used(rules, bytes) || stale_too && !is_zero(bytes))
         .map(|(index, bytes)| entry(rules, index, bytes))
         .collect()
 }
 
-/// D6.
+/// D6, f1.
 fn is_used(rules: &Rules, bytes: &[u8]) -> bool {
-    !is_zero(part(bytes, 0, rules.gpt.unused_len))
+    let by = rules.gpt.unused.by;
+    !is_zero(part(bytes, by.at, by.len))
+}
+
+/// D1, D10, D24, f3: all bytes of the entries.
+pub fn whole<'a>(rules: &Rules, rule: WholeIn, entries: &'a [u8]) -> Cow<'a, [u8]> {
+    let mut whole = Cow::Borrowed(entries);
+    if rules.gpt.unused.stale_zero_in == Some(rule) {
+        let slots = whole.to_mut().chunks_mut(rules.gpt.entry_len);
+        slots.filter(|bytes| !is_used(rules, bytes)).for_each(|bytes| bytes.fill(0));
+    }
+    whole
 }
 
 fn entry(rules: &Rules, index: usize, bytes: &[u8]) -> Entry {
@@ -41,7 +53,6 @@ fn entry(rules: &Rules, index: usize, bytes: &[u8]) -> Entry {
     let number = |at| number(rules.gpt.little_endian, part(bytes, at, NUMBER_LEN));
     Entry {
         index,
-        kind: part(bytes, at.kind, GUID_LEN).to_vec(),
         unique: part(bytes, at.unique, GUID_LEN).to_vec(),
         first: number(at.first),
         last: number(at.last).saturating_sub(rules.gpt.last_past),
@@ -69,8 +80,8 @@ pub struct NewPartition<'a> {
     pub name: &'a [u16],
 }
 
-/// D5, D15: the entry of a new partition from block `first` on.
-pub fn new_entry(rules: &Rules, new: &NewPartition, first: u64) -> Vec<u8> {
+/// D5, D15, f4: the entry of a new partition from block `first` on, in place of the bytes `before`.
+pub fn new_entry(rules: &Rules, new: &NewPartition, first: u64, before: &[u8]) -> Vec<u8> {
     let at = rules.gpt.entry;
     let number = |number| stored(rules.gpt.little_endian, number, NUMBER_LEN);
     let mut bytes = vec![0; rules.gpt.entry_len];
@@ -80,33 +91,37 @@ pub fn new_entry(rules: &Rules, new: &NewPartition, first: u64) -> Vec<u8> {
     put(&mut bytes, at.last, &stored_last(rules, first.wrapping_add(new.size).wrapping_sub(1)));
     put(&mut bytes, at.attributes, &number(new.attributes));
     put(&mut bytes, at.name, &stored_name(rules, new.name));
+    let kept = rules.gpt.unused.add_keeps;
+    let both = bytes.iter_mut().zip(before).skip(kept.at).take(kept.len);
+    both.filter(|(byte, _)| **byte == 0).for_each(|(byte, before)| *byte = *before);
     bytes
 }
 
 /// D7: every rule of entries holds.
 pub fn are_good(geometry: Geometry, entries: &[u8]) -> bool {
-    let rules = geometry.rules;
-    let used = used(rules, entries);
-    let pairs_good =
-        || (1..used.len()).all(|k| used[..k].iter().all(|entry| pair_good(rules, entry, &used[k])));
-    used.iter().all(|entry| is_good(geometry, entry)) && pairs_good()
+    let gpt = &geometry.rules.gpt;
+    let zero_unique = |entry: &Entry| gpt.zero_unique_bad && is_zero(&entry.unique);
+    let equal = |one: &Entry, other: &Entry| gpt.uniques_differ && one.unique == other.unique;
+    let meet = |one: &Entry, other: &Entry| gpt.ranges_disjoint && one.meets(other.first, other.last);
+    let used = |rule| used(geometry.rules, rule, entries);
+    !used(UsedIn::ZeroUnique).iter().any(zero_unique)
+        && used(UsedIn::Range)
+            .iter()
+            .all(|entry| range_good(geometry, entry) && !also_bad(geometry.rules, entry))
+        && !any_two(&used(UsedIn::EqualUniques), equal)
+        && !any_two(&used(UsedIn::SharedBlocks), meet)
 }
 
-fn is_good(geometry: Geometry, entry: &Entry) -> bool {
+fn range_good(geometry: Geometry, entry: &Entry) -> bool {
     let Geometry { rules, shape, .. } = geometry;
-    let gpt = &rules.gpt;
-    let zero_guid =
-        gpt.zero_kind_bad && is_zero(&entry.kind) || gpt.zero_unique_bad && is_zero(&entry.unique);
-    let in_order = !gpt.first_at_most_last || entry.first <= entry.last;
+    let in_order = !rules.gpt.first_at_most_last || entry.first <= entry.last;
     let usable = geometry.block(shape.entry_first_min) <= entry.first
         && entry.last <= geometry.block(shape.entry_last_max);
-    !zero_guid && in_order && usable && !also_bad(rules, entry)
+    in_order && usable
 }
 
-fn pair_good(rules: &Rules, one: &Entry, other: &Entry) -> bool {
-    let equal = rules.gpt.uniques_differ && one.unique == other.unique;
-    let meet = rules.gpt.ranges_disjoint && one.meets(other.first, other.last);
-    !equal && !meet
+fn any_two(entries: &[Entry], related: impl Fn(&Entry, &Entry) -> bool) -> bool {
+    (1..entries.len()).any(|k| entries[..k].iter().any(|entry| related(entry, &entries[k])))
 }
 
 /// D9: by a slip, names or attributes are judged.

@@ -1,7 +1,8 @@
+use super::entry;
 use super::place::{other, Geometry};
 use crate::bytes::{part, put, stored};
 use crate::crc::crc32;
-use crate::rules::{Field, Holds, Rules, Which};
+use crate::rules::{Field, Holds, Rules, Which, WholeIn};
 
 /// What a header tells of: one copy on a disk.
 pub struct Subject<'a> {
@@ -59,7 +60,8 @@ pub fn header_crc(rules: &Rules, header: &[u8]) -> u32 {
 
 /// D1: the CRC over the entries.
 pub fn entries_crc(rules: &Rules, entries: &[u8]) -> u32 {
-    crc32(rules, part(entries, 0, rules.gpt.entries_crc_len))
+    let entries = entry::whole(rules, WholeIn::EntriesCrc, entries);
+    crc32(rules, part(&entries, 0, rules.gpt.entries_crc_len))
 }
 
 /// What a field must hold; `header` is the one that has the field.

@@ -1,6 +1,6 @@
 use super::copies::Disk;
 use super::{answer, disk_refusal, entry, place, room};
-use crate::rules::Rules;
+use crate::rules::{Rules, UsedIn};
 
 /// D10: the state of the two copies.
 pub fn gpt_read(rules: &Rules, head: &[u8], tail: &[u8], n: u64, block: u64, state: &mut u64) -> u32 {
@@ -41,7 +41,7 @@ pub fn gpt_free(
     let disk = Disk::of(rules, head, tail, n, block);
     let of = rules.gpt.free_of.and_then(|which| disk.copy(which));
     let entries = of.map_or(disk.entries(), |copy| &copy.entries);
-    let runs = room::runs(disk.geometry, &entry::used(rules, entries));
+    let runs = room::runs(disk.geometry, &entry::used(rules, UsedIn::FreeCounts, entries));
     let found = [room::total(&runs), room::longest(rules.gpt.longest, &runs)];
     answer(rules, disk_refusal(rules, rules.gpt.free_order, &disk), Some(found), [free, longest])
 }

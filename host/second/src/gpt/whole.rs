@@ -1,9 +1,9 @@
 use super::copies::{Copy, Disk, State};
 use super::write::Buffers;
-use super::{answer, disk_refusal, leave_buffers, place};
+use super::{answer, disk_refusal, entry, leave_buffers, place};
 use crate::bytes::{is_zero, part};
 use crate::refuse::first_refusal;
-use crate::rules::{Row, Rules, Tail, Which};
+use crate::rules::{Row, Rules, Tail, Which, WholeIn};
 
 /// D13: writes both copies with no entries, and block 0.
 pub fn gpt_format(rules: &Rules, head: &mut [u8], tail: &mut [u8], n: u64, block: u64, guid: &[u8]) -> u32 {
@@ -59,7 +59,8 @@ fn write_other_copy(disk: &Disk, state: State, buffers: &mut Buffers) {
     };
     let keeps_guid = disk.copy(to).filter(|_| !rules.gpt.repair_takes_disk_guid);
     let disk_guid = keeps_guid.unwrap_or(source).disk_guid.clone();
-    buffers.write_copy(to, &Copy { disk_guid, entries: source.entries.clone(), header_tail });
+    let entries = entry::whole(rules, WholeIn::Repair, &source.entries).into_owned();
+    buffers.write_copy(to, &Copy { disk_guid, entries, header_tail });
     if rules.gpt.repair_writes_block_0 {
         buffers.write_block_0();
     }

@@ -1,6 +1,6 @@
 use super::Row;
 
-/// Where a number or a name stands in a header or an area.
+/// Where bytes stand in a header, an area or an entry.
 #[derive(Clone, Copy, Debug)]
 pub struct Span {
     pub at: usize,

@@ -1,8 +1,10 @@
 mod operands;
 mod shape;
+mod unused;
 
 pub use operands::*;
 pub use shape::*;
+pub use unused::*;
 
 use super::Row;
 
@@ -25,7 +27,7 @@ pub struct LedgerRules {
     pub refusal_grants: u64,
 }
 
-/// The disk: Q1 to Q3, R25 to R30, D1 to D24, and l1 to l7, the sentences of request l of document 02.
+/// The disk: Q1 to Q3, R25 to R30, D1 to D24, and of document 02 the sentences of requests l and f, l1 to l7 and f1 to f5.
 #[derive(Clone, Copy, Debug)]
 pub struct GptRules {
     /// l3: of each block size.
@@ -84,11 +86,10 @@ pub struct GptRules {
     pub entry: EntryFields,
     /// D5, E1: how far the stored last block lies past the last one of the partition.
     pub last_past: u64,
-    /// D6.
-    pub unused_len: usize,
+    /// D6, f1 to f4.
+    pub unused: UnusedRules,
     /// D7.
     pub first_at_most_last: bool,
-    pub zero_kind_bad: bool,
     pub zero_unique_bad: bool,
     pub uniques_differ: bool,
     pub ranges_disjoint: bool,
@@ -114,7 +115,7 @@ pub struct GptRules {
     /// D15.
     pub slot: Slot,
     pub start: Start,
-    /// D16.
+    /// D16, f5.
     pub delete_zeroes: usize,
     /// D17: units written, and whether a zero one ends them.
     pub rename_units: usize,
@@ -243,9 +244,8 @@ pub const GPT: GptRules = GptRules {
     header_crc_own_byte: 0,
     entry: EntryFields { kind: 0, unique: 16, first: 32, last: 40, attributes: 48, name: 56 },
     last_past: 0,
-    unused_len: 128,
+    unused: UNUSED,
     first_at_most_last: true,
-    zero_kind_bad: true,
     zero_unique_bad: true,
     uniques_differ: true,
     ranges_disjoint: true,
