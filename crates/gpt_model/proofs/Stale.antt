@@ -6,13 +6,13 @@ use mathlib.Core.List.{List, [], _∷_, _++_, map}
 use mathlib.Core.Option.{Option, none, some}
 use Prim.Native.Nat.{ℕ, suc, _+_, _-_, _*_, _<_}
 use native.Mathlib.Omega.{arith}
-use lib.Dec.{leb}
+use lib.Dec.{leb, eqb}
 use lib.ListN.{length, getD, set, List·getD-map}
-use borrow.Author.Tests.{eqb-true}
+use borrow.Author.Tests.{eqb-true, eq-eqb, ne-eqb}
 use Rattle.octets.specs.Tests.{_and_, any, findIx}
 use Rattle.octets.specs.Rows.{Row, pickRow, refusal}
 use Rattle.octets.specs.Bytes.{le, part, put, zeros, isZero, putChunk}
-use Rattle.octets.proofs.Bools.{and-l, and-r, and-false-l, and-false-r, bool-cases, eq-from, clash}
+use Rattle.octets.proofs.Bools.{and-l, and-r, and-i, and-false-l, and-t, bool-cases, eq-from, clash}
 use Rattle.octets.proofs.Tests.{map-same, any-map, findIx-map}
 use Rattle.octets.proofs.Equal.{zero-zeros}
 use Rattle.octets.proofs.Parts.{length-zeros}
@@ -32,7 +32,7 @@ use Rattle.gpt_model.proofs.Entries.{entryAt, good-at, good-pair, good-
 use Rattle.gpt_model.proofs.Edits.{FitsEdit}
 use Rattle.gpt_model.proofs.Copies.{length-entries}
 use Rattle.gpt_model.proofs.States.{Holds, one-primary, readable-good, edit-holds}
-use Rattle.gpt_model.proofs.Outcomes.{step-accepted, accepted-none, repair-answer, row1, row2, open-common, edit-decides, edit-stops, open-none}
+use Rattle.gpt_model.proofs.Outcomes.{step-accepted, accepted-none, repair-answer, row1, row2, row10, open-common, open-none}
 use Rattle.gpt_model.proofs.Steps.{lens, len-table, edit-fits, edit-held}
 use Rattle.gpt_model.proofs.StoredTable.{entry-is, used-is}
 use Rattle.gpt_model.proofs.StoredEdits.{within}
@@ -129,30 +129,30 @@ module _ (es es′ : List ℕ) (s : SameUsed es es′) where
 pub goodByUsed : GoodByUsed
 goodByUsed first last es es′ s = eq-from _ _ (good-same es es′ s first last) (good-same es′ es (same-back es es′ s) first last)
 
--- ---- a disk that reads as state 1
+-- ---- a disk that reads as state s
 
-module _ (g : Shape) (n : ℕ) (h t : List ℕ) (one : step g n h t read .answer ≡ accepted (1 ∷ [])) where
+module _ (g : Shape) (n : ℕ) (h t : List ℕ) (s : ℕ) (reads : step g n h t read .answer ≡ accepted (s ∷ [])) where
   read-none : refusal (rowsOf g n h t read) ≡ none
-  read-none = accepted-none g n h t read (1 ∷ []) one
+  read-none = accepted-none g n h t read (s ∷ []) reads
 
-  state-one : state g n h t ≡ 1
-  state-one =
-      let a : accepted (state g n h t ∷ []) ≡ accepted (1 ∷ []) = ap (λ (o : Outcome). o .answer) (sym (step-accepted g n h t read read-none)) ∙ one in
+  state-is : state g n h t ≡ s
+  state-is =
+      let a : accepted (state g n h t ∷ []) ≡ accepted (s ∷ []) = ap (λ (o : Outcome). o .answer) (sym (step-accepted g n h t read read-none)) ∙ reads in
       cc
 
-  -- an edit is refused for its lengths, or by the table
+  -- an edit is refused for its lengths, for the state, or by the table
   edit-refusal : (d : Edit)
-      → refusal (rowsOf g n h t (edit d)) ≡ pickRow (not (lengthsOf d)) 1 (refusal (tableRows (g .first) (lastUsable g n) (tableOf g n h t) d))
-  edit-refusal d = go (bool-cases (lengthsOf d))
-    where
-      rest : Option ℕ
-      rest = refusal (tableRows (g .first) (lastUsable g n) (tableOf g n h t) d)
-
-      go : (lengthsOf d ≡ true) ⊎ (lengthsOf d ≡ false) → refusal (rowsOf g n h t (edit d)) ≡ pickRow (not (lengthsOf d)) 1 rest
-      go (inl l) =
-          let w = row1 g n h t true read-none in
-          edit-decides g n h t d (open-none g n h t d (w .0) (w .1) l (row2 g n h t true read-none) state-one) ∙ sym (pick-false _ 1 rest (ap not l))
-      go (inr l) = edit-stops g n h t d 1 (pick-true _ 1 _ (ap not (and-false-r _ _ l))) ∙ sym (pick-true _ 1 rest (ap not l))
+      → refusal (rowsOf g n h t (edit d))
+      ≡ pickRow (not (lengthsOf d)) 1 (pickRow (not (eqb s 1)) 11 (refusal (tableRows (g .first) (lastUsable g n) (tableOf g n h t) d)))
+  edit-refusal d =
+      let w = row1 g n h t true read-none in
+      let behind = refusal (rowsFrom 2 (rowsOf g n h t (edit d))) in
+      let rest = refusal (tableRows (g .first) (lastUsable g n) (tableOf g n h t) d) in
+      ap (λ (b : Bool). pickRow (not b) 1 behind) (sym (and-t (and-i _ _ (eq-eqb _ _ (w .0)) (eq-eqb _ _ (w .1))) refl))
+      ∙ ap (pickRow (not (lengthsOf d)) 1)
+      (pick-false _ 2 _ (ap not (row2 g n h t true read-none))
+      ∙ pick-false _ 10 _ (ne-eqb _ _ (row10 g n h t true read-none))
+      ∙ ap (λ (x : ℕ). pickRow (not (eqb x 1)) 11 rest) state-is)
 
 module _ (g : Shape) (n : ℕ) (h t h′ t′ : List ℕ) where
   -- refused alike, and with the same values where it is accepted
@@ -166,7 +166,7 @@ module _ (g : Shape) (n : ℕ) (h t h′ t′ : List ℕ) where
       go (some k) = refl
 
 pub answersByUsed : AnswersByUsed
-answersByUsed g n h t h′ t′ one one′ s c = go c
+answersByUsed g n h t h′ t′ s reads reads′ used c = go c
   where
     es : List ℕ
     es = tableOf g n h t
@@ -175,20 +175,22 @@ answersByUsed g n h t h′ t′ one one′ s c = go c
     es′ = tableOf g n h′ t′
 
     common : refusal (rowsOf g n h t read) ≡ refusal (rowsOf g n h′ t′ read)
-    common = read-none g n h t one ∙ sym (read-none g n h′ t′ one′)
+    common = read-none g n h t s reads ∙ sym (read-none g n h′ t′ s reads′)
 
     go : (c : Call) → step g n h t c .answer ≡ step g n h′ t′ c .answer
-    go read = one ∙ sym one′
-    go freeCounts = same-answer g n h t h′ t′ freeCounts common (rw (same-ranges es es′ s))
+    go read = reads ∙ sym reads′
+    go freeCounts = same-answer g n h t h′ t′ freeCounts common (rw (same-ranges es es′ used))
     go repair =
         same-answer g n h t h′ t′ repair common
-        (repair-answer g n h t ∙ ap (λ (x : ℕ). accepted (x ∷ [])) (state-one g n h t one ∙ sym (state-one g n h′ t′ one′)) ∙ sym (repair-answer g n h′ t′))
+        (repair-answer g n h t
+        ∙ ap (λ (x : ℕ). accepted (x ∷ [])) (state-is g n h t s reads ∙ sym (state-is g n h′ t′ s reads′))
+        ∙ sym (repair-answer g n h′ t′))
     go (edit d) =
         same-answer g n h t h′ t′ (edit d)
-        (edit-refusal g n h t one d
-        ∙ ap (pickRow (not (lengthsOf d)) 1) (same-refusal es es′ s (g .first) (lastUsable g n) d)
-        ∙ sym (edit-refusal g n h′ t′ one′ d))
-        (ap accepted (same-values es es′ s (g .first) (lastUsable g n) d))
+        (edit-refusal g n h t s reads d
+        ∙ ap (λ (q : Option ℕ). pickRow (not (lengthsOf d)) 1 (pickRow (not (eqb s 1)) 11 q)) (same-refusal es es′ used (g .first) (lastUsable g n) d)
+        ∙ sym (edit-refusal g n h′ t′ s reads′ d))
+        (ap accepted (same-values es es′ used (g .first) (lastUsable g n) d))
 
 -- ---- a type GUID cleared by another tool
 
@@ -213,16 +215,16 @@ clearedReads g n h t i wide hi one = (
     cleared = put (i * 128) (zeros 16) es
 
     sizes : (length h ≡ lentBytes g primary) × (length t ≡ lentBytes g backup) × (true ≡ true)
-    sizes = row1 g n h t true (read-none g n h t one)
+    sizes = row1 g n h t true (read-none g n h t 1 one)
 
     range : inRange g n ≡ true
-    range = row2 g n h t true (read-none g n h t one)
+    range = row2 g n h t true (read-none g n h t 1 one)
 
     len : length es ≡ 16384
-    len = ap length (one-primary g n h t (state-one g n h t one)) ∙ length-entries g wide primary h (sizes .0)
+    len = ap length (one-primary g n h t (state-is g n h t 1 one)) ∙ length-entries g wide primary h (sizes .0)
 
     good : goodTable first last es ≡ true
-    good = readable-good g n h t (λ z. omega (arith, state-one g n h t one))
+    good = readable-good g n h t (λ z. omega (arith, state-is g n h t 1 one))
 
     e : List ℕ
     e = put 0 (zeros 16) (entryAt es i)
@@ -250,7 +252,7 @@ clearedReads g n h t i wide hi one = (
         edit-holds g wide n h t (sizes .0) (sizes .1) cleared (length-put (i * 128) (zeros 16) es ∙ len)
         (subst (λ (x : List ℕ). goodTable first last x ≡ true) is
         (good-put first last es len i e hi le′ good (unused-ok first last e un) (λ j hj ne a b. absurd (clash un a))))
-        (state-one g n h t one)
+        (state-is g n h t 1 one)
 
     again : refusal (rowsOf g n h′ t′ read) ≡ none
     again = open-common g n h′ t′ (delete 0) (open-none g n h′ t′ (delete 0) (w .len-head) (w .len-tail) refl range (w .reads))

@@ -200,10 +200,10 @@ ClearedReads =
 abbrev pub GoodByUsed : Type 0
 GoodByUsed = (first last : ℕ) (es es′ : List ℕ) → SameUsed es es′ → goodTable first last es ≡ goodTable first last es′
 
--- and what every call answers goes by them alone: refusals, slot and first block of an add, free counts
+-- and what every call answers on two disks that read as the same state goes by them alone: refusals, slot and first block of an add, free counts
 abbrev pub AnswersByUsed : Type 0
 AnswersByUsed =
-    (g : Shape) (n : ℕ) (h t h′ t′ : List ℕ) → step g n h t read .answer ≡ accepted (1 ∷ []) → step g n h′ t′ read .answer ≡ accepted (1 ∷ [])
+    (g : Shape) (n : ℕ) (h t h′ t′ : List ℕ) (s : ℕ) → step g n h t read .answer ≡ accepted (s ∷ []) → step g n h′ t′ read .answer ≡ accepted (s ∷ [])
     → SameUsed (tableOf g n h t) (tableOf g n h′ t′) → (c : Call) → step g n h t c .answer ≡ step g n h′ t′ c .answer
 
 -- f4: adding overwrites all of them: the entry's 128 bytes are what the add was given and its first and last block, one behind the other
