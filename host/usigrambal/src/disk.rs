@@ -59,6 +59,8 @@ pub struct NewPartition {
     pub unique: Guid,
     /// In blocks.
     pub size: u64,
+    /// 1, 8 or 2048 (rule e1): the partition starts at a block whose number is a multiple of it.
+    pub alignment: u64,
     pub attributes: u64,
     pub name: Name,
 }
@@ -182,12 +184,13 @@ impl Disk<'_> {
         Ok(Free { blocks, longest_run })
     }
 
-    /// Adds a partition in the lowest unused slot, from the lowest block that leaves it room.
+    /// Adds a partition in the lowest unused slot, from the lowest multiple of its alignment that leaves it room.
     pub fn add(&mut self, new: &NewPartition) -> Result<Placed, Refused> {
         let lent = raw::NewPartition {
             kind: &new.kind.0,
             unique: &new.unique.0,
             size: new.size,
+            alignment: new.alignment,
             attributes: new.attributes,
             name: &new.name.0,
         };

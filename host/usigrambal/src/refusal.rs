@@ -55,6 +55,7 @@ refusals! {
     23 BadPartitionName "the name has a nonzero unit after a zero one"
     24 NoUnusedSlot "no unused slot"
     25 NoRoom "no room"
+    27 Alignment "the alignment is not 1, 8 or 2048 blocks"
     30 NotAGuid "not a GUID text"
     40 ImageLength "the image length is outside its range"
     41 NoSignature "the signature of a map stands nowhere"

@@ -53,6 +53,7 @@ mod c {
             unique: *const u8,
             unique_len: usize,
             size: u64,
+            alignment: u64,
             attributes: u64,
             name: *const u16,
             name_units: usize,
@@ -101,12 +102,14 @@ mod c {
     }
 }
 
-/// What `gpt_add` is given for a new partition: type and unique GUID as stored, size in blocks.
+/// What `gpt_add` is given for a new partition: type and unique GUID as stored, size and
+/// alignment in blocks.
 #[derive(Clone, Copy, Debug)]
 pub struct NewPartition<'a> {
     pub kind: &'a [u8],
     pub unique: &'a [u8],
     pub size: u64,
+    pub alignment: u64,
     pub attributes: u64,
     pub name: &'a [u16],
 }
@@ -156,6 +159,7 @@ pub fn gpt_add(
             new.unique.as_ptr(),
             new.unique.len(),
             new.size,
+            new.alignment,
             new.attributes,
             new.name.as_ptr(),
             new.name.len(),
