@@ -1,6 +1,6 @@
 -- An edit's own rows (an add's before the one for room): none holds exactly when what `Serves` says in plain words does.
 use mathlib.Core.Path.{_≡_, refl, sym, ap, subst, _∙_}
-use mathlib.Core.Logic.{_⊎_, inl, inr, _≢_, _↔_}
+use mathlib.Core.Logic.{_⊎_, inl, inr, ⊎-elim, _≢_, _↔_}
 use mathlib.Core.Bool.{true, false, not}
 use mathlib.Core.List.{List, [], _∷_, _++_}
 use mathlib.Core.Option.{none, some}
@@ -11,17 +11,17 @@ use lib.Dec.{eqb}
 use lib.ListN.{length, getD, set, length-set}
 use lib.Seq.{getD-set-same, getD-set-other}
 use borrow.Author.Tests.{leb-true, le-leb, eqb-true, eqb-false, eq-eqb, ne-eqb}
-use Rattle.octets.specs.Tests.{_and_, any, findIx}
+use Rattle.octets.specs.Tests.{_and_, _or_, any, findIx}
 use Rattle.octets.specs.Rows.{Row, row, refusal}
 use Rattle.octets.specs.Bytes.{isZero, same}
-use Rattle.octets.proofs.Bools.{and-l, and-r, and-i, and-false-l, and-skip, and-t, or-false-l, or-false-r, or-false-i, bool-cases, not-f, clash, option-cases}
+use Rattle.octets.proofs.Bools.{and-l, and-r, and-i, and-false-l, and-skip, and-t, or-cases, or-false-l, or-false-r, or-false-i, bool-cases, not-f, clash, option-cases}
 use Rattle.octets.proofs.Tests.{all-make, any-none, any-false, any-make, findIx-get}
 use Rattle.octets.proofs.Equal.{same-refl, same-false}
 use Rattle.octets.proofs.Rows.{rowsFrom, pick-false, passes, refusal-append, refusal-before}
 use Rattle.octets.proofs.Chunks.{length-chunks}
 use Rattle.gpt_model.specs.Table.{uniqueOf, firstOf, unused, BlockRange, noBlocks, entries, rangesOf}
 use Rattle.gpt_model.specs.Disk.{Shape, lastUsable, tableOf}
-use Rattle.gpt_model.specs.Ranges.{blockIn}
+use Rattle.gpt_model.specs.Ranges.{blockIn, isAlignment}
 use Rattle.gpt_model.specs.declared.NewPartition.{NewPartition}
 use Rattle.gpt_model.specs.Calls.{Edit, resize, rename, edit, accepted, Outcome, badName, entryOf, carries, slotRows, addRows, fitsAt, tableRows, change, lengthsOf, openRows, rowsOf, step}
 use Rattle.gpt_model.specs.Claims.{UsedSlot, NameOk, FitsAlone, NewOk}
@@ -128,6 +128,21 @@ module _ (es : List ℕ) (k : ℕ) where
 
 -- ---- an add's rows before the one for room
 
+-- ---- the test of row 27
+
+pub alignment-get : (m : ℕ) → isAlignment m ≡ true → (m ≡ 1) ⊎ (m ≡ 8) ⊎ (m ≡ 2048)
+alignment-get m e = ⊎-elim (λ q. low (or-cases _ _ q)) (λ q. inr (inr (eqb-true m 2048 q))) (or-cases _ _ e)
+  where
+    low : (eqb m 1 ≡ true) ⊎ (eqb m 8 ≡ true) → (m ≡ 1) ⊎ (m ≡ 8) ⊎ (m ≡ 2048)
+    low (inl q) = inl (eqb-true m 1 q)
+    low (inr q) = inr (inl (eqb-true m 8 q))
+
+pub alignment-make : (m : ℕ) → (m ≡ 1) ⊎ (m ≡ 8) ⊎ (m ≡ 2048) → isAlignment m ≡ true
+unfolding _or_
+alignment-make m (inl q) = ap isAlignment q
+alignment-make m (inr (inl q)) = ap isAlignment q
+alignment-make m (inr (inr q)) = ap isAlignment q
+
 module _ (es : List ℕ) (p : NewPartition) where
   abbrev rows : List Row
   rows = addRows es p
@@ -154,6 +169,7 @@ module _ (es : List ℕ) (p : NewPartition) where
   new-get l e = record {
     lengths = l;
     blocks = eqb-false _ _ (passes 20 rows e);
+    aligned = alignment-get (p .alignment) (not-f _ (passes 27 rows e));
     typed = passes 21 rows e;
     own = (or-false-l _ _ (passes 22 rows e), new-unique (or-false-r _ _ (passes 22 rows e)));
     named = name-get (p .name) (passes 23 rows e);
@@ -167,6 +183,7 @@ module _ (es : List ℕ) (p : NewPartition) where
   pub new-make : NewOk es p → refusal (addRows es p) ≡ none
   new-make w =
       pick-false _ 20 _ (ne-eqb _ _ (w .blocks))
+      ∙ pick-false _ 27 _ (ap not (alignment-make (p .alignment) (w .aligned)))
       ∙ pick-false _ 21 _ (w .typed)
       ∙ pick-false _ 22 _ (or-false-i _ _ (w .own .0) (unique-new (w .own .1)))
       ∙ pick-false _ 23 _ (name-make (p .name) (w .named))

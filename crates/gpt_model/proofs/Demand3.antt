@@ -17,14 +17,14 @@ use Rattle.octets.proofs.Parts.{length-zeros}
 use Rattle.octets.proofs.Rows.{rowsFrom, pick-true, pick-false, passes, refusal-append, refusal-before}
 use Rattle.gpt_model.specs.Table.{noBlocks, apart, rangesOf, goodTable}
 use Rattle.gpt_model.specs.Disk.{Shape, lastUsable, inRange, state, tableOf, freshHead, freshTail}
-use Rattle.gpt_model.specs.Ranges.{blockIn, freeCount, longestFree, FreeFrom}
+use Rattle.gpt_model.specs.Ranges.{blockIn, MultipleOf, AlignedFrom, freeCount, longestFree}
 use Rattle.gpt_model.specs.declared.NewPartition.{NewPartition}
 use Rattle.gpt_model.specs.Calls.{Edit, add, delete, resize, rename, Call, read, freeCounts, repair, edit, refused, accepted, Outcome, outcome, unlessRefused, isNone, addRows, startFor, tableRows, change, edited, lengthsOf, commonRows, openRows, rowsOf, repaired, step, formatRows, format}
 use Rattle.gpt_model.specs.Lists.{Snapshot, afterAll, answers, applied, startAfter, total, StartsAfresh}
-use Rattle.gpt_model.specs.Claims.{Passes, Sound, Formats, Demand3From, Demand3, RefusedStays, BooksDifference, UsedSlot, NameOk, NewOk, Serves, NotEmpty, EditReadsBack, RepairReadsBack}
+use Rattle.gpt_model.specs.Claims.{Passes, Sound, Formats, Demand3From, Demand3, RefusedStays, BooksDifference, UsedSlot, NameOk, NewOk, AcceptsNew, Serves, NotEmpty, EditReadsBack, RepairReadsBack}
 use Rattle.gpt_model.proofs.Room.{start-none, start-some, start-is-none}
 use Rattle.gpt_model.proofs.Counts.{apart-get, taken-total, total-zeros, taken-free}
-use Rattle.gpt_model.proofs.Longest.{room-fits, longest-room}
+use Rattle.gpt_model.proofs.Longest.{room-fits, fits-room, longest-room}
 use Rattle.gpt_model.proofs.Entries.{length-rangesOf, good-bounded, good-apart, empty-sizes, empty-good}
 use Rattle.gpt_model.proofs.States.{Holds, readable-good, fresh-holds, repair-holds}
 use Rattle.gpt_model.proofs.Outcomes.{step-refused, step-accepted, repair-answer, refused-row, accepted-none, not-ten, not-eleven, row1, row10, open-common, edit-open, open-none}
@@ -93,7 +93,7 @@ module _ (g : Shape) (n : ℕ) (r : Snapshot) (v : Kept g n r) where
       let w = good-apart (g .first) (lastUsable g n) tab good-tab in
       apart-get _ _ (pairs-get apart (rangesOf tab) noBlocks w i j l (omega (arith, length-rangesOf tab))) b p q
 
-  -- an add whose checks before 25 pass: 25 where no start has room, else accepted
+  -- an add whose checks before 25 pass: 25 where no aligned start has room, else accepted
   module _ (p : NewPartition) (e : Passes g n r p) where
     abbrev c : Call
     c = edit (add p)
@@ -118,30 +118,44 @@ module _ (g : Shape) (n : ℕ) (r : Snapshot) (v : Kept g n r) where
         → step g n (r .head) (r .tail) c .answer ≡ accepted (change (g .first) (lastUsable g n) tab (add p) .values)
     add-yes s q = ap (λ (o : Outcome). o .answer) (step-accepted g n (r .head) (r .tail) c (from25 ∙ pick-false _ 25 _ (ap isNone q)))
 
-    abbrev NoRun : Type 0
-    NoRun = (s : ℕ) → ¬ FreeFrom g n (rangesOf tab) (p .size) s
+    -- what the search says of blocks: the start that it finds is aligned and has room, and where it finds none there is none
+    abbrev Aligned : ℕ → Type 0
+    Aligned s = AlignedFrom g n (rangesOf tab) (p .size) (p .alignment) s
 
-    room-iff : (step g n (r .head) (r .tail) c .answer ≡ refused 25) ↔ NoRun
-    room-iff = (to (option-cases start), λ f. add-no (start-is-none _ _ _ _ (λ s h w. f s (h, w .0, w .1))))
+    found : (s : ℕ) → start ≡ some s → Aligned s
+    found s q =
+        let k = start-some (rangesOf tab) (g .first) (lastUsable g n) (p .size) (p .alignment) s q in (k .1 .0, (k .0, k .1 .1 .0, k .1 .1 .1))
+
+    missed : start ≡ none → (s : ℕ) → ¬ Aligned s
+    missed q s w =
+        let f = w .1 in start-none (rangesOf tab) (g .first) (lastUsable g n) (p .size) (p .alignment) add-size q s (f .0) (w .0, (f .1, f .2))
+
+    room-iff : (step g n (r .head) (r .tail) c .answer ≡ refused 25) ↔ ((s : ℕ) → ¬ Aligned s)
+    room-iff = (to (option-cases start), λ f. add-no (start-is-none _ _ _ _ _ (λ s h w. f s (w .0, (h, w .1 .0, w .1 .1)))))
       where
-        to : (start ≡ none) ⊎ ((s : ℕ) × (start ≡ some s)) → step g n (r .head) (r .tail) c .answer ≡ refused 25 → NoRun
-        to (inl q) a = λ s w. start-none (rangesOf tab) (g .first) (lastUsable g n) (p .size) add-size q s (w .0) (w .1, w .2)
+        to : (start ≡ none) ⊎ ((s : ℕ) × (start ≡ some s)) → step g n (r .head) (r .tail) c .answer ≡ refused 25 → (s : ℕ) → ¬ Aligned s
+        to (inl q) a = missed q
         to (inr w) a = let b = add-yes (w .0) (w .1) in let z : _≡_ {A = ℕ} 0 1 = cc in absurd (omega arith)
 
-    fits-iff : (step g n (r .head) (r .tail) c .answer ≡ accepted (change (g .first) (lastUsable g n) tab (add p) .values))
-        ↔ ((s : ℕ) × FreeFrom g n (rangesOf tab) (p .size) s)
+    fits-iff : AcceptsNew g n tab r p ↔ ((s : ℕ) × Aligned s)
     fits-iff = (to (option-cases start), from (option-cases start))
       where
-        to : (start ≡ none) ⊎ ((s : ℕ) × (start ≡ some s))
-            → step g n (r .head) (r .tail) c .answer ≡ accepted (change (g .first) (lastUsable g n) tab (add p) .values)
-            → (s : ℕ) × FreeFrom g n (rangesOf tab) (p .size) s
+        to : (start ≡ none) ⊎ ((s : ℕ) × (start ≡ some s)) → AcceptsNew g n tab r p → (s : ℕ) × Aligned s
         to (inl q) a = let b = add-no q in let z : _≡_ {A = ℕ} 0 1 = cc in absurd (omega arith)
-        to (inr w) a = let k = start-some (rangesOf tab) (g .first) (lastUsable g n) (p .size) (w .0) (w .1) in (w .0, (k .0, k .1 .0, k .1 .1))
+        to (inr w) a = (w .0, found (w .0) (w .1))
 
-        from : (start ≡ none) ⊎ ((s : ℕ) × (start ≡ some s)) → ((s : ℕ) × FreeFrom g n (rangesOf tab) (p .size) s)
-            → step g n (r .head) (r .tail) c .answer ≡ accepted (change (g .first) (lastUsable g n) tab (add p) .values)
+        from : (start ≡ none) ⊎ ((s : ℕ) × (start ≡ some s)) → ((s : ℕ) × Aligned s) → AcceptsNew g n tab r p
         from (inr w) a = add-yes (w .0) (w .1)
-        from (inl q) a = let f = a .1 in absurd (start-none (rangesOf tab) (g .first) (lastUsable g n) (p .size) add-size q (a .0) (f .0) (f .1, f .2))
+        from (inl q) a = absurd (missed q (a .0) (a .1))
+
+    -- every block is a multiple of 1
+    fits-at-one : p .alignment ≡ 1 → (longest : ℕ) → longest ≡ longestFree (rangesOf tab) (g .first) (lastUsable g n) → AcceptsNew g n tab r p ↔ (p .size ≤ longest)
+    fits-at-one one longest is = (
+      λ a. let v = fits-iff .0 a in let f = v .1 .1 in
+          omega (arith, room-fits (rangesOf tab) (g .first) (lastUsable g n) (p .size) (v .0) (f .0) (f .1, f .2)),
+      λ h. let v = fits-room (rangesOf tab) (g .first) (lastUsable g n) (p .size) add-size (omega arith) in
+          fits-iff .1 (v .0, (subst (λ (m : ℕ). MultipleOf m (v .0)) (sym one) (v .0, omega arith), (v .1, v .2 .0, v .2 .1))),
+    )
 
   pub sound : Sound g n r
   sound = record {
@@ -178,6 +192,7 @@ module _ (g : Shape) (n : ℕ) (r : Snapshot) (v : Kept g n r) where
         );
     passes = λ p. (new-passes p, passes-new p);
     fits = fits-iff;
+    fitsAtOne = λ p e one free longest a. fits-at-one p e one longest (counted-longest free longest a);
     deletes = λ k. accepts (delete k) refl (slot-rows tab k);
     renames = λ k name. (named k name, λ w. accepts (rename k name) (eq-eqb _ _ (w .0)) (rename-rows tab k (g .first) (lastUsable g n) name) .1 (w .1, w .2));
     resizes = λ k size. accepts (resize k size) refl (resize-rows tab k (g .first) (lastUsable g n) size);
@@ -189,6 +204,10 @@ module _ (g : Shape) (n : ℕ) (r : Snapshot) (v : Kept g n r) where
       read-none : refusal (commonRows g n (r .head) (r .tail) true) ≡ none
       read-none =
           open-common g n (r .head) (r .tail) (delete 0) (open-none g n (r .head) (r .tail) (delete 0) (v .len-head) (v .len-tail) refl range (v .reads))
+
+      counted-longest : (free longest : ℕ) → step g n (r .head) (r .tail) freeCounts .answer ≡ accepted (free ∷ longest ∷ [])
+          → longest ≡ longestFree (rangesOf tab) (g .first) (lastUsable g n)
+      counted-longest free longest a = let b = ap (λ (o : Outcome). o .answer) (step-accepted g n (r .head) (r .tail) freeCounts read-none) in cc
 
       opens : (d : Edit) → lengthsOf d ≡ true → refusal (openRows g n (r .head) (r .tail) (lengthsOf d)) ≡ none
       opens d l = open-none g n (r .head) (r .tail) d (v .len-head) (v .len-tail) l range (v .reads)

@@ -271,10 +271,10 @@ module _ (first last : ℕ) (small : last < 256 ^ 8) (es : List ℕ) (len : leng
   adds : (p : NewPartition) → lengthsOf (add p) ≡ true → refusal (tableRows first last es (add p)) ≡ none → FitsEdit first last es (add p)
   adds p lens e =
       let rows = tableRows first last es (add p) in
-      let w = start-some (rangesOf es) first last (p .size) (orZero (startFor first last es p)) (some-orZero _ (passes 25 rows e)) in
+      let w = start-some (rangesOf es) first last (p .size) (p .alignment) (orZero (startFor first last es p)) (some-orZero _ (passes 25 rows e)) in
       let f = findIx-get unused (entries es) [] (not-f _ (passes 24 rows e)) in
       new-fits (lowestUnused es) (orZero (startFor first last es p)) p (omega (arith, f .0, length-chunks 128 128 es)) (f .1)
-      (nonzero (p .size) (passes 20 rows e)) (w .0) (w .1) (eqb-true _ _ (and-l _ _ (and-l _ _ lens))) (eqb-true _ _ (and-r _ _ (and-l _ _ lens)))
+      (nonzero (p .size) (passes 20 rows e)) (w .0) (w .1 .1) (eqb-true _ _ (and-l _ _ (and-l _ _ lens))) (eqb-true _ _ (and-r _ _ (and-l _ _ lens)))
       (passes 21 rows e) (or-false-l _ _ (passes 22 rows e)) (or-false-r _ _ (passes 22 rows e))
 
   pub fits : (d : Edit) → lengthsOf d ≡ true → refusal (tableRows first last es d) ≡ none → FitsEdit first last es d

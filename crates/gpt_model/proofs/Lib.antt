@@ -1,4 +1,5 @@
--- Laws that the crates above cite, and the theorems (Demand3, Sizes, Touches, SameSize, Stale; over bytes StoredTable to StoredRepair).
+-- Laws that the crates above cite, and the theorems (Demand3, Unaligned, Sizes, Touches, SameSize, Stale; over bytes StoredTable to StoredRepair).
+pub mod Multiples
 pub mod Room
 pub mod Counts
 pub mod Longest
@@ -13,6 +14,7 @@ pub mod Outcomes
 pub mod Accepts
 pub mod Steps
 pub mod Demand3
+pub mod Unaligned
 pub mod Sizes
 pub mod Touches
 pub mod SameSize

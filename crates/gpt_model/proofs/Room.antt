@@ -1,4 +1,4 @@
--- Room: a run of free blocks as a fact, and the lowest start that has it.
+-- Room: a run of free blocks as a fact, and the lowest aligned start that has it.
 use mathlib.Core.Path.{_≡_, refl, sym, ap, _∙_}
 use mathlib.Core.Logic.{_⊎_, inl, inr}
 use mathlib.Core.Bool.{Bool, true, false, not, false≢true}
@@ -7,10 +7,11 @@ use mathlib.Core.Option.{none, some}
 use Prim.Native.Nat.{ℕ, zero, suc, _+_, _-_, _≤_, _<_}
 use native.Mathlib.Decide.{decLt, ℕ-discrete}
 use native.Mathlib.Omega.{arith}
-use borrow.Author.Tests.{leb-true, le-leb}
+use borrow.Author.Tests.{leb-true, le-leb, eqb-true, eq-eqb}
 use Rattle.octets.proofs.Bools.{and-l, and-r, and-i, bool-cases, not-t, clash, some-none, option-cases}
 use Rattle.gpt_model.specs.Table.{BlockRange, noBlocks, spans}
-use Rattle.gpt_model.specs.Ranges.{blockIn, inSome, inNone, allFrom, roomAt, lowestFrom, lowestStart}
+use Rattle.gpt_model.specs.Ranges.{blockIn, inSome, inNone, MultipleOf, allFrom, roomAt, lowestFrom, alignedAt, lowestStart}
+use Rattle.gpt_model.proofs.Multiples.{multiple-mod, mod-multiple}
 
 -- ---- a block in a range
 
@@ -104,40 +105,52 @@ unfolding roomAt
 room-get t last size s e =
     (leb-true _ _ (and-l _ _ e), λ b h g. not-t _ (allFrom-get (inNone t) s size (and-r _ _ e) b h g))
 
--- none: no start at all has room
-pub start-none : (t : List BlockRange) (first last size : ℕ) → 0 < size → lowestStart t first last size ≡ none
-    → (s : ℕ) → first ≤ s → Room t last size s → ⊥
-unfolding lowestStart
-start-none t first last size pos e s h r =
-    clash (room-make t last size s r)
-    (lowestFrom-none (roomAt t last size) first (suc last - first) e s h (omega arith))
+-- ---- aligned starts
 
-pub start-some : (t : List BlockRange) (first last size s : ℕ) → lowestStart t first last size ≡ some s
-    → (first ≤ s) × Room t last size s × ((b : ℕ) → first ≤ b → b < s → Room t last size b → ⊥)
-unfolding lowestStart
-start-some t first last size s e =
-    let r = lowestFrom-some (roomAt t last size) first (suc last - first) s e in
-    (r .0, room-get t last size s (r .2), λ b h g w. clash (room-make t last size b w) (r .3 b h g))
+-- a multiple of m with room
+abbrev pub Start : List BlockRange → ℕ → ℕ → ℕ → ℕ → Type 0
+Start t last size m s = MultipleOf m s × Room t last size s
 
--- the lowest start with room is what `lowestStart` answers, and none is what it answers where there is no room
-pub start-is : (t : List BlockRange) (first last size s : ℕ) → 0 < size → first ≤ s → Room t last size s
-    → ((b : ℕ) → first ≤ b → b < s → Room t last size b → ⊥) → lowestStart t first last size ≡ some s
-start-is t first last size s pos h r low = go (option-cases (lowestStart t first last size))
-  where
-    go : (lowestStart t first last size ≡ none) ⊎ ((s : ℕ) × (lowestStart t first last size ≡ some s)) → lowestStart t first last size ≡ some s
-    go (inl e) = absurd (start-none t first last size pos e s h r)
-    go (inr w) = let k = start-some t first last size (w .0) (w .1) in
-        w .1 ∙ ap some (same k (decLt (w .0) s) (decLt s (w .0)))
-      where
-        same : (first ≤ w .0) × Room t last size (w .0) × ((b : ℕ) → first ≤ b → b < w .0 → Room t last size b → ⊥) → Dec (w .0 < s) → Dec (s < w .0) → w .0 ≡ s
-        same k (yes a) d = absurd (low (w .0) (k .0) a (k .1))
-        same k (no a) (yes b) = absurd (k .2 s h b r)
-        same k (no a) (no b) = omega arith
+module _ (t : List BlockRange) (first last size m : ℕ) where
+  aligned-make : (s : ℕ) → Start t last size m s → alignedAt t last size m s ≡ true
+  aligned-make s w = and-i _ _ (eq-eqb _ _ (multiple-mod m s (w .0))) (room-make t last size s (w .1))
 
-pub start-is-none : (t : List BlockRange) (first last size : ℕ)
-    → ((s : ℕ) → first ≤ s → Room t last size s → ⊥) → lowestStart t first last size ≡ none
-start-is-none t first last size f = go (option-cases (lowestStart t first last size))
-  where
-    go : (lowestStart t first last size ≡ none) ⊎ ((s : ℕ) × (lowestStart t first last size ≡ some s)) → lowestStart t first last size ≡ none
-    go (inl e) = e
-    go (inr w) = let k = start-some t first last size (w .0) (w .1) in absurd (f (w .0) (k .0) (k .1))
+  aligned-get : (s : ℕ) → alignedAt t last size m s ≡ true → Start t last size m s
+  aligned-get s e = (mod-multiple m s (eqb-true _ _ (and-l _ _ e)), room-get t last size s (and-r _ _ e))
+
+  -- none: no multiple of m has room
+  pub start-none : 0 < size → lowestStart t first last size m ≡ none → (s : ℕ) → first ≤ s → Start t last size m s → ⊥
+  unfolding lowestStart
+  start-none pos e s h w =
+      let r = w .1 .0 in
+      clash (aligned-make s w) (lowestFrom-none (alignedAt t last size m) first (suc last - first) e s h (omega arith))
+
+  pub start-some : (s : ℕ) → lowestStart t first last size m ≡ some s
+      → (first ≤ s) × Start t last size m s × ((b : ℕ) → first ≤ b → b < s → Start t last size m b → ⊥)
+  unfolding lowestStart
+  start-some s e =
+      let r = lowestFrom-some (alignedAt t last size m) first (suc last - first) s e in
+      (r .0, aligned-get s (r .2), λ b h g w. clash (aligned-make b w) (r .3 b h g))
+
+  -- the lowest multiple of m with room is what `lowestStart` answers, and none is what it answers where none has room
+  pub start-is : (s : ℕ) → 0 < size → first ≤ s → Start t last size m s → ((b : ℕ) → first ≤ b → b < s → Start t last size m b → ⊥)
+      → lowestStart t first last size m ≡ some s
+  start-is s pos h r low = go (option-cases (lowestStart t first last size m))
+    where
+      go : (lowestStart t first last size m ≡ none) ⊎ ((s : ℕ) × (lowestStart t first last size m ≡ some s)) → lowestStart t first last size m ≡ some s
+      go (inl e) = absurd (start-none pos e s h r)
+      go (inr w) = let k = start-some (w .0) (w .1) in
+          w .1 ∙ ap some (same k (decLt (w .0) s) (decLt s (w .0)))
+        where
+          same : (first ≤ w .0) × Start t last size m (w .0) × ((b : ℕ) → first ≤ b → b < w .0 → Start t last size m b → ⊥)
+              → Dec (w .0 < s) → Dec (s < w .0) → w .0 ≡ s
+          same k (yes a) d = absurd (low (w .0) (k .0) a (k .1))
+          same k (no a) (yes b) = absurd (k .2 s h b r)
+          same k (no a) (no b) = omega arith
+
+  pub start-is-none : ((s : ℕ) → first ≤ s → Start t last size m s → ⊥) → lowestStart t first last size m ≡ none
+  start-is-none f = go (option-cases (lowestStart t first last size m))
+    where
+      go : (lowestStart t first last size m ≡ none) ⊎ ((s : ℕ) × (lowestStart t first last size m ≡ some s)) → lowestStart t first last size m ≡ none
+      go (inl e) = e
+      go (inr w) = let k = start-some (w .0) (w .1) in absurd (f (w .0) (k .0) (k .1))

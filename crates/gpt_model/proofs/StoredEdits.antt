@@ -116,7 +116,7 @@ module _ (g : Shape) (n : ℕ) (es : List ℕ) (long : length es ≡ 16384) wher
       let rows = tableRows (g .first) (lastUsable g n) es (add p) in
       let i = findIx unused (entries es) in
       let s = orZero (startFor (g .first) (lastUsable g n) es p) in
-      let r = start-some (rangesOf es) (g .first) (lastUsable g n) (p .size) s (some-orZero _ (passes 25 rows e)) in
+      let r = start-some (rangesOf es) (g .first) (lastUsable g n) (p .size) (p .alignment) s (some-orZero _ (passes 25 rows e)) in
       let f = findIx-get unused (entries es) [] (not-f _ (passes 24 rows e)) in
       let h : i < 128 = omega (arith, f .0, length-chunks 128 128 es) in
       let new = newEntry p s in
@@ -128,7 +128,7 @@ module _ (g : Shape) (n : ℕ) (es : List ℕ) (long : length es ≡ 16384) wher
         refl,
         subst (λ (x : List ℕ). AddSays g n p es x i s) (sym q) (record {
           slot = (h, λ u. clash (f .1) (used-is es i h ∙ u), λ j l. sym (used-is es j (omega arith)) ∙ findIx-before unused (entries es) [] j l);
-          start = ((r .0, r .1 .0, r .1 .1), λ b l w. r .2 b (w .0) l (w .1, w .2));
+          start = ((r .1 .0, (r .0, r .1 .1 .0, r .1 .1 .1)), λ b l w. let f = w .1 in r .2 b (f .0) l (w .0, (f .1, f .2)));
           typeGuid = ap (λ (x : ℕ). part x 16 (put (i * 128) new es)) (omega arith) ∙ at 0 16 (omega arith) ∙ new-type p s lt;
           uniqueGuid = at 16 16 (omega arith) ∙ new-unique p s lu;
           first = at 32 8 (omega arith) ∙ new-first-bytes p s;

@@ -11,7 +11,8 @@ use lib.ListN.{length, getD}
 use Rattle.octets.proofs.Bools.{clash}
 use Rattle.gpt_model.specs.Table.{BlockRange}
 use Rattle.gpt_model.specs.Ranges.{inSome, inNone, lowestStart, countFrom, freeCount, longest, longestFree}
-use Rattle.gpt_model.proofs.Room.{Room, start-is, start-is-none}
+use Rattle.gpt_model.proofs.Multiples.{Up}
+use Rattle.gpt_model.proofs.Room.{Start, start-is, start-is-none}
 use Rattle.gpt_model.proofs.Counts.{count-false, count-true, count-add}
 use Rattle.gpt_model.proofs.Longest.{longest-skip, longest-gap}
 
@@ -20,11 +21,11 @@ getD-map f [] i y d h = absurd (not-suc-le-zero h)
 getD-map f (x ∷ xs) zero y d h = refl
 getD-map f (x ∷ xs) (suc i) y d h = getD-map f xs i y d (le-of-suc-le-suc h)
 
--- ---- placing
-module _ (s : List BlockRange) (first last size : ℕ) (pos : 0 < size) where
-  -- no start below a has room
+-- ---- placing at a multiple of m
+module _ (s : List BlockRange) (first last size m : ℕ) (pos : 0 < size) where
+  -- no multiple of m below a has room
   abbrev pub Low : ℕ → Type 0
-  Low a = (c : ℕ) → first ≤ c → c < a → Room s last size c → ⊥
+  Low a = (c : ℕ) → first ≤ c → c < a → Start s last size m c → ⊥
 
   pub low-start : Low first
   low-start c p q r = omega arith
@@ -34,25 +35,35 @@ module _ (s : List BlockRange) (first last size : ℕ) (pos : 0 < size) where
     where
       go : Dec (c < a) → ⊥
       go (yes w) = low c p w r
-      go (no w) = clash (f c (omega arith) (omega arith)) (r .1 c (le-refl c) (omega arith))
+      go (no w) = clash (f c (omega arith) (omega arith)) (r .1 .1 c (le-refl c) (omega arith))
 
-  pub low-gap : (a g : ℕ) → Low a → a ≤ g → g - a < size → (g ≤ last → inSome s g ≡ true) → Low g
-  low-gap a g low ag short stop c p q r = go (decLt c a)
+  -- a gap from a up to but without g, where u is the lowest multiple from a on: too short from u on, or long enough
+  module _ (a g u : ℕ) (low : Low a) (up : Up m a u) where
+    pub low-gap : g < u + size → (g ≤ last → inSome s g ≡ true) → Low g
+    low-gap short stop c p q r = go (decLt c a)
+      where
+        go : Dec (c < a) → ⊥
+        go (yes w) = low c p w r
+        go (no w) =
+            let k = r .1 .0 in
+            let v = up .least c (omega arith) (r .0) in
+            clash (stop (omega arith)) (r .1 .1 g (omega arith) (omega arith))
+
+    pub low-found : first ≤ a → u + size ≤ g → g ≤ last + 1 → ((c : ℕ) → a ≤ c → c < g → inSome s c ≡ false) → lowestStart s first last size m ≡ some u
+    low-found fa fits end clear =
+        let v = up .past in
+        start-is s first last size m u pos (omega arith) (up .multiple, (omega arith, λ b p q. clear b (omega arith) (omega arith))) (λ b p q r. go b p q r (decLt b a))
+      where
+        go : (b : ℕ) → first ≤ b → b < u → Start s last size m b → Dec (b < a) → ⊥
+        go b p q r (yes w) = low b p w r
+        go b p q r (no w) = let v = up .least b (omega arith) (r .0) in omega arith
+
+  pub low-none : (a : ℕ) → Low a → last < a → lowestStart s first last size m ≡ none
+  low-none a low out = start-is-none s first last size m (λ c h r. go c h r (decLt c a))
     where
-      go : Dec (c < a) → ⊥
-      go (yes w) = low c p w r
-      go (no w) = let k = r .0 in clash (stop (omega arith)) (r .1 g (omega arith) (omega arith))
-
-  pub low-found : (a g : ℕ) → Low a → first ≤ a → a ≤ g → size ≤ g - a → g ≤ last + 1
-      → ((c : ℕ) → a ≤ c → c < g → inSome s c ≡ false) → lowestStart s first last size ≡ some a
-  low-found a g low fa ag fits end clear = start-is s first last size a pos fa (omega arith, λ b p q. clear b p (omega arith)) low
-
-  pub low-none : (a : ℕ) → Low a → last < a → lowestStart s first last size ≡ none
-  low-none a low out = start-is-none s first last size (λ c h r. go c h r (decLt c a))
-    where
-      go : (c : ℕ) → first ≤ c → Room s last size c → Dec (c < a) → ⊥
+      go : (c : ℕ) → first ≤ c → Start s last size m c → Dec (c < a) → ⊥
       go c h r (yes x) = low c h x r
-      go c h r (no x) = let w = r .0 in omega arith
+      go c h r (no x) = let w = r .1 .0 in omega arith
 
 max-assoc : (x y z : ℕ) → max (max x y) z ≡ max x (max y z)
 max-assoc x y z = omega arith

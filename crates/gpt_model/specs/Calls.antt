@@ -12,11 +12,12 @@ use Rattle.gpt_model.specs.Table.{writeAll, noBlocks, entryBytes, slotCo
 use Rattle.gpt_model.specs.Disk.{Shape, lastUsable, inRange, primary, backup, lentBytes, guidIn, entriesIn, state, tableOf}
 use Rattle.gpt_model.specs.Disk.{withTable, withCopy, freshHead, freshTail}
 use Rattle.gpt_model.specs.declared.NewPartition.{NewPartition}
-use Rattle.gpt_model.specs.Ranges.{roomAt, lowestStart, freeCount, longestFree}
+use Rattle.gpt_model.specs.Ranges.{roomAt, isAlignment, lowestStart, freeCount, longestFree}
 
--- D15: Add is given type, unique GUID (16 stored bytes each), size in blocks, attributes and name (36 units)
-abbrev pub newPartition : List ℕ → List ℕ → ℕ → ℕ → List ℕ → NewPartition
-newPartition kind unique size attributes name = record { kind = kind; unique = unique; size = size; attributes = attributes; name = name }
+-- D15: Add is given type, unique GUID (16 stored bytes each), size in blocks, attributes and name (36 units). e1: and a stated alignment
+abbrev pub newPartition : List ℕ → List ℕ → ℕ → ℕ → ℕ → List ℕ → NewPartition
+newPartition kind unique size alignment attributes name =
+    record { kind = kind; unique = unique; size = size; alignment = alignment; attributes = attributes; name = name }
 
 -- a slot is named by its number, from 1 on
 pub data Edit : Type 0 where
@@ -81,9 +82,11 @@ abbrev pub slotRows : List ℕ → ℕ → List Row
 slotRows es k = row (not (leb 1 k and leb k slotCount)) 12 ∷ row (unused (entryOf es k)) 13 ∷ []
 
 -- R10: 20: size zero. R11: 21 / 22: type GUID zero / unique GUID zero or already in a used slot. R13: 24 / 25: no unused slot / no room
+-- e5: 27 for any other alignment, after 20
 abbrev pub addRows : List ℕ → NewPartition → List Row
 addRows es p =
     row (eqb (p .size) 0) 20
+    ∷ row (not (isAlignment (p .alignment))) 27
     ∷ row (isZero (p .kind)) 21
     ∷ row (isZero (p .unique) or any (carries (p .unique)) (entries es)) 22
     ∷ row (badName (p .name)) 23
@@ -114,11 +117,11 @@ abbrev pub newEntry : NewPartition → ℕ → List ℕ
 newEntry p s = writeAll (newFields p s) (zeros entryBytes)
 
 module _ (first last : ℕ) (es : List ℕ) where
-  -- D15: and the lowest start with enough free blocks
+  -- D15: and the lowest start with enough free blocks. e2: Adding and the string builder pass it on
   abbrev pub startFor : NewPartition → Option ℕ
-  startFor p = lowestStart (rangesOf es) first last (p .size)
+  startFor p = lowestStart (rangesOf es) first last (p .size) (p .alignment)
 
-  -- R27: Add: 1, 2, 10, 11, 20, 21, 22, 23, 24, 25. R28: Delete: 1, 2, 10, 11, 12, 13. R29: Rename the same, then 23. R30: Resize as delete, then 20, 25.
+  -- R27: Add: 1, 2, 10, 11, 20, 21, 22, 23, 24, 25 (e5: 27 after 20). R28: Delete: 1, 2, 10, 11, 12, 13. R29: Rename the same, then 23. R30: Resize as delete, then 20, 25.
   abbrev pub tableRows : Edit → List Row
   tableRows (add p) = addRows es p ++ (row (isNone (startFor p)) 25 ∷ [])
   tableRows (delete k) = slotRows es k

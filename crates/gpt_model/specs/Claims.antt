@@ -1,6 +1,6 @@
 -- What is claimed of the definitions: the statements of the theorems, proved under the same names in lower case. A reader relies on these.
 use mathlib.Core.Path.{_≡_}
-use mathlib.Core.Logic.{_≢_, _↔_}
+use mathlib.Core.Logic.{_⊎_, _≢_, _↔_}
 use mathlib.Core.Bool.{true, false}
 use mathlib.Core.List.{List, [], _∷_, _++_, map}
 use mathlib.Core.Option.{none, some}
@@ -11,10 +11,11 @@ use Rattle.octets.specs.Bytes.{le, part, put, zeros, isZero, flat}
 use Rattle.gpt_model.specs.Table.{entryBytes, uniqueOf, firstOf, lastOf, unused, noBlocks, slotCount, tableBytes, rangesOf, goodTable}
 use Rattle.gpt_model.specs.Disk.{Shape, disk512, disk4096, lastUsable, usable, inRange, Side, primary, backup, entriesBlock, lentBytes}
 use Rattle.gpt_model.specs.Disk.{headerAt, entriesAt, headerBytes, guidIn, goodCopy, state, lent, tableOf, withTable}
-use Rattle.gpt_model.specs.Ranges.{blockIn, inSome, FreeFrom, taken}
+use Rattle.gpt_model.specs.Ranges.{blockIn, inSome, FreeFrom, AlignedFrom, taken}
 use Rattle.gpt_model.specs.declared.NewPartition.{NewPartition}
 use Rattle.gpt_model.specs.Calls.{Edit, add, delete, resize, rename, Call, read, freeCounts, repair, edit, refused, accepted, outcome}
 use Rattle.gpt_model.specs.Calls.{entryOf, addRows, change, edited, lengthsOf, openRows, rowsOf, step, format}
+use Rattle.gpt_model.specs.Unaligned.{addUnaligned}
 use Rattle.gpt_model.specs.Sizes.{shapeOf, stepBy, formatBy}
 use Rattle.gpt_model.specs.Lists.{Ledger, sizeWas, bookEdit, Snapshot, afterAll, answers, applied, startAfter, rangesIn, StartsAfresh}
 use Rattle.gpt_model.specs.Stored.{SameUsed, EntryHolds, HeadGood, TailGood, SizesOk, ReadSays, FormatSays, Outside, EditSays, RepairSays}
@@ -32,9 +33,9 @@ pub record Sound (g : Shape) (n : ℕ) (r : Snapshot) : Type 0 where
   -- The blocks lying in partitions, counted one by one, equal all blocks granted by accepted calls less all given back.
   pub counted : taken (rangesIn g n r) (g .first) (lastUsable g n) + r .ledger .back ≡ r .ledger .granted
   -- An add that comes next, once its earlier checks pass, is refused for room exactly when no run of as many free blocks as it asks exists, freed ones
-  -- included.
+  -- included. e4: "No room", in demand 3 too, then means that no such aligned start has enough free blocks from it on.
   pub room : (p : NewPartition) → Passes g n r p
-      → (step g n (r .head) (r .tail) (edit (add p)) .answer ≡ refused 25) ↔ ((s : ℕ) → ¬ FreeFrom g n (rangesIn g n r) (p .size) s)
+      → (step g n (r .head) (r .tail) (edit (add p)) .answer ≡ refused 25) ↔ ((s : ℕ) → ¬ AlignedFrom g n (rangesIn g n r) (p .size) (p .alignment) s)
 
 -- a formatting with any N in its range and any nonzero disk GUID, whatever head and tail held, on any shape whose blocks have room for a header
 pub record Formats (g : Shape) (n : ℕ) (guid h t : List ℕ) : Type 0 where
@@ -100,10 +101,15 @@ FitsAlone last es k size =
 pub record NewOk (es : List ℕ) (p : NewPartition) : Type 0 where
   pub lengths : (length (p .kind) ≡ 16) × (length (p .unique) ≡ 16) × (length (p .name) ≡ 36)
   pub blocks : p .size ≢ 0
+  pub aligned : (p .alignment ≡ 1) ⊎ (p .alignment ≡ 8) ⊎ (p .alignment ≡ 2048)
   pub typed : isZero (p .kind) ≡ false
   pub own : (isZero (p .unique) ≡ false) × ((k : ℕ) → UsedSlot es k → uniqueOf (entryOf es k) ≢ p .unique)
   pub named : NameOk (p .name)
   pub slot : (k : ℕ) × (1 ≤ k) × (k ≤ slotCount) × (unused (entryOf es k) ≡ true)
+
+-- an add is accepted when it comes next, with the table es
+abbrev pub AcceptsNew : Shape → ℕ → List ℕ → Snapshot → NewPartition → Type 0
+AcceptsNew g n es r p = step g n (r .head) (r .tail) (edit (add p)) .answer ≡ accepted (change (g .first) (lastUsable g n) es (add p) .values)
 
 -- an edit that answers nothing else is accepted when it comes next
 abbrev pub Accepts : Shape → ℕ → Snapshot → Edit → Type 0
@@ -125,10 +131,11 @@ pub record Serves (g : Shape) (n : ℕ) (es : List ℕ) (r : Snapshot) : Type 0 
       × ((size s : ℕ) → FreeFrom g n (rangesIn g n r) size s → size ≤ longest)
   -- an add's checks before the one for room pass exactly when what it is given is right and a slot is unused
   pub passes : (p : NewPartition) → Passes g n r p ↔ NewOk es p
-  -- and then it is accepted exactly when a run of as many free blocks as it asks exists
-  pub fits : (p : NewPartition) → Passes g n r p
-      → (step g n (r .head) (r .tail) (edit (add p)) .answer ≡ accepted (change (g .first) (lastUsable g n) es (add p) .values))
-      ↔ ((s : ℕ) × FreeFrom g n (rangesIn g n r) (p .size) s)
+  -- and then it is accepted exactly when an aligned start has as many free blocks from it on as it asks
+  pub fits : (p : NewPartition) → Passes g n r p → AcceptsNew g n es r p ↔ ((s : ℕ) × AlignedFrom g n (rangesIn g n r) (p .size) (p .alignment) s)
+  -- at alignment 1, exactly when its size is at most the longest run, as free counts answer it
+  pub fitsAtOne : (p : NewPartition) → Passes g n r p → p .alignment ≡ 1 → (free longest : ℕ)
+      → step g n (r .head) (r .tail) freeCounts .answer ≡ accepted (free ∷ longest ∷ []) → AcceptsNew g n es r p ↔ (p .size ≤ longest)
   -- a delete is accepted exactly when its slot is used
   pub deletes : (k : ℕ) → Accepts g n r (delete k) ↔ UsedSlot es k
   -- a rename, exactly when it has 36 units, its slot is used and no nonzero unit comes after a zero one
@@ -183,6 +190,19 @@ ResizeToSame =
     (g : Shape) (n : ℕ) (h t : List ℕ) (k : ℕ) → headerBytes ≤ g .block → ((i : ℕ) → getD h i 0 < 256) → refusal (rowsOf g n h t (edit (delete k))) ≡ none
     → let e = entryOf (tableOf g n h t) k in
     step g n h t (edit (resize k (suc (lastOf e) - firstOf e))) ≡ outcome (accepted []) h t
+
+-- ---- the alignment of an add
+
+-- With alignment 1 every answer and every byte is that of an add that takes no alignment.
+abbrev pub AlignmentOne : Type 0
+AlignmentOne = (g : Shape) (n : ℕ) (h t : List ℕ) (p : NewPartition) → p .alignment ≡ 1 → step g n h t (edit (add p)) ≡ addUnaligned g n h t p
+
+-- e5: 27 for any other alignment, after 20: exactly where no row before 20 holds, nor 20, and whatever comes after
+abbrev pub OtherAlignmentRefused : Type 0
+OtherAlignmentRefused =
+    (g : Shape) (n : ℕ) (h t : List ℕ) (p : NewPartition)
+    → (step g n h t (edit (add p)) .answer ≡ refused 27)
+    ↔ ((refusal (openRows g n h t (lengthsOf (add p))) ≡ none) × (p .size ≢ 0) × (p .alignment ≢ 1) × (p .alignment ≢ 8) × (p .alignment ≢ 2048))
 
 -- ---- stale bytes: what an unused entry holds behind its type GUID
 

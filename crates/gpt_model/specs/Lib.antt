@@ -3,6 +3,7 @@ pub mod Table
 pub mod Disk
 pub mod Ranges
 pub mod Calls
+pub mod Unaligned
 pub mod Sizes
 pub mod Lists
 pub mod Stored

@@ -3,9 +3,9 @@ use mathlib.Core.Path.{_≡_}
 use mathlib.Core.Bool.{Bool, true, false, not}
 use mathlib.Core.List.{List}
 use mathlib.Core.Option.{Option, none, some}
-use Prim.Native.Nat.{ℕ, zero, suc, _+_, _-_, _≤_, _<_, max}
-use lib.Dec.{leb}
-use Rattle.octets.specs.Tests.{_and_, any}
+use Prim.Native.Nat.{ℕ, zero, suc, _+_, _-_, _*_, _%_, _≤_, _<_, max}
+use lib.Dec.{leb, eqb}
+use Rattle.octets.specs.Tests.{_and_, _or_, any}
 use Rattle.gpt_model.specs.Table.{BlockRange, noBlocks, spans}
 use Rattle.gpt_model.specs.Disk.{Shape, lastUsable}
 
@@ -26,6 +26,14 @@ inNone t b = not (inSome t b)
 abbrev pub FreeFrom : Shape → ℕ → List BlockRange → ℕ → ℕ → Type 0
 FreeFrom g n t size s = (g .first ≤ s) × (s + size ≤ suc (lastUsable g n)) × ((b : ℕ) → s ≤ b → b < s + size → inSome t b ≡ false)
 
+-- s is m times some number. (e1) The multiple is of the block's number, not of its distance from the first usable block.
+abbrev pub MultipleOf : ℕ → ℕ → Type 0
+MultipleOf m s = (k : ℕ) × (s ≡ m * k)
+
+-- e4: no such aligned start has enough free blocks from it on: one that has
+abbrev pub AlignedFrom : Shape → ℕ → List BlockRange → ℕ → ℕ → ℕ → Type 0
+AlignedFrom g n t size alignment s = MultipleOf alignment s × FreeFrom g n t size s
+
 -- ---- room: a run of enough free blocks; placing and row 25 go by this one definition, and demand 3 says over blocks what it must be
 
 -- p holds of the k numbers from lo on
@@ -42,9 +50,17 @@ unfoldable pub lowestFrom : (ℕ → Bool) → ℕ → ℕ → Option ℕ
 lowestFrom p lo zero = none
 lowestFrom p lo (suc k) = elim (p lo) [ true ↦ some lo | false ↦ lowestFrom p (suc lo) k ]
 
--- D15: the lowest start with enough free blocks
-unfoldable pub lowestStart : List BlockRange → ℕ → ℕ → ℕ → Option ℕ
-lowestStart t first last size = lowestFrom (roomAt t last size) first (suc last - first)
+-- e1: a stated alignment, 1, 8 or 2,048 blocks
+abbrev pub isAlignment : ℕ → Bool
+isAlignment m = eqb m 1 or eqb m 8 or eqb m 2048
+
+-- the block s is a multiple of the alignment and has room
+abbrev pub alignedAt : List BlockRange → ℕ → ℕ → ℕ → ℕ → Bool
+alignedAt t last size alignment s = eqb (s % alignment) 0 and roomAt t last size s
+
+-- D15: the lowest start with enough free blocks. e1: the lowest multiple of it with room enough
+unfoldable pub lowestStart : List BlockRange → ℕ → ℕ → ℕ → ℕ → Option ℕ
+lowestStart t first last size alignment = lowestFrom (alignedAt t last size alignment) first (suc last - first)
 
 -- ---- blocks counted one by one
 

@@ -11,7 +11,7 @@ use Rattle.octets.specs.Bytes.{le, unle, part, put, zeros, isZero}
 use Rattle.crc_lanes.specs.Crc.{crc32}
 use Rattle.gpt_model.specs.Table.{rangesOf}
 use Rattle.gpt_model.specs.Disk.{Shape}
-use Rattle.gpt_model.specs.Ranges.{FreeFrom}
+use Rattle.gpt_model.specs.Ranges.{AlignedFrom}
 use Rattle.gpt_model.specs.declared.NewPartition.{NewPartition}
 use Rattle.gpt_model.specs.Calls.{Edit, add, delete, resize, rename, Answer, refused, accepted, Outcome}
 
@@ -150,8 +150,9 @@ StaysBut at w es es′ = (k : ℕ) → Outside at w k → getD es′ k 0 ≡ get
 pub record AddSays (g : Shape) (n : ℕ) (p : NewPartition) (es es′ : List ℕ) (i s : ℕ) : Type 0 where
   -- D15: and takes the lowest unused slot
   pub slot : (i < 128) × (¬ EntryUsed es i) × ((j : ℕ) → j < i → EntryUsed es j)
-  -- and the lowest start with enough free blocks
-  pub start : FreeFrom g n (rangesOf es) (p .size) s × ((b : ℕ) → b < s → ¬ FreeFrom g n (rangesOf es) (p .size) b)
+  -- and the lowest start with enough free blocks. e1: the lowest multiple of it with room enough
+  pub start : AlignedFrom g n (rangesOf es) (p .size) (p .alignment) s
+      × ((b : ℕ) → b < s → ¬ AlignedFrom g n (rangesOf es) (p .size) (p .alignment) b)
   -- D15: Add is given type, unique GUID (16 stored bytes each), size in blocks, attributes and name (36 units)
   pub typeGuid : entryType es′ i ≡ p .kind
   pub uniqueGuid : entryUnique es′ i ≡ p .unique

@@ -10,11 +10,12 @@ pub struct Shape {
     pub first: u64,
 }
 
-// (D15) What an add is given: type and unique GUID as they are stored, size in blocks, attributes and name.
+// (D15) What an add is given: type and unique GUID as they are stored, size and (e1) alignment in blocks, attributes and name.
 pub struct NewPartition {
     pub kind: [u8; 16],
     pub unique: [u8; 16],
     pub size: u64,
+    pub alignment: u64,
     pub attributes: u64,
     pub name: [u16; 36],
 }

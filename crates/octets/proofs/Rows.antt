@@ -1,5 +1,5 @@
 -- Laws of refusal rows: `passes` hands out the fact of the row with a given number, whatever stands around it.
-use mathlib.Core.Path.{_≡_, refl, sym, _∙_}
+use mathlib.Core.Path.{_≡_, refl, sym, ap, _∙_}
 use mathlib.Core.Logic.{_⊎_, inl, inr}
 use mathlib.Core.Bool.{Bool, true, false, cond, true≢false, false≢true}
 use mathlib.Core.List.{List, [], _∷_, _++_}
@@ -9,7 +9,7 @@ use lib.Dec.{eqb}
 use borrow.Author.Tests.{eq-eqb}
 use Rattle.octets.specs.Tests.{_and_, any}
 use Rattle.octets.specs.Rows.{Row, pickRow, refusal}
-use Rattle.octets.proofs.Bools.{and-i, or-il, or-ir, some-none, bool-cases}
+use Rattle.octets.proofs.Bools.{and-i, or-il, or-ir, or-false-l, or-false-r, some-none, bool-cases, clash}
 
 pub pick-none : (b : Bool) (k : ℕ) (r : Option ℕ) → pickRow b k r ≡ none → (b ≡ false) × (r ≡ none)
 unfolding pickRow
@@ -65,6 +65,26 @@ refusal-before (r ∷ rs) qs e =
     let w = pick-none (r .holds) (r .number) (refusal (rs ++ qs)) e in
     let v = refusal-before rs qs (w .1) in
     (pick-false (r .holds) (r .number) (refusal rs) (w .0) ∙ v .0, v .1)
+
+-- a row that does not hold may be left out
+pub refusal-without : (rs : List Row) (r : Row) (qs : List Row) → r .holds ≡ false → refusal (rs ++ (r ∷ qs)) ≡ refusal (rs ++ qs)
+refusal-without [] r qs e = pick-false (r .holds) (r .number) (refusal qs) e
+refusal-without (x ∷ rs) r qs e = ap (pickRow (x .holds) (x .number)) (refusal-without rs r qs e)
+
+-- a number that none of the rows rs has comes from the rows behind them
+pub refusal-behind : (k : ℕ) (rs qs : List Row) → any (λ r. eqb k (r .number)) rs ≡ false → refusal (rs ++ qs) ≡ some k
+    → (refusal rs ≡ none) × (refusal qs ≡ some k)
+refusal-behind k [] qs n e = (refl, e)
+refusal-behind k (r ∷ rs) qs n e = go (bool-cases (r .holds)) (refusal-behind k rs qs (or-false-r _ _ n))
+  where
+    go : (r .holds ≡ true) ⊎ (r .holds ≡ false) → (refusal (rs ++ qs) ≡ some k → (refusal rs ≡ none) × (refusal qs ≡ some k))
+        → (refusal (r ∷ rs) ≡ none) × (refusal qs ≡ some k)
+    go (inl q) ih =
+        let w = pick-true (r .holds) (r .number) (refusal (rs ++ qs)) q in
+        let z : k ≡ r .number = cc in
+        absurd (clash (eq-eqb k (r .number) z) (or-false-l _ _ n))
+    go (inr q) ih =
+        let v = ih (sym (pick-false (r .holds) (r .number) (refusal (rs ++ qs)) q) ∙ e) in (pick-false (r .holds) (r .number) (refusal rs) q ∙ v .0, v .1)
 
 -- a number that is given is that of a row that holds
 pub refusal-holds : (k : ℕ) (rs : List Row) → refusal rs ≡ some k → any (λ r. eqb k (r .number) and r .holds) rs ≡ true
