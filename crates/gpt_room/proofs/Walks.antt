@@ -3,16 +3,17 @@ use mathlib.Core.Path.{_≡_, sym, ap, ap₂, subst, fun-ext, _∙_}
 use mathlib.Core.Bool.{Bool, not}
 use mathlib.Core.List.{List, [], map}
 use mathlib.Core.Option.{none, some}
-use Prim.Native.Nat.{ℕ, suc, _+_, _-_, _≤_, _<_, max}
+use Prim.Native.Nat.{ℕ, suc, _+_, _-_, _%_, _≤_, _<_, max}
 use native.Mathlib.Nat.{le-refl}
 use native.Mathlib.Omega.{arith}
-use lib.Dec.{leb}
+use lib.Dec.{leb, eqb}
 use lib.ListN.{set}
 use lib.Seq.{set-out}
 use Rattle.octets.specs.Tests.{_and_}
-use Rattle.gpt_model.specs.Ranges.{blockIn, inNone, allFrom, lowestFrom, roomAt, lowestStart, countFrom, freeCount, longest as longestOf, longestFree}
+use Rattle.gpt_model.specs.Ranges.{blockIn, inNone, MultipleOf, allFrom, lowestFrom, roomAt, lowestStart, countFrom, freeCount, longest as longestOf, longestFree}
 use Rattle.gpt_model.specs.Table.{BlockRange, noBlocks, rangeOf, entries, rangesOf}
 use Rattle.gpt_model.proofs.Entries.{map-set, length-rangesOf}
+use Rattle.gpt_model.proofs.Multiples.{Up, up-is}
 use Rattle.gpt_model.proofs.Walk.{Low, low-start, low-over, low-gap, low-found, low-none, Counted, Longest, counted-start, longest-start, counted-over, longest-over, counted-gap, longest-step, counted-end, longest-end}
 use Rattle.gpt_table.specs.Invariants.{ranges, InOrder}
 use Rattle.gpt_table.proofs.Used.{lies-used, slot-nil}
@@ -41,9 +42,10 @@ module _ (s u : List BlockRange) (e : inNone s ≡ inNone u) (last : ℕ) where
   room-same size q = ap₂ (λ (p : ℕ → Bool) (x : ℕ). leb (x + size) (suc last) and allFrom p x size) e q
 
   module _ (first : ℕ) where
-    pub place-same : (size : ℕ) → lowestStart s first last size ≡ lowestStart u first last size
+    pub place-same : (size m : ℕ) → lowestStart s first last size m ≡ lowestStart u first last size m
     unfolding lowestStart roomAt
-    place-same size = ap (λ (p : ℕ → Bool). lowestFrom (λ (a : ℕ). leb (a + size) (suc last) and allFrom p a size) first (suc last - first)) e
+    place-same size m =
+        ap (λ (p : ℕ → Bool). lowestFrom (λ (a : ℕ). eqb (a % m) 0 and (leb (a + size) (suc last) and allFrom p a size)) first (suc last - first)) e
 
     pub counts-same : freeOf s first last ≡ freeOf u first last
     unfolding freeCount longestFree
@@ -51,31 +53,35 @@ module _ (s u : List BlockRange) (e : inNone s ≡ inNone u) (last : ℕ) where
 
 -- ---- placing: what is known at block a
 
-pub record Looked (s : List BlockRange) (first last size a : ℕ) : Type 0 where
+pub record Looked (s : List BlockRange) (first last size m a : ℕ) : Type 0 where
   pub from : first ≤ a
-  pub low : (pos : 0 < size) → Low s first last size pos a
+  pub low : (pos : 0 < size) → Low s first last size m pos a
 
-pub looked-start : {s : List BlockRange} {first last size : ℕ} → Looked s first last size first
-looked-start {s} {first} {last} {size} = record { from = le-refl first; low = λ p. low-start s first last size p }
+pub looked-start : {s : List BlockRange} {first last size m : ℕ} → Looked s first last size m first
+looked-start {s} {first} {last} {size} {m} = record { from = le-refl first; low = λ p. low-start s first last size m p }
 
-module _ {s : List BlockRange} {first last size a : ℕ} (k : Looked s first last size a) where
-  pub looked-over : {x : ℕ} → Full s a x → Looked s first last size (x + 1)
+module _ {s : List BlockRange} {first last size m a : ℕ} (k : Looked s first last size m a) where
+  pub looked-over : {x : ℕ} → Full s a x → Looked s first last size m (x + 1)
   looked-over {x} w =
-      record { from = omega (arith, k .from, w .from); low = λ p. low-over s first last size p a x (k .low p) (w .taken) }
+      record { from = omega (arith, k .from, w .from); low = λ p. low-over s first last size m p a x (k .low p) (w .taken) }
 
-  pub looked-on : {g : ℕ} → Clear s a last g → g - a < size → Looked s first last size g
-  looked-on {g} w h =
-      let u = w .past in
-      record { from = omega (arith, k .from); low = λ p. low-gap s first last size p a g (k .low p) (omega arith) h (w .stop) }
+  -- a gap up to but without g, with a padding of d blocks
+  module _ {d g : ℕ} (v : (d < m) × MultipleOf m (a + d)) (w : Clear s a last g) where
+    up : Up m a (a + d)
+    up = let l = v .0 in up-is m a (a + d) (omega arith) (v .1) (omega arith)
 
-  module _ (pos : 0 < size) where
-    pub looked-none : last < a → none ≡ lowestStart s first last size
-    looked-none h = sym (low-none s first last size pos a (k .low pos) h)
-
-    pub looked-found : {g : ℕ} → Clear s a last g → size ≤ g - a → some a ≡ lowestStart s first last size
-    looked-found {g} w h =
+    pub looked-on : g - a < d + size → Looked s first last size m g
+    looked-on h =
         let u = w .past in
-        sym (low-found s first last size pos a g (k .low pos) (k .from) (omega arith) h (w .end) (w .free))
+        record { from = omega (arith, k .from); low = λ p. low-gap s first last size m p a g (a + d) (k .low p) up (omega arith) (w .stop) }
+
+    pub looked-found : 0 < size → d + size ≤ g - a → some (a + d) ≡ lowestStart s first last size m
+    looked-found pos h =
+        let u = w .past in
+        sym (low-found s first last size m pos a g (a + d) (k .low pos) up (k .from) (omega arith) (w .end) (w .free))
+
+  pub looked-none : 0 < size → last < a → none ≡ lowestStart s first last size m
+  looked-none pos h = sym (low-none s first last size m pos a (k .low pos) h)
 
 -- ---- counting: n free blocks before block a, the longest run of them m
 

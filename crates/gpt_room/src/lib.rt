@@ -4,11 +4,11 @@ use gpt_model::Block;
 use gpt_table::FIRST_AT;
 use gpt_table::SLOTS;
 ghost use mathlib.Core.Path.{_≡_};
-ghost use Prim.Native.Nat.{_≤_, _<_, max};
+ghost use Prim.Native.Nat.{_+_, _≤_, _<_, max};
 ghost use lib.Dec.{leb};
 ghost use lib.ListN.{length};
 ghost use Rattle.octets.specs.Tests.{_and_};
-ghost use Rattle.gpt_model.specs.Ranges.{roomAt, lowestStart};
+ghost use Rattle.gpt_model.specs.Ranges.{MultipleOf, roomAt, lowestStart};
 ghost use Rattle.gpt_model.specs.Table.{slotCount, tableBytes, rangesOf};
 ghost use Rattle.gpt_model.specs.Calls.{fitsAt};
 ghost use Rattle.gpt_table.specs.Invariants.{ranges, Ascending};
@@ -83,7 +83,29 @@ fn look(
     Ahead::Gap(Block(firsts[i]))
 }
 
-// From gap to gap, up to one that is long enough.
+// How many blocks behind a the lowest multiple of the alignment stands.
+fn padding(a: Block, alignment: u64) -> u64
+    requires { ⌜ 0 < alignment ⌝ }
+    ensures { λ r. ⌜ (r < alignment) × MultipleOf alignment (a .0 + r) ⌝ }
+{
+    let rest = a.0 % alignment;
+    if rest == 0 {
+        return 0;
+    }
+    alignment - rest
+}
+
+// A gap has that size behind its padding. It may end before the padding does.
+fn has_room(gap: u64, padding: u64, size: u64) -> bool
+    ensures { λ r. ⌜ r ≡ leb (padding + size) gap ⌝ }
+{
+    if gap < padding {
+        return false;
+    }
+    size <= gap - padding
+}
+
+// From gap to gap, up to one that is long enough from a multiple of the alignment on.
 fn search(
     firsts: &[u64; SLOTS],
     lasts: &[u64; SLOTS],
@@ -91,9 +113,10 @@ fn search(
     first: Block,
     last: Block,
     size: u64,
+    alignment: u64,
 ) -> Place
-    requires { ⌜ (count ≤ slotCount) × (0 < size) × (last .0 < 18446744073709551615) × Ascending 1 count (now firsts) ⌝ }
-    ensures { λ r. ⌜ placed r ≡ lowestStart (ranges (now (firsts .entry)) (now (lasts .entry)) count) (first .0) (last .0) size ⌝ }
+    requires { ⌜ (count ≤ slotCount) × (0 < size) × (0 < alignment) × (last .0 < 18446744073709551615) × Ascending 1 count (now firsts) ⌝ }
+    ensures { λ r. ⌜ placed r ≡ lowestStart (ranges (now (firsts .entry)) (now (lasts .entry)) count) (first .0) (last .0) size alignment ⌝ }
 {
     let mut a = first;
     let mut i = 0;
@@ -107,8 +130,9 @@ fn search(
                 a = Block(x.0 + 1);
             }
             Ahead::Gap(g) => {
-                if size <= g.0 - a.0 {
-                    return Place::At(a);
+                let d = padding(a, alignment);
+                if has_room(g.0 - a.0, d, size) {
+                    return Place::At(Block(a.0 + d));
                 }
                 a = g;
             }
@@ -117,15 +141,15 @@ fn search(
     Place::None
 }
 
-// The lowest start with enough free blocks.
-pub fn lowest(t: &[u8], first: Block, last: Block, size: u64) -> Place
-    requires { ⌜ (length (now t) ≡ tableBytes) × (0 < size) × (last .0 < 18446744073709551615) ⌝ }
-    ensures { λ r. ⌜ placed r ≡ lowestStart (rangesOf (now (t .entry))) (first .0) (last .0) size ⌝ }
+// The lowest multiple of the alignment with enough free blocks from it on.
+pub fn lowest(t: &[u8], first: Block, last: Block, size: u64, alignment: u64) -> Place
+    requires { ⌜ (length (now t) ≡ tableBytes) × (0 < size) × (0 < alignment) × (last .0 < 18446744073709551615) ⌝ }
+    ensures { λ r. ⌜ placed r ≡ lowestStart (rangesOf (now (t .entry))) (first .0) (last .0) size alignment ⌝ }
 {
     let mut firsts = [0u64; SLOTS];
     let mut lasts = [0u64; SLOTS];
     let count = gpt_table::order::ranges(t, SLOTS, &mut firsts, &mut lasts);
-    search(&firsts, &lasts, count, first, last, size)
+    search(&firsts, &lasts, count, first, last, size, alignment)
 }
 
 fn larger(x: u64, y: u64) -> u64

@@ -16,7 +16,7 @@ returns : tie.Need-returns
 returns c =
     let a = c .before .before .before .before .before .before .before .args in
     let free = free-all (now (a .t)) (c .before .before .before .ranges .ensures) in
-    c .search .ensures ∙ place-same _ (rangesOf (now (a .t))) free (a .last .0) (a .first .0) (a .size)
+    c .search .ensures ∙ place-same _ (rangesOf (now (a .t))) free (a .last .0) (a .first .0) (a .size) (a .alignment)
 
 pub lowest-spec : {M : Type 1} → statement M
 lowest-spec = tie.close (tie.spec ranges-requires search-requires returns)
