@@ -260,6 +260,7 @@ pub extern "C" fn usi_gpt_add(
     kind: &[u8],
     unique: &[u8],
     size: u64,
+    alignment: u64,
     attributes: u64,
     name: &[u16],
     slot: &mut u64,
@@ -268,7 +269,7 @@ pub extern "C" fn usi_gpt_add(
     ensures { λ r. ⌜ record { result = r; head = now (head .exit); tail = now (tail .exit); values = now (slot .exit) ∷ now (first .exit) ∷ [] }
         ≡ gptEffect (now (slot .entry) ∷ now (first .entry) ∷ [])
         (stepBy block n (now (head .entry)) (now (tail .entry))
-        (edit (addCall (newPartition (now (kind .entry)) (now (unique .entry)) size attributes (now (name .entry)))))) ⌝ }
+        (edit (addCall (newPartition (now (kind .entry)) (now (unique .entry)) size alignment attributes (now (name .entry)))))) ⌝ }
 {
     if kind.len() != 16 {
         return wrong_length(block);
@@ -283,6 +284,7 @@ pub extern "C" fn usi_gpt_add(
         kind: guid_of(kind),
         unique: guid_of(unique),
         size,
+        alignment,
         attributes,
         name: name_of(name),
     };

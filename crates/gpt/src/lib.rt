@@ -31,6 +31,7 @@ pub fn number(a: Refusal) -> u32
         Refusal::NoSuchSlot => 12,
         Refusal::SlotUnused => 13,
         Refusal::NoSize => 20,
+        Refusal::Alignment => 27,
         Refusal::NoType => 21,
         Refusal::NoUniqueGuid => 22,
         Refusal::BadName => 23,

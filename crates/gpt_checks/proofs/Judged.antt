@@ -19,6 +19,7 @@ use Rattle.gpt_model.specs.Disk.{Shape, mostBlocks, lastUsable, inRange, primar
 use Rattle.gpt_model.specs.declared.NewPartition.{NewPartition}
 use Rattle.gpt_model.specs.Calls.{Edit, add, delete, resize, rename, edit, slotRows, addRows, fitsAt, startFor, tableRows, isNone, lengthsOf, lengthsOk, lentRows, openRows, rowsOf, formatRows}
 use Rattle.gpt_model.proofs.Outcomes.{edit-decides, edit-stops}
+use Rattle.gpt_model.proofs.Accepts.{alignment-least}
 use Rattle.gpt_model.proofs.States.{one-primary}
 use Rattle.gpt_room.specs.Answers.{placed}
 use Rattle.gpt_model.specs.declared.Block.{Block}
@@ -184,12 +185,15 @@ module _ (g : Shape) (n : ℕ) (es : List ℕ) (p : NewPartition) where
   pub add-size : refusal before25 ≡ none → 0 < p .size
   add-size e = let w : p .size ≢ 0 = eqb-false (p .size) 0 (passes 20 before25 e) in omega arith
 
+  pub add-alignment : refusal before25 ≡ none → 0 < p .alignment
+  add-alignment e = alignment-least (p .alignment) (not-f _ (passes 27 before25 e))
+
   pub start-stops : (k : ℕ) → refusal before25 ≡ some k → (some k ≡ rows) × ((b : ℕ) → none ≡ some b → start ≡ some b)
   start-stops k e = (sym (refusal-first before25 from25 k e), λ b q. absurd (some-none (sym q)))
 
   -- what the search for a start answers, between the usable blocks f and l
   module _ (e : refusal before25 ≡ none) (q : Place) (f l : ℕ) (ef : f ≡ g .first) (el : l ≡ lastUsable g n)
-      (r : placed q ≡ lowestStart (rangesOf es) f l (p .size)) where
+      (r : placed q ≡ lowestStart (rangesOf es) f l (p .size) (p .alignment)) where
     placed-is : placed q ≡ start
     placed-is = r ∙ rw (ef, el)
 

@@ -2,9 +2,9 @@
 use Prim.Native.Nat.{ℕ}
 use Rattle.gpt_checks.specs.declared.Refusal.{Refusal}
 use Rattle.gpt_checks.specs.declared.Refusal.the-variants.{BlockSize, WrongLength, BlockCount, NoDiskGuid, NeitherGood, NotTheSame, NoSuchSlot}
-use Rattle.gpt_checks.specs.declared.Refusal.the-variants.{SlotUnused, NoSize, NoType, NoUniqueGuid, BadName, NoUnusedSlot, NoRoom}
+use Rattle.gpt_checks.specs.declared.Refusal.the-variants.{SlotUnused, NoSize, Alignment, NoType, NoUniqueGuid, BadName, NoUnusedSlot, NoRoom}
 
--- l7 (6 for another block size), then R4 to R13, in the order there
+-- l7 (6 for another block size), then R4 to R13, in the order there, with e5 (27 for any other alignment, after 20)
 abbrev pub numberOf : Refusal → ℕ
 numberOf BlockSize = 6
 numberOf WrongLength = 1
@@ -15,6 +15,7 @@ numberOf NotTheSame = 11
 numberOf NoSuchSlot = 12
 numberOf SlotUnused = 13
 numberOf NoSize = 20
+numberOf Alignment = 27
 numberOf NoType = 21
 numberOf NoUniqueGuid = 22
 numberOf BadName = 23

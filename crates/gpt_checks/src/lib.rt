@@ -16,6 +16,7 @@ ghost use Rattle.octets.specs.Tests.{_or_, any};
 ghost use Rattle.octets.specs.Bytes.{isZero};
 ghost use Rattle.octets.specs.Rows.{row, refusal};
 ghost use Rattle.gpt_model.specs.Table.{tableBytes, unused, entries};
+ghost use Rattle.gpt_model.specs.Ranges.{isAlignment};
 ghost use Rattle.gpt_model.specs.Disk.{lastUsable, mostBlocks, tableOf};
 ghost use Rattle.gpt_model.specs.Calls.{lentRows, openRows, formatRows, carries, slotRows, addRows, startFor, tableRows, rowsOf, edit};
 ghost use Rattle.gpt_model.specs.Calls.{add as addCall, delete as deleteCall, resize as resizeCall, rename as renameCall};
@@ -34,6 +35,7 @@ pub enum Refusal {
     NoSuchSlot,
     SlotUnused,
     NoSize,
+    Alignment,
     NoType,
     NoUniqueGuid,
     BadName,
@@ -203,19 +205,33 @@ fn full(table: &[u8]) -> bool
     gpt_table::first_unused(table) == SLOTS
 }
 
-// 20 to 24.
+// 27.
+fn other_alignment(alignment: u64) -> bool
+    ensures { λ r. ⌜ r ≡ not (isAlignment alignment) ⌝ }
+{
+    if alignment == 1 {
+        return false;
+    }
+    if alignment == 8 {
+        return false;
+    }
+    alignment != 2048
+}
+
+// 20, 27, 21, 22, 23, 24.
 fn new(table: &[u8], p: NewPartition) -> Check
     requires { ⌜ length (now table) ≡ tableBytes ⌝ }
     ensures { λ r. ⌜ stopOf r ≡ refusal (addRows (now (table .entry)) p) ⌝ }
 {
     let c = row_after(Check::Pass, p.size == 0, Refusal::NoSize);
+    let c = row_after(c, other_alignment(p.alignment), Refusal::Alignment);
     let c = row_after(c, octets::is_zero(&p.kind), Refusal::NoType);
     let c = row_after(c, taken(table, &p.unique), Refusal::NoUniqueGuid);
     let c = row_after(c, gpt_table::bad_name(&p.name), Refusal::BadName);
     row_after(c, full(table), Refusal::NoUnusedSlot)
 }
 
-// 20 to 25.
+// The same, then 25.
 fn place(table: &[u8], n: u64, shape: Shape, p: NewPartition) -> Start
     requires { ⌜ (length (now table) ≡ tableBytes) × Fits shape n × (n ≤ mostBlocks) ⌝ }
     ensures { λ r. ⌜ (stopBy r ≡ refusal (tableRows (shape .first) (lastUsable shape n) (now (table .entry)) (addCall p)))
@@ -228,6 +244,7 @@ fn place(table: &[u8], n: u64, shape: Shape, p: NewPartition) -> Start
             gpt_places::first_usable(shape),
             gpt_places::last_usable(n, shape),
             p.size,
+            p.alignment,
         ) {
             Place::None => Start::Stop(Refusal::NoRoom),
             Place::At(first) => Start::At(first),
@@ -235,7 +252,7 @@ fn place(table: &[u8], n: u64, shape: Shape, p: NewPartition) -> Start
     }
 }
 
-// R27: Add: 1, 2, 10, 11, 20, 21, 22, 23, 24, 25.
+// R27: Add: 1, 2, 10, 11, 20, 21, 22, 23, 24, 25. e5: 27 for any other alignment, after 20.
 pub fn add(head: &[u8], tail: &[u8], n: u64, shape: Shape, p: NewPartition) -> Start
     requires { ⌜ Legal shape ⌝ }
     ensures { λ r. ⌜ (stopBy r ≡ refusal (rowsOf shape n (now (head .entry)) (now (tail .entry)) (edit (addCall p))))

@@ -130,6 +130,6 @@ module _ (g : Shape) (n : ℕ) (h t : List ℕ) (p : NewPartition) (e : refusal 
   -- the last block is a number of 64 bits
   pub add-bound : (s : ℕ) → startFor (g .first) (lastUsable g n) (tableOf g n h t) p ≡ some s → s + p .size < 18446744073709551616
   add-bound s r =
-      let w = start-some (rangesOf (tableOf g n h t)) (g .first) (lastUsable g n) (p .size) s r .1 .0 in
+      let w = start-some (rangesOf (tableOf g n h t)) (g .first) (lastUsable g n) (p .size) (p .alignment) s r .1 .1 .0 in
       let m = edit-facts g n h t d e .most in
       omega arith

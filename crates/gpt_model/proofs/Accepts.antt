@@ -137,6 +137,14 @@ alignment-get m e = ⊎-elim (λ q. low (or-cases _ _ q)) (λ q. inr (inr (eqb-t
     low (inl q) = inl (eqb-true m 1 q)
     low (inr q) = inr (inl (eqb-true m 8 q))
 
+pub alignment-least : (m : ℕ) → isAlignment m ≡ true → 0 < m
+alignment-least m e = go (alignment-get m e)
+  where
+    go : (m ≡ 1) ⊎ (m ≡ 8) ⊎ (m ≡ 2048) → 0 < m
+    go (inl q) = omega arith
+    go (inr (inl q)) = omega arith
+    go (inr (inr q)) = omega arith
+
 pub alignment-make : (m : ℕ) → (m ≡ 1) ⊎ (m ≡ 8) ⊎ (m ≡ 2048) → isAlignment m ≡ true
 unfolding _or_
 alignment-make m (inl q) = ap isAlignment q

@@ -37,6 +37,7 @@ pub fn add(head: &mut [u8], tail: &mut [u8], n: u64, k: u8, size: u64) -> SumCha
         kind: linux(),
         unique: [k; 16],
         size,
+        alignment: 1,
         attributes: 0,
         name: name(64 + k as u16),
     };

@@ -30,9 +30,9 @@ After n ds P =
     (guid h t : List ℕ) → Formats disk512 n guid h t
     → let r = startAfter (format disk512 n guid h t) in P (answers (step disk512 n) (map edit ds) r) (afterAll (step disk512 n) (map edit ds) r)
 
--- add, with some type, unique GUID and name
+-- add, with some type, unique GUID and name, at any start
 abbrev pub adding : ℕ → ℕ → Edit
-adding id size = add (newPartition (replicate 16 7) (replicate 16 id) size 0 (replicate 36 0))
+adding id size = add (newPartition (replicate 16 7) (replicate 16 id) size 1 0 (replicate 36 0))
 
 -- a call's own lent buffers have their lengths
 abbrev pub lengthsIn : Call → Bool

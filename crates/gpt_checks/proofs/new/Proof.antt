@@ -16,6 +16,9 @@ is-zero-requires c κs = search needs
 row-after-requires-2 : tie.Need-row-after-requires-2
 row-after-requires-2 c κs = search needs
 
+other-alignment-requires : tie.Need-other-alignment-requires
+other-alignment-requires c κs = search needs
+
 taken-requires : tie.Need-taken-requires
 taken-requires c κs = search needs
 
@@ -34,18 +37,23 @@ full-requires c κs = search needs
 row-after-requires-5 : tie.Need-row-after-requires-5
 row-after-requires-5 c κs = search needs
 
+row-after-requires-6 : tie.Need-row-after-requires-6
+row-after-requires-6 c κs = search needs
+
 returns : tie.Need-returns
 returns c =
     let at23 = c .before .before in
     let at22 = at23 .before .before .before .before .before in
     let at21 = at22 .before .before .before .before .before in
-    let at20 = at21 .before .before .before .before .before in
+    let at27 = at21 .before .before .before .before .before in
+    let at20 = at27 .before .before in
     let a = at20 .before .before .args in
     let r20 = at20 .row-after .ensures ∙ row-is 20 refl refl in
-    let r21 = at21 .row-after2 .ensures ∙ row-is 21 r20 (at21 .before .is-zero .ensures) in
-    let r22 = at22 .row-after3 .ensures ∙ row-is 22 r21 (at22 .before .taken .ensures) in
-    let r23 = at23 .row-after4 .ensures ∙ row-is 23 r22 (at23 .before .bad-name .ensures) in
-    let r24 = c .row-after5 .ensures ∙ row-is 24 r23 (c .before .full .ensures) in
+    let r27 = at27 .row-after2 .ensures ∙ row-is 27 r20 (at27 .before .other-alignment .ensures) in
+    let r21 = at21 .row-after3 .ensures ∙ row-is 21 r27 (at21 .before .is-zero .ensures) in
+    let r22 = at22 .row-after4 .ensures ∙ row-is 22 r21 (at22 .before .taken .ensures) in
+    let r23 = at23 .row-after5 .ensures ∙ row-is 23 r22 (at23 .before .bad-name .ensures) in
+    let r24 = c .row-after6 .ensures ∙ row-is 24 r23 (c .before .full .ensures) in
     r24 ∙ in-order [] (addRows (now (a .table)) (a .t2))
 
 pub new-spec : {M : Type 1} → statement M
@@ -53,12 +61,14 @@ new-spec =
     tie.close
     (tie.spec
     row-after-requires
-    is-zero-requires
+    other-alignment-requires
     row-after-requires-2
-    taken-requires
+    is-zero-requires
     row-after-requires-3
-    bad-name-requires
+    taken-requires
     row-after-requires-4
-    full-requires
+    bad-name-requires
     row-after-requires-5
+    full-requires
+    row-after-requires-6
     returns)

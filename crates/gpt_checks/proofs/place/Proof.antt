@@ -1,4 +1,4 @@
-use Rattle.gpt_checks.proofs.Judged.{passed, stopped, add-size, start-stops, start-full, start-at}
+use Rattle.gpt_checks.proofs.Judged.{passed, stopped, add-size, add-alignment, start-stops, start-full, start-at}
 use denote.Ref.{now}
 use native.Mathlib.Omega.{arith}
 use borrow.Author.Needs.{needs}
@@ -26,7 +26,8 @@ lowest-requires c κs =
     let a = c4 .before .before .args in
     let e = c .last-usable .ensures in
     let m = c4 .before .before .pre .2 in
-    (c4 .before .before .pre .0, add-size (a .shape) (a .n) (now (a .table)) (a .p) (passed _ (c .before .before .enum-told .given .1) (c4 .new .ensures)), omega arith)
+    let none = passed _ (c .before .before .enum-told .given .1) (c4 .new .ensures) in
+    (c4 .before .before .pre .0, add-size (a .shape) (a .n) (now (a .table)) (a .p) none, add-alignment (a .shape) (a .n) (now (a .table)) (a .p) none, omega arith)
 
 enum-told-2 : tie.Need-enum-told-2
 enum-told-2 c = search needs
