@@ -73,7 +73,7 @@ pub fn delete(head: &mut [u8], tail: &mut [u8], n: u64, block: u64, slot: u64) -
     }
 }
 
-// Takes the lowest unused slot and the lowest start with enough free blocks.
+// Takes the lowest unused slot and the lowest multiple of the alignment with enough free blocks from it on.
 pub fn add(head: &mut [u8], tail: &mut [u8], n: u64, block: u64, p: NewPartition) -> Added
     ensures { λ r. ⌜ outcome (addedOf r) (now (head .exit)) (now (tail .exit))
         ≡ stepBy block n (now (head .entry)) (now (tail .entry)) (edit (addCall p)) ⌝ }
