@@ -14,7 +14,7 @@ use Rattle.gpt_model.specs.Disk.{withTable, withCopy, freshHead, freshTa
 use Rattle.gpt_model.specs.declared.NewPartition.{NewPartition}
 use Rattle.gpt_model.specs.Ranges.{roomAt, isAlignment, lowestStart, freeCount, longestFree}
 
--- D15: Add is given type, unique GUID (16 stored bytes each), size in blocks, attributes and name (36 units). e1: and a stated alignment
+-- D15: Add is given type, unique GUID (16 stored bytes each), size in blocks, attributes and name (36 units). e1: a stated alignment, 1, 8 or 2,048 blocks
 abbrev pub newPartition : List ℕ → List ℕ → ℕ → ℕ → ℕ → List ℕ → NewPartition
 newPartition kind unique size alignment attributes name =
     record { kind = kind; unique = unique; size = size; alignment = alignment; attributes = attributes; name = name }

@@ -30,7 +30,7 @@ FreeFrom g n t size s = (g .first ≤ s) × (s + size ≤ suc (lastUsable g n)) 
 abbrev pub MultipleOf : ℕ → ℕ → Type 0
 MultipleOf m s = (k : ℕ) × (s ≡ m * k)
 
--- e4: no such aligned start has enough free blocks from it on: one that has
+-- (e4) an aligned start with enough free blocks from it on
 abbrev pub AlignedFrom : Shape → ℕ → List BlockRange → ℕ → ℕ → ℕ → Type 0
 AlignedFrom g n t size alignment s = MultipleOf alignment s × FreeFrom g n t size s
 
