@@ -1,11 +1,12 @@
-/* Formats a disk in memory, adds a partition, and is refused a second one that has no room: with blocks of 512 bytes, and with blocks of 4096.
- * Then it names a block size that is refused. Prints each answer. */
+/* Formats a disk in memory, adds a partition at a multiple of 2048 blocks, and is refused a second one that has no room: with blocks of
+ * 512 bytes, and with blocks of 4096. Then it names a block size that is refused. Prints each answer. */
 #include "usigrambal.h"
 
 #include <inttypes.h>
 #include <stdio.h>
 
 #define N 1000000
+#define ALIGNMENT 2048 /* blocks; or 1, or 8 */
 
 static uint8_t head[USI_HEAD_LEN_MAX], tail[USI_TAIL_LEN_MAX]; /* the first and the last blocks, of either size */
 static uint64_t block;
@@ -19,8 +20,8 @@ static uint32_t add(const uint8_t *unique, uint64_t size, uint64_t *slot, uint64
     static const uint16_t name[USI_NAME_UNITS] = {'d', 'a', 't', 'a'};
     uint8_t kind[USI_GUID_LEN];
     usi_type_read((const uint8_t *)"linux", 5, kind, sizeof kind);
-    return usi_gpt_add(head, USI_HEAD_LEN(block), tail, USI_TAIL_LEN(block), N, block, kind, sizeof kind, unique, USI_GUID_LEN, size, 0,
-                       name, USI_NAME_UNITS, slot, first);
+    return usi_gpt_add(head, USI_HEAD_LEN(block), tail, USI_TAIL_LEN(block), N, block, kind, sizeof kind, unique, USI_GUID_LEN, size, ALIGNMENT,
+                       0, name, USI_NAME_UNITS, slot, first);
 }
 
 static void fill(void) {

@@ -22,9 +22,9 @@ extern "C" {
 #endif
 
 #define USI_VERSION_MAJOR 0
-#define USI_VERSION_MINOR 2
+#define USI_VERSION_MINOR 3
 #define USI_VERSION_PATCH 0
-#define USI_VERSION "0.2.0"
+#define USI_VERSION "0.3.0"
 
 /* What a call returns. */
 enum usi_answer {

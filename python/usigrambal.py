@@ -1,4 +1,4 @@
-"""Usigrambal from Python: flash layouts (FMD), flash maps (FMAP) and GPT disks, by the shared library libusigrambal.so.1.
+"""Usigrambal from Python: flash layouts (FMD), flash maps (FMAP) and GPT disks, by the shared library libusigrambal.so.2.
 
 Standard library alone. Buffers go in as bytes (or bytearray), numbers as int. A call that changes a buffer answers the changed
 one as new bytes and leaves its argument alone. A refused call raises Refused, which has the number and its words.
@@ -18,7 +18,7 @@ import ctypes
 import enum
 import os
 
-__version__ = "0.2.0"
+__version__ = "0.3.0"
 
 BLOCK_SIZES = (512, 4096)
 ENTRIES_LEN = 16384
@@ -59,6 +59,7 @@ class Refusal(_Worded):
     BAD_PARTITION_NAME = 23, "the name has a nonzero unit after a zero one"
     NO_UNUSED_SLOT = 24, "no unused slot"
     NO_ROOM = 25, "no room"
+    ALIGNMENT = 27, "the alignment is not 1, 8 or 2048 blocks"
     NOT_A_GUID = 30, "not a GUID text"
     IMAGE_LENGTH = 40, "the image length is outside its range"
     NO_SIGNATURE = 41, "the signature of a map stands nowhere"
@@ -122,7 +123,7 @@ class State(enum.IntEnum):
 def _library():
     """The shared library, with the types of its calls."""
     here = os.path.dirname(os.path.abspath(__file__))
-    name = "libusigrambal.so.1"
+    name = "libusigrambal.so.2"
     named = os.environ.get("USIGRAMBAL_LIBRARY")
     places = [os.path.join(here, *parts, name) for parts in ((), ("..", "..", "lib"), ("..", "target", "sharedlib"))]
     path = named or next((place for place in places if os.path.exists(place)), name)
@@ -158,7 +159,7 @@ _CALLS = {
     "usi_gpt_read": _DISK + ("answer",),
     "usi_gpt_table": _DISK + ("answer", "answer"),
     "usi_gpt_free": _DISK + ("answer", "answer"),
-    "usi_gpt_add": _DISK + ("buffer", "buffer", "number", "number", "units", "answer", "answer"),
+    "usi_gpt_add": _DISK + ("buffer", "buffer", "number", "number", "number", "units", "answer", "answer"),
     "usi_gpt_delete": _DISK + ("number",),
     "usi_gpt_resize": _DISK + ("number", "number"),
     "usi_gpt_rename": _DISK + ("number", "units"),
@@ -324,11 +325,11 @@ def gpt_free(head, tail, n, block):
     return free.value, longest.value
 
 
-def gpt_add(head, tail, n, block, kind, unique, size, attributes=0, name=""):
-    """Head and tail with a new partition of `size` blocks, then its slot and its first block.
-    The name is a text or a list of 36 units. Refused: 6, 1, 2, 10, 11, 20 to 25."""
+def gpt_add(head, tail, n, block, kind, unique, size, attributes=0, name="", *, alignment=2048):
+    """Head and tail with a new partition of `size` blocks, then its slot and its first block: the lowest multiple of `alignment`
+    (1, 8 or 2048 blocks) with room. The name is a text or a list of 36 units. Refused: 6, 1, 2, 10, 11, 20, 27, 21 to 25."""
     slot, first = _answers(2)
-    more = (_copy(kind), _copy(unique), size, attributes, _name(name), slot, first)
+    more = (_copy(kind), _copy(unique), size, alignment, attributes, _name(name), slot, first)
     head, tail = _edited("usi_gpt_add", head, tail, n, block, *more)
     return head, tail, slot.value, first.value
 

@@ -1,5 +1,6 @@
 /* Holds the constants of the header to what the calls do: each length is the one that is not refused, each field stands where a call wrote it;
- * every disk call to its first refusal, a block size that is none; and entries to what makes them unused, their type alone. */
+ * every disk call to its first refusal, a block size that is none; adds to the alignment of their start; and entries to what makes them unused,
+ * their type alone. */
 #include "usigrambal.h"
 
 #include <stdio.h>
@@ -45,7 +46,7 @@ static uint32_t format(size_t head_len, size_t tail_len, uint64_t n, size_t guid
 
 static uint32_t add(size_t guid_len, size_t units) {
     uint64_t slot, first;
-    return usi_gpt_add(HEAD, TAIL, N, block, two, guid_len, one, guid_len, 1, 5, name, units, &slot, &first);
+    return usi_gpt_add(HEAD, TAIL, N, block, two, guid_len, one, guid_len, 1, 1, 5, name, units, &slot, &first);
 }
 
 static uint64_t state(void) {
@@ -127,6 +128,32 @@ static void unused(void) {
     HOLDS(memcmp(entries[0], written, USI_ENTRY_LEN) == 0 && memcmp(entries[1], written, USI_ENTRY_LEN) == 0);
 }
 
+static uint32_t add_aligned(uint64_t n, const uint8_t *kind, uint64_t size, uint64_t alignment, uint64_t *first) {
+    uint64_t slot;
+    return usi_gpt_add(HEAD, TAIL, n, block, kind, USI_GUID_LEN, one, USI_GUID_LEN, size, alignment, 0, name, USI_NAME_UNITS, &slot, first);
+}
+
+/* The lowest multiple of each alignment, and numbers that are none: refused after a size of 0 and before a type of zeros. */
+static void alignments(void) {
+    static const uint64_t taken[] = {1, 8, 2048}, none[] = {0, 2, 7, 9, 2047, 2049, (UINT64_C(1) << 32) + 8, UINT64_MAX};
+    static const uint8_t zeros[USI_GUID_LEN] = {0};
+    const uint64_t eight = block == 512 ? 40 : 8, lowest[] = {USI_FIRST_USABLE(block), eight, 2048}, n = 10000;
+    uint64_t first = 77;
+    for (size_t k = 0; k < sizeof none / sizeof *none; k++) {
+        HOLDS(format(USI_HEAD_LEN(block), USI_TAIL_LEN(block), n, USI_GUID_LEN) == USI_ACCEPTED);
+        HOLDS(add_aligned(n, zeros, 0, none[k], &first) == USI_NO_SIZE && add_aligned(n, zeros, 1, none[k], &first) == USI_ALIGNMENT);
+        HOLDS(first == 77);
+    }
+    for (size_t k = 0; k < sizeof taken / sizeof *taken; k++) {
+        const uint64_t most = n - USI_BEHIND_LAST_USABLE(block) - lowest[k] + 1;
+        HOLDS(format(USI_HEAD_LEN(block), USI_TAIL_LEN(block), n, USI_GUID_LEN) == USI_ACCEPTED);
+        HOLDS(add_aligned(n, zeros, 1, taken[k], &first) == USI_NO_TYPE);
+        HOLDS(add_aligned(n, two, most + 1, taken[k], &first) == USI_NO_ROOM);
+        HOLDS(add_aligned(n, two, most, taken[k], &first) == USI_ACCEPTED && first == lowest[k]);
+        first = 77;
+    }
+}
+
 /* Each disk call, on the disk that is there, with the block size in hand. */
 static void refused_for_its_block(size_t head_len, size_t tail_len, uint64_t n, size_t guid_len, size_t units) {
     uint64_t a = 77, b = 78;
@@ -134,8 +161,8 @@ static void refused_for_its_block(size_t head_len, size_t tail_len, uint64_t n, 
     HOLDS(usi_gpt_read(head, head_len, tail, tail_len, n, block, &a) == USI_BLOCK_SIZE);
     HOLDS(usi_gpt_table(head, head_len, tail, tail_len, n, block, &a, &b) == USI_BLOCK_SIZE);
     HOLDS(usi_gpt_free(head, head_len, tail, tail_len, n, block, &a, &b) == USI_BLOCK_SIZE);
-    HOLDS(usi_gpt_add(head, head_len, tail, tail_len, n, block, two, guid_len, one, USI_GUID_LEN, 1, 0, name, units, &a, &b) == USI_BLOCK_SIZE);
-    HOLDS(usi_gpt_add(head, head_len, tail, tail_len, n, block, two, USI_GUID_LEN, one, guid_len, 1, 0, name, units, &a, &b) == USI_BLOCK_SIZE);
+    HOLDS(usi_gpt_add(head, head_len, tail, tail_len, n, block, two, guid_len, one, USI_GUID_LEN, 1, 1, 0, name, units, &a, &b) == USI_BLOCK_SIZE);
+    HOLDS(usi_gpt_add(head, head_len, tail, tail_len, n, block, two, USI_GUID_LEN, one, guid_len, 1, 1, 0, name, units, &a, &b) == USI_BLOCK_SIZE);
     HOLDS(usi_gpt_delete(head, head_len, tail, tail_len, n, block, 1) == USI_BLOCK_SIZE);
     HOLDS(usi_gpt_resize(head, head_len, tail, tail_len, n, block, 1, 1) == USI_BLOCK_SIZE);
     HOLDS(usi_gpt_rename(head, head_len, tail, tail_len, n, block, 1, name, units) == USI_BLOCK_SIZE);
@@ -234,6 +261,7 @@ int main(void) {
         lengths();
         disk();
         unused();
+        alignments();
         block_sizes();
     }
     guid();
@@ -242,6 +270,6 @@ int main(void) {
     sprintf(version, "%d.%d.%d", USI_VERSION_MAJOR, USI_VERSION_MINOR, USI_VERSION_PATCH);
     HOLDS(strcmp(version, USI_VERSION) == 0);
     HOLDS(strcmp(usi_words(USI_NO_ROOM), "no room") == 0 && strcmp(usi_words(99), usi_words(100)) == 0);
-    printf("%d claims about the header's constants, block sizes and unused entries hold\n", held);
+    printf("%d claims about the header's constants, block sizes, alignments and unused entries hold\n", held);
     return 0;
 }

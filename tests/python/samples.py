@@ -92,11 +92,11 @@ class Names(unittest.TestCase):
 
 
 class Samples(unittest.TestCase):
-    def refused(self, number, call, *arguments):
+    def refused(self, number, call, *arguments, **more):
         """The call is refused with that number, and its arguments are as they were."""
         lent = [bytearray(one) if isinstance(one, bytes) else one for one in arguments]
         with self.assertRaises(Refused) as caught:
-            call(*lent)
+            call(*lent, **more)
         self.assertEqual(caught.exception.number, number)
         self.assertEqual(str(caught.exception), f"{number}: {usi.Refusal(number).words}")
         self.assertEqual(lent, list(arguments))
@@ -106,9 +106,9 @@ class Samples(unittest.TestCase):
             n = 2 * least
             self.refused(2, usi.gpt_format, bytes(head_len), bytes(tail_len), n - 1, block, ONE)
             head, tail = formatted(n, block)
-            head, tail, slot, first = usi.gpt_add(head, tail, n, block, TWO, ONE, 1)
+            head, tail, slot, first = usi.gpt_add(head, tail, n, block, TWO, ONE, 1, alignment=1)
             self.assertEqual((slot, first, usi.gpt_free(head, tail, n, block)), (1, least, (0, 0)))
-            self.refused(25, usi.gpt_add, head, tail, n, block, TWO, TWO, 1)
+            self.refused(25, usi.gpt_add, head, tail, n, block, TWO, TWO, 1, alignment=1)
 
     def test_3(self):
         number = lambda part, at: int.from_bytes(part[at : at + 8], "little")
@@ -128,16 +128,36 @@ class Samples(unittest.TestCase):
                 if unique is None:
                     head, tail = usi.gpt_delete(head, tail, n, block, size)
                 else:
-                    head, tail, slot, first = usi.gpt_add(head, tail, n, block, TWO, bytes([unique] * 16), size)
+                    head, tail, slot, first = usi.gpt_add(head, tail, n, block, TWO, bytes([unique] * 16), size, alignment=1)
                     placed.append((slot, first))
             self.assertEqual(placed, [(1, least), (2, least + 10), (1, least + 15), (3, least)])
             self.assertEqual(usi.gpt_free(head, tail, n, block), (7, 7))
             self.refused(25, usi.gpt_resize, head, tail, n, block, 1, 19)
             head, tail = usi.gpt_resize(head, tail, n, block, 1, 18)
             self.assertEqual(usi.gpt_free(head, tail, n, block), (0, 0))
-            self.refused(25, usi.gpt_add, head, tail, n, block, TWO, bytes([5] * 16), 2**64 - 1)  # sample 9
+            self.refused(25, usi.gpt_add, head, tail, n, block, TWO, bytes([5] * 16), 2**64 - 1, alignment=1)  # sample 9
             self.refused(13, usi.gpt_delete, head, tail, n, block, 4)
             self.refused(12, usi.gpt_delete, head, tail, n, block, 129)
+
+    def test_alignment(self):
+        """2048 blocks where nothing is said; another number than the three is 27, after 20 and before 21."""
+        for shape, lowest in zip(SHAPES, ({1: 34, 8: 40}, {1: 6, 8: 8})):
+            size = 10000, shape.block
+            empty = formatted(*size)
+            for alignment, first in {**lowest, 2048: 2048}.items():
+                *disk, _, placed = usi.gpt_add(*empty, *size, TWO, ONE, 9, alignment=alignment)
+                self.assertEqual(placed, first)
+                *_, second = usi.gpt_add(*disk, *size, TWO, TWO, 9, alignment=alignment)
+                self.assertEqual(second, first + {1: 9, 8: 16, 2048: 2048}[alignment])
+            self.assertEqual(usi.gpt_add(*empty, *size, TWO, ONE, 9)[-1], 2048)
+            # From 2048 on there are as many blocks as up to the last usable one.
+            most = size[0] - shape.first - 2047
+            self.refused(25, usi.gpt_add, *empty, *size, TWO, ONE, most + 1)
+            self.assertEqual(usi.gpt_add(*empty, *size, TWO, ONE, most)[-1], 2048)
+            for alignment in (0, 2, 3, 7, 9, 2047, 2049, (1 << 32) + 8, (1 << 64) - 1):
+                self.refused(27, usi.gpt_add, *empty, *size, bytes(16), ONE, 1, alignment=alignment)
+                self.refused(20, usi.gpt_add, *empty, *size, bytes(16), ONE, 0, alignment=alignment)
+            self.refused(21, usi.gpt_add, *empty, *size, bytes(16), ONE, 1, alignment=8)
 
     def test_block_sizes(self):
         """Another block size is refused before all else; one disk by the other block size has wrong lengths."""
@@ -220,12 +240,13 @@ class Samples(unittest.TestCase):
         for block in usi.BLOCK_SIZES:
             size = 100, block
             empty = formatted(*size)
-            *added, slot, first = usi.gpt_add(*empty, *size, TWO, ONE, 3, attributes=5, name="a")
+            new = {"attributes": 5, "name": "a", "alignment": 8}
+            *added, slot, first = usi.gpt_add(*empty, *size, TWO, ONE, 3, **new)
             stale = summed(*(replaced(part, at, bytes(16) + bytes([255] * 112)) for part, at in zip(added, (2 * block, 0))), block)
             self.assertEqual(usi.gpt_entries(*stale, *size)[16:128], bytes([255] * 112))
             self.assertEqual((usi.gpt_read(*stale, *size), usi.gpt_free(*stale, *size)), (State.SAME, usi.gpt_free(*empty, *size)))
             self.refused(13, usi.gpt_delete, *stale, *size, slot)
-            self.assertEqual(usi.gpt_add(*stale, *size, TWO, ONE, 3, attributes=5, name="a"), (*added, slot, first))
+            self.assertEqual(usi.gpt_add(*stale, *size, TWO, ONE, 3, **new), (*added, slot, first))
 
     def test_crc32(self):
         self.assertEqual((usi.crc32(b"123456789"), usi.crc32(b"")), (0xCBF43926, 0))
@@ -245,7 +266,7 @@ class Samples(unittest.TestCase):
                 ("usi_gpt_format", head, tail, 2 * least - 1, block, guid),
                 ("usi_gpt_format", head, tail, 100, block + 1, guid),
                 ("usi_gpt_read", head, tail, 100, block, answer),
-                ("usi_gpt_add", head, tail, 100, block, guid, guid, 1, 0, usi._name("n"), answer, other),
+                ("usi_gpt_add", head, tail, 100, block, guid, guid, 1, 8, 0, usi._name("n"), answer, other),
                 ("usi_gpt_repair", head, tail, 100, block, answer),
             ]
         for name, *arguments in calls:

@@ -41,7 +41,7 @@ fn works(disks: &Disks) -> [Work<'_>; 4] {
             lists: false,
         },
         Work {
-            ours: "usigrambal gpt add DISK --size 1 --type linux",
+            ours: "usigrambal gpt add DISK --size 1 --align 1 --type linux",
             // Only cgpt has to be told the block; it is the first that is free.
             peers: &[
                 "sgdisk -a 1 -n 0:0:+1 DISK",

@@ -30,9 +30,18 @@ impl Disk {
     pub fn with_gaps(partitions: u8, block: BlockSize) -> Disk {
         let mut disk = Disk::formatted(block);
         for partition in 1..=partitions {
-            assert_eq!(disk.add(partition, 3), 0);
+            assert_eq!(disk.add(partition, 3, 1), 0);
         }
         disk.shorten(partitions);
+        disk
+    }
+
+    /// A disk with so many partitions of two blocks, each at the next multiple of the alignment: no gap has a multiple.
+    pub fn with_aligned(partitions: u8, alignment: u64, block: BlockSize) -> Disk {
+        let mut disk = Disk::formatted(block);
+        for partition in 1..=partitions {
+            assert_eq!(disk.add(partition, 2, alignment), 0);
+        }
         disk
     }
 
@@ -41,11 +50,11 @@ impl Disk {
         let mut disk = Disk::formatted(block);
         for partition in 2..=partitions {
             // Slot 1 takes all before the place, and gives it back.
-            assert_eq!(disk.add(1, 3 * u64::from(partitions - partition + 1)), 0);
-            assert_eq!(disk.add(partition, 3), 0);
+            assert_eq!(disk.add(1, 3 * u64::from(partitions - partition + 1), 1), 0);
+            assert_eq!(disk.add(partition, 3, 1), 0);
             assert_eq!(raw::gpt_delete(&mut disk.head, &mut disk.tail, N, block.bytes(), 1), 0);
         }
-        assert_eq!(disk.add(1, 3), 0);
+        assert_eq!(disk.add(1, 3, 1), 0);
         disk.shorten(partitions);
         disk
     }
@@ -120,8 +129,9 @@ impl Disk {
         self.firsts().len()
     }
 
-    fn add(&mut self, unique: u8, size: u64) -> u32 {
-        let new = raw::NewPartition { kind: &KIND, unique: &[unique; 16], size, attributes: 0, name: &NAME };
+    fn add(&mut self, unique: u8, size: u64, alignment: u64) -> u32 {
+        let (kind, unique) = (&KIND, &[unique; 16]);
+        let new = raw::NewPartition { kind, unique, size, alignment, attributes: 0, name: &NAME };
         raw::gpt_add(&mut self.head, &mut self.tail, N, self.block.bytes(), &new, &mut 0, &mut 0)
     }
 
@@ -138,10 +148,10 @@ impl Disk {
     }
 
     /// Adds a partition to a copy of the disk; the copy's time counts too.
-    pub fn add_to(&self, copy: &mut Disk) -> u32 {
+    pub fn add_to(&self, copy: &mut Disk, alignment: u64) -> u32 {
         copy.head.copy_from_slice(&self.head);
         copy.tail.copy_from_slice(&self.tail);
-        let refusal = copy.add(255, ASKED);
+        let refusal = copy.add(255, ASKED, alignment);
         assert_eq!(refusal, 0);
         refusal
     }

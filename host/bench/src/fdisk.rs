@@ -126,6 +126,7 @@ fn add(path: &Path) -> usize {
         kind: Guid(KIND),
         unique: Guid([255; 16]),
         size: 2,
+        alignment: 1,
         attributes: 0,
         name: Name::new("").expect("no unit"),
     };

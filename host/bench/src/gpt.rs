@@ -1,4 +1,5 @@
-//! The rows of the disk calls in memory, in units of a CRC-32, and with blocks of 4096 bytes beside blocks of 512.
+//! The rows of the disk calls in memory, in units of a CRC-32, with blocks of 4096 bytes beside blocks of 512, and an add at
+//! a multiple of 2048 blocks beside one at any block.
 
 use crate::disk::Disk;
 use crate::peers;
@@ -11,6 +12,9 @@ const READ_MOST: f64 = 6.0;
 const ADD_MOST: f64 = 14.0;
 /// The time with blocks of 4096 bytes, in units of that with blocks of 512.
 const LARGE_MOST: f64 = 1.3;
+/// The time of an add at an alignment of 2048 blocks, in units of that at 1.
+const ALIGNED_MOST: f64 = 1.3;
+const ALIGNMENT: u64 = 2048;
 
 /// A gap behind each partition: 128 partitions, in the slots' order and against it; and 127 with room for one more behind the last gap.
 pub struct Disks {
@@ -22,6 +26,8 @@ pub struct Disks {
     descending_differ: Disk,
     /// The first with a primary header that is not good (state 4).
     pub broken: Disk,
+    /// 127 partitions at multiples of 2048, so that the first free multiple is behind the last of them.
+    aligned: Disk,
     /// `full` and `room` with blocks of 4096 bytes; all others have blocks of 512.
     large_full: Disk,
     large_room: Disk,
@@ -33,14 +39,16 @@ impl Disks {
         let (full, descending) = (Disk::with_gaps(128, block), Disk::with_gaps_descending(128, block));
         let (differ, descending_differ) = (full.with_another_tail(), descending.with_another_tail());
         let (room, broken) = (Disk::with_gaps(127, block), full.with_a_broken_header());
+        let aligned = Disk::with_aligned(127, ALIGNMENT, block);
         let (large_full, large_room) = (Disk::with_gaps(128, large), Disk::with_gaps(127, large));
-        Disks { full, descending, room, differ, descending_differ, broken, large_full, large_room }
+        Disks { full, descending, room, differ, descending_differ, broken, aligned, large_full, large_room }
     }
 }
 
 pub fn rows<'a>(t: &mut Table<'a>, disks: &'a Disks) {
     unit_rows(t, disks);
     large_rows(t, disks);
+    aligned_row(t, &disks.room);
 }
 
 fn unit_rows<'a>(t: &mut Table<'a>, disks: &'a Disks) {
@@ -48,13 +56,14 @@ fn unit_rows<'a>(t: &mut Table<'a>, disks: &'a Disks) {
         Ok(crc32) => crc32,
         Err(why) => return t.left_out.push(format!("gpt in memory: {why}")),
     };
-    let Disks { full, descending, room, differ, descending_differ, .. } = disks;
+    let Disks { full, descending, room, differ, descending_differ, aligned, .. } = disks;
     let rows = [
         ("gpt read", "128 partitions", READ_MOST, reads(full)),
         ("gpt read", "128 descending", READ_MOST, reads(descending)),
         ("gpt read, copies differ", "128 partitions", READ_MOST, reads(differ)),
         ("gpt read, copies differ", "128 descending", READ_MOST, reads(descending_differ)),
-        ("gpt add", "127 partitions", ADD_MOST, adds(room)),
+        ("gpt add", "127 partitions", ADD_MOST, adds(room, 1)),
+        ("gpt add at 2048, no multiple in a gap", "127 partitions", ADD_MOST, adds(aligned, ALIGNMENT)),
         ("gpt free", "128 partitions", ADD_MOST, frees(full)),
         ("gpt free, copies differ", "128 partitions", ADD_MOST, frees(differ)),
     ];
@@ -69,13 +78,20 @@ fn large_rows<'a>(t: &mut Table<'a>, disks: &'a Disks) {
     let Disks { full, room, large_full, large_room, .. } = disks;
     let rows = [
         ("gpt read", "128 partitions", reads(large_full), reads(full)),
-        ("gpt add", "127 partitions", adds(large_room), adds(room)),
+        ("gpt add", "127 partitions", adds(large_room, 1), adds(room, 1)),
         ("gpt free", "128 partitions", frees(large_full), frees(full)),
     ];
     for (what, size, large, small) in rows {
         let label = Label::new(format!("{what}, in memory, 4096-byte blocks"), "itself on 512-byte blocks");
         t.row(label.size(size).at_most_units(LARGE_MOST), large, small);
     }
+}
+
+/// On the same disk, whose gaps are too short for either.
+fn aligned_row<'a>(t: &mut Table<'a>, room: &'a Disk) {
+    let label =
+        Label::new(format!("gpt add at {ALIGNMENT}, in memory"), "itself at 1").size("127 partitions");
+    t.row(label.at_most_units(ALIGNED_MOST), adds(room, ALIGNMENT), adds(room, 1));
 }
 
 fn reads(disk: &Disk) -> Timed<'_> {
@@ -86,7 +102,7 @@ fn frees(disk: &Disk) -> Timed<'_> {
     calls(|| disk.free())
 }
 
-fn adds(disk: &Disk) -> Timed<'_> {
+fn adds(disk: &Disk, alignment: u64) -> Timed<'_> {
     let mut copy = disk.clone();
-    calls(move || disk.add_to(&mut copy))
+    calls(move || disk.add_to(&mut copy, alignment))
 }

@@ -52,8 +52,8 @@ fn options_of(verb: &Verb) -> String {
         let Some(value) = choice.value else { continue };
         let offered = match value {
             "FILE" => "return".to_string(),
-            "512|4096" => "words='512 4096'".to_string(),
             "TYPE" => format!("words='{}'", Guid::SHORT_NAMES.join(" ")),
+            listed if listed.contains('|') => format!("words='{}'", listed.replace('|', " ")),
             _ => "words=''".to_string(),
         };
         cases += &format!("        '{call} {}') {offered} ;;\n", choice.name);

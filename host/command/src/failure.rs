@@ -70,6 +70,14 @@ impl Failure {
         self
     }
 
+    /// The same where anything would.
+    pub fn hint_if(self, hint: Option<String>) -> Failure {
+        match hint {
+            Some(hint) => self.hint(hint),
+            None => self,
+        }
+    }
+
     /// The failure with the file that it is about, unless it has one.
     pub fn on(mut self, what: &'static str, path: &Path) -> Failure {
         self.file.get_or_insert_with(|| (what, path.to_path_buf()));

@@ -48,20 +48,21 @@ fn in_use(block: &str) {
     run!["gpt", "format", path].done();
     let held = File::options().read(true).custom_flags(O_EXCL).open(path).expect("a device");
     let before = fs::read(path).expect("a device");
-    run!["gpt", "add", path, "--size", "1"].needed("is in use (mounted, or held by another program)");
+    run!["gpt", "add", path, "--size", "1", "--align", "1"]
+        .needed("is in use (mounted, or held by another program)");
     run!["gpt", "format", path].needed("is in use");
     assert_eq!(fs::read(path).expect("a device"), before);
     run!["gpt", "show", path].done();
-    let tried = run!["gpt", "add", path, "--size", "1", "--dry-run"];
+    let tried = run!["gpt", "add", path, "--size", "1", "--align", "1", "--dry-run"];
     assert!(tried.out.starts_with("would add partition 1"), "{}", tried.err);
     let warning = "usigrambal: warning: ";
     assert!(tried.err.starts_with(warning) && tried.err.contains("is in use"), "{}", tried.err);
     // The kernel does not read the table of a device in use.
-    let forced = run!["gpt", "add", path, "--size", "1", "--force"];
+    let forced = run!["gpt", "add", path, "--size", "1", "--align", "8", "--force"];
     assert_eq!(forced.status, Some(0), "{}", forced.err);
     assert!(forced.err.is_empty() || forced.err.contains("warning: the kernel still goes by the old table"));
     drop(held);
-    run!["gpt", "add", path, "--size", "1"].done();
+    run!["gpt", "add", path, "--size", "1", "--align", "1"].done();
     assert_eq!(run!["gpt", "show", path, "--json"].json().list("partitions").len(), 2);
 }
 
@@ -133,9 +134,10 @@ fn other_tools_list_longer_blocks() {
     run!["gpt", "delete", path, "3"].done();
     run!["gpt", "resize", path, "2", "4M"].done();
     let shown = common::partitions(&run!["gpt", "show", path, "--json"].json());
-    // By hand: 10 MiB are 2560 blocks from 6 on; 2048 blocks follow, of which 1024 stay; 1024 were behind these.
+    // By hand: each from the next multiple of 2048 on. 10 MiB are 2560 blocks; 2048 follow, of which 1024 stay; 1024 were
+    // behind these, from 8192 on.
     let places: Vec<_> = shown.iter().map(|row| (row.slot, row.first, row.last)).collect();
-    assert_eq!(places, [(1, 6, 2565), (2, 2566, 3589), (4, 5638, 5638)]);
+    assert_eq!(places, [(1, 2048, 4607), (2, 6144, 7167), (4, 10_240, 10_240)]);
     if peer::present("sgdisk", "gdisk") {
         assert_eq!(listing::sgdisk(path), shown);
         let verdict = peer::printed("sgdisk", ["-v".as_ref(), path.as_os_str()]);
@@ -242,7 +244,7 @@ fn a_read_only_device() {
     let folder = Folder::new();
     let file = common::disk(&folder, "disk.img", 2048);
     let Some(device) = Loop::new(&file, &["-r"]) else { return };
-    run!["gpt", "add", device.0, "--size", "1"].unusable("is read-only");
+    run!["gpt", "add", device.0, "--size", "1", "--align", "1"].unusable("is read-only");
     run!["gpt", "show", device.0].done();
 }
 

@@ -61,7 +61,7 @@ fn a_read_only_file_is_not_written() {
         fs::set_permissions(path, Permissions::from_mode(0o444)).expect("a mode");
     }
     let before = (fs::read(&new).unwrap(), fs::read(&image).unwrap());
-    run!["gpt", "add", image, "--size", "1"].unusable("is read-only");
+    run!["gpt", "add", image, "--size", "1", "--align", "1"].unusable("is read-only");
     run!["gpt", "format", image].unusable("is read-only");
     run!["fmap", "carry", old, new].unusable("is read-only");
     let other = folder.file("other.fmd", "CHIP 64K { FMAP 1K A 1K }");
@@ -72,7 +72,7 @@ fn a_read_only_file_is_not_written() {
     // What writes nothing goes on.
     run!["gpt", "show", image].done();
     run!["gpt", "repair", image].done();
-    run!["gpt", "add", image, "--size", "1", "--dry-run"].done();
+    run!["gpt", "add", image, "--size", "1", "--align", "1", "--dry-run"].done();
     run!["gpt", "add", image, "--size", "0"].refused(20);
     run!["fmap", "carry", old, new, "--dry-run"].done();
 }
@@ -205,12 +205,13 @@ fn a_lock_of_another_program_is_heeded() {
     std::thread::scope(|scope| {
         scope.spawn(|| run!["gpt", "show", image].done());
         scope.spawn(|| {
-            run!["gpt", "add", image, "--size", "1"].needed("is in use (locked by another program)")
+            run!["gpt", "add", image, "--size", "1", "--align", "1"]
+                .needed("is in use (locked by another program)")
         });
     });
-    run!["gpt", "add", image, "--size", "1", "--force"].done();
+    run!["gpt", "add", image, "--size", "1", "--align", "1", "--force"].done();
     drop(held);
-    run!["gpt", "add", image, "--size", "1"].done();
+    run!["gpt", "add", image, "--size", "1", "--align", "1"].done();
 }
 
 #[test]

@@ -42,10 +42,15 @@ fn show_is_a_table_and_a_drawing() {
     let facts = format!("163 blocks (81.5 KiB) of 512 bytes, usable 34 to 129, disk GUID {GUID}");
     assert_eq!(formatted, format!("formatted {}: {facts}\n", image.display()));
     let unique = "AAAAAAAA-BBBB-4CCC-8DDD-EEEEEEEEEEEE";
-    run!["gpt", "add", image, "--size", "24", "--type", "system", "--guid", unique, "--name", "boot"].done();
+    let small = ["--size", "24", "--align", "1"];
+    let added = |options: &[&str]| {
+        let words = ["gpt", "add", image.to_str().expect("UTF-8")];
+        let words = words.iter().chain(&small).chain(options).map(std::ffi::OsStr::new);
+        common::run(&words.collect::<Vec<_>>()).done();
+    };
+    added(&["--type", "system", "--guid", unique, "--name", "boot"]);
     let foreign = "FE3A2A5D-4F32-41A7-B725-ACCC3285A309";
-    run!["gpt", "add", image, "--size", "24", "--type", foreign, "--guid", GUID, "--attributes", "0x5"]
-        .done();
+    added(&["--type", foreign, "--guid", GUID, "--attributes", "0x5"]);
     let shown = run!["gpt", "show", image].done();
     let expected = format!(
         "\
@@ -121,8 +126,8 @@ fn names_come_through() {
     assert!(renamed.starts_with(
         "renamed partition 1: blocks 34 to 34, 1 block (512 B), linux, \"boot\"; before: \"Größe"
     ));
-    let renamed = run!["gpt", "add", image, "--size", "1", "--name", "--json"].done();
-    assert!(renamed.ends_with("linux, \"--json\"\n"), "{renamed}");
+    let added = run!["gpt", "add", image, "--size", "1", "--align", "1", "--name", "--json"].done();
+    assert!(added.ends_with("linux, \"--json\"\n"), "{added}");
     let long = "x".repeat(36);
     run!["gpt", "rename", image, "1", long].done();
     run!["gpt", "rename", image, "1", format!("{long}x")].usage("the name has 37 UTF-16 units");
@@ -134,7 +139,7 @@ fn names_come_through() {
 fn every_refusal_is_told_and_writes_nothing() {
     let folder = Folder::new();
     let image = disk(&folder, "disk.img", 100);
-    run!["gpt", "add", image, "--size", "10", "--guid", GUID].done();
+    run!["gpt", "add", image, "--size", "10", "--align", "1", "--guid", GUID].done();
     let before = fs::read(&image).expect("an image");
     let zero = "00000000-0000-0000-0000-000000000000";
     let max = u64::MAX.to_string();
@@ -149,8 +154,10 @@ fn every_refusal_is_told_and_writes_nothing() {
         (21, &["add", "--size", "1", "--type", zero]),
         (22, &["add", "--size", "1", "--guid", zero]),
         (22, &["add", "--size", "1", "--guid", GUID]),
-        (25, &["add", "--size", "24"]),
-        (25, &["add", "--size", &max]),
+        (25, &["add", "--size", "24", "--align", "1"]),
+        (25, &["add", "--size", "1"]),
+        (25, &["add", "--size", &max, "--align", "1"]),
+        (27, &["add", "--size", "1", "--align", "4"]),
         (25, &["resize", "1", "1T"]),
         (30, &["add", "--size", "1", "--type", "Linux"]),
         (30, &["add", "--size", "1", "--guid", "1234"]),
@@ -314,7 +321,7 @@ fn a_dry_run_tells_the_same_and_writes_nothing() {
     add(&image, "10", "a");
     for words in [
         &["format", "--replace", "--guid", GUID][..],
-        &["add", "--size", "10", "--guid", GUID],
+        &["add", "--size", "10", "--align", "8", "--guid", GUID],
         &["delete", "1"],
         &["resize", "1", "20"],
         &["rename", "1", "b"],

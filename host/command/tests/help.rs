@@ -76,6 +76,16 @@ fn examples_run_as_they_stand() {
     assert!(run_lines >= 14, "{run_lines}");
 }
 
+/// What bash offers behind these words.
+fn offered(folder: &Folder, words: &str) -> String {
+    let script = folder.file("usigrambal.bash", run!["--page", "usigrambal.bash"].done());
+    let line = format!(
+        "source {}; COMP_WORDS=({words} ''); COMP_CWORD=$((${{#COMP_WORDS[@]}} - 1)); _usigrambal; echo \"${{COMPREPLY[*]}}\"",
+        script.display()
+    );
+    Ended::from(Command::new("bash").args(["-uc", &line]).output().expect("bash")).out
+}
+
 /// Of every verb on disks; both values are offered behind it.
 #[test]
 fn the_block_size_is_an_option_of_every_verb_on_disks() {
@@ -85,18 +95,21 @@ fn the_block_size_is_an_option_of_every_verb_on_disks() {
         assert!(help.contains("[--block 512|4096]") && help.contains("\n  --block 512|4096 "), "{help}");
     }
     let folder = Folder::new();
-    let script = folder.file("usigrambal.bash", run!["--page", "usigrambal.bash"].done());
-    let offered = |words: &str| {
-        let line = format!(
-            "source {}; COMP_WORDS=({words} ''); COMP_CWORD=$((${{#COMP_WORDS[@]}} - 1)); _usigrambal; echo \"${{COMPREPLY[*]}}\"",
-            script.display()
-        );
-        let output = Command::new("bash").args(["-uc", &line]).output().expect("bash");
-        Ended::from(output).out
-    };
     for verb in verbs {
-        assert_eq!(offered(&format!("usigrambal gpt {verb} disk.img --block")), "512 4096\n");
+        assert_eq!(offered(&folder, &format!("usigrambal gpt {verb} disk.img --block")), "512 4096\n");
     }
     let page = run!["--page", "usigrambal-gpt.1"].done();
     assert_eq!(page.matches("\\fB\\-\\-block\\fP \\fI512|4096\\fP").count(), verbs.len());
+}
+
+/// Of `gpt add` alone; what it is where nothing is said stands beside it, in bytes too.
+#[test]
+fn the_alignment_is_an_option_of_add() {
+    let help = run!["gpt", "add", "--help"].done();
+    assert!(help.contains("[--align 1|8|2048]"), "{help}");
+    let line = help.lines().find(|line| line.starts_with("  --align 1|8|2048 ")).expect("a line");
+    assert!(line.ends_with("2048 if not given (1 MiB; 8 MiB of 4096-byte ones)"), "{line}");
+    assert_eq!(offered(&Folder::new(), "usigrambal gpt add disk.img --align"), "1 8 2048\n");
+    let page = run!["--page", "usigrambal-gpt.1"].done();
+    assert_eq!(page.matches("\\fB\\-\\-align\\fP \\fI1|8|2048\\fP").count(), 1);
 }

@@ -2,34 +2,18 @@
 
 mod common;
 
-use common::{add, disk, spoil, Ended, Folder};
+use common::{add, disk, refused, spoil, Ended, Folder};
 use std::ffi::OsStr;
 use std::os::unix::ffi::OsStrExt;
 use std::process::Command;
-use testkit::json;
 
 const GUID: &str = "01234567-89AB-4CDE-8F01-23456789ABCD";
-
-/// The refusal's words and its hint, on standard error and in the JSON document.
-#[track_caller]
-fn refused(words: &[&str], number: u32, said: &str, hint: &str) {
-    let call = |extra: &[&str]| {
-        let words: Vec<&OsStr> = words.iter().chain(extra).map(OsStr::new).collect();
-        common::run(&words)
-    };
-    let ended = call(&[]);
-    assert_eq!(ended.hint(), hint);
-    assert_eq!(ended.refused(number), format!("{}: {said}", words[2]));
-    let json = json::parse(&call(&["--json"]).out).expect("JSON");
-    assert_eq!((json.text("disk"), json.number("refused")), (words[2], number.into()));
-    assert_eq!((json.text("words"), json.text("hint")), (said, hint));
-}
 
 #[test]
 fn what_would_help() {
     let folder = Folder::new();
     let image = disk(&folder, "disk.img", 100);
-    run!["gpt", "add", image, "--size", "10", "--guid", GUID, "--name", "a"].done();
+    run!["gpt", "add", image, "--size", "10", "--align", "1", "--guid", GUID, "--name", "a"].done();
     add(&image, "5", "b");
     add(&image, "6", "c");
     run!["gpt", "delete", image, "2"].done();
@@ -64,7 +48,8 @@ fn what_would_help() {
             "the unique GUID is zero or already in a used slot",
             random,
         ),
-        (&["add", "--size", "13"], 25, "no room: no run of 13 free blocks", two),
+        (&["add", "--size", "13", "--align", "1"], 25, "no room: no run of 13 free blocks", two),
+        (&["add", "--size", "13"], 25, "no room: no multiple of 2048 has 13 free blocks from it on", two),
         (
             &["resize", "1", "16"],
             25,
@@ -142,7 +127,7 @@ fn partitions_by_name() {
     for name in ["boot", "pages", "pages", "7", GUID] {
         add(&image, "10", name);
     }
-    run!["gpt", "add", image, "--size", "10", "--guid", GUID, "--name", "last"].done();
+    run!["gpt", "add", image, "--size", "10", "--align", "1", "--guid", GUID, "--name", "last"].done();
     let told = |words: &[&str]| {
         let (verb, rest) = words.split_first().expect("a verb");
         let rest: Vec<&OsStr> = rest.iter().map(OsStr::new).collect();

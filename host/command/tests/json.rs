@@ -126,9 +126,10 @@ fn disks(printed: &mut Printed, folder: &Folder) {
     call("gpt verify disk.img");
     call("gpt format disk.img");
     call("gpt format disk.img");
-    call("gpt add disk.img --size 1 --name a");
-    call("gpt add disk.img --size 1 --type FE3A2A5D-4F32-41A7-B725-ACCC3285A309");
+    call("gpt add disk.img --size 1 --align 1 --name a");
+    call("gpt add disk.img --size 1 --align 1 --type FE3A2A5D-4F32-41A7-B725-ACCC3285A309");
     call("gpt add disk.img --size 1T");
+    call("gpt add disk.img --size 1 --align 3");
     call("gpt add disk.img --size x");
     call("gpt show missing.img");
     call("gpt verify missing.img");
@@ -159,7 +160,7 @@ fn disks(printed: &mut Printed, folder: &Folder) {
     call("gpt add long.img --size 1");
     folder.sparse("stale.img", 100 * 512);
     call("gpt format stale.img");
-    call("gpt add stale.img --size 1");
+    call("gpt add stale.img --size 1 --align 8");
     common::clear_types(&folder.path("stale.img"), 512, [1]);
     call("gpt show stale.img");
     call("gpt verify stale.img");

@@ -56,7 +56,7 @@ fn every_verb() {
     let image = disk_of_4096(&folder, "disk.img", 44);
     let place = |json: &Json| (json.number("number"), json.number("first"), json.number("last"));
     let added = |size: &str, name: &str| {
-        let json = at_4096("add", &image, &["--size", size, "--name", name, "--json"]).json();
+        let json = at_4096("add", &image, &["--size", size, "--align", "1", "--name", name, "--json"]).json();
         assert_eq!((json.number("block_bytes"), json.number("bytes")), (4096, json.number("blocks") * 4096));
         place(&json)
     };
@@ -109,7 +109,7 @@ fn other_bytes_stay() {
         spoil(&image, at);
     }
     let before = fs::read(&image).expect("an image");
-    at_4096("add", &image, &["--size", "1"]).done();
+    at_4096("add", &image, &["--size", "1", "--align", "1"]).done();
     let after = fs::read(&image).expect("an image");
     let differs: Vec<usize> = (0..before.len()).filter(|at| before[*at] != after[*at]).collect();
     // The CRCs of both headers, and the first entry of both tables.
@@ -131,7 +131,7 @@ fn a_dry_run_writes_nothing() {
     assert!(fs::read(&image).expect("an image").iter().all(|byte| *byte == 0));
     at_4096("format", &image, &[]).done();
     let before = fs::read(&image).expect("an image");
-    let said = at_4096("add", &image, &["--size", "8K", "--dry-run"]).done();
+    let said = at_4096("add", &image, &["--size", "8K", "--align", "1", "--dry-run"]).done();
     assert_eq!(said, "would add partition 1: blocks 6 to 7, 2 blocks (8 KiB), linux, \"\"\n");
     assert!(fs::read(&image).expect("an image") == before);
 }
@@ -183,7 +183,7 @@ fn a_file_beyond_2_tib() {
     assert_eq!(refused.hint(), "with --block 4096 it reads: both copies are good and the same");
     refused.refused(2);
     let added = at_4096("add", &path, &["--size", "2T", "--json"]).json();
-    assert_eq!((added.number("first"), added.number("blocks")), (6, 1 << 29));
+    assert_eq!((added.number("first"), added.number("blocks")), (2048, 1 << 29));
 }
 
 /// Bytes become blocks of the disk's size; what is no whole number of them is usage.
@@ -192,7 +192,7 @@ fn sizes() {
     let folder = Folder::new();
     let image = disk_of_4096(&folder, "disk.img", 1000);
     for (size, blocks) in [("3", 3), ("8K", 2), ("1M", 256), ("12288B", 3)] {
-        let json = at_4096("add", &image, &["--size", size, "--json", "--dry-run"]).json();
+        let json = at_4096("add", &image, &["--size", size, "--align", "1", "--json", "--dry-run"]).json();
         assert_eq!((json.number("blocks"), json.number("bytes")), (blocks, blocks * 4096), "{size}");
     }
     let before = fs::read(&image).expect("an image");
@@ -212,7 +212,7 @@ fn sizes() {
 fn formatting_over_the_other_block_size() {
     let folder = Folder::new();
     let long = disk_of_4096(&folder, "long.img", 44);
-    at_4096("add", &long, &["--size", "1"]).done();
+    at_4096("add", &long, &["--size", "1", "--align", "1"]).done();
     let ended = run!["gpt", "format", long];
     let anew = "--replace writes an empty table for blocks of 512 bytes over it";
     assert_eq!(ended.hint(), format!("{anew}, with --block 4096 one for 4096"));
@@ -287,7 +287,7 @@ fn formatting_where_nothing_is() {
 fn a_lost_protective_record() {
     let folder = Folder::new();
     let image = disk_of_4096(&folder, "disk.img", 44);
-    at_4096("add", &image, &["--size", "1"]).done();
+    at_4096("add", &image, &["--size", "1", "--align", "1"]).done();
     spoil(&image, 450);
     let ended = at_4096("verify", &image, &[]);
     let path = image.display();

@@ -34,9 +34,9 @@ fn shown(image: &Path) -> Vec<Partition> {
     common::partitions(&run!["gpt", "show", image, "--json"].json())
 }
 
-/// By hand: first and last block of each slot, from 34 on, the lowest room first.
+/// By hand: first and last block of each slot, the lowest multiple of 2048 with room first.
 const PLACES: [(u64, u64, u64); 5] =
-    [(1, 34, 20_513), (2, 20_514, 22_561), (3, 22_562, 28_705), (4, 30_754, 31_777), (5, 32_802, 32_803)];
+    [(1, 2048, 22_527), (2, 22_528, 24_575), (3, 24_576, 30_719), (4, 32_768, 33_791), (5, 34_816, 34_817)];
 
 #[test]
 fn places_are_those_of_the_rules() {
@@ -95,10 +95,36 @@ fn fdisk_reads_longer_blocks() {
         format!("{first} {last} {kind} {unique} {name}")
     };
     let own = shown(&image);
-    // By hand: 2560 blocks from 6 on, 2048 and 1 behind them.
+    // By hand: 2560 blocks, 2048 and 1, each from the next multiple of 2048 on.
     let places: Vec<_> = own.iter().map(|part| (part.first, part.last)).collect();
-    assert_eq!(places, [(6, 2565), (2566, 4613), (4614, 4614)]);
+    assert_eq!(places, [(2048, 4607), (6144, 8191), (8192, 8192)]);
     assert_eq!(rows, own.iter().map(row).collect::<Vec<_>>(), "{listed}");
+}
+
+/// On a fresh disk with blocks of 512 bytes, where none of the three is told an alignment.
+#[test]
+fn sgdisk_and_sfdisk_place_alike_by_default() {
+    const SIZES: [u64; 6] = [1000, 2048, 1, 40_000, 2049, 3];
+    let folder = Folder::new();
+    let image = disk(&folder, "disk.img", 131_072);
+    SIZES.iter().for_each(|size| drop(run!["gpt", "add", image, "--size", size.to_string()].done()));
+    let places =
+        |rows: Vec<Partition>| rows.iter().map(|row| (row.slot, row.first, row.last)).collect::<Vec<_>>();
+    let own = places(shown(&image));
+    // By hand: each from the next multiple of 2048 on.
+    assert_eq!(own.iter().map(|place| place.1).collect::<Vec<_>>(), [2048, 4096, 6144, 8192, 49_152, 53_248]);
+    if peer::present("sgdisk", "gdisk") {
+        let other = disk(&folder, "sgdisk.img", 131_072);
+        let adds = SIZES.iter().flat_map(|size| ["-n".to_string(), format!("0:0:+{size}")]);
+        peer::printed("sgdisk", adds.chain([other.to_str().expect("UTF-8").to_string()]));
+        assert_eq!(places(listing::sgdisk(&other)), own);
+    }
+    if peer::present("sfdisk", "fdisk") {
+        let other = folder.sparse("sfdisk.img", 131_072 * 512);
+        let sizes: String = SIZES.iter().map(|size| format!("size={size}\n")).collect();
+        peer::feed("sfdisk", [Path::new("-q"), &other], &format!("label: gpt\n{sizes}"));
+        assert_eq!(places(listing::sfdisk(&other)), own);
+    }
 }
 
 #[test]
@@ -111,7 +137,7 @@ fn a_disk_of_sfdisk_is_read_and_edited() {
     let script = "label: gpt\nfirst-lba: 34\nstart=100, size=50, name=\"a, b\"\nstart=34, size=6, type=S\n";
     peer::feed("sfdisk", [Path::new("-q"), &image], script);
     assert_eq!(shown(&image), listing::sfdisk(&image));
-    run!["gpt", "add", image, "--size", "7", "--name", "c"].done();
+    run!["gpt", "add", image, "--size", "7", "--align", "1", "--name", "c"].done();
     let rows = listing::sfdisk(&image);
     let places: Vec<_> = rows.iter().map(|row| (row.slot, row.first, row.last)).collect();
     assert_eq!(places, [(1, 100, 149), (2, 34, 39), (3, 40, 46)]);

@@ -48,8 +48,8 @@ fn disturbed_add(how: &str) -> Tried {
     add(&path, "10", "first");
     let before = fs::read(&path).expect("an image");
     let text = path.to_str().expect("UTF-8");
-    let ended =
-        disturbed(how, &folder.path("log"), &["gpt", "add", text, "--size", "20", "--name", "second"]);
+    let words = ["gpt", "add", text, "--size", "20", "--align", "1", "--name", "second"];
+    let ended = disturbed(how, &folder.path("log"), &words);
     let after = fs::read(&path).expect("an image");
     Tried { _folder: folder, path, before, after, ended }
 }
@@ -74,7 +74,7 @@ impl Tried {
         assert_eq!(shown_after.number("state"), 1);
         assert_eq!(shown_after.list("partitions"), shown.list("partitions"));
         run!["gpt", "verify", path].done();
-        run!["gpt", "add", path, "--size", "1"].done();
+        run!["gpt", "add", path, "--size", "1", "--align", "1"].done();
         shown.list("partitions").len()
     }
 }
@@ -153,8 +153,8 @@ fn a_report_that_cannot_be_printed() {
     for words in [&["--json"][..], &[]] {
         let full = fs::File::options().write(true).open("/dev/full").expect("/dev/full");
         let mut command = common::command();
-        let ended = command.args(["gpt", "add", "--size", "1"]).arg(&path).args(words).stdout(full).output();
-        let ended = Ended::from(ended.expect("the command"));
+        command.args(["gpt", "add", "--size", "1", "--align", "1"]).arg(&path).args(words).stdout(full);
+        let ended = Ended::from(command.output().expect("the command"));
         let text = path.display();
         let hint = format!("{text} was written, both copies; usigrambal gpt show {text} shows the table");
         assert_eq!(ended.hint(), hint);
@@ -232,7 +232,7 @@ fn the_order_of_writes() {
     let written = |words: &[&str]| logged(&folder, words);
     let tail = format!("write {} 16896\nflush 0 0\n", 967 * 512);
     let head = "write 0 17408\nflush 0 0\n";
-    assert_eq!(written(&["gpt", "add", text, "--size", "20"]), format!("{tail}{head}"));
+    assert_eq!(written(&["gpt", "add", text, "--size", "20", "--align", "8"]), format!("{tail}{head}"));
     assert_eq!(written(&["gpt", "format", text, "--replace"]), format!("{tail}{head}"));
     common::spoil(&path, 512);
     assert_eq!(written(&["gpt", "repair", text, "--dry-run"]), "");
@@ -256,7 +256,7 @@ fn the_order_of_longer_blocks() {
     let head = "write 0 24576\nflush 0 0\n";
     let block = ["--block", "4096"];
     let at = |words: &[&str]| written(&[&["gpt"], words, &block].concat());
-    assert_eq!(at(&["add", text, "--size", "20"]), format!("{tail}{head}"));
+    assert_eq!(at(&["add", text, "--size", "20", "--align", "8"]), format!("{tail}{head}"));
     assert_eq!(at(&["format", text, "--replace"]), format!("{tail}{head}"));
     common::spoil(&path, 4096);
     assert_eq!(at(&["repair", text]), head);
@@ -279,9 +279,9 @@ fn longer_blocks_that_are_cut() {
     ] {
         let folder = Folder::new();
         let path = disk_of_4096(&folder, "disk.img", 100);
-        at_4096("add", &path, &["--size", "10"]).done();
+        at_4096("add", &path, &["--size", "10", "--align", "1"]).done();
         let text = path.to_str().expect("UTF-8");
-        let words = ["gpt", "add", text, "--size", "20", "--block", "4096"];
+        let words = ["gpt", "add", text, "--size", "20", "--align", "1", "--block", "4096"];
         let ended = disturbed(how, &folder.path("log"), &words);
         assert!(ended.err.contains(said), "{how}: {}", ended.err);
         let repair = format!("usigrambal gpt repair {text} --block 4096 makes both copies alike");
@@ -322,7 +322,7 @@ fn killed_between_two_block_sizes() {
             let folder = Folder::new();
             let path = folder.sparse("disk.img", 100 * 4096);
             run!["gpt", "format", path, "--block", old].done();
-            run!["gpt", "add", path, "--block", old, "--size", "8K"].done();
+            run!["gpt", "add", path, "--block", old, "--size", "8K", "--align", "1"].done();
             let text = path.to_str().expect("UTF-8");
             let words = ["gpt", "format", text, "--replace", "--block", new];
             assert_eq!(disturbed("kill:2", &folder.path("log"), &words).status, None);

@@ -101,7 +101,7 @@ fn an_add_overwrites_every_byte() {
         [(512, disk(&folder, "short.img", 100), 34), (4096, disk_of_4096(&folder, "long.img", 44), 6)]
     {
         let on = |words: &[&str]| ended(gpt(&image, block, words)).done();
-        ["10", "5", "6"].iter().for_each(|size| drop(on(&["add", "--size", size])));
+        ["10", "5", "6"].iter().for_each(|size| drop(on(&["add", "--size", size, "--align", "1"])));
         change_slots(&image, block, [2], |entry| {
             entry[..16].fill(0);
             entry[16..].fill(0xFF);
@@ -110,7 +110,8 @@ fn an_add_overwrites_every_byte() {
         let new = entry(first + 10, first + 12, 0x8000_0000_0000_0004, "größer");
         expected.entry(2).into_iter().for_each(|entry| entry.copy_from_slice(&new));
         expected.set_crcs(crc32);
-        let options = ["--type", "swap", "--guid", GUID, "--attributes", "0x8000000000000004"];
+        let options =
+            ["--align", "1", "--type", "swap", "--guid", GUID, "--attributes", "0x8000000000000004"];
         let said = on(&[&["add", "--size", "3", "--name", "größer"], &options[..]].concat());
         assert!(said.starts_with("added partition 2: blocks "), "{said}");
         assert_eq!(expected.difference(&Disk::read(&image, block).expect("a disk")), None);
@@ -125,9 +126,9 @@ fn edits_of_such_a_slot() {
     let folder = Folder::new();
     let short = three(&folder);
     let long = disk_of_4096(&folder, "long.img", 44);
-    ["a", "b", "c"]
-        .iter()
-        .for_each(|name| drop(at_4096("add", &long, &["--size", "1", "--name", name]).done()));
+    for name in ["a", "b", "c"] {
+        at_4096("add", &long, &["--size", "1", "--align", "1", "--name", name]).done();
+    }
     clear_types(&short, 512, [2]);
     clear_types(&long, 4096, [2]);
     let hint = "slot 2 still holds bytes of a deleted partition, which delete does not clear; \

@@ -59,11 +59,14 @@ pub struct NewPartition {
     pub unique: Guid,
     /// In blocks.
     pub size: u64,
-    /// 1, 8 or 2048 (rule e1): the partition starts at a block whose number is a multiple of it.
+    /// In blocks, one of `ALIGNMENTS`: the partition starts at a block whose number is a multiple of it.
     pub alignment: u64,
     pub attributes: u64,
     pub name: Name,
 }
+
+/// Rule e1: the alignments that an add takes, in blocks.
+pub const ALIGNMENTS: [u64; 3] = [1, 8, 2048];
 
 /// A used entry (rule D5); `last` is the partition's last block.
 #[derive(Clone, Copy, Debug, PartialEq, Eq)]
@@ -197,7 +200,7 @@ impl Disk<'_> {
         let (mut slot, mut first) = (0, 0);
         let answer =
             raw::gpt_add(self.head, self.tail, self.n, self.block.bytes(), &lent, &mut slot, &mut first);
-        self.accepted(answer, &[Detail::NewSize(new.size)])?;
+        self.accepted(answer, &[Detail::NewSize(new.size, new.alignment), Detail::Alignment(new.alignment)])?;
         Ok(Placed { slot, first })
     }
 
@@ -267,7 +270,8 @@ mod tests {
 
     fn new_partition(size: u64, unique: u8) -> NewPartition {
         let name = Name::new("Größe").unwrap();
-        NewPartition { kind: Guid([7; 16]), unique: Guid([unique; 16]), size, attributes: 5, name }
+        let (kind, unique) = (Guid([7; 16]), Guid([unique; 16]));
+        NewPartition { kind, unique, size, alignment: 1, attributes: 5, name }
     }
 
     fn words<T: std::fmt::Debug>(result: Result<T, Refused>) -> String {
@@ -310,6 +314,19 @@ mod tests {
     fn a_small_disk_of_each_block_size() {
         small_history(BlockSize::Bytes512, 100, 34);
         small_history(BlockSize::Bytes4096, 44, 6);
+    }
+
+    #[test]
+    fn a_refused_add_tells_its_alignment() {
+        for (block, n, first) in [(BlockSize::Bytes512, 100, 40), (BlockSize::Bytes4096, 44, 8)] {
+            let (mut head, mut tail) = (vec![0; block.head_len()], vec![0; block.tail_len()]);
+            let mut disk = Disk { head: &mut head, tail: &mut tail, n, block };
+            disk.format(Guid([1; 16])).unwrap();
+            let mut add = |alignment| disk.add(&NewPartition { alignment, ..new_partition(1, 1) });
+            assert_eq!(words(add(2048)), "25: no room: no multiple of 2048 has 1 free block from it on");
+            assert_eq!(words(add(3)), "27: the alignment is not 1, 8 or 2048 blocks: 3 blocks");
+            assert_eq!(add(8), Ok(Placed { slot: 1, first }));
+        }
     }
 
     /// Header and entries of the head begin at these bytes.

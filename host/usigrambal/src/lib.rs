@@ -12,7 +12,7 @@ mod refused;
 mod rule;
 
 pub use block::BlockSize;
-pub use disk::{Disk, Free, Name, NewPartition, Partition, Placed, Run, State};
+pub use disk::{Disk, Free, Name, NewPartition, Partition, Placed, Run, State, ALIGNMENTS};
 pub use guid::Guid;
 pub use refusal::Refusal;
 pub use refused::{Refused, IMAGE_MAX, TEXT_MAX};

@@ -29,8 +29,10 @@ pub(crate) enum Detail {
     Image(&'static str),
     /// A layout text of so many bytes.
     Text(usize),
-    /// A partition of so many blocks to be placed.
-    NewSize(u64),
+    /// A partition of so many blocks to be placed, at a multiple of so many.
+    NewSize(u64, u64),
+    /// An alignment of so many blocks.
+    Alignment(u64),
     /// A partition to be given so many blocks.
     SlotSize(u64, u64),
     /// An image of so many bytes, where the layout text states so many.
@@ -80,7 +82,8 @@ impl Detail {
                 matches!(refusal, Refusal::ImageLength | Refusal::NoSignature | Refusal::NoGoodMap)
             }
             Detail::Slot(_) => matches!(refusal, Refusal::NoSuchSlot | Refusal::SlotUnused),
-            Detail::NewSize(_) | Detail::SlotSize(..) => refusal == Refusal::NoRoom,
+            Detail::NewSize(..) | Detail::SlotSize(..) => refusal == Refusal::NoRoom,
+            Detail::Alignment(_) => refusal == Refusal::Alignment,
             Detail::Stated(..) => refusal == Refusal::WrongLength,
             Detail::Area(_) => matches!(refusal, Refusal::AreaMissing | Refusal::AreaOtherSize),
         }
@@ -91,12 +94,15 @@ impl fmt::Display for Detail {
     fn fmt(&self, f: &mut fmt::Formatter<'_>) -> fmt::Result {
         match self {
             Detail::BlockBytes(bytes) => write!(f, "{bytes} byte{}", s(*bytes)),
-            Detail::Blocks(n) => write!(f, "{n} block{}", s(*n)),
+            Detail::Blocks(n) | Detail::Alignment(n) => write!(f, "{n} block{}", s(*n)),
             Detail::Bytes(len) => bytes(f, *len, IMAGE_MAX),
             Detail::Text(len) => bytes(f, *len, TEXT_MAX),
             Detail::Image(which) => write!(f, "the {which} image"),
             Detail::Slot(slot) => write!(f, "slot {slot}"),
-            Detail::NewSize(size) => write!(f, "no run of {size} free block{}", s(*size)),
+            Detail::NewSize(size, 1) => write!(f, "no run of {size} free block{}", s(*size)),
+            Detail::NewSize(size, alignment) => {
+                write!(f, "no multiple of {alignment} has {size} free block{} from it on", s(*size))
+            }
             Detail::SlotSize(slot, size) => {
                 write!(f, "slot {slot} cannot have {size} block{}", s(*size))
             }
@@ -152,14 +158,23 @@ mod tests {
         assert_eq!(refused(Refusal::SlotUnused, &details), "13: the slot is unused: slot 3");
         assert_eq!(refused(Refusal::NoRoom, &details), "25: no room: slot 3 cannot have 4096 blocks");
         assert_eq!(refused(Refusal::NoSize, &details), "20: the size is zero");
-        assert_eq!(
-            refused(Refusal::NoRoom, &[Detail::NewSize(4096)]),
-            "25: no room: no run of 4096 free blocks"
-        );
-        assert_eq!(refused(Refusal::NoRoom, &[Detail::NewSize(1)]), "25: no room: no run of 1 free block");
         let one = refused(Refusal::BlockCount, &[Detail::Blocks(1)]);
         assert_eq!(one, "2: the number of blocks is outside its range: 1 block");
         let bytes = refused(Refusal::BlockSize, &[Detail::BlockBytes(1024)]);
         assert_eq!(bytes, "6: the block size is neither 512 nor 4096: 1024 bytes");
+    }
+
+    /// Rule e4: the longest run may be longer than the size that has no room at a multiple.
+    #[test]
+    fn room_is_told_with_the_alignment() {
+        let details = |size, alignment| [Detail::NewSize(size, alignment), Detail::Alignment(alignment)];
+        let no_room = |size, alignment| refused(Refusal::NoRoom, &details(size, alignment));
+        assert_eq!(no_room(4096, 1), "25: no room: no run of 4096 free blocks");
+        assert_eq!(no_room(1, 1), "25: no room: no run of 1 free block");
+        assert_eq!(no_room(1, 8), "25: no room: no multiple of 8 has 1 free block from it on");
+        assert_eq!(no_room(9, 2048), "25: no room: no multiple of 2048 has 9 free blocks from it on");
+        let not_taken = refused(Refusal::Alignment, &details(1, 3));
+        assert_eq!(not_taken, "27: the alignment is not 1, 8 or 2048 blocks: 3 blocks");
+        assert_eq!(refused(Refusal::NoSize, &details(0, 3)), "20: the size is zero");
     }
 }

@@ -43,7 +43,7 @@ fn name(text: &str) -> Name {
 fn add(disk: &mut Disk, new: &New) -> Result<u64, u32> {
     let kind = Guid::parse_type(new.kind).expect("a type");
     let unique = new.unique.parse().expect("a GUID");
-    let New { size, attributes, .. } = *new;
-    let new = NewPartition { kind, unique, size, attributes, name: name(new.name) };
+    let New { size, alignment, attributes, .. } = *new;
+    let new = NewPartition { kind, unique, size, alignment, attributes, name: name(new.name) };
     Ok(on(disk, |disk| disk.add(&new))?.slot)
 }

@@ -4,6 +4,7 @@ use std::thread;
 use testkit::disk::{Disk, Shape, SHAPES};
 use testkit::flash::{map_len, Area, Map, PRESERVE};
 use usigrambal::raw::{self, NewPartition};
+use usigrambal::ALIGNMENTS;
 
 const STACK: usize = 24 << 10;
 const N: u64 = 1 << 20;
@@ -31,8 +32,9 @@ fn disk_calls(shape: Shape) {
     let (mut a, mut b) = (0, 0);
     assert_eq!(raw::gpt_format(&mut head, &mut tail, n, block, &[7; 16]), 0);
     for unique in 1..=128_u8 {
+        let alignment = ALIGNMENTS[usize::from(unique) % ALIGNMENTS.len()];
         let (kind, unique) = (&[9; 16], &[unique; 16]);
-        let new = NewPartition { kind, unique, size: 3, attributes: 0, name: &[0; 36] };
+        let new = NewPartition { kind, unique, size: 3, alignment, attributes: 0, name: &[0; 36] };
         assert_eq!(raw::gpt_add(&mut head, &mut tail, n, block, &new, &mut a, &mut b), 0);
     }
     assert_eq!(raw::gpt_resize(&mut head, &mut tail, n, block, 64, 2), 0);

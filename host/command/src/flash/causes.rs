@@ -39,11 +39,7 @@ fn signatures(image: &[u8]) -> String {
 /// A carry between two images that have their maps.
 pub fn of_carry(refused: Refused, old: &Mapped, new: &Mapped) -> Failure {
     let hint = carry_hint(refused.refusal, old, new);
-    let failure = Failure::from(refused).on("new", new.path);
-    match hint {
-        Some(hint) => failure.hint(hint),
-        None => failure,
-    }
+    Failure::from(refused).on("new", new.path).hint_if(hint)
 }
 
 /// The areas that a carry is refused for.

@@ -15,23 +15,38 @@ use crate::sizes::{self, of_blocks, Size};
 use crate::storage::Opened;
 use usigrambal::{BlockSize, Disk, Guid, Name, NewPartition, Partition, State};
 
+/// Where `--align` is not given, in blocks.
+const ALIGNMENT: u64 = 2048;
+
 pub fn add(given: &Given) -> Result<Report, Failure> {
     let (path, mode) = (given.path(0), mode(given, false)?);
     let kind = given.text("--type")?.unwrap_or("linux");
     let kind = Guid::parse_type(kind).map_err(|refused| no_guid(refused, path, "--type", kind))?;
     let size = Size::parse(given.text("--size")?.unwrap_or_default())?;
+    let alignment = alignment(given)?;
     let unique = guid(given)?;
     let attributes = given.text("--attributes")?.map_or(Ok(0), sizes::number)?;
     let name = name(given.text("--name")?.unwrap_or_default())?;
     let call = |disk: &mut Disk| {
-        let new = NewPartition { kind, unique, size: size.blocks(disk.block)?, attributes, name };
-        let placed = disk.add(&new).map_err(|refused| of_add(refused, path, disk, unique))?;
+        let size = size.blocks(disk.block)?;
+        let new = NewPartition { kind, unique, size, alignment, attributes, name };
+        let placed = disk.add(&new).map_err(|refused| of_add(refused, path, disk, &new))?;
         partition(disk, placed.slot)
     };
     edited(given, mode, call, |added, how| {
         let text = format!("{} {}\n", how.word("added", "would add"), in_words(added, how.block));
-        (text, described(added, how.block))
+        let mut json = described(added, how.block);
+        json.push(("alignment", alignment.into()));
+        (text, json)
     })
+}
+
+/// What `--align` says, else what other tools take for disks with blocks of 512 bytes: 1 MiB. Another number than the
+/// three is the library's to refuse.
+fn alignment(given: &Given) -> Result<u64, Failure> {
+    let Some(text) = given.text("--align")? else { return Ok(ALIGNMENT) };
+    sizes::number(text)
+        .map_err(|sentence| Failure::usage(sentence).hint("--align is 1, 8 or 2048, in blocks"))
 }
 
 pub fn delete(given: &Given) -> Result<Report, Failure> {

@@ -7,7 +7,7 @@ use crate::failure::Failure;
 use crate::show::printable;
 use crate::sizes::{human, of_blocks, plural};
 use std::path::Path;
-use usigrambal::{BlockSize, Disk, Guid, Partition, Refusal, Refused, State};
+use usigrambal::{BlockSize, Disk, Guid, NewPartition, Partition, Refusal, Refused, State, ALIGNMENTS};
 
 pub const TYPES: &str = "system, msft, data, linux, swap";
 
@@ -25,6 +25,7 @@ pub fn advised(refused: Refused, path: &Path, disk: &Disk) -> Failure {
         Refusal::NoSuchSlot | Refusal::SlotUnused => disk.partitions().ok().map(|held| used(&held)),
         Refusal::NoSize => Some(format!("the least is {}", of_blocks(1, disk.block))),
         Refusal::NoType => Some(format!("a type is a GUID that is not zero, or one of {TYPES}")),
+        Refusal::Alignment => Some(alignments(disk.block)),
         Refusal::BadPartitionName => Some("a name ends at its first zero".into()),
         Refusal::NoUnusedSlot => Some(format!(
             "all numbers are in use; usigrambal gpt delete {} NUMBER frees one",
@@ -32,11 +33,7 @@ pub fn advised(refused: Refused, path: &Path, disk: &Disk) -> Failure {
         )),
         _ => None,
     };
-    let failure = Failure::from(refused).on("disk", path);
-    match hint {
-        Some(hint) => failure.hint(hint),
-        None => failure,
-    }
+    Failure::from(refused).on("disk", path).hint_if(hint)
 }
 
 fn block_count(path: &Path, disk: &Disk) -> String {
@@ -49,6 +46,12 @@ fn block_count(path: &Path, disk: &Disk) -> String {
         true => format!("{limits}; with --block {longer} a file has up to {}", bytes(most, longer)),
         false => limits,
     }
+}
+
+/// What can be chosen, and how many bytes each is.
+fn alignments(block: BlockSize) -> String {
+    let [one, some, most] = ALIGNMENTS.map(|blocks| of_blocks(blocks, block));
+    format!("--align is {one}, {some} or {most}")
 }
 
 fn repairable(state: State, path: &Path, block: BlockSize) -> String {
@@ -80,25 +83,45 @@ fn named(partitions: &[Partition]) -> String {
 }
 
 /// A refused add.
-pub fn of_add(refused: Refused, path: &Path, disk: &Disk, unique: Guid) -> Failure {
-    let failure = advised(refused, path, disk);
-    match (refused.refusal, disk.free(), disk.free_runs(), disk.partitions()) {
-        (Refusal::NoRoom, Ok(free), Ok(runs), _) => failure.hint(match runs.len() {
-            0 => "no block is free".to_string(),
-            1 => format!("the one free run has {}", of_blocks(free.longest_run, disk.block)),
-            many => format!(
-                "the longest free run has {}; {} are free in {many} runs",
-                of_blocks(free.longest_run, disk.block),
-                of_blocks(free.blocks, disk.block)
-            ),
-        }),
-        (Refusal::BadUniqueGuid, _, _, Ok(held)) => {
-            let holder = held.iter().find(|partition| partition.unique == unique);
-            let whose = holder.map_or(String::new(), |holder| format!("partition {} has it; ", holder.slot));
-            failure.hint(format!("{whose}without --guid a random one is taken"))
+pub fn of_add(refused: Refused, path: &Path, disk: &Disk, new: &NewPartition) -> Failure {
+    let hint = match refused.refusal {
+        Refusal::NoRoom => with_less_alignment(disk, new).or_else(|| free_blocks(disk)),
+        Refusal::BadUniqueGuid => disk.partitions().ok().map(|held| another_guid(&held, new.unique)),
+        _ => None,
+    };
+    advised(refused, path, disk).hint_if(hint)
+}
+
+/// Where the largest alignment below the one that has no room would place the partition, tried on a copy.
+fn with_less_alignment(disk: &Disk, new: &NewPartition) -> Option<String> {
+    let mut less = ALIGNMENTS.into_iter().rev().filter(|alignment| *alignment < new.alignment);
+    less.find_map(|alignment| {
+        let (mut head, mut tail) = (disk.head.to_vec(), disk.tail.to_vec());
+        let mut copy = Disk { head: &mut head, tail: &mut tail, n: disk.n, block: disk.block };
+        let placed = copy.add(&NewPartition { alignment, ..*new }).ok()?;
+        Some(format!("--align {alignment} would place it at block {}", placed.first))
+    })
+}
+
+/// How many blocks are free, and how many in a row.
+fn free_blocks(disk: &Disk) -> Option<String> {
+    let (free, runs) = (disk.free().ok()?, disk.free_runs().ok()?);
+    let longest = of_blocks(free.longest_run, disk.block);
+    Some(match runs.len() {
+        0 => "no block is free".to_string(),
+        1 => format!("the one free run has {longest}"),
+        many => {
+            let blocks = of_blocks(free.blocks, disk.block);
+            format!("the longest free run has {longest}; {blocks} are free in {many} runs")
         }
-        _ => failure,
-    }
+    })
+}
+
+/// Who has the unique GUID, if one has it.
+fn another_guid(held: &[Partition], unique: Guid) -> String {
+    let holder = held.iter().find(|partition| partition.unique == unique);
+    let whose = holder.map_or(String::new(), |holder| format!("partition {} has it; ", holder.slot));
+    format!("{whose}without --guid a random one is taken")
 }
 
 /// A refused edit of a slot.

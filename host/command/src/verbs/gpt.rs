@@ -31,7 +31,8 @@ pub static VERBS: &[Verb] = &[
         operands: &["DISK..."],
         options: &[BLOCK, JSON],
         required: 0,
-        about: "Count the free blocks of a disk, tell the longest run of them, and list the runs.",
+        about: "Count the free blocks of a disk, tell the longest run of them, and list the runs. \
+                A new partition uses a run from the first multiple of its --align on.",
         examples: &["usigrambal gpt free disk.img", "usigrambal gpt free disk.img /dev/sdb --json"],
         always: &[],
         run: gpt::free,
@@ -66,6 +67,11 @@ pub static VERBS: &[Verb] = &[
         operands: &["DISK"],
         options: &[
             value("--size", "SIZE", "its size"),
+            value(
+                "--align",
+                "1|8|2048",
+                "its start is a multiple of so many blocks; 2048 if not given (1 MiB; 8 MiB of 4096-byte ones)",
+            ),
             value("--type", "TYPE", "its type, a GUID or system, msft, data, linux, swap; linux if not given"),
             value("--guid", "GUID", "its unique GUID; a random one if not given"),
             value("--name", "NAME", "its name, at most 36 UTF-16 units; none if not given"),
@@ -76,11 +82,13 @@ pub static VERBS: &[Verb] = &[
             JSON,
         ],
         required: 1,
-        about: "Add a partition in the lowest unused slot, at the lowest block with room for it; tells slot, first and last block. \
+        about: "Add a partition in the lowest unused slot, at the lowest block with room for it whose number is a multiple of --align; \
+                tells slot, first and last block. \
                 A slot whose type GUID is zero is unused; what else it holds is overwritten.",
         examples: &[
             "usigrambal gpt add disk.img --size 10M --name boot --type system",
             "usigrambal gpt add disk.img --size 2048 --attributes 0x4",
+            "usigrambal gpt add disk.img --size 64K --name keys --align 8",
         ],
         always: &[],
         run: gpt::add,

@@ -169,6 +169,21 @@ pub fn run(words: &[&OsStr]) -> Ended {
     command().args(words).stdin(Stdio::null()).output().expect("the command").into()
 }
 
+/// The refusal's words and its hint, of a call on a disk, on standard error and in the JSON document.
+#[track_caller]
+pub fn refused(words: &[&str], number: u32, said: &str, hint: &str) {
+    let call = |extra: &[&str]| {
+        let words: Vec<&OsStr> = words.iter().chain(extra).map(OsStr::new).collect();
+        run(&words)
+    };
+    let ended = call(&[]);
+    assert_eq!(ended.hint(), hint);
+    assert_eq!(ended.refused(number), format!("{}: {said}", words[2]));
+    let json = json::parse(&call(&["--json"]).out).expect("JSON");
+    assert_eq!((json.text("disk"), json.number("refused")), (words[2], number.into()));
+    assert_eq!((json.text("words"), json.text("hint")), (said, hint));
+}
+
 pub fn fed(words: &[&OsStr], input: &[u8]) -> Ended {
     let pipes =
         command().args(words).stdin(Stdio::piped()).stdout(Stdio::piped()).stderr(Stdio::piped()).spawn();
@@ -210,8 +225,9 @@ pub fn at_4096(verb: &str, disk: &Path, more: &[&str]) -> Ended {
     run(&words.into_iter().chain(more).collect::<Vec<_>>())
 }
 
+/// At the lowest block with room, whatever its number.
 pub fn add(disk: &Path, size: &str, name: &str) -> Json {
-    let words = ["gpt", "add", "--json", "--size", size, "--name", name].map(OsStr::new);
+    let words = ["gpt", "add", "--json", "--align", "1", "--size", size, "--name", name].map(OsStr::new);
     run(&[&words[..], &[disk.as_os_str()]].concat()).json()
 }
 

@@ -288,8 +288,8 @@ fn number(calls: &Calls, disk: &Disk, edit: &Edit) -> u32 {
     let mut disk = disk.clone();
     let answer = match edit {
         Edit::Add(Partition { first, last, kind, unique, attributes, name, .. }) => {
-            let (size, attributes) = (last - first + 1, *attributes);
-            (calls.add)(&mut disk, &New { kind, unique, size, attributes, name }).map(drop)
+            let (size, alignment, attributes) = (last - first + 1, 1, *attributes);
+            (calls.add)(&mut disk, &New { kind, unique, size, alignment, attributes, name }).map(drop)
         }
         Edit::Delete(slot) => (calls.delete)(&mut disk, *slot),
         Edit::Rename(slot, name) => (calls.rename)(&mut disk, *slot, name),

@@ -1,11 +1,15 @@
 //! What an implementation of the disk calls is held to: samples, the fixtures, and other tools on the same disks.
 
+mod aligned;
+mod aligned_peers;
 mod edits;
 mod peers;
 mod samples;
 mod stale;
 mod stale_peers;
 
+pub use aligned::*;
+pub use aligned_peers::*;
 pub use edits::*;
 pub use peers::*;
 pub use samples::*;
@@ -42,6 +46,7 @@ pub struct New<'a> {
     pub kind: &'a str,
     pub unique: &'a str,
     pub size: u64,
+    pub alignment: u64,
     pub attributes: u64,
     pub name: &'a str,
 }
@@ -57,6 +62,12 @@ macro_rules! disk_tests {
                 samples_at_each_block_size,
                 formatting_writes_all_of_head_and_tail,
                 another_block_size_is_refused_first,
+                starts_are_multiples,
+                no_room_means_none_at_a_multiple,
+                sizes_beyond_the_disk_have_no_room,
+                another_alignment_is_refused_after_20,
+                resizing_does_not_look_at_alignment,
+                starts_are_those_that_a_search_finds,
                 stale_bytes_are_no_partition,
                 edits_leave_stale_bytes,
                 an_add_overwrites_stale_bytes,
@@ -83,6 +94,11 @@ macro_rules! disk_tests {
                 sgdisk_on_a_stale_slot,
                 sfdisk_on_a_stale_slot,
                 cgpt_on_a_stale_slot,
+                sgdisk_places_the_same,
+                sfdisk_places_the_same,
+                sfdisk_starts_at_1_mib_with_other_grains,
+                sgdisk_aligns_to_1_mib_by_default,
+                sfdisk_aligns_to_1_mib_by_default,
                 sgdisk_starts_at_the_longest_run,
                 sfdisk_starts_after_the_last_partition,
                 sgdisk_refuses_the_same,
@@ -123,12 +139,18 @@ impl Calls {
         self.table(disk).into_iter().find(|row| row.slot == slot).expect("a used slot")
     }
 
+    /// At the lowest block with room.
     fn add_drawn(&self, disk: &mut Disk, size: u64, random: &mut Random) -> Option<Edit> {
+        self.add_drawn_at(disk, size, 1, random)
+    }
+
+    fn add_drawn_at(&self, disk: &mut Disk, size: u64, alignment: u64, random: &mut Random) -> Option<Edit> {
         let kind = random.pick(&KINDS);
         let unique = guid_text(&random.bytes(16));
         let attributes = random.number() & random.pick(&[0, 0xFFFF_0000_0000_0005, u64::MAX]);
         let name = random.pick(&NAMES);
-        let slot = (self.add)(disk, &New { kind, unique: &unique, size, attributes, name }).ok()?;
+        let new = New { kind, unique: &unique, size, alignment, attributes, name };
+        let slot = (self.add)(disk, &new).ok()?;
         Some(Edit::Add(self.row_of(disk, slot)))
     }
 
@@ -168,7 +190,10 @@ impl Calls {
         let choice = if used.is_empty() { 0 } else { random.below(6) };
         let slot = if choice == 0 { 0 } else { used[random.below(used.len())].slot };
         match choice {
-            0..=2 => self.add_drawn(disk, size, random),
+            0..=2 => {
+                let alignment = random.pick(&[1, 1, 8, 2048]);
+                self.add_drawn_at(disk, size, alignment, random)
+            }
             3 => Some(self.delete_used(disk, slot)),
             4 => Some(self.rename_used(disk, slot, random.pick(&NAMES))),
             _ => self.resize_used(disk, slot, size),
