@@ -149,7 +149,8 @@ module _ (g : Shape) (n : ℕ) (r : Snapshot) (v : Kept g n r) where
         from (inl q) a = absurd (missed q (a .0) (a .1))
 
     -- every block is a multiple of 1
-    fits-at-one : p .alignment ≡ 1 → (longest : ℕ) → longest ≡ longestFree (rangesOf tab) (g .first) (lastUsable g n) → AcceptsNew g n tab r p ↔ (p .size ≤ longest)
+    fits-at-one : p .alignment ≡ 1 → (longest : ℕ) → longest ≡ longestFree (rangesOf tab) (g .first) (lastUsable g n)
+        → AcceptsNew g n tab r p ↔ (p .size ≤ longest)
     fits-at-one one longest is = (
       λ a. let v = fits-iff .0 a in let f = v .1 .1 in
           omega (arith, room-fits (rangesOf tab) (g .first) (lastUsable g n) (p .size) (v .0) (f .0) (f .1, f .2)),

@@ -1,7 +1,7 @@
 -- Multiples of m, and the lowest from a block on: what a walk that places at an alignment cites.
 use mathlib.Core.Path.{_≡_, ap, _∙_}
 use mathlib.Core.Logic.{_≢_}
-use Prim.Native.Nat.{ℕ, suc, _+_, _-_, _*_, _/_, _%_, _≤_, _<_}
+use Prim.Native.Nat.{ℕ, suc, _+_, _-_, _/_, _%_, _≤_, _<_}
 use native.Mathlib.Nat.{mod-lt, div-add-mod, mul-suc, mul-le-mul-left, mul-mod-right}
 use native.Mathlib.Decide.{decLe}
 use native.Mathlib.Omega.{arith}

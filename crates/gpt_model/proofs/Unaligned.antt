@@ -11,13 +11,14 @@ use borrow.Author.Tests.{eqb-false, eq-eqb, ne-eqb}
 use Rattle.octets.specs.Tests.{_or_}
 use Rattle.octets.specs.Rows.{Row, row, refusal}
 use Rattle.octets.specs.Bytes.{putChunk}
-use Rattle.octets.proofs.Bools.{and-t, or-false-l, or-false-r, or-false-i, bool-cases, not-t, not-f, some-none}
+use Rattle.octets.proofs.Bools.{and-t, or-false-l, or-false-r, or-false-i, bool-cases, not-t, some-none}
 use Rattle.octets.proofs.Rows.{rowsFrom, pick-none, pick-true, pick-false, refusal-append, refusal-without, refusal-behind}
 use Rattle.gpt_model.specs.Table.{rangesOf}
 use Rattle.gpt_model.specs.Disk.{Shape, lastUsable, primary, backup, guidIn, tableOf, withTable}
 use Rattle.gpt_model.specs.Ranges.{roomAt, lowestFrom, isAlignment, alignedAt, lowestStart}
 use Rattle.gpt_model.specs.declared.NewPartition.{NewPartition}
-use Rattle.gpt_model.specs.Calls.{Call, add, edit, refused, accepted, Outcome, outcome, unlessRefused, isNone, orZero, lowestUnused, newEntry, addRows, startFor, tableRows, lengthsOf, openRows, rowsOf, step}
+use Rattle.gpt_model.specs.Calls.{add, edit, refused, accepted, Outcome, outcome, unlessRefused, isNone, orZero}
+use Rattle.gpt_model.specs.Calls.{lowestUnused, newEntry, addRows, startFor, tableRows, lengthsOf, openRows, rowsOf, step}
 use Rattle.gpt_model.specs.Unaligned.{startUnaligned, rowsUnaligned, addUnaligned}
 use Rattle.gpt_model.specs.Claims.{AlignmentOne, OtherAlignmentRefused}
 use Rattle.gpt_model.proofs.Outcomes.{step-refused, refused-row}
@@ -34,7 +35,8 @@ module _ (g : Shape) (n : ℕ) (h t : List ℕ) (p : NewPartition) where
   abbrev written : Option ℕ → Outcome
   written q =
       let es′ = putChunk 128 (lowestUnused es) (newEntry p (orZero q)) es in
-      outcome (accepted (suc (lowestUnused es) ∷ orZero q ∷ [])) (withTable g n primary (guidIn g primary h) es′ h) (withTable g n backup (guidIn g backup t) es′ t)
+      outcome (accepted (suc (lowestUnused es) ∷ orZero q ∷ []))
+      (withTable g n primary (guidIn g primary h) es′ h) (withTable g n backup (guidIn g backup t) es′ t)
 
   abbrev from : Option ℕ → Outcome
   from q = unlessRefused (refusal (opens ++ (addRows es p ++ (row (isNone q) 25 ∷ [])))) h t (written q)
@@ -56,7 +58,8 @@ module _ (g : Shape) (n : ℕ) (h t : List ℕ) (p : NewPartition) where
     without : from (startUnaligned g n h t p) ≡ addUnaligned g n h t p
     without =
         ap (λ (q : Option ℕ). unlessRefused q h t (written (startUnaligned g n h t p)))
-        (refusal-without (opens ++ (row (eqb (p .size) 0) 20 ∷ [])) _ (rowsFrom 21 (rowsUnaligned g n h t p)) (ap not (alignment-make (p .alignment) (inl one))))
+        (refusal-without (opens ++ (row (eqb (p .size) 0) 20 ∷ [])) _ (rowsFrom 21 (rowsUnaligned g n h t p))
+        (ap not (alignment-make (p .alignment) (inl one))))
 
   -- ---- row 27
 

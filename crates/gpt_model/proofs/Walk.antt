@@ -52,7 +52,8 @@ module _ (s : List BlockRange) (first last size m : ℕ) (pos : 0 < size) where
     pub low-found : first ≤ a → u + size ≤ g → g ≤ last + 1 → ((c : ℕ) → a ≤ c → c < g → inSome s c ≡ false) → lowestStart s first last size m ≡ some u
     low-found fa fits end clear =
         let v = up .past in
-        start-is s first last size m u pos (omega arith) (up .multiple, (omega arith, λ b p q. clear b (omega arith) (omega arith))) (λ b p q r. go b p q r (decLt b a))
+        start-is s first last size m u pos (omega arith)
+        (up .multiple, (omega arith, λ b p q. clear b (omega arith) (omega arith))) (λ b p q r. go b p q r (decLt b a))
       where
         go : (b : ℕ) → first ≤ b → b < u → Start s last size m b → Dec (b < a) → ⊥
         go b p q r (yes w) = low b p w r

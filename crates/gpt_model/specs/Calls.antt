@@ -121,7 +121,8 @@ module _ (first last : ℕ) (es : List ℕ) where
   abbrev pub startFor : NewPartition → Option ℕ
   startFor p = lowestStart (rangesOf es) first last (p .size) (p .alignment)
 
-  -- R27: Add: 1, 2, 10, 11, 20, 21, 22, 23, 24, 25 (e5: 27 after 20). R28: Delete: 1, 2, 10, 11, 12, 13. R29: Rename the same, then 23. R30: Resize as delete, then 20, 25.
+  -- R27: Add: 1, 2, 10, 11, 20, 21, 22, 23, 24, 25. e5: 27 for any other alignment, after 20.
+  -- R28: Delete: 1, 2, 10, 11, 12, 13. R29: Rename the same, then 23. R30: Resize as delete, then 20, 25.
   abbrev pub tableRows : Edit → List Row
   tableRows (add p) = addRows es p ++ (row (isNone (startFor p)) 25 ∷ [])
   tableRows (delete k) = slotRows es k

@@ -11,7 +11,8 @@ use Rattle.gpt_model.specs.Table.{entryBytes, unused, entries, rangesOf}
 use Rattle.gpt_model.specs.Disk.{Shape, lastUsable, primary, backup, guidIn, tableOf, withTable}
 use Rattle.gpt_model.specs.Ranges.{roomAt, lowestFrom}
 use Rattle.gpt_model.specs.declared.NewPartition.{NewPartition}
-use Rattle.gpt_model.specs.Calls.{add, accepted, Outcome, outcome, unlessRefused, badName, carries, isNone, orZero, lowestUnused, newEntry, lengthsOf, openRows}
+use Rattle.gpt_model.specs.Calls.{add, accepted, Outcome, outcome, unlessRefused, badName, carries, isNone, orZero}
+use Rattle.gpt_model.specs.Calls.{lowestUnused, newEntry, lengthsOf, openRows}
 
 module _ (g : Shape) (n : ℕ) (h t : List ℕ) (p : NewPartition) where
   abbrev es : List ℕ

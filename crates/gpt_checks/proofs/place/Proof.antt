@@ -27,7 +27,8 @@ lowest-requires c κs =
     let e = c .last-usable .ensures in
     let m = c4 .before .before .pre .2 in
     let none = passed _ (c .before .before .enum-told .given .1) (c4 .new .ensures) in
-    (c4 .before .before .pre .0, add-size (a .shape) (a .n) (now (a .table)) (a .p) none, add-alignment (a .shape) (a .n) (now (a .table)) (a .p) none, omega arith)
+    let t = now (a .table) in
+    (c4 .before .before .pre .0, add-size (a .shape) (a .n) t (a .p) none, add-alignment (a .shape) (a .n) t (a .p) none, omega arith)
 
 enum-told-2 : tie.Need-enum-told-2
 enum-told-2 c = search needs

@@ -1,9 +1,6 @@
-use mathlib.Core.Path.{_≡_}
-use Prim.Native.Nat.{ℕ, _+_, _*_}
 use native.Mathlib.Nat.{mod-lt}
 use native.Mathlib.Omega.{arith}
 use borrow.Author.Needs.{needs}
-use Rattle.gpt_model.specs.Ranges.{MultipleOf}
 use Rattle.gpt_model.proofs.Multiples.{mod-multiple, next-multiple}
 use Rattle.gpt_room.proofs.padding.Statement.{statement}
 use Rattle.gpt_room.proofs.padding.Tie as tie
