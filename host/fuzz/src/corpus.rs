@@ -1,6 +1,7 @@
 //! The first inputs of each target, from the fixtures.
 
 use crate::disk::{ALL_SLOTS, ANY_BLOCK_SIZE, CLEAR_TYPE, FLIP, MANY, OTHER_BLOCK_SIZE, PLACE};
+use crate::input::{alignment, number};
 use crate::{disk, flash};
 use testkit::disk::{Shape, SHAPES};
 use testkit::fixture;
@@ -11,10 +12,17 @@ fn disk_arguments(call: &str) -> Vec<Vec<u8>> {
     let name = |filled: u8, place: u8, unit: u8| vec![0, filled, place, unit, 0];
     match call {
         "usi_gpt_format" => vec![guid(0x61), guid(0), vec![0xF8, 0x61]],
-        "usi_gpt_add" => [(1, name(4, 0, 0)), (0, name(4, 0, 0)), (30, name(2, 5, 7)), (200, name(36, 0, 0))]
-            .into_iter()
-            .map(|(size, name)| [guid(0x61), guid(0x62), vec![size, 0], name].concat())
-            .collect(),
+        "usi_gpt_add" => {
+            let new = |size: u8, at: u64, name: Vec<u8>| {
+                [guid(0x61), guid(0x62), vec![size], alignment(at), vec![0], name].concat()
+            };
+            let names = [(1, name(4, 0, 0)), (0, name(4, 0, 0)), (30, name(2, 5, 7)), (200, name(36, 0, 0))];
+            // To the end of the small disk or past it, and alignments that are refused.
+            let places =
+                [(1, 8), (27, 8), (28, 8), (1, 2048), (20, 2048), (1, 0), (1, 16), (1, (1 << 32) + 8)];
+            let aligned = places.map(|(size, at)| new(size, at, name(4, 0, 0)));
+            names.map(|(size, name)| new(size, 1, name)).into_iter().chain(aligned).collect()
+        }
         "usi_gpt_delete" => vec![vec![1], vec![2], vec![0], vec![129]],
         "usi_gpt_resize" => vec![vec![1, 1], vec![1, 200], vec![2, 0], vec![7, 20]],
         "usi_gpt_rename" => {
@@ -47,18 +55,20 @@ fn disks(call: &str) -> Vec<Vec<u8>> {
     inputs
 }
 
-/// An empty disk of 33 usable blocks, one with a partition of each size to 3 by steps of a script, one of 230 blocks with
-/// partitions in all slots, those with stale entries, and three that are refused for lengths or number of blocks.
+/// An empty disk of 33 usable blocks, one with a partition of each size to 3 by steps of a script, one of 2,100 blocks, one
+/// of 230 blocks with partitions in all slots, those with stale entries, and three that are refused for lengths or number of
+/// blocks.
 fn by_scripts(tag: u8, shape: Shape, arguments: &[u8]) -> Vec<Vec<u8>> {
-    let least = shape.least_blocks() as u8;
-    let input = |n: u8, lengths: [u8; 2], script: &[u8]| {
-        [&[n, tag, lengths[0], lengths[1]], arguments, &[0], script].concat()
+    let least = shape.least_blocks();
+    let input = |n: u64, lengths: [u8; 2], script: &[u8]| {
+        [&number(n)[..], &[tag, lengths[0], lengths[1]], arguments, &[0], script].concat()
     };
     let n = least + 32;
     let partitions = partitions(shape);
     let mut inputs = vec![
         input(n, [0, 0], &[]),
         input(n, [0, 0], &partitions),
+        input(2100, [0, 0], &[]),
         input(230, [0, 0], &[MANY, 128, 2]),
         input(230, [0, 0], &[MANY, 128, 2, CLEAR_TYPE, ALL_SLOTS, 0]),
         input(n, [0xF6, 0], &[]),
