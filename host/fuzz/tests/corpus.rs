@@ -121,7 +121,10 @@ fn the_target_of_adding_shows_a_wrong_alignment() {
         |r| r.gpt.alignment.slip = Some((8, AlignmentSlip::RoundedDown)),
         |r| r.gpt.alignment.slip = Some((8, AlignmentSlip::WholeRun)),
         |r| r.gpt.alignment.slip = Some((2048, AlignmentSlip::FromFirstUsable)),
+        |r| r.gpt.alignment.slip = Some((2048, AlignmentSlip::NextMultiple)),
+        |r| r.gpt.alignment.slip = Some((2048, AlignmentSlip::RoundedIn32Bits)),
         |r| r.gpt.alignment.slip = Some((2048, AlignmentSlip::OneMore)),
+        |r| r.gpt.alignment.slip = Some((2048, AlignmentSlip::OneLess)),
     ];
     for (number, change) in wrong.iter().enumerate() {
         assert!(shows(target("usi_gpt_add"), &changed(change)), "{number}");
