@@ -137,16 +137,17 @@ pub fn usi_gpt_add(rules: &Rules, input: &mut Input) -> Outcome {
     let lengths = lengths(input);
     let (n, block) = (lengths.n, lengths.block);
     let (kind, unique) = (input.guid(), input.guid());
-    let (size, attributes, name) = (input.number(n), input.number(0), input.name());
+    let (size, alignment) = (input.number(n), input.alignment());
+    let (attributes, name) = (input.number(0), input.name());
     let [head, tail] = script(&lengths, input);
     both(
         [head, tail, kind, unique, name],
         |[head, tail, kind, unique, name], [slot, first]| {
-            let new = raw::NewPartition { kind, unique, size, attributes, name: in_place(name) };
+            let new = raw::NewPartition { kind, unique, size, alignment, attributes, name: in_place(name) };
             raw::gpt_add(head, tail, n, block, &new, slot, first)
         },
         |[head, tail, kind, unique, name], [slot, first]| {
-            let new = NewPartition { kind, unique, size, attributes, name: &units(name) };
+            let new = NewPartition { kind, unique, size, alignment, attributes, name: &units(name) };
             second::gpt_add(rules, head, tail, n, block, &new, slot, first)
         },
     )

@@ -1,6 +1,7 @@
 //! The first inputs of each target, from the fixtures.
 
 use crate::disk::{ALL_SLOTS, ANY_BLOCK_SIZE, CLEAR_TYPE, FLIP, MANY, OTHER_BLOCK_SIZE, PLACE};
+use crate::input::{alignment, number};
 use crate::{disk, flash};
 use testkit::disk::{Shape, SHAPES};
 use testkit::fixture;
@@ -11,10 +12,17 @@ fn disk_arguments(call: &str) -> Vec<Vec<u8>> {
     let name = |filled: u8, place: u8, unit: u8| vec![0, filled, place, unit, 0];
     match call {
         "usi_gpt_format" => vec![guid(0x61), guid(0), vec![0xF8, 0x61]],
-        "usi_gpt_add" => [(1, name(4, 0, 0)), (0, name(4, 0, 0)), (30, name(2, 5, 7)), (200, name(36, 0, 0))]
-            .into_iter()
-            .map(|(size, name)| [guid(0x61), guid(0x62), vec![size, 0], name].concat())
-            .collect(),
+        "usi_gpt_add" => {
+            let new = |size: u8, at: u64, name: Vec<u8>| {
+                [guid(0x61), guid(0x62), vec![size], alignment(at), vec![0], name].concat()
+            };
+            let names = [(1, name(4, 0, 0)), (0, name(4, 0, 0)), (30, name(2, 5, 7)), (200, name(36, 0, 0))];
+            // To the last usable block or past it, on the disks of 100 and of 2,100 blocks.
+            let places = [(1, 8), (27, 8), (28, 8), (1, 2048), (19, 2048), (20, 2048)];
+            let refused = [0, 16, (1 << 32) + 8].map(|at| (1, at));
+            let aligned = places.into_iter().chain(refused).map(|(size, at)| new(size, at, name(4, 0, 0)));
+            names.map(|(size, name)| new(size, 1, name)).into_iter().chain(aligned).collect()
+        }
         "usi_gpt_delete" => vec![vec![1], vec![2], vec![0], vec![129]],
         "usi_gpt_resize" => vec![vec![1, 1], vec![1, 200], vec![2, 0], vec![7, 20]],
         "usi_gpt_rename" => {
@@ -47,18 +55,22 @@ fn disks(call: &str) -> Vec<Vec<u8>> {
     inputs
 }
 
-/// An empty disk of 33 usable blocks, one with a partition of each size to 3 by steps of a script, one of 230 blocks with
-/// partitions in all slots, those with stale entries, and three that are refused for lengths or number of blocks.
+/// An empty disk of 33 usable blocks, one with a partition of each size to 3 by steps of a script, one of 2,100 blocks, the
+/// same with the blocks from 2048 on free, the largest with its last usable block free, one of 230 blocks with partitions in
+/// all slots, those with stale entries, and three that are refused for lengths or number of blocks.
 fn by_scripts(tag: u8, shape: Shape, arguments: &[u8]) -> Vec<Vec<u8>> {
-    let least = shape.least_blocks() as u8;
-    let input = |n: u8, lengths: [u8; 2], script: &[u8]| {
-        [&[n, tag, lengths[0], lengths[1]], arguments, &[0], script].concat()
+    let (least, first) = (shape.least_blocks(), shape.first_usable);
+    let input = |n: u64, lengths: [u8; 2], script: &[u8]| {
+        [&number(n)[..], &[tag, lengths[0], lengths[1]], arguments, &[0], script].concat()
     };
     let n = least + 32;
     let partitions = partitions(shape);
     let mut inputs = vec![
         input(n, [0, 0], &[]),
         input(n, [0, 0], &partitions),
+        input(2100, [0, 0], &[]),
+        input(2100, [0, 0], &place(0, first, 2048 - first, 1)),
+        input(1 << 32, [0, 0], &place(0, first, shape.usable(1 << 32) - 1, 1)),
         input(230, [0, 0], &[MANY, 128, 2]),
         input(230, [0, 0], &[MANY, 128, 2, CLEAR_TYPE, ALL_SLOTS, 0]),
         input(n, [0xF6, 0], &[]),
@@ -71,17 +83,21 @@ fn by_scripts(tag: u8, shape: Shape, arguments: &[u8]) -> Vec<Vec<u8>> {
 
 /// Slots 1, 2 and 7, from the first, the seventh and the 27th usable block on; the last byte of their entries is not zero.
 fn partitions(shape: Shape) -> Vec<u8> {
-    [[0, 0, 1], [1, 6, 2], [6, 26, 3]].map(|[slot, at, size]| place(shape, slot, at, size, size)).concat()
+    let place = |(slot, at, size)| place(slot, shape.first_usable + at, size, size as u8);
+    [(0, 0, 1), (1, 6, 2), (6, 26, 3)].map(place).concat()
 }
 
-fn place(shape: Shape, slot: u8, at: u8, size: u8, unique: u8) -> [u8; 8] {
-    [PLACE, slot, 0, shape.first_usable as u8 + at, size, 9, unique, 72 + 71]
+fn place(slot: u8, first: u64, size: u64, unique: u8) -> Vec<u8> {
+    [&[PLACE, slot, 0], &number(first)[..], &number(size), &[9, unique, 72 + 71]].concat()
 }
 
 /// What makes slot 1 stale: then its block is in another partition, or a stale byte is not the same in both copies.
 fn stale(shape: Shape) -> [Vec<u8>; 2] {
     const CLEARED: [u8; 3] = [CLEAR_TYPE, 0, 0];
-    [[&CLEARED[..], &place(shape, 8, 0, 1, 7)].concat(), [&CLEARED[..], &[FLIP, 1, 100, 0]].concat()]
+    [
+        [&CLEARED[..], &place(8, shape.first_usable, 1, 7)].concat(),
+        [&CLEARED[..], &[FLIP, 1, 100, 0]].concat(),
+    ]
 }
 
 /// Images of 220 bytes by steps of a script, with areas FMAP, A and B, the latter two preserved; then B elsewhere, of another size, none.

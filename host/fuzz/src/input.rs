@@ -13,6 +13,10 @@ const ABOVE_BASE: u8 = 0xE4;
 const BELOW_ALL: u8 = 0xE5;
 const ABOVE_32_BITS: u8 = 0xE6;
 
+/// The alignments that are taken, chosen by a byte's remainder; from this byte on a number follows.
+const ALIGNMENTS: [u64; 3] = [1, 8, 2048];
+const ANY_ALIGNMENT: u8 = 0xC0;
+
 impl<'a> Input<'a> {
     pub fn new(rest: &'a [u8]) -> Input<'a> {
         Input { rest }
@@ -61,6 +65,14 @@ impl<'a> Input<'a> {
         (0..len).fold(0, |number, place| number | u64::from(self.byte()) << (8 * place))
     }
 
+    /// An alignment: mostly one that is taken, else a number.
+    pub fn alignment(&mut self) -> u64 {
+        match self.byte() {
+            byte @ ..ANY_ALIGNMENT => ALIGNMENTS[usize::from(byte) % ALIGNMENTS.len()],
+            _ => self.number(2048),
+        }
+    }
+
     /// A length: mostly the right one, else one near it, or 0.
     pub fn length(&mut self, right: usize) -> usize {
         match self.byte() {
@@ -97,6 +109,14 @@ impl<'a> Input<'a> {
             }
         }
         units.iter().flat_map(|unit| unit.to_ne_bytes()).collect()
+    }
+}
+
+/// The bytes that [`Input::alignment`] reads as this number.
+pub fn alignment(value: u64) -> Vec<u8> {
+    match ALIGNMENTS.iter().position(|taken| *taken == value) {
+        Some(place) => vec![place as u8],
+        None => [vec![ANY_ALIGNMENT], number(value)].concat(),
     }
 }
 

@@ -2,7 +2,7 @@
 
 use fuzz::corpus::corpus;
 use fuzz::{Target, TARGETS};
-use second::rules::{CarrySlip, Row, Span, UsedIn, Which, WholeIn};
+use second::rules::{AlignmentSlip, CarrySlip, Row, Span, UsedIn, Which, WholeIn};
 use second::{Rules, RULES};
 
 #[test]
@@ -72,9 +72,7 @@ fn each_target_shows_a_wrong_answer() {
         wrong.iter().map(|w| w.0).collect::<Vec<_>>()
     );
     for (target, (_, change)) in TARGETS.iter().zip(wrong) {
-        let mut rules = RULES;
-        change(&mut rules);
-        assert!(shows(target, &rules), "{}", target.call);
+        assert!(shows(target, &changed(change)), "{}", target.call);
     }
 }
 
@@ -107,10 +105,29 @@ fn each_disk_target_shows_a_wrong_block_size() {
     ];
     for target in TARGETS.iter().filter(|target| target.call.starts_with("usi_gpt_")) {
         for (number, change) in wrong.iter().enumerate() {
-            let mut rules = RULES;
-            change(&mut rules);
-            assert!(shows(target, &rules), "{}: {number}", target.call);
+            assert!(shows(target, &changed(change)), "{}: {number}", target.call);
         }
+    }
+}
+
+/// Adds are given each alignment that is taken, where it matters, and others.
+#[test]
+fn the_target_of_adding_shows_a_wrong_alignment() {
+    let wrong: &[fn(&mut Rules)] = &[
+        |r| r.refusals.renumber(Row::Alignment, 99),
+        |r| r.gpt.alignment.taken = &[(1, 1), (8, 8), (16, 16), (2048, 2048)],
+        |r| r.gpt.alignment.taken = &[(1, 1), (8, 8), (2048, 8)],
+        |r| r.gpt.alignment.judged_bits = 0xFFFF_FFFF,
+        |r| r.gpt.alignment.slip = Some((8, AlignmentSlip::RoundedDown)),
+        |r| r.gpt.alignment.slip = Some((8, AlignmentSlip::WholeRun)),
+        |r| r.gpt.alignment.slip = Some((2048, AlignmentSlip::FromFirstUsable)),
+        |r| r.gpt.alignment.slip = Some((2048, AlignmentSlip::NextMultiple)),
+        |r| r.gpt.alignment.slip = Some((2048, AlignmentSlip::RoundedIn32Bits)),
+        |r| r.gpt.alignment.slip = Some((2048, AlignmentSlip::OneMore)),
+        |r| r.gpt.alignment.slip = Some((2048, AlignmentSlip::OneLess)),
+    ];
+    for (number, change) in wrong.iter().enumerate() {
+        assert!(shows(target("usi_gpt_add"), &changed(change)), "{number}");
     }
 }
 
@@ -118,8 +135,7 @@ fn each_disk_target_shows_a_wrong_block_size() {
 #[test]
 fn each_disk_target_shows_stale_entries_taken_for_used_ones() {
     let disk_calls = TARGETS.iter().filter(|target| target.call.starts_with("usi_gpt_"));
-    let mut rules = RULES;
-    rules.gpt.unused.by = Span { at: 0, len: 128 };
+    let rules = changed(|r| r.gpt.unused.by = Span { at: 0, len: 128 });
     for target in disk_calls.filter(|target| target.call != "usi_gpt_format") {
         assert!(shows(target, &rules), "{}", target.call);
     }
@@ -139,11 +155,18 @@ fn disk_targets_show_wrong_bytes_of_stale_entries() {
         ("usi_gpt_rename", |r| r.gpt.unused.stale_used_in = Some(UsedIn::Rename)),
     ];
     for (call, change) in wrong {
-        let target = TARGETS.iter().find(|target| target.call == *call).expect("a target");
-        let mut rules = RULES;
-        change(&mut rules);
-        assert!(shows(target, &rules), "{call}");
+        assert!(shows(target(call), &changed(change)), "{call}");
     }
+}
+
+fn target(call: &str) -> &'static Target {
+    TARGETS.iter().find(|target| target.call == call).expect("a target")
+}
+
+fn changed(change: impl Fn(&mut Rules)) -> Rules {
+    let mut rules = RULES;
+    change(&mut rules);
+    rules
 }
 
 /// Whether one of the target's first inputs shows a difference under these rules.

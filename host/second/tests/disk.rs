@@ -87,9 +87,9 @@ fn units(name: &str) -> Vec<u16> {
 }
 
 fn add(Disk { head, tail, n, block }: &mut Disk, new: &New) -> Result<u64, u32> {
-    let New { kind, unique, size, attributes, name } = *new;
+    let New { kind, unique, size, alignment, attributes, name } = *new;
     let (kind, unique, name) = (&stored(kind), &stored(unique), &units(name));
-    let new = NewPartition { kind, unique, size, attributes, name };
+    let new = NewPartition { kind, unique, size, alignment, attributes, name };
     let mut slot = 0;
     answered(second::gpt_add(&RULES, head, tail, *n, *block, &new, &mut slot, &mut 0), slot)
 }

@@ -21,8 +21,9 @@ fn call(Lent { head, tail }: &mut Lent, call: &Call) -> (u32, String) {
         "free" => (second::gpt_free(&RULES, head, tail, n, block, &mut a, &mut b), format!("{a} {b}")),
         "add" => {
             let (kind, unique, name) = (&call.bytes("kind"), &call.bytes("unique"), &call.units("name"));
-            let (size, attributes) = (call.number("size"), call.number("attributes"));
-            let new = NewPartition { kind, unique, size, attributes, name };
+            let [size, alignment, attributes] =
+                ["size", "alignment", "attributes"].map(|key| call.number(key));
+            let new = NewPartition { kind, unique, size, alignment, attributes, name };
             (second::gpt_add(&RULES, head, tail, n, block, &new, &mut a, &mut b), format!("{a} {b}"))
         }
         "delete" => (second::gpt_delete(&RULES, head, tail, n, block, call.number("slot")), String::new()),

@@ -21,8 +21,9 @@ fn call(Lent { head, tail }: &mut Lent, call: &Call) -> (u32, String) {
         "free" => (raw::gpt_free(head, tail, n, block, &mut a, &mut b), format!("{a} {b}")),
         "add" => {
             let (kind, unique, name) = (&call.bytes("kind"), &call.bytes("unique"), &call.units("name"));
-            let (size, attributes) = (call.number("size"), call.number("attributes"));
-            let new = raw::NewPartition { kind, unique, size, attributes, name };
+            let [size, alignment, attributes] =
+                ["size", "alignment", "attributes"].map(|key| call.number(key));
+            let new = raw::NewPartition { kind, unique, size, alignment, attributes, name };
             (raw::gpt_add(head, tail, n, block, &new, &mut a, &mut b), format!("{a} {b}"))
         }
         "delete" => (raw::gpt_delete(head, tail, n, block, call.number("slot")), String::new()),

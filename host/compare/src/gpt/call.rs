@@ -17,7 +17,7 @@ pub enum Call {
     Read,
     Table,
     Free,
-    Add { kind: Vec<u8>, unique: Vec<u8>, size: u64, attributes: u64, name: Vec<u16> },
+    Add { kind: Vec<u8>, unique: Vec<u8>, size: u64, alignment: u64, attributes: u64, name: Vec<u16> },
     Delete { slot: u64 },
     Resize { slot: u64, size: u64 },
     Rename { slot: u64, name: Vec<u16> },
@@ -126,9 +126,9 @@ impl Call {
             Call::Read => raw::gpt_read(head, tail, n, block, a),
             Call::Table => raw::gpt_table(head, tail, n, block, a, b),
             Call::Free => raw::gpt_free(head, tail, n, block, a, b),
-            Call::Add { size, attributes, .. } => {
+            &Call::Add { size, alignment, attributes, .. } => {
                 let (kind, unique, name) = (one.bytes(), two.bytes(), units.units());
-                let new = raw::NewPartition { kind, unique, size: *size, attributes: *attributes, name };
+                let new = raw::NewPartition { kind, unique, size, alignment, attributes, name };
                 raw::gpt_add(head, tail, n, block, &new, a, b)
             }
             Call::Delete { slot } => raw::gpt_delete(head, tail, n, block, *slot),
@@ -147,9 +147,9 @@ impl Call {
             Call::Read => second::gpt_read(rules, head, tail, n, block, a),
             Call::Table => second::gpt_table(rules, head, tail, n, block, a, b),
             Call::Free => second::gpt_free(rules, head, tail, n, block, a, b),
-            Call::Add { size, attributes, .. } => {
+            &Call::Add { size, alignment, attributes, .. } => {
                 let (kind, unique, name) = (one.bytes(), two.bytes(), units.units());
-                let new = second::NewPartition { kind, unique, size: *size, attributes: *attributes, name };
+                let new = second::NewPartition { kind, unique, size, alignment, attributes, name };
                 second::gpt_add(rules, head, tail, n, block, &new, a, b)
             }
             Call::Delete { slot } => second::gpt_delete(rules, head, tail, n, block, *slot),
@@ -166,10 +166,10 @@ impl fmt::Display for Call {
     fn fmt(&self, f: &mut fmt::Formatter<'_>) -> fmt::Result {
         match self {
             Call::Format { guid } => write!(f, "guid {guid:02X?}"),
-            Call::Add { kind, unique, size, attributes, name } => write!(
-                f,
-                "type {kind:02X?}, unique {unique:02X?}, size {size}, attributes {attributes:X}, name {name:X?}"
-            ),
+            Call::Add { kind, unique, size, alignment, attributes, name } => {
+                write!(f, "type {kind:02X?}, unique {unique:02X?}, size {size}, alignment {alignment}, ")?;
+                write!(f, "attributes {attributes:X}, name {name:X?}")
+            }
             Call::Delete { slot } => write!(f, "slot {slot}"),
             Call::Resize { slot, size } => write!(f, "slot {slot}, size {size}"),
             Call::Rename { slot, name } => write!(f, "slot {slot}, name {name:X?}"),

@@ -65,9 +65,10 @@ fn next_call(disk: &mut Disk, read: Reply, random: &mut Random) -> Call {
 /// A disk of any size with partitions in random slots; of some disks a few slots or all are stale.
 fn crowded(run: &mut Run) -> Disk {
     let shape = run.random.pick(&SHAPES);
-    let n = match run.random.below(4) {
+    let n = match run.random.below(5) {
         0 => sample::block_count(shape, &mut run.random),
         1 => sample::N_MAX - run.random.number_below(40),
+        2 => near_multiple(shape, &mut run.random),
         _ => shape.least_blocks() + run.random.number_below(900),
     };
     let mut disk = Disk::formatted(shape, n, &mut run.random);
@@ -94,20 +95,28 @@ fn crowded(run: &mut Run) -> Disk {
     disk
 }
 
-/// D19 to D22: calls after an accepted formatting; what they granted and gave back is what the
-/// entries hold, no block lies in two partitions, and room is refused exactly where no run is long enough.
+/// N of a disk whose last usable block is at or near a multiple of 2,048.
+fn near_multiple(shape: Shape, random: &mut Random) -> u64 {
+    let multiple = 2048 * random.pick(&[1, 2]);
+    multiple + shape.first_usable + random.pick(&[0, 1, 7, 60]) - random.pick(&[0, 1, 2])
+}
+
+/// D19 to D22, e4: calls after an accepted formatting; what they granted and gave back is what the entries hold, no
+/// block lies in two partitions, and room is refused exactly where no multiple has enough free blocks from it on.
 pub fn ledger(run: &mut Run) -> Outcome {
     for _ in 0..LEDGER_HISTORIES {
         let shape = run.random.pick(&SHAPES);
-        let n = shape.least_blocks() + run.random.number_below(400);
+        let n = match run.random.below(3) {
+            0 => near_multiple(shape, &mut run.random),
+            _ => shape.least_blocks() + run.random.number_below(400),
+        };
         let mut disk = Disk::random(shape, n, &mut run.random);
         let mut ledger = Ledger::new(run.rules);
         format(run, &mut disk, &mut ledger)?;
         for _ in 0..LEDGER_CALLS {
-            let before = disk.call(run, &Call::Free)?;
             match run.random.below(30) {
                 0 => format(run, &mut disk, &mut ledger)?,
-                _ => one_call(run, &mut disk, &mut ledger, before)?,
+                _ => one_call(run, &mut disk, &mut ledger)?,
             }
             claims(run, &mut disk, &ledger)?;
         }
@@ -122,8 +131,9 @@ fn format(run: &mut Run, disk: &mut Disk, ledger: &mut Ledger) -> Outcome {
     Ok(())
 }
 
-fn one_call(run: &mut Run, disk: &mut Disk, ledger: &mut Ledger, before: Reply) -> Outcome {
+fn one_call(run: &mut Run, disk: &mut Disk, ledger: &mut Ledger) -> Outcome {
     let call = sample::any_call(disk, &mut run.random);
+    let mut before = disk.clone();
     let reply = disk.call(run, &call)?;
     match (&call, reply.number) {
         (Call::Add { size, .. }, 0) => ledger.added(reply.values[0], *size),
@@ -134,12 +144,26 @@ fn one_call(run: &mut Run, disk: &mut Disk, ledger: &mut Ledger, before: Reply) 
         (Call::Read | Call::Table | Call::Free, 0) => {}
         _ => ledger.refused(),
     }
-    let [_, longest] = before.values;
-    match (&call, reply.number) {
-        (Call::Add { size, .. }, 0) => claim(*size <= longest, || format!("added {size} in {longest}")),
-        (Call::Add { size, .. }, 25) => claim(*size > longest, || format!("no room for {size} in {longest}")),
-        _ => Ok(()),
+    let (Call::Add { size, alignment, .. }, 0 | 25) = (call, reply.number) else { return Ok(()) };
+    let alignment = if run.rules.gpt.ledger.room_by_multiples { alignment } else { 1 };
+    let (added, room) = (reply.number == 0, room(&mut before, alignment));
+    claim(added == (size <= room), || {
+        format!("added: {added}, {size} blocks at {alignment} where {room} are free")
+    })
+}
+
+/// The most free blocks from a multiple on, block by block.
+fn room(disk: &mut Disk, alignment: u64) -> u64 {
+    let partitions = disk.partitions(Side::Head);
+    let is_taken = |block| partitions.iter().any(|(_, first, last)| (*first..=*last).contains(&block));
+    let (mut most, mut free) = (0, 0);
+    for block in (disk.shape.first_usable..disk.end()).rev() {
+        free = if is_taken(block) { 0 } else { free + 1 };
+        if block % alignment == 0 {
+            most = most.max(free);
+        }
     }
+    most
 }
 
 fn claims(run: &mut Run, disk: &mut Disk, ledger: &Ledger) -> Outcome {

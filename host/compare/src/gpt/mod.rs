@@ -1,3 +1,4 @@
+mod aligned;
 mod bytes;
 mod call;
 mod damage;
@@ -16,18 +17,21 @@ pub const TOPIC: Topic = Topic {
         ("gpt: block 0 and header tails", bytes::unjudged),
         ("gpt: GUIDs of an entry", bytes::guids),
         ("gpt: each byte of a GUID", bytes::sparse_guids),
-        ("gpt: ranges of an entry", bytes::ranges),
+        ("gpt: each alignment", aligned::each_alignment),
         ("gpt: each row, and each two together", rows::each_two),
+        ("gpt: gaps at multiples", aligned::gaps),
+        ("gpt: ranges of an entry", bytes::ranges),
         ("gpt: each length", rows::each_length),
         ("gpt: N outside its range", rows::each_block_count),
         ("gpt: another block size", rows::each_block_size),
+        ("gpt: usable blocks at multiples", aligned::usable),
         ("gpt: stale entries", stale::each_call),
         ("gpt: each byte of a header", bytes::headers),
         ("gpt: each field of a header", bytes::header_fields),
-        ("gpt: each byte of an entry", bytes::entries),
         ("gpt: all slots stale", stale::all_slots),
         ("gpt: N from the least to 2^32", histories::block_counts),
         ("gpt: lists of calls and their sums", histories::ledger),
+        ("gpt: each byte of an entry", bytes::entries),
         ("gpt: histories with damage", histories::damaged),
     ],
     cells: &[
@@ -35,7 +39,7 @@ pub const TOPIC: Topic = Topic {
         ("gpt_read", &[BLOCK, LENT, READ, STALE]),
         ("gpt_table", &[BLOCK, LENT, READ, STALE]),
         ("gpt_free", &[BLOCK, LENT, READ, STALE]),
-        ("gpt_add", &[BLOCK, LENT, READ, NOT_SAME, NEW, SIZE, NAME, STALE_ADD]),
+        ("gpt_add", &[BLOCK, LENT, READ, NOT_SAME, NEW, SIZE, ALIGNED, NAME, STALE_ADD]),
         ("gpt_delete", &[BLOCK, LENT, READ, NOT_SAME, SLOT, STALE_SLOT]),
         ("gpt_rename", &[BLOCK, LENT, READ, NOT_SAME, SLOT, NAME, STALE_SLOT]),
         ("gpt_resize", &[BLOCK, LENT, READ, NOT_SAME, SLOT, SIZE, STALE_SLOT]),
@@ -44,7 +48,7 @@ pub const TOPIC: Topic = Topic {
         ("gpt_read at 4096", &[LENT, READ, STALE]),
         ("gpt_table at 4096", &[LENT, READ, STALE]),
         ("gpt_free at 4096", &[LENT, READ, STALE]),
-        ("gpt_add at 4096", &[LENT, READ, NOT_SAME, NEW, SIZE, NAME, STALE_ADD]),
+        ("gpt_add at 4096", &[LENT, READ, NOT_SAME, NEW, SIZE, ALIGNED, NAME, STALE_ADD]),
         ("gpt_delete at 4096", &[LENT, READ, NOT_SAME, SLOT, STALE_SLOT]),
         ("gpt_rename at 4096", &[LENT, READ, NOT_SAME, SLOT, NAME, STALE_SLOT]),
         ("gpt_resize at 4096", &[LENT, READ, NOT_SAME, SLOT, SIZE, STALE_SLOT]),
@@ -63,6 +67,7 @@ const NOT_SAME: &[Cell] = &[Answer(11)];
 const SLOT: &[Cell] = &[Answer(12), Answer(13)];
 const NEW: &[Cell] = &[By(1, "type"), By(1, "unique"), Answer(21), Answer(22), Answer(24)];
 const SIZE: &[Cell] = &[Answer(20), Answer(25)];
+const ALIGNED: &[Cell] = &[Answer(27), On(aligned::PAST), By(25, aligned::ROOM_BESIDE)];
 const NAME: &[Cell] = &[By(1, "name"), Answer(23)];
 const STALE: &[Cell] = &[On(stale::BESIDE), On(stale::ONE_COPY), On(stale::ALL)];
 const STALE_ADD: &[Cell] = &[On(stale::SLOT), On(stale::ALL)];

@@ -24,6 +24,7 @@ enum Fault {
     Slot(u64),
     UnusedSlot,
     ZeroSize,
+    BadAlignment,
     ZeroType,
     ZeroUnique,
     TakenUnique,
@@ -49,7 +50,7 @@ fn calls(random: &mut Random) -> Vec<(Call, Vec<Fault>)> {
     let editing = [&reading[..], &SLOT].concat();
     let format = [&lent[..], &[Length("guid")], &COUNT, &[ZeroDiskGuid]].concat();
     let new = [Length("type"), Length("unique"), Length("name")];
-    let judged = [ZeroSize, ZeroType, ZeroUnique, TakenUnique, BadName, AllSlotsUsed, NoRoom];
+    let judged = [ZeroSize, BadAlignment, ZeroType, ZeroUnique, TakenUnique, BadName, AllSlotsUsed, NoRoom];
     vec![
         (Call::Format { guid: sample::guid(random) }, format),
         (Call::Read, reading.clone()),
@@ -157,6 +158,7 @@ fn on_call(call: &mut Call, fault: Fault, disk: &mut Disk, random: &mut Random) 
         }
         (ZeroSize, Call::Add { size, .. } | Call::Resize { size, .. }) => *size = 0,
         (NoRoom, Call::Add { size, .. } | Call::Resize { size, .. }) => *size = random.pick(&[16, u64::MAX]),
+        (BadAlignment, Call::Add { alignment, .. }) => *alignment = random.pick(&sample::BAD_ALIGNMENTS),
         (ZeroType, Call::Add { kind, .. }) => kind.fill(0),
         (ZeroUnique, Call::Add { unique, .. }) => unique.fill(0),
         (TakenUnique, Call::Add { unique, .. }) => {

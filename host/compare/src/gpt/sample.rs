@@ -133,33 +133,80 @@ fn partitions(disk: &mut Disk, random: &mut Random) -> Vec<(usize, u64, u64)> {
 const ODD_SIZES: [u64; 9] =
     [0, 1, 1 << 32, 1 << 63, u64::MAX - 34, u64::MAX - 33, u64::MAX - 6, u64::MAX - 5, u64::MAX];
 
-/// The lengths of the gaps between partitions.
-fn gaps(disk: &mut Disk, random: &mut Random) -> Vec<u64> {
+/// The alignments that are taken.
+pub const ALIGNMENTS: [u64; 3] = [1, 8, 2048];
+
+/// Others; some have the low 32 bits of one that is taken.
+pub const BAD_ALIGNMENTS: [u64; 19] = [
+    0,
+    2,
+    3,
+    4,
+    7,
+    9,
+    16,
+    34,
+    512,
+    1024,
+    2047,
+    2049,
+    4096,
+    (1 << 32) + 1,
+    (1 << 32) + 8,
+    (1 << 32) + 2048,
+    1 << 63,
+    (1 << 63) + 8,
+    u64::MAX,
+];
+
+/// One that is taken most often.
+fn any_alignment(random: &mut Random) -> u64 {
+    match random.below(16) {
+        0 => random.pick(&BAD_ALIGNMENTS),
+        1..=6 => 1,
+        7..=12 => 8,
+        _ => 2048,
+    }
+}
+
+/// The gaps between partitions, each by its first block and the block after its last one.
+fn gaps(disk: &mut Disk, random: &mut Random) -> Vec<(u64, u64)> {
     let mut ranges: Vec<_> = partitions(disk, random).into_iter().map(|(_, a, b)| (a, b)).collect();
     ranges.sort();
     ranges.push((disk.end(), 0));
     let mut next = disk.shape.first_usable;
     let mut gaps = Vec::new();
     for (first, last) in ranges {
-        gaps.push(first.saturating_sub(next));
+        gaps.push((next, first.max(next)));
         next = last.saturating_add(1);
     }
     gaps
 }
 
-/// A gap's length or next to it, small, odd, or all free blocks.
-pub fn new_size(disk: &mut Disk, random: &mut Random) -> u64 {
+/// What a gap has from its first block or from a multiple on, or next to it; small, odd, or all free blocks.
+fn new_size(disk: &mut Disk, alignment: u64, random: &mut Random) -> u64 {
     let gaps = gaps(disk, random);
-    let gap = random.pick(&gaps);
-    match random.below(12) {
+    let (first, end) = random.pick(&gaps);
+    let multiple = first.checked_next_multiple_of(alignment).unwrap_or(first);
+    let start = random.pick(&[first, multiple, multiple]);
+    let room = end.saturating_sub(start);
+    match random.below(13) {
         0 => random.pick(&ODD_SIZES),
-        1 => gaps.iter().fold(0, |sum: u64, gap| sum.saturating_add(*gap)),
-        2..=4 => gap,
-        5 => gap.saturating_add(1),
-        6 => gap.saturating_sub(1),
-        7 => 1 + random.number_below(gap.max(1)),
+        // 2^64 when added to the start.
+        1 => 0_u64.wrapping_sub(start),
+        2 => gaps.iter().fold(0, |sum: u64, (first, end)| sum.saturating_add(end - first)),
+        3..=5 => room,
+        6 => room.saturating_add(1),
+        7 => room.saturating_sub(1),
+        8 => 1 + random.number_below(room.max(1)),
         _ => 1 + random.number_below(9),
     }
+}
+
+/// Size and alignment of a new partition.
+fn new_place(disk: &mut Disk, random: &mut Random) -> (u64, u64) {
+    let alignment = any_alignment(random);
+    (new_size(disk, alignment, random), alignment)
 }
 
 /// The partition's size, or what the gap after it lets it have, and next to both.
@@ -208,20 +255,26 @@ fn attributes(random: &mut Random) -> u64 {
     }
 }
 
-/// An add that no row but for slot or room refuses.
+/// An add at any start that no row but for slot or room refuses.
 pub fn good_add(size: u64, random: &mut Random) -> Call {
-    let (kind, unique, name) = (sparse_guid(random), guid(random), good_name(random));
-    Call::Add { kind, unique, size, attributes: attributes(random), name }
+    aligned_add(size, 1, random)
 }
 
-/// An add without attributes and name.
+/// The same at a multiple.
+pub fn aligned_add(size: u64, alignment: u64, random: &mut Random) -> Call {
+    let (kind, unique, name) = (sparse_guid(random), guid(random), good_name(random));
+    Call::Add { kind, unique, size, alignment, attributes: attributes(random), name }
+}
+
+/// An add at any start without attributes and name.
 pub fn bare_add(size: u64, kind: Vec<u8>, unique: Vec<u8>) -> Call {
-    Call::Add { kind, unique, size, attributes: 0, name: vec![0; NAME_UNITS] }
+    Call::Add { kind, unique, size, alignment: 1, attributes: 0, name: vec![0; NAME_UNITS] }
 }
 
 /// Any call on the disk but formatting; edits most often.
 pub fn any_call(disk: &mut Disk, random: &mut Random) -> Call {
     let slot = any_slot(disk, random);
+    let (size, alignment) = new_place(disk, random);
     match random.below(20) {
         0 => Call::Read,
         1 => Call::Table,
@@ -230,11 +283,12 @@ pub fn any_call(disk: &mut Disk, random: &mut Random) -> Call {
         4..=5 => Call::Delete { slot },
         6..=8 => Call::Rename { slot, name: any_name(random) },
         9..=11 => Call::Resize { slot, size: other_size(disk, slot, random) },
-        12..=15 => good_add(new_size(disk, random), random),
+        12..=15 => aligned_add(size, alignment, random),
         _ => Call::Add {
             kind: any_guid(random),
             unique: unique(disk, random),
-            size: new_size(disk, random),
+            size,
+            alignment,
             attributes: attributes(random),
             name: any_name(random),
         },

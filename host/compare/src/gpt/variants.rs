@@ -1,3 +1,4 @@
+mod aligned;
 mod shape;
 mod unused;
 
@@ -8,7 +9,7 @@ pub const RULES_TO_BREAK: &[&str] = &[
     "Q1", "Q2", "Q3", "Q6", "R1", "R2", "R3", "R4", "R5", "R6", "R7", "R8", "R9", "R10", "R11", "R12", "R13",
     "R25", "R26", "R27", "R28", "R29", "R30", "D1", "D2", "D3", "D4", "D5", "D6", "D7", "D8", "D9", "D10",
     "D11", "D12", "D13", "D14", "D15", "D16", "D17", "D18", "D19", "D20", "D21", "D22", "D23", "D24", "E1",
-    "E2", "f1", "f2", "f3", "f4", "f5", "l1", "l2", "l3", "l7",
+    "E2", "e1", "e2", "e4", "e5", "f1", "f2", "f3", "f4", "f5", "l1", "l2", "l3", "l7",
 ];
 
 pub fn all() -> Vec<Variant> {
@@ -20,6 +21,7 @@ pub fn all() -> Vec<Variant> {
         headers(),
         entries(),
         unused::variants(),
+        aligned::variants(),
         reading(),
         writing(),
         sums(),
@@ -60,6 +62,8 @@ fn rows() -> Vec<Variant> {
         variant("room-by-total", "R13", |r| r.gpt.room = Longest::AllRuns),
         variant("room-by-first-run", "R13", |r| r.gpt.room = Longest::FirstRun),
         variant("room-by-last-run", "R13", |r| r.gpt.room = Longest::LastRun),
+        variant("room-by-sum-of-32-bits", "R13", |r| r.gpt.room_bits = 0xFFFF_FFFF),
+        variant("room-by-sum-of-64-bits", "R13", |r| r.gpt.room_bits = u128::from(u64::MAX)),
     ]
 }
 
@@ -74,6 +78,7 @@ const NUMBERS: &[(Row, &str, u32)] = &[
     (Row::NoSuchSlot, "R9", 13),
     (Row::UnusedSlot, "R9", 12),
     (Row::ZeroSize, "R10", 25),
+    (Row::Alignment, "e5", 25),
     (Row::ZeroType, "R11", 22),
     (Row::UniqueTaken, "R11", 21),
     (Row::BadName, "R12", 53),

@@ -2,12 +2,12 @@ use super::copies::Disk;
 use super::entry::{self, Entry, NewPartition};
 use super::place::Geometry;
 use super::write::Buffers;
-use super::{answer, leave_buffers, room};
+use super::{aligned, answer, leave_buffers, room};
 use crate::bytes::{is_zero, part, put};
 use crate::refuse::first_refusal;
 use crate::rules::{Row, Rules, Slot, UsedIn};
 
-/// D15: adds a partition; answers its slot and first block.
+/// D15, e2: adds a partition; answers its slot and first block.
 pub fn gpt_add(
     rules: &Rules,
     head: &mut [u8],
@@ -21,17 +21,19 @@ pub fn gpt_add(
     let disk = Disk::of(rules, head, tail, n, block);
     let used = |rule| entry::used(rules, rule, disk.entries());
     let runs = |rule| room::runs(disk.geometry, &used(rule));
+    let parts = |rule| aligned::parts(disk.geometry, rule, new.alignment, &runs(rule));
     let refusal = first_refusal(rules, rules.gpt.add_order, |row| match row {
         Row::WrongLength => disk.holds(row) || new_lengths_wrong(rules, new),
         Row::ZeroSize => new.size < rules.gpt.size_min,
+        Row::Alignment => !aligned::is_taken(rules, new.alignment),
         Row::ZeroType => is_zero(part(new.kind, 0, rules.gpt.zero_kind_len)),
         Row::UniqueTaken => unique_taken(rules, &used(UsedIn::UniqueTaken), new.unique),
         Row::BadName => entry::name_is_bad(rules, new.name),
         Row::NoSlot => free_slot(rules, &used(UsedIn::NoSlot)).is_none(),
-        Row::NoRoom => room::longest(rules.gpt.room, &runs(UsedIn::NoRoom)) < new.size,
+        Row::NoRoom => room::none_fits(rules, &parts(UsedIn::NoRoom), new.size),
         _ => disk.holds(row),
     });
-    let start = room::start(rules, &runs(UsedIn::Start), new.size);
+    let start = room::start(rules, &parts(UsedIn::Start), new.size);
     let found = free_slot(rules, &used(UsedIn::Slot)).zip(start);
     let added = found.map(|(index, start)| (index, entry::new_entry(rules, new, start, disk.entry(index))));
     finish(Buffers { head, tail, geometry: disk.geometry }, refusal, added);

@@ -70,12 +70,13 @@ pub fn stored_name(rules: &Rules, units: &[u16]) -> Vec<u8> {
     units.iter().flat_map(|unit| stored(rules.gpt.little_endian, u64::from(*unit), 2)).collect()
 }
 
-/// What the caller gives for a new partition: type, unique GUID, size in blocks, attributes, name.
+/// What the caller gives for a new partition: type, unique GUID, size and alignment in blocks, attributes, name.
 #[derive(Clone, Copy, Debug)]
 pub struct NewPartition<'a> {
     pub kind: &'a [u8],
     pub unique: &'a [u8],
     pub size: u64,
+    pub alignment: u64,
     pub attributes: u64,
     pub name: &'a [u16],
 }

@@ -1,6 +1,7 @@
 //! The disk calls. Arguments and answers are those of the C interface: 0 or the refusal's number,
 //! number answers left alone on refusal.
 
+mod aligned;
 mod copies;
 mod edits;
 mod entry;

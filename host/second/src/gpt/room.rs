@@ -44,9 +44,22 @@ pub fn longest(rule: Longest, runs: &[Run]) -> u64 {
     found.unwrap_or(0)
 }
 
-/// D15: where a new partition of `size` blocks starts.
+/// R13: whether none of the runs, or of parts of them, has room.
+pub fn none_fits(rules: &Rules, runs: &[Run], size: u64) -> bool {
+    match rules.gpt.room {
+        Longest::Run => !runs.iter().any(|run| fits(rules, run, size)),
+        other => longest(other, runs) < size,
+    }
+}
+
+fn fits(rules: &Rules, run: &Run, size: u64) -> bool {
+    let end = (u128::from(run.first) + u128::from(size)) & rules.gpt.room_bits;
+    end <= u128::from(run.first) + u128::from(run.len)
+}
+
+/// D15, e1: where a new partition of `size` blocks starts in these runs, or parts of runs.
 pub fn start(rules: &Rules, runs: &[Run], size: u64) -> Option<u64> {
-    let mut fitting = runs.iter().filter(|run| run.len >= size);
+    let mut fitting = runs.iter().filter(|run| fits(rules, run, size));
     Some(match rules.gpt.start {
         Start::Lowest => fitting.next()?.first,
         Start::InHighestRun => fitting.next_back()?.first,

@@ -10,6 +10,7 @@ pub enum Row {
     NoSuchSlot,
     UnusedSlot,
     ZeroSize,
+    Alignment,
     ZeroType,
     UniqueTaken,
     BadName,
@@ -47,8 +48,8 @@ pub enum Row {
 /// What a refusal returns and leaves.
 #[derive(Clone, Copy, Debug)]
 pub struct RefusalRules {
-    /// R4 to R24, l7; 255 for the answer that no area is there.
-    pub numbers: [(Row, u32); 37],
+    /// R4 to R24, l7, e5; 255 for the answer that no area is there.
+    pub numbers: [(Row, u32); 38],
     /// R1: how many bytes of an output buffer a refusal zeroes.
     pub zeroes: usize,
     /// R1, "its number alone": a refusal sets the other answers to zero.
@@ -73,6 +74,7 @@ pub const REFUSALS: RefusalRules = RefusalRules {
         (Row::NoSuchSlot, 12),
         (Row::UnusedSlot, 13),
         (Row::ZeroSize, 20),
+        (Row::Alignment, 27),
         (Row::ZeroType, 21),
         (Row::UniqueTaken, 22),
         (Row::BadName, 23),

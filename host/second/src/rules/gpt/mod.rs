@@ -1,7 +1,9 @@
+mod alignment;
 mod operands;
 mod shape;
 mod unused;
 
+pub use alignment::*;
 pub use operands::*;
 pub use shape::*;
 pub use unused::*;
@@ -25,9 +27,12 @@ pub struct LedgerRules {
     pub rename_grants: u64,
     pub repair_grants: u64,
     pub refusal_grants: u64,
+    /// e4: room for an add is what is free from a multiple of its alignment on.
+    pub room_by_multiples: bool,
 }
 
-/// The disk: Q1 to Q3, R25 to R30, D1 to D24, and of document 02 the sentences of requests l and f, l1 to l7 and f1 to f5.
+/// The disk: Q1 to Q3, R25 to R30, D1 to D24, and of document 02 the sentences of requests l, f and e, l1 to l7, f1 to f5
+/// and e1 to e5.
 #[derive(Clone, Copy, Debug)]
 pub struct GptRules {
     /// l3: of each block size.
@@ -42,7 +47,7 @@ pub struct GptRules {
     pub unique_len: usize,
     pub name_units: usize,
 
-    /// R25 to R30, each after l7.
+    /// R25 to R30, each after l7; in an add e5.
     pub format_order: &'static [Row],
     pub read_order: &'static [Row],
     pub table_order: &'static [Row],
@@ -71,6 +76,8 @@ pub struct GptRules {
     pub name_unit_mask: u16,
     /// R13: what must be at least the size.
     pub room: Longest,
+    /// R13, D15: the bits of the sum of a start and a size.
+    pub room_bits: u128,
 
     /// D1.
     pub header_len: usize,
@@ -115,6 +122,8 @@ pub struct GptRules {
     /// D15.
     pub slot: Slot,
     pub start: Start,
+    /// e1 to e5.
+    pub alignment: AlignmentRules,
     /// D16, f5.
     pub delete_zeroes: usize,
     /// D17: units written, and whether a zero one ends them.
@@ -171,6 +180,7 @@ pub const GPT: GptRules = GptRules {
         Row::NoGoodCopy,
         Row::NotSame,
         Row::ZeroSize,
+        Row::Alignment,
         Row::ZeroType,
         Row::UniqueTaken,
         Row::BadName,
@@ -219,6 +229,7 @@ pub const GPT: GptRules = GptRules {
     name_judged_units: 36,
     name_unit_mask: 0xFFFF,
     room: Longest::Run,
+    room_bits: u128::MAX,
 
     header_len: 92,
     header: [
@@ -271,6 +282,7 @@ pub const GPT: GptRules = GptRules {
     format_tail_byte: 0,
     slot: Slot::LowestUnused,
     start: Start::Lowest,
+    alignment: ALIGNMENT,
     delete_zeroes: 128,
     rename_units: 36,
     rename_stops_at_zero: false,
@@ -296,5 +308,6 @@ pub const GPT: GptRules = GptRules {
         rename_grants: 0,
         repair_grants: 0,
         refusal_grants: 0,
+        room_by_multiples: true,
     },
 };
