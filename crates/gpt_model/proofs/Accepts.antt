@@ -1,5 +1,5 @@
 -- An edit's own rows (an add's before the one for room): none holds exactly when what `Serves` says in plain words does.
-use mathlib.Core.Path.{_≡_, refl, sym, ap, subst, _∙_}
+use mathlib.Core.Path.{_≡_, refl, sym, ap, _∙_}
 use mathlib.Core.Logic.{_⊎_, inl, inr, ⊎-elim, _≢_, _↔_}
 use mathlib.Core.Bool.{true, false, not}
 use mathlib.Core.List.{List, [], _∷_, _++_}
@@ -13,20 +13,21 @@ use lib.Seq.{getD-set-same, getD-set-other}
 use borrow.Author.Tests.{leb-true, le-leb, eqb-true, eqb-false, eq-eqb, ne-eqb}
 use Rattle.octets.specs.Tests.{_and_, _or_, any, findIx}
 use Rattle.octets.specs.Rows.{Row, row, refusal}
-use Rattle.octets.specs.Bytes.{isZero, same}
-use Rattle.octets.proofs.Bools.{and-l, and-r, and-i, and-false-l, and-skip, and-t, or-cases, or-false-l, or-false-r, or-false-i, bool-cases, not-f, clash, option-cases}
+use Rattle.octets.specs.Bytes.{isZero}
+use Rattle.octets.proofs.Bools.{and-l, and-r, and-i, or-cases, or-false-l, or-false-r, or-false-i, bool-cases, not-f, clash, option-cases}
 use Rattle.octets.proofs.Tests.{all-make, any-none, any-false, any-make, findIx-get}
-use Rattle.octets.proofs.Equal.{same-refl, same-false}
-use Rattle.octets.proofs.Rows.{rowsFrom, pick-false, passes, refusal-append, refusal-before}
+use Rattle.octets.proofs.Rows.{rowsFrom, rowsBefore, pick-false, passes, refusal-append, refusal-before}
 use Rattle.octets.proofs.Chunks.{length-chunks}
 use Rattle.gpt_model.specs.Table.{uniqueOf, firstOf, unused, BlockRange, noBlocks, entries, rangesOf}
 use Rattle.gpt_model.specs.Disk.{Shape, lastUsable, tableOf}
 use Rattle.gpt_model.specs.Ranges.{blockIn, isAlignment}
 use Rattle.gpt_model.specs.declared.NewPartition.{NewPartition}
-use Rattle.gpt_model.specs.Calls.{Edit, resize, rename, edit, accepted, Outcome, badName, entryOf, carries, slotRows, addRows, fitsAt, tableRows, change, lengthsOf, openRows, rowsOf, step}
-use Rattle.gpt_model.specs.Claims.{UsedSlot, NameOk, FitsAlone, NewOk}
+use Rattle.gpt_model.specs.Calls.{Edit, resize, rename, edit, accepted, Outcome, badName, entryOf, carries, nameTaken, otherEntries, slotRows, addRows, fitsAt, tableRows, change, lengthsOf, openRows, rowsOf, step}
+use Rattle.gpt_model.specs.Stored.{unitBytes, EntryNamed}
+use Rattle.gpt_model.specs.Claims.{UsedSlot, NameOk, FitsAlone, GivenOk, NewOk}
 use Rattle.gpt_model.proofs.Room.{not-in-none, room-get, room-make}
-use Rattle.gpt_model.proofs.Entries.{length-rangesOf}
+use Rattle.gpt_model.proofs.Entries.{length-rangesOf, entryAt}
+use Rattle.gpt_model.proofs.Carried.{some-carry, some-named, other-named, free-iff}
 use Rattle.gpt_model.proofs.Outcomes.{step-refused, step-accepted, edit-decides}
 
 -- where the rows before an edit's own do not hold, its own decide
@@ -53,7 +54,7 @@ zero-name (u ∷ us) e (suc j) = zero-name us (and-r _ _ e) j
 name-zero : (us : List ℕ) → ((j : ℕ) → getD us j 0 ≡ 0) → isZero us ≡ true
 name-zero us f = all-make (eqb 0) us 0 (λ i h. eq-eqb 0 _ (sym (f i)))
 
-name-get : (name : List ℕ) → badName name ≡ false → NameOk name
+pub name-get : (name : List ℕ) → badName name ≡ false → NameOk name
 name-get [] e i j h z = refl
 name-get (u ∷ us) e i zero h z = absurd (omega arith)
 name-get (u ∷ us) e zero (suc j) h z = zero-name us (not-f _ (rw (eq-eqb u 0 z) at e)) j
@@ -63,7 +64,7 @@ name-get (u ∷ us) e (suc i) (suc j) h z = go (bool-cases (eqb u 0)) (name-get 
     go (inl q) ih = zero-name us (not-f _ (rw q at e)) j
     go (inr q) ih = ih (rw q at e) i j (omega arith) z
 
-name-make : (name : List ℕ) → NameOk name → badName name ≡ false
+pub name-make : (name : List ℕ) → NameOk name → badName name ≡ false
 name-make [] f = refl
 name-make (u ∷ us) f = go (bool-cases (eqb u 0)) (name-make us)
   where
@@ -82,17 +83,31 @@ module _ (es : List ℕ) (k : ℕ) where
           let c = not-f _ (passes 12 (slotRows es k) e) in
           (leb-true _ _ (and-l _ _ c), leb-true _ _ (and-r _ _ c), passes 13 (slotRows es k) e)
 
-  -- slot rows, then others
-  then-rows : (qs : List Row) {P : Type 0} → (refusal qs ≡ none) ↔ P → (refusal (slotRows es k ++ qs) ≡ none) ↔ (UsedSlot es k × P)
+  -- slot rows, then otherEntries
+  then-rows : (qs : List Row) {P : Type 0} → (UsedSlot es k → (refusal qs ≡ none) ↔ P) → (refusal (slotRows es k ++ qs) ≡ none) ↔ (UsedSlot es k × P)
   then-rows qs w = (
-    λ e. let v = refusal-before (slotRows es k) qs e in (slot-rows .0 (v .0), w .0 (v .1)),
-    λ v. refusal-append (slotRows es k) qs (slot-rows .1 (v .0)) ∙ w .1 (v .1),
+    λ e. let v = refusal-before (slotRows es k) qs e in let u = slot-rows .0 (v .0) in (u, w u .0 (v .1)),
+    λ v. refusal-append (slotRows es k) qs (slot-rows .1 (v .0)) ∙ w (v .0) .1 (v .1),
   )
 
-  pub rename-rows : (first last : ℕ) (name : List ℕ) → (refusal (tableRows first last es (rename k name)) ≡ none) ↔ (UsedSlot es k × NameOk name)
+  -- the name is empty, or no used entry but that of slot k carries it
+  abbrev pub OtherFree : List ℕ → Type 0
+  OtherFree name = (isZero (unitBytes name) ≡ true) ⊎ ((i : ℕ) → suc i ≢ k → ¬ EntryNamed es i name)
+
+  other-free : (name : List ℕ) → 1 ≤ k → (nameTaken (otherEntries es k) name ≡ false) ↔ OtherFree name
+  other-free name lo =
+      let w = free-iff (otherEntries es k) name (other-named es name k lo) in (
+        λ e. ⊎-elim (λ z. inl z) (λ f. inr (λ i ne v. f (i, ne, v))) (w .0 e),
+        λ v. w .1 (⊎-elim (λ z. inl z) (λ f. inr (λ x. f (x .0) (x .1) (x .2))) v),
+      )
+
+  pub rename-rows : (first last : ℕ) (name : List ℕ) → (refusal (tableRows first last es (rename k name)) ≡ none) ↔ (UsedSlot es k × (NameOk name × OtherFree name))
   rename-rows first last name =
       let rows : List Row = rowsFrom 23 (tableRows first last es (rename k name)) in
-      then-rows rows (λ e. name-get name (passes 23 rows e), λ f. pick-false _ 23 _ (name-make name f))
+      then-rows rows (λ u. (
+        λ e. (name-get name (passes 23 rows e), other-free name (u .0) .0 (passes 26 rows e)),
+        λ w. pick-false _ 23 _ (name-make name (w .0)) ∙ pick-false _ 26 _ (other-free name (u .0) .1 (w .1)),
+      ))
 
   fits-alone : (last size : ℕ) → (fitsAt last es k size ≡ true) ↔ FitsAlone last es k size
   fits-alone last size = (
@@ -121,10 +136,10 @@ module _ (es : List ℕ) (k : ℕ) where
       → (refusal (tableRows first last es (resize k size)) ≡ none) ↔ (UsedSlot es k × ((0 < size) × FitsAlone last es k size))
   resize-rows first last size =
       let rows : List Row = rowsFrom 20 (tableRows first last es (resize k size)) in
-      then-rows rows (
+      then-rows rows (λ u. (
         λ e. (let w : size ≢ 0 = eqb-false size 0 (passes 20 rows e) in omega arith, fits-alone last size .0 (not-f _ (passes 25 rows e))),
         λ w. pick-false _ 20 _ (let p = w .0 in ne-eqb size 0 (λ z. omega arith)) ∙ pick-false _ 25 _ (ap not (fits-alone last size .1 (w .1))),
-      )
+      ))
 
 -- ---- an add's rows before the one for room
 
@@ -156,44 +171,67 @@ module _ (es : List ℕ) (p : NewPartition) where
   rows = addRows es p
 
   -- the test of row 22, and what it says of each slot
-  new-unique : any (carries (p .unique)) (entries es) ≡ false → (k : ℕ) → UsedSlot es k → uniqueOf (entryOf es k) ≢ p .unique
-  new-unique e k u q =
-      let lo = u .0 in
-      let hi = u .1 in
-      clash (subst (λ (x : List ℕ). same (uniqueOf (entryOf es k)) x ≡ true) q (same-refl _))
-      (and-skip _ _ (ap not (u .2)) (any-none (carries (p .unique)) (entries es) [] e (k - 1) (omega (arith, length-chunks 128 128 es))))
-
-  unique-new : ((k : ℕ) → UsedSlot es k → uniqueOf (entryOf es k) ≢ p .unique) → any (carries (p .unique)) (entries es) ≡ false
-  unique-new f = any-false (carries (p .unique)) (entries es) [] (λ i h. one i (omega (arith, length-chunks 128 128 es)) (bool-cases (unused (getD (entries es) i []))))
+  unique-free : (any (carries uniqueOf (p .unique)) (entries es) ≡ false) ↔ ((k : ℕ) → UsedSlot es k → uniqueOf (entryOf es k) ≢ p .unique)
+  unique-free = (
+    λ e k u q. let lo = u .0 in let hi = u .1 in clash (some-carry uniqueOf (p .unique) es .1 (k - 1, omega arith, (u .2, q))) e,
+    λ f. ⊎-elim (λ t. absurd (found f (some-carry uniqueOf (p .unique) es .0 t))) (λ t. t) (bool-cases (any (carries uniqueOf (p .unique)) (entries es))),
+  )
     where
-      at : (i : ℕ) → entryOf es (suc i) ≡ getD (entries es) i []
-      at i = ap (λ (x : ℕ). getD (entries es) x []) (omega arith)
+      found : ((k : ℕ) → UsedSlot es k → uniqueOf (entryOf es k) ≢ p .unique)
+          → (i : ℕ) × (i < 128) × ((unused (entryAt es i) ≡ false) × (uniqueOf (entryAt es i) ≡ p .unique)) → ⊥
+      found f w =
+          let at : entryOf es (suc (w .0)) ≡ entryAt es (w .0) = ap (entryAt es) (omega arith) in
+          let h = w .1 in
+          f (suc (w .0)) (omega arith, omega arith, ap unused at ∙ w .2 .0) (ap uniqueOf at ∙ w .2 .1)
 
-      one : (i : ℕ) → i < 128 → (unused (getD (entries es) i []) ≡ true) ⊎ (unused (getD (entries es) i []) ≡ false) → carries (p .unique) (getD (entries es) i []) ≡ false
-      one i h (inl u) = and-false-l _ _ (ap not u)
-      one i h (inr u) = sym (and-t (ap not u) (sym (same-false _ _ (λ e. f (suc i) (omega arith, omega arith, ap unused (at i) ∙ u) (ap uniqueOf (at i) ∙ e)))))
+  -- the test of row 26
+  name-free : (nameTaken (entries es) (p .name) ≡ false) ↔ ((isZero (unitBytes (p .name)) ≡ true) ⊎ ((i : ℕ) → ¬ EntryNamed es i (p .name)))
+  name-free =
+      let w = free-iff (entries es) (p .name) (some-named es (p .name)) in (
+        λ e. ⊎-elim (λ z. inl z) (λ f. inr (λ i v. f (i, v))) (w .0 e),
+        λ v. w .1 (⊎-elim (λ z. inl z) (λ f. inr (λ x. f (x .0) (x .1))) v),
+      )
+
+  -- the rows before 26, and from it on
+  abbrev pub given : List Row
+  given = rowsBefore 26 rows
+
+  abbrev behind : List Row
+  behind = rowsFrom 26 rows
+
+  pub given-rows : (refusal given ≡ none) ↔ GivenOk es p
+  given-rows = (
+    λ e. record {
+      blocks = eqb-false _ _ (passes 20 given e);
+      aligned = alignment-get (p .alignment) (not-f _ (passes 27 given e));
+      typed = passes 21 given e;
+      own = (or-false-l _ _ (passes 22 given e), unique-free .0 (or-false-r _ _ (passes 22 given e)));
+      named = name-get (p .name) (passes 23 given e);
+    },
+    λ w. pick-false _ 20 _ (ne-eqb _ _ (w .blocks))
+        ∙ pick-false _ 27 _ (ap not (alignment-make (p .alignment) (w .aligned)))
+        ∙ pick-false _ 21 _ (w .typed)
+        ∙ pick-false _ 22 _ (or-false-i _ _ (w .own .0) (unique-free .1 (w .own .1)))
+        ∙ pick-false _ 23 _ (name-make (p .name) (w .named)),
+  )
 
   pub new-get : (length (p .kind) ≡ 16) × (length (p .unique) ≡ 16) × (length (p .name) ≡ 36) → refusal (addRows es p) ≡ none → NewOk es p
-  new-get l e = record {
-    lengths = l;
-    blocks = eqb-false _ _ (passes 20 rows e);
-    aligned = alignment-get (p .alignment) (not-f _ (passes 27 rows e));
-    typed = passes 21 rows e;
-    own = (or-false-l _ _ (passes 22 rows e), new-unique (or-false-r _ _ (passes 22 rows e)));
-    named = name-get (p .name) (passes 23 rows e);
-    slot =
-        let f = findIx-get unused (entries es) [] (not-f _ (passes 24 rows e)) in
-        let h = f .0 in
-        let at : suc (findIx unused (entries es)) - 1 ≡ findIx unused (entries es) = omega arith in
-        (suc (findIx unused (entries es)), omega arith, omega (arith, length-chunks 128 128 es), ap (λ (x : ℕ). unused (getD (entries es) x [])) at ∙ f .1);
-  }
+  new-get l e =
+      let v = refusal-before given behind e in
+      record {
+        lengths = l;
+        given = given-rows .0 (v .0);
+        single = name-free .0 (passes 26 behind (v .1));
+        slot =
+            let f = findIx-get unused (entries es) [] (not-f _ (passes 24 behind (v .1))) in
+            let h = f .0 in
+            let at : suc (findIx unused (entries es)) - 1 ≡ findIx unused (entries es) = omega arith in
+            (suc (findIx unused (entries es)), omega arith, omega (arith, length-chunks 128 128 es), ap (λ (x : ℕ). unused (getD (entries es) x [])) at ∙ f .1);
+      }
 
   pub new-make : NewOk es p → refusal (addRows es p) ≡ none
   new-make w =
-      pick-false _ 20 _ (ne-eqb _ _ (w .blocks))
-      ∙ pick-false _ 27 _ (ap not (alignment-make (p .alignment) (w .aligned)))
-      ∙ pick-false _ 21 _ (w .typed)
-      ∙ pick-false _ 22 _ (or-false-i _ _ (w .own .0) (unique-new (w .own .1)))
-      ∙ pick-false _ 23 _ (name-make (p .name) (w .named))
+      refusal-append given behind (given-rows .1 (w .given))
+      ∙ pick-false _ 26 _ (name-free .1 (w .single))
       ∙ pick-false _ 24 _ (ap not (let s = w .slot in let lo = s .1 in let hi = s .2 in
       any-make unused (entries es) [] (s .0 - 1) (omega (arith, length-chunks 128 128 es)) (s .3)))

@@ -28,7 +28,7 @@ use Rattle.gpt_model.proofs.Longest.{room-fits, fits-room, longest-room
 use Rattle.gpt_model.proofs.Entries.{length-rangesOf, good-bounded, good-apart, empty-sizes, empty-good}
 use Rattle.gpt_model.proofs.States.{Holds, readable-good, fresh-holds, repair-holds}
 use Rattle.gpt_model.proofs.Outcomes.{step-refused, step-accepted, repair-answer, refused-row, accepted-none, not-ten, not-eleven, row1, row10, open-common, edit-open, open-none}
-use Rattle.gpt_model.proofs.Accepts.{edit-accepted, slot-rows, rename-rows, resize-rows, new-get, new-make}
+use Rattle.gpt_model.proofs.Accepts.{edit-accepted, slot-rows, OtherFree, rename-rows, resize-rows, new-get, new-make}
 use Rattle.gpt_model.proofs.Steps.{Agrees, Kept, edit-held, keeps-all}
 
 -- ---- formatting
@@ -195,7 +195,7 @@ module _ (g : Shape) (n : ℕ) (r : Snapshot) (v : Kept g n r) where
     fits = fits-iff;
     fitsAtOne = λ p e one free longest a. fits-at-one p e one longest (counted-longest free longest a);
     deletes = λ k. accepts (delete k) refl (slot-rows tab k);
-    renames = λ k name. (named k name, λ w. accepts (rename k name) (eq-eqb _ _ (w .0)) (rename-rows tab k (g .first) (lastUsable g n) name) .1 (w .1, w .2));
+    renames = λ k name. (named k name, λ w. accepts (rename k name) (eq-eqb _ _ (w .0)) (rename-rows tab k (g .first) (lastUsable g n) name) .1 (w .1, (w .2, w .3)));
     resizes = λ k size. accepts (resize k size) refl (resize-rows tab k (g .first) (lastUsable g n) size);
   }
     where
@@ -218,12 +218,13 @@ module _ (g : Shape) (n : ℕ) (r : Snapshot) (v : Kept g n r) where
       accepts d l w = edit-accepted g n (r .head) (r .tail) d (opens d l) w
 
       -- an accepted rename has 36 units: row 1 does not hold
-      named : (k : ℕ) (name : List ℕ) → step g n (r .head) (r .tail) (edit (rename k name)) .answer ≡ accepted [] → (length name ≡ 36) × UsedSlot tab k × NameOk name
+      named : (k : ℕ) (name : List ℕ) → step g n (r .head) (r .tail) (edit (rename k name)) .answer ≡ accepted []
+          → (length name ≡ 36) × UsedSlot tab k × NameOk name × OtherFree tab k name
       named k name a =
           let e = accepted-none g n (r .head) (r .tail) (edit (rename k name)) [] a in
           let l = row1 g n (r .head) (r .tail) (lengthsOf (rename k name)) (open-common g n (r .head) (r .tail) (rename k name) (edit-open g n (r .head) (r .tail) (rename k name) e)) .2 in
           let w = accepts (rename k name) l (rename-rows tab k (g .first) (lastUsable g n) name) .0 a in
-          (eqb-true _ _ l, w .0, w .1)
+          (eqb-true _ _ l, w .0, w .1 .0, w .1 .1)
 
       new-passes : (p : NewPartition) → Passes g n r p → NewOk tab p
       new-passes p e =

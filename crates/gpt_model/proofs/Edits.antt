@@ -18,13 +18,13 @@ use Rattle.octets.proofs.Tests.{findIx-get, any-none}
 use Rattle.octets.proofs.Parts.{length-zeros}
 use Rattle.octets.proofs.Rows.{passes}
 use Rattle.octets.proofs.Chunks.{length-chunks, length-chunk}
-use Rattle.gpt_model.specs.Table.{BlockRange, noBlocks, spans, rangeSize, bounded, apart, uniqueOf, firstOf, lastOf, unused, rangeOf, entryOk, entries, rangesOf, goodTable}
+use Rattle.gpt_model.specs.Table.{BlockRange, noBlocks, spans, rangeSize, bounded, apart, uniqueOf, firstOf, lastOf, nameBytes, unused, rangeOf, entryOk, entries, rangesOf, goodTable}
 use Rattle.gpt_model.specs.declared.NewPartition.{NewPartition}
 use Rattle.gpt_model.specs.Calls.{Edit, add, delete, resize, rename, carries, isNone, orZero, lowestUnused, newEntry, startFor, tableRows, change, lengthsOf}
 use Rattle.gpt_model.specs.Lists.{Ledger, bookEdit}
 use Rattle.gpt_model.proofs.Room.{Room, room-get, start-some}
-use Rattle.gpt_model.proofs.Fields.{length-new, new-type, new-unique, new-first, new-last, length-sized, sized-type, sized-unique, sized-first, sized-last, length-named, named-type, named-unique, named-first, named-last}
-use Rattle.gpt_model.proofs.Entries.{same-sym, range-unused, range-used, unused-type, typed-alike, unused-zeros, Used, ok-used, used-ok, unused-ok, ok-bounded, PairOk, getD-range, length-rangesOf, entryAt, good-at, good-pair, room-apart}
+use Rattle.gpt_model.proofs.Fields.{length-new, new-type, new-unique, new-first, new-last, length-sized, sized-type, sized-unique, sized-first, sized-last, length-named}
+use Rattle.gpt_model.proofs.Entries.{same-sym, Alike, ok-alike, pair-alike, named-alike, range-unused, range-used, unused-type, typed-alike, unused-zeros, Used, ok-used, used-ok, unused-ok, ok-bounded, PairOk, getD-range, length-rangesOf, entryAt, good-at, good-pair, room-apart}
 
 nonzero : (x : ℕ) → eqb x 0 ≡ false → 0 < x
 nonzero x e = let w : x ≢ 0 = eqb-false x 0 e in omega arith
@@ -96,16 +96,13 @@ module _ (first last : ℕ) (small : last < 256 ^ 8) (es : List ℕ) (len : leng
   renames : (k : ℕ) (name : List ℕ) → length name ≡ 36 → refusal (tableRows first last es (rename k name)) ≡ none → FitsEdit first last es (rename k name)
   renames k name ln z = record {
     index = hi;
-    len = length-named e le′ name;
-    ok = used-ok first last e′ used′;
-    pair = kept (k - 1) e′ hi u (named-unique e le′ name) (λ j hj ne b. rw range-same (good-pair first last es good (k - 1) j hi hj (λ x. ne (sym x)) u b .1));
-    sizes = λ l q. sym (ap (set (l .sizes) (k - 1)) (ap rangeSize range-same ∙ sym (size-was l q (k - 1))) ∙ set-getD (l .sizes) (k - 1) 0);
-    balance = λ l q. omega (arith, ap rangeSize range-same);
+    len = length-named e le′ (nameBytes name);
+    ok = ok-alike first last e′ e alike (good-at first last es good (k - 1) hi);
+    pair = λ j hj ne. pair-alike e′ e (entryAt es j) alike (good-pair first last es good (k - 1) j hi hj (λ x. ne (sym x)));
+    sizes = λ l q. sym (ap (set (l .sizes) (k - 1)) (ap rangeSize (alike .2) ∙ sym (size-was l q (k - 1))) ∙ set-getD (l .sizes) (k - 1) 0);
+    balance = λ l q. omega (arith, ap rangeSize (alike .2));
   }
     where
-      u : unused (entryAt es (k - 1)) ≡ false
-      u = passes 13 (tableRows first last es (rename k name)) z
-
       hi : k - 1 < 128
       hi = let w = slot-number k (passes 12 (tableRows first last es (rename k name)) z) in omega arith
 
@@ -118,20 +115,8 @@ module _ (first last : ℕ) (small : last < 256 ^ 8) (es : List ℕ) (len : leng
       e′ : List ℕ
       e′ = change first last es (rename k name) .entry
 
-      w : Used first last (entryAt es (k - 1))
-      w = used-at (k - 1) hi u
-
-      used′ : Used first last e′
-      used′ = record {
-        used = typed-alike e′ e (named-type e le′ name) ∙ u;
-        unique = ap isZero (named-unique e le′ name) ∙ w .unique;
-        low = rw (named-first e le′ name) (w .low);
-        mid = rw (named-first e le′ name, named-last e le′ name) (w .mid);
-        high = rw (named-last e le′ name) (w .high);
-      }
-
-      range-same : rangeOf e′ ≡ rangeOf e
-      range-same = range-used e′ (used′ .used) ∙ ap₂ spans (named-first e le′ name) (named-last e le′ name) ∙ sym (range-used e u)
+      alike : Alike e′ e
+      alike = named-alike e le′ (nameBytes name)
 
   resizes : (k size : ℕ) → refusal (tableRows first last es (resize k size)) ≡ none → FitsEdit first last es (resize k size)
   resizes k size z = record {
@@ -208,7 +193,7 @@ module _ (first last : ℕ) (small : last < 256 ^ 8) (es : List ℕ) (len : leng
   -- a new entry in an unused slot i, at a start s with room: for add, and for a start that is given
   pub new-fits : (i s : ℕ) (p : NewPartition)
       → i < 128 → unused (entryAt es i) ≡ true → 0 < p .size → first ≤ s → Room (rangesOf es) last (p .size) s
-      → length (p .kind) ≡ 16 → length (p .unique) ≡ 16 → isZero (p .kind) ≡ false → isZero (p .unique) ≡ false → any (carries (p .unique)) (entries es) ≡ false
+      → length (p .kind) ≡ 16 → length (p .unique) ≡ 16 → isZero (p .kind) ≡ false → isZero (p .unique) ≡ false → any (carries uniqueOf (p .unique)) (entries es) ≡ false
       → Fits first last es (add p) (suc i) i (newEntry p s)
   new-fits i s p hi u pos low room lt lu zt zu fresh = record {
     index = hi;
@@ -261,7 +246,7 @@ module _ (first last : ℕ) (small : last < 256 ^ 8) (es : List ℕ) (len : leng
       far : (j : ℕ) → j < 128 → j ≢ i → PairOk e′ (entryAt es j)
       far j hj ne a b = (
         subst (λ (x : List ℕ). same x (uniqueOf (entryAt es j)) ≡ false) (sym unique-is)
-            (same-sym _ _ (and-skip _ _ (ap not b) (any-none (carries (p .unique)) (entries es) [] fresh j (omega (arith, length-chunks 128 128 es))))),
+            (same-sym _ _ (and-skip _ _ (ap not b) (any-none (carries uniqueOf (p .unique)) (entries es) [] fresh j (omega (arith, length-chunks 128 128 es))))),
         rw range-now
             (subst (λ (x : BlockRange). apart (spans s l) x ≡ true) (getD-range es j)
             (room-apart first last (rangesOf es) (p .size) s j pos room (omega (arith, length-rangesOf es))

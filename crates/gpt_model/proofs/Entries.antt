@@ -12,13 +12,14 @@ use lib.ListN.{length, getD, set, take, drop, replicate, length-map, List·getD-
 use lib.Seq.{getD-set-same, getD-set-other}
 use borrow.Author.Tests.{ltb-false}
 use Rattle.octets.specs.Tests.{_and_, _or_, all, pairs}
-use Rattle.octets.specs.Bytes.{part, zeros, isZero, same, chunks, putChunk}
+use Rattle.octets.specs.Bytes.{part, put, zeros, isZero, same, chunks, putChunk}
 use Rattle.octets.proofs.Bools.{and-l, and-r, and-i, or-cases, or-il, or-ir, or-false-i, bool-cases, clash, not-t}
 use Rattle.octets.proofs.Tests.{all-get, all-make, pairs-get, pairs-make, any-none}
 use Rattle.octets.proofs.Equal.{same-true, same-refl, zero-zeros}
 use Rattle.octets.proofs.Chunks.{length-chunks, chunks-put}
 use Rattle.gpt_model.specs.Table.{BlockRange, noBlocks, spans, rangeSize, bounded, apart, typeOf, uniqueOf, firstOf, lastOf, unused, rangeOf, entryOk, pairOk, entries, rangesOf, goodTable}
 use Rattle.gpt_model.specs.Ranges.{blockIn}
+use Rattle.gpt_model.proofs.Fields.{named-type, named-unique, named-first, named-last}
 use Rattle.gpt_model.proofs.Room.{Room, blockIn-make}
 use Rattle.gpt_model.proofs.Counts.{bounded-get, bounded-make}
 
@@ -188,6 +189,30 @@ free-apart first last f l (spans g m) k h w = go (bool-cases (ltb l g)) (bool-ca
         hit (yes z) = clash (blockIn-make f g m z y) (w f (le-refl f) h)
         hit (no z) = clash (blockIn-make g g m (le-refl g) (b .1)) (w g (omega arith) x)
 
+-- ---- two entries that the rules can't tell apart, as an entry and the same with another name
+
+abbrev pub Alike : List ℕ → List ℕ → Type 0
+Alike e d = (unused e ≡ unused d) × (uniqueOf e ≡ uniqueOf d) × (rangeOf e ≡ rangeOf d)
+
+pub ok-alike : (first last : ℕ) (e d : List ℕ) → Alike e d → entryOk first last d ≡ true → entryOk first last e ≡ true
+unfolding entryOk
+ok-alike first last e d a k = rw (a .0, a .1, a .2) k
+
+pub pair-alike : (e d x : List ℕ) → Alike e d → PairOk d x → PairOk e x
+pair-alike e d x a f = rw (a .0, a .1, a .2) f
+
+range-alike : (e d : List ℕ) → unused e ≡ unused d → firstOf e ≡ firstOf d → lastOf e ≡ lastOf d → rangeOf e ≡ rangeOf d
+range-alike e d u f l = go (bool-cases (unused d))
+  where
+    go : (unused d ≡ true) ⊎ (unused d ≡ false) → rangeOf e ≡ rangeOf d
+    go (inl q) = range-unused e (u ∙ q) ∙ sym (range-unused d q)
+    go (inr q) = range-used e (u ∙ q) ∙ ap₂ spans f l ∙ sym (range-used d q)
+
+pub named-alike : (e : List ℕ) → length e ≡ 128 → (bytes : List ℕ) → Alike (put 56 bytes e) e
+named-alike e len bytes =
+    let u = typed-alike (put 56 bytes e) e (named-type e len bytes) in
+    (u, named-unique e len bytes, range-alike (put 56 bytes e) e u (named-first e len bytes) (named-last e len bytes))
+
 -- ---- the table
 
 pub range-nil : rangeOf [] ≡ noBlocks
@@ -249,22 +274,34 @@ module _ (first last : ℕ) (es : List ℕ) (size : length es ≡ 16384) (i : �
   pub at-other : (j : ℕ) → j ≢ i → getD (entries (putChunk 128 i e es)) j [] ≡ entryAt es j
   at-other j ne = ap (λ (l : List (List ℕ)). getD l j []) entries-put ∙ getD-set-other (entries es) i j e [] ne
 
+  -- what holds of the new entry and of each old one holds of each
+  pub each-put : (Q : List ℕ → Type 0) → ((j : ℕ) → j < 128 → Q (entryAt es j)) → Q e → (j : ℕ) → j < 128 → Q (entryAt (putChunk 128 i e es) j)
+  each-put Q old new j h = go (ℕ-discrete j i)
+    where
+      go : Dec (j ≡ i) → Q (entryAt (putChunk 128 i e es) j)
+      go (yes q) = subst (λ (x : ℕ). Q (entryAt (putChunk 128 i e es) x)) (sym q) (subst Q (sym at-same) new)
+      go (no q) = subst Q (sym (at-other j q)) (old j h)
+
+  -- and what holds of the new entry with each other one, and of each two old ones, holds of each two
+  pub two-put : (Q : List ℕ → List ℕ → Type 0) → ((d d′ : List ℕ) → Q d d′ → Q d′ d)
+      → ((j k : ℕ) → j < 128 → k < 128 → j ≢ k → Q (entryAt es j) (entryAt es k)) → ((j : ℕ) → j < 128 → j ≢ i → Q e (entryAt es j))
+      → (j k : ℕ) → j < 128 → k < 128 → j ≢ k → Q (entryAt (putChunk 128 i e es) j) (entryAt (putChunk 128 i e es) k)
+  two-put Q turn old new j k h g ne = go (ℕ-discrete j i) (ℕ-discrete k i)
+    where
+      at : ℕ → List ℕ
+      at x = entryAt (putChunk 128 i e es) x
+
+      go : Dec (j ≡ i) → Dec (k ≡ i) → Q (at j) (at k)
+      go (yes p) (yes q) = absurd (ne (p ∙ sym q))
+      go (yes p) (no q) = subst (λ (x : ℕ). Q (at x) (at k)) (sym p) (subst₂ Q (sym at-same) (sym (at-other k q)) (new k g q))
+      go (no p) (yes q) = subst (λ (x : ℕ). Q (at j) (at x)) (sym q) (subst₂ Q (sym (at-other j p)) (sym at-same) (turn e (entryAt es j) (new j h p)))
+      go (no p) (no q) = subst₂ Q (sym (at-other j p)) (sym (at-other k q)) (old j k h g ne)
+
   pub good-put : goodTable first last es ≡ true → entryOk first last e ≡ true → ((j : ℕ) → j < 128 → j ≢ i → PairOk e (entryAt es j))
       → goodTable first last (putChunk 128 i e es) ≡ true
-  good-put k ok bs = good-make first last (putChunk 128 i e es) (λ j h. each j h (ℕ-discrete j i)) (λ a b h g l. two a b h g l (ℕ-discrete a i) (ℕ-discrete b i))
-    where
-      new : ℕ → List ℕ
-      new j = getD (entries (putChunk 128 i e es)) j []
-
-      each : (j : ℕ) → j < 128 → Dec (j ≡ i) → entryOk first last (new j) ≡ true
-      each j h (yes q) = subst (λ (x : ℕ). entryOk first last (new x) ≡ true) (sym q) (rw at-same ok)
-      each j h (no q) = rw (at-other j q) (good-at first last es k j h)
-
-      two : (a b : ℕ) → a < 128 → b < 128 → a < b → Dec (a ≡ i) → Dec (b ≡ i) → PairOk (new a) (new b)
-      two a b h g l (yes p) (yes q) = absurd (omega arith)
-      two a b h g l (yes p) (no q) = subst (λ (x : ℕ). PairOk (new x) (new b)) (sym p) (subst₂ PairOk (sym at-same) (sym (at-other b q)) (bs b g q))
-      two a b h g l (no p) (yes q) = subst (λ (x : ℕ). PairOk (new a) (new x)) (sym q) (subst₂ PairOk (sym (at-other a p)) (sym at-same) (pair-sym e (entryAt es a) (bs a h p)))
-      two a b h g l (no p) (no q) = subst₂ PairOk (sym (at-other a p)) (sym (at-other b q)) (good-pair first last es k a b h g (λ r. omega arith))
+  good-put k ok bs =
+      good-make first last (putChunk 128 i e es) (each-put (λ d. entryOk first last d ≡ true) (good-at first last es k) ok)
+      (λ a b h g l. two-put PairOk pair-sym (good-pair first last es k) bs a b h g (λ x. omega arith))
 
 -- ---- the table with no entries
 
@@ -288,10 +325,12 @@ sizes-none (suc k) = ap (λ (r : List ℕ). 0 ∷ r) (sizes-none k)
 pub empty-sizes : map rangeSize (rangesOf (zeros 16384)) ≡ replicate 128 0
 empty-sizes = ap (map rangeSize) (zero-ranges 128 (zeros 16384) (zero-zeros 16384)) ∙ sizes-none 128
 
+pub empty-unused : (i : ℕ) → unused (entryAt (zeros 16384) i) ≡ true
+empty-unused i = zero-entry 128 (zeros 16384) (zero-zeros 16384) i
+
 pub empty-good : (first last : ℕ) → goodTable first last (zeros 16384) ≡ true
 empty-good first last =
-    good-make first last (zeros 16384) (λ i h. unused-ok first last _ (zero-entry 128 (zeros 16384) (zero-zeros 16384) i))
-    (λ i j h g l a b. absurd (clash (zero-entry 128 (zeros 16384) (zero-zeros 16384) i) a))
+    good-make first last (zeros 16384) (λ i h. unused-ok first last _ (empty-unused i)) (λ i j h g l a b. absurd (clash (empty-unused i) a))
 
 -- ---- a run of free blocks shares none with a range of the table
 pub room-apart : (first last : ℕ) (t : List BlockRange) (size f j : ℕ) → 0 < size → Room t last size f → j < length t

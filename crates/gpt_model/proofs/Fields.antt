@@ -13,8 +13,8 @@ use Rattle.octets.specs.Bytes.{le, unle, part, put, zeros}
 use Rattle.octets.proofs.Bools.{and-l, and-r}
 use Rattle.octets.proofs.Numbers.{length-le, unle-le}
 use Rattle.octets.proofs.Parts.{length-zeros}
-use Rattle.octets.proofs.Puts.{length-put, then, put-all, put-comm, part-put-above, part-put-same}
-use Rattle.gpt_model.specs.Table.{writeAll, typeOf, uniqueOf, firstOf, lastOf, nameBytes}
+use Rattle.octets.proofs.Puts.{length-put, then, put-all, put-comm, part-put-below, part-put-above, part-put-same}
+use Rattle.gpt_model.specs.Table.{writeAll, typeOf, uniqueOf, firstOf, lastOf, nameOf, nameBytes}
 use Rattle.gpt_model.specs.declared.NewPartition.{NewPartition}
 use Rattle.gpt_model.specs.Calls.{newFields, newEntry}
 
@@ -98,7 +98,7 @@ module _ (p : NewPartition) (s : ℕ) where
   new-attributes =
       field-reads fs (zeros 128) 4 48 8 (le 8 (p .attributes)) (omega arith) refl refl (length-le 8 (p .attributes)) (omega (arith, length-zeros 128))
 
-  pub new-name : length (p .name) ≡ 36 → part 56 72 (newEntry p s) ≡ nameBytes (p .name)
+  pub new-name : length (p .name) ≡ 36 → nameOf (newEntry p s) ≡ nameBytes (p .name)
   new-name e =
       field-reads fs (zeros 128) 5 56 72 (nameBytes (p .name)) (omega arith) refl refl (length-name (p .name) ∙ omega arith) (omega (arith, length-zeros 128))
 
@@ -144,21 +144,27 @@ module _ (e : List ℕ) (len : length e ≡ 128) (l : ℕ) where
   pub sized-last : l < 256 ^ 8 → lastOf sized ≡ l
   sized-last h = ap unle (part-put-at (le 8 l) e 40 8 (length-le 8 l) (omega arith)) ∙ unle-le 8 l h
 
-module _ (e : List ℕ) (len : length e ≡ 128) (name : List ℕ) where
+  pub sized-name : nameOf sized ≡ nameOf e
+  sized-name = part-put-below (le 8 l) e 56 72 40 (omega (arith, length-le 8 l))
+
+module _ (e : List ℕ) (len : length e ≡ 128) (bytes : List ℕ) where
   abbrev named : List ℕ
-  named = put 56 (nameBytes name) e
+  named = put 56 bytes e
 
   pub length-named : length named ≡ 128
-  length-named = length-put 56 (nameBytes name) e ∙ len
+  length-named = length-put 56 bytes e ∙ len
 
   pub named-type : typeOf named ≡ typeOf e
-  named-type = part-put-above (nameBytes name) e 0 16 56 (omega arith)
+  named-type = part-put-above bytes e 0 16 56 (omega arith)
 
   pub named-unique : uniqueOf named ≡ uniqueOf e
-  named-unique = part-put-above (nameBytes name) e 16 16 56 (omega arith)
+  named-unique = part-put-above bytes e 16 16 56 (omega arith)
 
   pub named-first : firstOf named ≡ firstOf e
-  named-first = ap unle (part-put-above (nameBytes name) e 32 8 56 (omega arith))
+  named-first = ap unle (part-put-above bytes e 32 8 56 (omega arith))
 
   pub named-last : lastOf named ≡ lastOf e
-  named-last = ap unle (part-put-above (nameBytes name) e 40 8 56 (omega arith))
+  named-last = ap unle (part-put-above bytes e 40 8 56 (omega arith))
+
+  pub named-name : length bytes ≡ 72 → nameOf named ≡ bytes
+  named-name l = part-put-at bytes e 56 72 l (omega arith)

@@ -6,6 +6,8 @@ pub mod Longest
 pub mod Walk
 pub mod Fields
 pub mod Entries
+pub mod StoredTable
+pub mod Carried
 pub mod Edits
 pub mod Copies
 pub mod States
@@ -15,13 +17,14 @@ pub mod Accepts
 pub mod Steps
 pub mod Demand3
 pub mod Unaligned
+pub mod Names
 pub mod Sizes
 pub mod Touches
 pub mod SameSize
-pub mod StoredTable
 pub mod StoredHeader
 pub mod StoredCopies
 pub mod StoredFormat
 pub mod StoredEdits
+pub mod Rewritten
 pub mod Stale
 pub mod StoredRepair

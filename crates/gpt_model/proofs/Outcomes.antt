@@ -148,3 +148,13 @@ open-none g n h t d lh lt ld range s =
     ∙ pick-false _ _ _ (ap not range)
     ∙ pick-false _ _ _ (ap (λ (x : ℕ). eqb x 0) s)
     ∙ pick-false _ _ _ (ap (λ (x : ℕ). not (eqb x 1)) s)
+
+-- a disk that reads as state s
+module _ (g : Shape) (n : ℕ) (h t : List ℕ) (s : ℕ) (reads : step g n h t read .answer ≡ accepted (s ∷ [])) where
+  pub read-none : refusal (rowsOf g n h t read) ≡ none
+  read-none = accepted-none g n h t read (s ∷ []) reads
+
+  pub state-is : state g n h t ≡ s
+  state-is =
+      let a : accepted (state g n h t ∷ []) ≡ accepted (s ∷ []) = ap (λ (o : Outcome). o .answer) (sym (step-accepted g n h t read read-none)) ∙ reads in
+      cc

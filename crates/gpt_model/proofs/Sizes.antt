@@ -1,4 +1,4 @@
--- The block size that a caller names: its shape, the calls by it, and demand 3 of them.
+-- The block size that a caller names: its shape, the calls by it, and what holds after every list of them.
 use mathlib.Core.Path.{_≡_, refl, sym, ap, subst, _∙_}
 use mathlib.Core.Logic.{_↔_}
 use mathlib.Core.Bool.{Bool, true, false, cond}
@@ -12,10 +12,12 @@ use Rattle.octets.proofs.Bools.{and-l, and-r, and-i, some-none}
 use Rattle.gpt_model.specs.Disk.{Shape, disk512, disk4096, lastUsable, usable, inRange, primary, backup, entriesBlock, lentBytes, headerBytes}
 use Rattle.gpt_model.specs.Calls.{Call, refused, accepted, outcome, step, format}
 use Rattle.gpt_model.specs.Sizes.{shapeOf, onShape, stepBy, formatBy}
-use Rattle.gpt_model.specs.Lists.{afterAll, startAfter}
-use Rattle.gpt_model.specs.Claims.{Sound, Formats, Demand3At, Demand3At512, Demand3At4096, ShapesBySize, OnItsShape, OtherSizeRefused, WholeBlocks}
+use Rattle.gpt_model.specs.Lists.{Snapshot, afterAll, startAfter}
+use Rattle.gpt_model.specs.Claims.{Sound, Formats, AfterLists, AfterListsAt, AfterListsAt512, AfterListsAt4096, Demand3At512, Demand3At4096}
+use Rattle.gpt_model.specs.Claims.{NamesDifferIn, OneByNameAt512, OneByNameAt4096, ShapesBySize, OnItsShape, OtherSizeRefused, WholeBlocks}
 use Rattle.gpt_model.specs.Claims.{Numbers512, Numbers4096}
 use Rattle.gpt_model.proofs.Demand3.{demand3}
+use Rattle.gpt_model.proofs.Names.{oneByName}
 
 pub shapesBySize : ShapesBySize
 unfolding shapeOf
@@ -72,32 +74,46 @@ format-none size n h t e guid = ap (λ (s : Option Shape). onShape s h t (λ g. 
 pub otherSizeRefused : OtherSizeRefused
 otherSizeRefused size n h t a b = (step-none size n h t (shapesBySize .2 size a b), format-none size n h t (shapesBySize .2 size a b))
 
--- ---- demand 3
-
-demand3-by : (size : ℕ) (g : Shape) → shapeOf size ≡ some g → (n : ℕ) (guid h t : List ℕ) → Formats g n guid h t → (cs : List Call)
-    → (formatBy size n guid h t .answer ≡ accepted []) × Sound g n (afterAll (stepBy size n) cs (startAfter (formatBy size n guid h t)))
-unfolding stepBy formatBy
-demand3-by size g e n guid h t f cs =
-    subst
-    (λ (s : Option Shape).
-    (onShape s h t (λ g. format g n guid h t) .answer ≡ accepted [])
-    × Sound g n (afterAll (λ h t c. onShape s h t (λ g. step g n h t c)) cs (startAfter (onShape s h t (λ g. format g n guid h t)))))
-    (sym e) (demand3 g n guid h t f cs)
-
 -- N is in the range of a shape, in plain numbers
 in-range : (g : Shape) (n : ℕ) → (inRange g n ≡ true) ↔ ((2 * g .first ≤ n) × (n ≤ 4294967296))
 in-range g n = (λ e. (leb-true _ _ (and-l _ _ e), leb-true _ _ (and-r _ _ e)), λ w. and-i _ _ (le-leb _ _ (w .0)) (le-leb _ _ (w .1)))
 
-demand3-at : (size : ℕ) (g : Shape) → shapeOf size ≡ some g → headerBytes ≤ g .block → Demand3At size g (2 * g .first) (lentBytes g primary) (lentBytes g backup)
-demand3-at size g e wide n guid h t lo hi lg z lh lt =
-    demand3-by size g e n guid h t
-    (record { wide = wide; range = in-range g n .1 (lo, hi); len-guid = lg; nonzero = z; len-head = lh; len-tail = lt })
+-- ---- what holds after every list of calls, of the calls by the block size
+
+module _ (Holds : Shape → ℕ → Snapshot → Type 0) (after : AfterLists Holds) where
+  after-by : (size : ℕ) (g : Shape) → shapeOf size ≡ some g → (n : ℕ) (guid h t : List ℕ) → Formats g n guid h t → (cs : List Call)
+      → (formatBy size n guid h t .answer ≡ accepted []) × Holds g n (afterAll (stepBy size n) cs (startAfter (formatBy size n guid h t)))
+  unfolding stepBy formatBy
+  after-by size g e n guid h t f cs =
+      subst
+      (λ (s : Option Shape).
+      (onShape s h t (λ g. format g n guid h t) .answer ≡ accepted [])
+      × Holds g n (afterAll (λ h t c. onShape s h t (λ g. step g n h t c)) cs (startAfter (onShape s h t (λ g. format g n guid h t)))))
+      (sym e) (after g n guid h t f cs)
+
+  after-at : (size : ℕ) (g : Shape) → shapeOf size ≡ some g → headerBytes ≤ g .block
+      → AfterListsAt size g (2 * g .first) (lentBytes g primary) (lentBytes g backup) Holds
+  after-at size g e wide n guid h t lo hi lg z lh lt =
+      after-by size g e n guid h t
+      (record { wide = wide; range = in-range g n .1 (lo, hi); len-guid = lg; nonzero = z; len-head = lh; len-tail = lt })
+
+  at-512 : AfterListsAt512 Holds
+  at-512 = after-at 512 disk512 (shapesBySize .0) (omega arith)
+
+  at-4096 : AfterListsAt4096 Holds
+  at-4096 = after-at 4096 disk4096 (shapesBySize .1) (omega arith)
 
 pub demand3At512 : Demand3At512
-demand3At512 = demand3-at 512 disk512 (shapesBySize .0) (omega arith)
+demand3At512 = at-512 Sound demand3
 
 pub demand3At4096 : Demand3At4096
-demand3At4096 = demand3-at 4096 disk4096 (shapesBySize .1) (omega arith)
+demand3At4096 = at-4096 Sound demand3
+
+pub oneByNameAt512 : OneByNameAt512
+oneByNameAt512 = at-512 NamesDifferIn oneByName
+
+pub oneByNameAt4096 : OneByNameAt4096
+oneByNameAt4096 = at-4096 NamesDifferIn oneByName
 
 -- ---- the numbers
 

@@ -11,31 +11,28 @@ use lib.ListN.{length, getD, set, List·getD-map}
 use borrow.Author.Tests.{eqb-true, eq-eqb, ne-eqb}
 use Rattle.octets.specs.Tests.{_and_, any, findIx}
 use Rattle.octets.specs.Rows.{Row, pickRow, refusal}
-use Rattle.octets.specs.Bytes.{le, part, put, zeros, isZero, putChunk}
+use Rattle.octets.specs.Bytes.{le, part, put, zeros, isZero}
 use Rattle.octets.proofs.Bools.{and-l, and-r, and-i, and-false-l, and-t, bool-cases, eq-from, clash}
 use Rattle.octets.proofs.Tests.{map-same, any-map, findIx-map}
 use Rattle.octets.proofs.Equal.{zero-zeros}
 use Rattle.octets.proofs.Parts.{length-zeros}
-use Rattle.octets.proofs.Puts.{length-put}
 use Rattle.octets.proofs.Rows.{rowsFrom, pick-true, pick-false}
-use Rattle.octets.proofs.Chunks.{length-chunks, length-chunk}
-use Rattle.gpt_model.specs.Table.{nameBytes, unused, rangeOf, entryOk, entries, rangesOf, goodTable}
-use Rattle.gpt_model.specs.Disk.{Shape, lastUsable, inRange, primary, backup, lentBytes, guidIn, state, tableOf, withTable}
+use Rattle.octets.proofs.Chunks.{length-chunks}
+use Rattle.gpt_model.specs.Table.{uniqueOf, nameOf, nameBytes, unused, noBlocks, rangeOf, entryOk, entries, rangesOf, goodTable}
+use Rattle.gpt_model.specs.Disk.{Shape, lastUsable, primary, backup, guidIn, state, tableOf, withTable}
 use Rattle.gpt_model.specs.Calls.{Edit, add, delete, resize, rename, Call, read, freeCounts, repair, edit, accepted, Outcome, unlessRefused}
-use Rattle.gpt_model.specs.Calls.{entryOf, carries, orZero, slotRows, lowestUnused, newEntry, startFor, tableRows, change, edited}
+use Rattle.gpt_model.specs.Calls.{entryOf, carries, otherEntries, orZero, slotRows, lowestUnused, newEntry, startFor, tableRows, change, edited}
 use Rattle.gpt_model.specs.Calls.{lengthsOf, rowsOf, acceptedOutcome, step}
 use Rattle.gpt_model.specs.Stored.{EntryUsed, SameUsed}
 use Rattle.gpt_model.specs.Claims.{ClearedReads, GoodByUsed, AnswersByUsed, AddOverwrites}
 use Rattle.gpt_model.proofs.Fields.{part-put-at, new-whole}
-use Rattle.gpt_model.proofs.Entries.{unused-type, unused-nil, range-unused, range-nil, unused-ok, PairOk}
-use Rattle.gpt_model.proofs.Entries.{entryAt, good-at, good-pair, good-make, ranges-put, at-same, good-put}
+use Rattle.gpt_model.proofs.Entries.{map-set, unused-type, unused-nil, range-unused, range-nil, unused-ok, PairOk}
+use Rattle.gpt_model.proofs.Entries.{entryAt, good-at, good-pair, good-make, at-same}
 use Rattle.gpt_model.proofs.Edits.{FitsEdit}
-use Rattle.gpt_model.proofs.Copies.{length-entries}
-use Rattle.gpt_model.proofs.States.{Holds, one-primary, readable-good, edit-holds}
-use Rattle.gpt_model.proofs.Outcomes.{step-accepted, accepted-none, repair-answer, row1, row2, row10, open-common, open-none}
+use Rattle.gpt_model.proofs.Outcomes.{step-accepted, accepted-none, repair-answer, row1, row2, row10, read-none, state-is}
 use Rattle.gpt_model.proofs.Steps.{lens, len-table, edit-fits, edit-held}
 use Rattle.gpt_model.proofs.StoredTable.{entry-is, used-is}
-use Rattle.gpt_model.proofs.StoredEdits.{within}
+use Rattle.gpt_model.proofs.Rewritten.{length-was, reads-again}
 
 -- ---- two tables with the same used entries
 
@@ -68,8 +65,20 @@ module _ (es es′ : List ℕ) (s : SameUsed es es′) where
   same-ranges : rangesOf es ≡ rangesOf es′
   same-ranges = by-used rangeOf (λ e q. range-unused e q ∙ sym range-nil)
 
-  same-carried : (unique : List ℕ) → any (carries unique) (entries es) ≡ any (carries unique) (entries es′)
-  same-carried unique = any-by (carries unique) (λ e q. and-false-l _ _ (ap not q) ∙ sym (and-false-l _ _ (ap not unused-nil)))
+  -- whichever part of an entry is asked
+  none-carried : (partOf : List ℕ → List ℕ) (bytes e : List ℕ) → unused e ≡ true → carries partOf bytes e ≡ carries partOf bytes []
+  none-carried partOf bytes e q = and-false-l _ _ (ap not q) ∙ sym (and-false-l _ _ (ap not unused-nil))
+
+  same-carried : (partOf : List ℕ → List ℕ) (bytes : List ℕ) → any (carries partOf bytes) (entries es) ≡ any (carries partOf bytes) (entries es′)
+  same-carried partOf bytes = any-by (carries partOf bytes) (none-carried partOf bytes)
+
+  same-others : (k : ℕ) (partOf : List ℕ → List ℕ) (bytes : List ℕ) → any (carries partOf bytes) (otherEntries es k) ≡ any (carries partOf bytes) (otherEntries es′ k)
+  same-others k partOf bytes =
+      let p = carries partOf bytes in
+      any-map p (otherEntries es k)
+      ∙ ap (any (λ b. b)) (map-set p (entries es) (k - 1) [] ∙ ap (λ (l : List Bool). set l (k - 1) (p [])) (by-used p (none-carried partOf bytes))
+      ∙ sym (map-set p (entries es′) (k - 1) []))
+      ∙ sym (any-map p (otherEntries es′ k))
 
   same-lowest : lowestUnused es ≡ lowestUnused es′
   same-lowest = findIx-map unused (entries es) ∙ ap (findIx (λ b. b)) (by-used unused as-nil) ∙ sym (findIx-map unused (entries es′))
@@ -85,9 +94,9 @@ module _ (es es′ : List ℕ) (s : SameUsed es es′) where
 
   module _ (first last : ℕ) where
     same-refusal : (d : Edit) → refusal (tableRows first last es d) ≡ refusal (tableRows first last es′ d)
-    same-refusal (add p) = rw (same-carried (p .unique), any-by unused as-nil, same-ranges)
+    same-refusal (add p) = rw (same-carried uniqueOf (p .unique), same-carried nameOf (nameBytes (p .name)), any-by unused as-nil, same-ranges)
     same-refusal (delete k) = rw (entry-by unused as-nil k)
-    same-refusal (rename k name) = rw (entry-by unused as-nil k)
+    same-refusal (rename k name) = rw (entry-by unused as-nil k, same-others k nameOf (nameBytes name))
     same-refusal (resize k size) = go (bool-cases (unused (entryOf es k)))
       where
         behind : List ℕ → List Row
@@ -132,27 +141,19 @@ goodByUsed first last es es′ s = eq-from _ _ (good-same es es′ s first last)
 -- ---- a disk that reads as state s
 
 module _ (g : Shape) (n : ℕ) (h t : List ℕ) (s : ℕ) (reads : step g n h t read .answer ≡ accepted (s ∷ [])) where
-  read-none : refusal (rowsOf g n h t read) ≡ none
-  read-none = accepted-none g n h t read (s ∷ []) reads
-
-  state-is : state g n h t ≡ s
-  state-is =
-      let a : accepted (state g n h t ∷ []) ≡ accepted (s ∷ []) = ap (λ (o : Outcome). o .answer) (sym (step-accepted g n h t read read-none)) ∙ reads in
-      cc
-
   -- an edit is refused for its lengths, for the state, or by the table
   edit-refusal : (d : Edit)
       → refusal (rowsOf g n h t (edit d))
       ≡ pickRow (not (lengthsOf d)) 1 (pickRow (not (eqb s 1)) 11 (refusal (tableRows (g .first) (lastUsable g n) (tableOf g n h t) d)))
   edit-refusal d =
-      let w = row1 g n h t true read-none in
+      let w = row1 g n h t true (read-none g n h t s reads) in
       let behind = refusal (rowsFrom 2 (rowsOf g n h t (edit d))) in
       let rest = refusal (tableRows (g .first) (lastUsable g n) (tableOf g n h t) d) in
       ap (λ (b : Bool). pickRow (not b) 1 behind) (sym (and-t (and-i _ _ (eq-eqb _ _ (w .0)) (eq-eqb _ _ (w .1))) refl))
       ∙ ap (pickRow (not (lengthsOf d)) 1)
-      (pick-false _ 2 _ (ap not (row2 g n h t true read-none))
-      ∙ pick-false _ 10 _ (ne-eqb _ _ (row10 g n h t true read-none))
-      ∙ ap (λ (x : ℕ). pickRow (not (eqb x 1)) 11 rest) state-is)
+      (pick-false _ 2 _ (ap not (row2 g n h t true (read-none g n h t s reads)))
+      ∙ pick-false _ 10 _ (ne-eqb _ _ (row10 g n h t true (read-none g n h t s reads)))
+      ∙ ap (λ (x : ℕ). pickRow (not (eqb x 1)) 11 rest) (state-is g n h t s reads))
 
 module _ (g : Shape) (n : ℕ) (h t h′ t′ : List ℕ) where
   -- refused alike, and with the same values where it is accepted
@@ -195,67 +196,27 @@ answersByUsed g n h t h′ t′ s reads reads′ used c = go c
 -- ---- a type GUID cleared by another tool
 
 pub clearedReads : ClearedReads
-clearedReads g n h t i wide hi one = (
-  ap (λ (o : Outcome). o .answer) (step-accepted g n h′ t′ read again) ∙ ap (λ (x : ℕ). accepted (x ∷ [])) (w .reads),
-  w .table,
-  ap rangesOf (sym is) ∙ ranges-put first last es len i e hi le′ ∙ ap (set (rangesOf es) i) (range-unused e un),
-)
+clearedReads g n h t i wide hi one =
+    let w = reads-again g n h t wide i hi one (zeros 16) 0 (omega (arith, length-zeros 16)) in
+    let ok = unused-ok (g .first) (lastUsable g n) e un in
+    subst (λ (x : ℕ).
+    let es′ = put x (zeros 16) es in
+    let h′ = withTable g n primary (guidIn g primary h) es′ h in
+    let t′ = withTable g n backup (guidIn g backup t) es′ t in
+    (step g n h′ t′ read .answer ≡ accepted (1 ∷ [])) × (tableOf g n h′ t′ ≡ es′) × (rangesOf es′ ≡ set (rangesOf es) i noBlocks))
+    (omega arith) (let v = w ok (λ j hj ne a b. absurd (clash un a)) in (v .0, v .1, v .2 ∙ ap (set (rangesOf es) i) (range-unused e un)))
   where
-    first : ℕ
-    first = g .first
-
-    last : ℕ
-    last = lastUsable g n
-
     es : List ℕ
     es = tableOf g n h t
-
-    -- the type GUID of entry i zeroed
-    cleared : List ℕ
-    cleared = put (i * 128) (zeros 16) es
-
-    sizes : (length h ≡ lentBytes g primary) × (length t ≡ lentBytes g backup) × (true ≡ true)
-    sizes = row1 g n h t true (read-none g n h t 1 one)
-
-    range : inRange g n ≡ true
-    range = row2 g n h t true (read-none g n h t 1 one)
-
-    len : length es ≡ 16384
-    len = ap length (one-primary g n h t (state-is g n h t 1 one)) ∙ length-entries g wide primary h (sizes .0)
-
-    good : goodTable first last es ≡ true
-    good = readable-good g n h t (λ z. omega (arith, state-is g n h t 1 one))
 
     e : List ℕ
     e = put 0 (zeros 16) (entryAt es i)
 
-    la : length (entryAt es i) ≡ 128
-    la = length-chunk 128 128 i es hi len
-
-    le′ : length e ≡ 128
-    le′ = length-put 0 (zeros 16) (entryAt es i) ∙ la
-
     un : unused e ≡ true
-    un = unused-type e ∙ ap isZero (part-put-at (zeros 16) (entryAt es i) 0 16 (length-zeros 16) (omega (arith, la))) ∙ zero-zeros 16
-
-    is : putChunk 128 i e es ≡ cleared
-    is = within es len i hi (zeros 16) 0 (omega (arith, length-zeros 16)) le′ ∙ ap (λ (x : ℕ). put x (zeros 16) es) (omega arith)
-
-    h′ : List ℕ
-    h′ = withTable g n primary (guidIn g primary h) cleared h
-
-    t′ : List ℕ
-    t′ = withTable g n backup (guidIn g backup t) cleared t
-
-    w : Holds g n h′ t′ cleared
-    w =
-        edit-holds g wide n h t (sizes .0) (sizes .1) cleared (length-put (i * 128) (zeros 16) es ∙ len)
-        (subst (λ (x : List ℕ). goodTable first last x ≡ true) is
-        (good-put first last es len i e hi le′ good (unused-ok first last e un) (λ j hj ne a b. absurd (clash un a))))
-        (state-is g n h t 1 one)
-
-    again : refusal (rowsOf g n h′ t′ read) ≡ none
-    again = open-common g n h′ t′ (delete 0) (open-none g n h′ t′ (delete 0) (w .len-head) (w .len-tail) refl range (w .reads))
+    un =
+        unused-type e
+        ∙ ap isZero (part-put-at (zeros 16) (entryAt es i) 0 16 (length-zeros 16) (omega (arith, length-was g n h t wide i hi one)))
+        ∙ zero-zeros 16
 
 -- ---- an add
 

@@ -12,7 +12,7 @@ use Rattle.octets.proofs.Bools.{and-r}
 use Rattle.octets.proofs.Chunks.{length-putChunk}
 use Rattle.gpt_model.specs.Table.{noBlocks, rangeSize, rangeOf, rangesOf, goodTable}
 use Rattle.gpt_model.specs.Disk.{Shape, lastUsable, primary, backup, lentBytes, guidIn, state, tableOf, withTable}
-use Rattle.gpt_model.specs.Calls.{Edit, Call, read, freeCounts, repair, edit, refused, Outcome, outcome, change, edited, lengthsOf, rowsOf, acceptedOutcome, step}
+use Rattle.gpt_model.specs.Calls.{Edit, Call, read, freeCounts, repair, edit, refused, Outcome, outcome, tableRows, change, edited, lengthsOf, rowsOf, acceptedOutcome, step}
 use Rattle.gpt_model.specs.Lists.{Ledger, bookEdit, book, Snapshot, afterOne, afterAll, answers, tableNext, applied, total}
 use Rattle.gpt_model.proofs.Counts.{total-set}
 use Rattle.gpt_model.proofs.Entries.{map-set, getD-range, length-rangesOf, entryAt, ranges-put, good-put}
@@ -143,3 +143,37 @@ keeps-all g wide n (c ∷ cs) r v =
     let w = keeps g wide n r v c in
     let k = keeps-all g wide n cs (afterOne (step g n) c r) (w .0) in
     (k .0, k .1 ∙ ap (λ (x : List ℕ). applied (g .first) (lastUsable g n) x cs (answers (step g n) cs (afterOne (step g n) c r))) (w .1))
+
+-- what every edit that no row refuses keeps of the table, every list keeps
+module _ (g : Shape) (wide : 92 ≤ g .block) (n : ℕ) (P : List ℕ → Type 0)
+    (edits : (es : List ℕ) (d : Edit) → length es ≡ 16384 → lengthsOf d ≡ true → refusal (tableRows (g .first) (lastUsable g n) es d) ≡ none
+    → FitsEdit (g .first) (lastUsable g n) es d → P es → P (edited (g .first) (lastUsable g n) es d)) where
+  module _ (r : Snapshot) (p : P (tableOf g n (r .head) (r .tail))) where
+    abbrev Next : Call → Outcome → Type 0
+    Next c o = P (tableNext (g .first) (lastUsable g n) (tableOf g n (r .head) (r .tail)) c (o .answer))
+
+    next-accepted : (c : Call) → refusal (rowsOf g n (r .head) (r .tail) c) ≡ none → Next c (acceptedOutcome g n (r .head) (r .tail) c)
+    next-accepted read e = p
+    next-accepted freeCounts e = p
+    next-accepted repair e = p
+    next-accepted (edit d) e =
+        edits (tableOf g n (r .head) (r .tail)) d (len-table g wide n (r .head) (r .tail) d e) (lens g wide n (r .head) (r .tail) d e .2)
+        (edit-table g n (r .head) (r .tail) d e) (edit-fits g wide n (r .head) (r .tail) d e) p
+
+    next-refused : (c : Call) (k : ℕ) → Next c (outcome (refused k) (r .head) (r .tail))
+    next-refused read k = p
+    next-refused freeCounts k = p
+    next-refused repair k = p
+    next-refused (edit d) k = p
+
+    next-keeps : (c : Call) → Next c (step g n (r .head) (r .tail) c)
+    next-keeps c = go (refusal (rowsOf g n (r .head) (r .tail) c)) refl
+      where
+        go : (q : Option ℕ) → refusal (rowsOf g n (r .head) (r .tail) c) ≡ q → Next c (step g n (r .head) (r .tail) c)
+        go none e = subst (Next c) (sym (step-accepted g n (r .head) (r .tail) c e)) (next-accepted c e)
+        go (some k) e = subst (Next c) (sym (step-refused g n (r .head) (r .tail) c k e)) (next-refused c k)
+
+  pub holds-after : (cs : List Call) (r : Snapshot) → Kept g n r → P (tableOf g n (r .head) (r .tail))
+      → P (tableOf g n (afterAll (step g n) cs r .head) (afterAll (step g n) cs r .tail))
+  holds-after [] r v p = p
+  holds-after (c ∷ cs) r v p = let w = keeps g wide n r v c in holds-after cs (afterOne (step g n) c r) (w .0) (subst P (sym (w .1)) (next-keeps r p c))

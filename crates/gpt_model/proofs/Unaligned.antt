@@ -1,6 +1,6 @@
 -- An add at alignment 1 is one without an alignment, and which alignments are refused.
 use mathlib.Core.Path.{_≡_, refl, sym, ap, fun-ext, _∙_}
-use mathlib.Core.Logic.{_⊎_, inl, inr, _≢_}
+use mathlib.Core.Logic.{inl, _≢_, _↔_}
 use mathlib.Core.Bool.{Bool, true, false, not}
 use mathlib.Core.List.{List, [], _∷_, _++_}
 use mathlib.Core.Option.{Option, none, some}
@@ -11,14 +11,14 @@ use borrow.Author.Tests.{eqb-false, eq-eqb, ne-eqb}
 use Rattle.octets.specs.Tests.{_or_}
 use Rattle.octets.specs.Rows.{Row, row, refusal}
 use Rattle.octets.specs.Bytes.{putChunk}
-use Rattle.octets.proofs.Bools.{and-t, or-false-l, or-false-r, or-false-i, bool-cases, not-t, some-none}
-use Rattle.octets.proofs.Rows.{rowsFrom, pick-none, pick-true, pick-false, refusal-append, refusal-without, refusal-behind}
+use Rattle.octets.proofs.Bools.{and-t, or-false-l, or-false-r, or-false-i, not-t}
+use Rattle.octets.proofs.Rows.{rowsFrom, rowsBefore, passes, pick-false, refusal-append, refusal-before, refusal-without, refused-by}
 use Rattle.gpt_model.specs.Table.{rangesOf}
 use Rattle.gpt_model.specs.Disk.{Shape, lastUsable, primary, backup, guidIn, tableOf, withTable}
 use Rattle.gpt_model.specs.Ranges.{roomAt, lowestFrom, isAlignment, alignedAt, lowestStart}
 use Rattle.gpt_model.specs.declared.NewPartition.{NewPartition}
 use Rattle.gpt_model.specs.Calls.{add, edit, refused, accepted, Outcome, outcome, unlessRefused, isNone, orZero}
-use Rattle.gpt_model.specs.Calls.{lowestUnused, newEntry, addRows, startFor, tableRows, lengthsOf, openRows, rowsOf, step}
+use Rattle.gpt_model.specs.Calls.{lowestUnused, newEntry, addRows, startFor, lengthsOf, openRows, rowsOf, step}
 use Rattle.gpt_model.specs.Unaligned.{startUnaligned, rowsUnaligned, addUnaligned}
 use Rattle.gpt_model.specs.Claims.{AlignmentOne, OtherAlignmentRefused}
 use Rattle.gpt_model.proofs.Outcomes.{step-refused, refused-row}
@@ -61,33 +61,27 @@ module _ (g : Shape) (n : ℕ) (h t : List ℕ) (p : NewPartition) where
         (refusal-without (opens ++ (row (eqb (p .size) 0) 20 ∷ [])) _ (rowsFrom 21 (rowsUnaligned g n h t p))
         (ap not (alignment-make (p .alignment) (inl one))))
 
-  -- ---- row 27
-
-  abbrev behind : List Row
-  behind = rowsFrom 27 (rowsOf g n h t (edit (add p)))
-
-  abbrev after : List Row
-  after = rowsFrom 21 (rowsOf g n h t (edit (add p)))
-
-  -- where none of the rows before it holds
-  past20 : step g n h t (edit (add p)) .answer ≡ refused 27 → (refusal opens ≡ none) × (p .size ≢ 0) × (refusal behind ≡ some 27)
-  unfolding _or_
-  past20 a =
-      let v = refusal-behind 27 opens (tableRows (g .first) (lastUsable g n) es (add p)) refl (refused-row g n h t (edit (add p)) 27 a) in
-      let w = refusal-behind 27 (row (eqb (p .size) 0) 20 ∷ []) behind refl (v .1) in
-      (v .0, eqb-false (p .size) 0 (pick-none (eqb (p .size) 0) 20 none (w .0) .0), w .1)
-
-  -- no row after it has its number
-  holds27 : refusal behind ≡ some 27 → isAlignment (p .alignment) ≡ false
-  unfolding _or_
-  holds27 e = go (bool-cases (not (isAlignment (p .alignment))))
-    where
-      go : (not (isAlignment (p .alignment)) ≡ true) ⊎ (not (isAlignment (p .alignment)) ≡ false) → isAlignment (p .alignment) ≡ false
-      go (inl q) = not-t _ q
-      go (inr q) = absurd (some-none (sym (refusal-behind 27 after [] refl (sym (pick-false _ 27 (refusal after) q) ∙ e) .1)))
-
 pub alignmentOne : AlignmentOne
 alignmentOne g n h t p one = adds g n h t p ∙ ap (from g n h t p) (start-one g n h t p one) ∙ without g n h t p one
+
+-- row 27 is the first to hold
+module _ (g : Shape) (n : ℕ) (h t : List ℕ) (p : NewPartition) where
+  abbrev all : List Row
+  all = rowsOf g n h t (edit (add p))
+
+  abbrev before : List Row
+  before = rowsBefore 27 all
+
+  first27 : (refusal all ≡ some 27) ↔ ((refusal before ≡ none) × (not (isAlignment (p .alignment)) ≡ true))
+  unfolding _or_
+  first27 = refused-by 27 all refl
+
+  -- the rows before it are those before an edit's own, and 20
+  before27 : (refusal before ≡ none) ↔ ((refusal (opens g n h t p) ≡ none) × (p .size ≢ 0))
+  before27 = (
+    λ e. let w = refusal-before (opens g n h t p) (rowsFrom 20 before) e in (w .0, eqb-false (p .size) 0 (passes 20 (rowsFrom 20 before) (w .1))),
+    λ w. refusal-append (opens g n h t p) (rowsFrom 20 before) (w .0) ∙ pick-false _ 20 _ (ne-eqb (p .size) 0 (w .1)),
+  )
 
 pub otherAlignmentRefused : OtherAlignmentRefused
 otherAlignmentRefused g n h t p = (to, back)
@@ -97,8 +91,9 @@ otherAlignmentRefused g n h t p = (to, back)
 
     to : step g n h t (edit (add p)) .answer ≡ refused 27 → (refusal (opens g n h t p) ≡ none) × (p .size ≢ 0) × (m ≢ 1) × (m ≢ 8) × (m ≢ 2048)
     to a =
-        let w = past20 g n h t p a in
-        let z = holds27 g n h t p (w .2) in
+        let v = first27 g n h t p .0 (refused-row g n h t (edit (add p)) 27 a) in
+        let w = before27 g n h t p .0 (v .0) in
+        let z = not-t _ (v .1) in
         let low = or-false-l (eqb m 1 or eqb m 8) (eqb m 2048) z in (
           w .0,
           w .1,
@@ -111,7 +106,4 @@ otherAlignmentRefused g n h t p = (to, back)
     back w =
         let z : isAlignment m ≡ false = or-false-i _ _ (or-false-i _ _ (ne-eqb m 1 (w .2)) (ne-eqb m 8 (w .3))) (ne-eqb m 2048 (w .4)) in
         ap (λ (o : Outcome). o .answer)
-        (step-refused g n h t (edit (add p)) 27
-        (refusal-append (opens g n h t p) (tableRows (g .first) (lastUsable g n) (tableOf g n h t) (add p)) (w .0)
-        ∙ pick-false (eqb (p .size) 0) 20 (refusal (behind g n h t p)) (ne-eqb (p .size) 0 (w .1))
-        ∙ pick-true (not (isAlignment m)) 27 (refusal (after g n h t p)) (ap not z)))
+        (step-refused g n h t (edit (add p)) 27 (first27 g n h t p .1 (before27 g n h t p .1 (w .0, w .1), ap not z)))

@@ -8,7 +8,7 @@ use lib.ListN.{length, getD, set}
 use Rattle.octets.specs.Tests.{_and_, _or_, any, findIx}
 use Rattle.octets.specs.Rows.{Row, row, refusal}
 use Rattle.octets.specs.Bytes.{le, put, zeros, isZero, same, putChunk}
-use Rattle.gpt_model.specs.Table.{writeAll, noBlocks, entryBytes, slotCount, tableBytes, uniqueOf, firstOf, nameBytes, unused, entries, rangesOf}
+use Rattle.gpt_model.specs.Table.{writeAll, noBlocks, entryBytes, slotCount, tableBytes, uniqueOf, firstOf, nameOf, nameBytes, unused, entries, rangesOf}
 use Rattle.gpt_model.specs.Disk.{Shape, lastUsable, inRange, primary, backup, lentBytes, guidIn, entriesIn, state, tableOf}
 use Rattle.gpt_model.specs.Disk.{withTable, withCopy, freshHead, freshTail}
 use Rattle.gpt_model.specs.declared.NewPartition.{NewPartition}
@@ -61,8 +61,17 @@ badName (u ∷ us) = cond (eqb u 0) (not (isZero us)) (badName us)
 abbrev pub entryOf : List ℕ → ℕ → List ℕ
 entryOf es k = getD (entries es) (k - 1) []
 
-abbrev pub carries : List ℕ → List ℕ → Bool
-carries unique e = not (unused e) and same (uniqueOf e) unique
+-- R11: already in a used slot. a1: already carried by another used slot. The entry e is used, and a part of it, as unique GUID or name, has these bytes
+abbrev pub carries : (List ℕ → List ℕ) → List ℕ → List ℕ → Bool
+carries partOf bytes e = not (unused e) and same (partOf e) bytes
+
+-- a1: a name already carried by another used slot, comparing all 72 bytes. a2: An empty name may repeat. `among` are the entries of the other slots
+abbrev pub nameTaken : List (List ℕ) → List ℕ → Bool
+nameTaken among name = not (isZero (nameBytes name)) and any (carries nameOf (nameBytes name)) among
+
+-- the entries, that of slot k left empty
+abbrev pub otherEntries : List ℕ → ℕ → List (List ℕ)
+otherEntries es k = set (entries es) (k - 1) []
 
 abbrev pub isNone : Option ℕ → Bool
 isNone none = true
@@ -82,14 +91,15 @@ abbrev pub slotRows : List ℕ → ℕ → List Row
 slotRows es k = row (not (leb 1 k and leb k slotCount)) 12 ∷ row (unused (entryOf es k)) 13 ∷ []
 
 -- R10: 20: size zero. R11: 21 / 22: type GUID zero / unique GUID zero or already in a used slot. R13: 24 / 25: no unused slot / no room
--- e5: 27 for any other alignment, after 20
+-- e5: 27 for any other alignment, after 20. a4: 26, after 23 and before 24
 abbrev pub addRows : List ℕ → NewPartition → List Row
 addRows es p =
     row (eqb (p .size) 0) 20
     ∷ row (not (isAlignment (p .alignment))) 27
     ∷ row (isZero (p .kind)) 21
-    ∷ row (isZero (p .unique) or any (carries (p .unique)) (entries es)) 22
+    ∷ row (isZero (p .unique) or any (carries uniqueOf (p .unique)) (entries es)) 22
     ∷ row (badName (p .name)) 23
+    ∷ row (nameTaken (entries es) (p .name)) 26
     ∷ row (not (any unused (entries es))) 24
     ∷ []
 
@@ -121,13 +131,13 @@ module _ (first last : ℕ) (es : List ℕ) where
   abbrev pub startFor : NewPartition → Option ℕ
   startFor p = lowestStart (rangesOf es) first last (p .size) (p .alignment)
 
-  -- R27: Add: 1, 2, 10, 11, 20, 21, 22, 23, 24, 25. e5: 27 for any other alignment, after 20.
+  -- R27: Add: 1, 2, 10, 11, 20, 21, 22, 23, 24, 25. e5: 27 for any other alignment, after 20. a4: 26, after 23 and before 24 (in rename, last).
   -- R28: Delete: 1, 2, 10, 11, 12, 13. R29: Rename the same, then 23. R30: Resize as delete, then 20, 25.
   abbrev pub tableRows : Edit → List Row
   tableRows (add p) = addRows es p ++ (row (isNone (startFor p)) 25 ∷ [])
   tableRows (delete k) = slotRows es k
   tableRows (resize k size) = slotRows es k ++ (row (eqb size 0) 20 ∷ row (not (fitsAt last es k size)) 25 ∷ [])
-  tableRows (rename k name) = slotRows es k ++ (row (badName name) 23 ∷ [])
+  tableRows (rename k name) = slotRows es k ++ (row (badName name) 23 ∷ row (nameTaken (otherEntries es k) name) 26 ∷ [])
 
   -- what an edit answers, and the one entry that it writes, counted from 0
   -- D16: Delete zeroes the slot. D18: Resize sets the last block alone, to the size asked.

@@ -18,7 +18,8 @@ use Rattle.gpt_model.specs.Calls.{entryOf, addRows, change, edited, leng
 use Rattle.gpt_model.specs.Unaligned.{addUnaligned}
 use Rattle.gpt_model.specs.Sizes.{shapeOf, stepBy, formatBy}
 use Rattle.gpt_model.specs.Lists.{Ledger, sizeWas, bookEdit, Snapshot, afterAll, answers, applied, startAfter, rangesIn, StartsAfresh}
-use Rattle.gpt_model.specs.Stored.{SameUsed, EntryHolds, HeadGood, TailGood, SizesOk, ReadSays, FormatSays, Outside, EditSays, RepairSays}
+use Rattle.gpt_model.specs.Stored.{unitBytes, EntryNamed, NamesDiffer, SameUsed, EntryHolds, HeadGood, TailGood, SizesOk, ReadSays, FormatSays}
+use Rattle.gpt_model.specs.Stored.{Outside, EditSays, RepairSays}
 
 -- ---- demand 3
 
@@ -52,26 +53,36 @@ Demand3From =
     (g : Shape) → headerBytes ≤ g .block → (n : ℕ) (es : List ℕ) (r : Snapshot) → StartsAfresh g n es r
     → (cs : List Call) → Sound g n (afterAll (step g n) cs r)
 
--- D19: Demand 3 is one claim about the whole list, not one for each call.
-abbrev pub Demand3 : Type 0
-Demand3 =
+-- what holds after every list of calls, refused ones included, that follows a formatting; the formatting is accepted
+abbrev pub AfterLists : (Shape → ℕ → Snapshot → Type 0) → Type 0
+AfterLists Holds =
     (g : Shape) (n : ℕ) (guid h t : List ℕ) → Formats g n guid h t
-    → (cs : List Call) → (format g n guid h t .answer ≡ accepted []) × Sound g n (afterAll (step g n) cs (startAfter (format g n guid h t)))
+    → (cs : List Call) → (format g n guid h t .answer ≡ accepted []) × Holds g n (afterAll (step g n) cs (startAfter (format g n guid h t)))
 
--- The same of the calls that name that block size, for a disk of that shape with N from least on and head and tail of those lengths.
-abbrev pub Demand3At : ℕ → Shape → ℕ → ℕ → ℕ → Type 0
-Demand3At size g least head tail =
+-- the same of the calls that name that block size, for a disk of that shape with N from least on and head and tail of those lengths
+abbrev pub AfterListsAt : ℕ → Shape → ℕ → ℕ → ℕ → (Shape → ℕ → Snapshot → Type 0) → Type 0
+AfterListsAt size g least head tail Holds =
     (n : ℕ) (guid h t : List ℕ) → least ≤ n → n ≤ 4294967296 → length guid ≡ 16 → isZero guid ≡ false → length h ≡ head → length t ≡ tail
     → (cs : List Call)
-    → (formatBy size n guid h t .answer ≡ accepted []) × Sound g n (afterAll (stepBy size n) cs (startAfter (formatBy size n guid h t)))
+    → (formatBy size n guid h t .answer ≡ accepted []) × Holds g n (afterAll (stepBy size n) cs (startAfter (formatBy size n guid h t)))
 
 -- Q2: N .. is 68 to 4,294,967,296. Q3: the head .. (17,408 bytes), and the tail .. (16,896 bytes).
-abbrev pub Demand3At512 : Type 0
-Demand3At512 = Demand3At 512 disk512 68 17408 16896
+abbrev pub AfterListsAt512 : (Shape → ℕ → Snapshot → Type 0) → Type 0
+AfterListsAt512 Holds = AfterListsAt 512 disk512 68 17408 16896 Holds
 
 -- l1: the head is 6 blocks (24,576 bytes), the tail 5 (20,480); .. and N is 12 to 4,294,967,296.
+abbrev pub AfterListsAt4096 : (Shape → ℕ → Snapshot → Type 0) → Type 0
+AfterListsAt4096 Holds = AfterListsAt 4096 disk4096 12 24576 20480 Holds
+
+-- D19: Demand 3 is one claim about the whole list, not one for each call.
+abbrev pub Demand3 : Type 0
+Demand3 = AfterLists Sound
+
+abbrev pub Demand3At512 : Type 0
+Demand3At512 = AfterListsAt512 Sound
+
 abbrev pub Demand3At4096 : Type 0
-Demand3At4096 = Demand3At 4096 disk4096 12 24576 20480
+Demand3At4096 = AfterListsAt4096 Sound
 
 -- D22: a resize grants or gives back the difference from it: what it grants gives nothing back, and what it gives back grants nothing
 abbrev pub BooksDifference : Type 0
@@ -97,14 +108,19 @@ FitsAlone last es k size =
     let f = firstOf (entryOf es k) in
     (f + size ≤ suc last) × ((b i : ℕ) → f ≤ b → b < f + size → i < slotCount → i ≢ k - 1 → blockIn b (getD (rangesOf es) i noBlocks) ≡ false)
 
--- what an add is given is right, and the table has a slot for it: each line denies one row
-pub record NewOk (es : List ℕ) (p : NewPartition) : Type 0 where
-  pub lengths : (length (p .kind) ≡ 16) × (length (p .unique) ≡ 16) × (length (p .name) ≡ 36)
+-- what an add is given is right: each line denies one row, 20 to 23
+pub record GivenOk (es : List ℕ) (p : NewPartition) : Type 0 where
   pub blocks : p .size ≢ 0
   pub aligned : (p .alignment ≡ 1) ⊎ (p .alignment ≡ 8) ⊎ (p .alignment ≡ 2048)
   pub typed : isZero (p .kind) ≡ false
   pub own : (isZero (p .unique) ≡ false) × ((k : ℕ) → UsedSlot es k → uniqueOf (entryOf es k) ≢ p .unique)
   pub named : NameOk (p .name)
+
+-- so is what the rows after them ask: the name is empty or no used entry carries it (26), and a slot is unused (24)
+pub record NewOk (es : List ℕ) (p : NewPartition) : Type 0 where
+  pub lengths : (length (p .kind) ≡ 16) × (length (p .unique) ≡ 16) × (length (p .name) ≡ 36)
+  pub given : GivenOk es p
+  pub single : (isZero (unitBytes (p .name)) ≡ true) ⊎ ((i : ℕ) → ¬ EntryNamed es i (p .name))
   pub slot : (k : ℕ) × (1 ≤ k) × (k ≤ slotCount) × (unused (entryOf es k) ≡ true)
 
 -- an add is accepted when it comes next, with the table es
@@ -138,8 +154,11 @@ pub record Serves (g : Shape) (n : ℕ) (es : List ℕ) (r : Snapshot) : Type 0 
       → step g n (r .head) (r .tail) freeCounts .answer ≡ accepted (free ∷ longest ∷ []) → AcceptsNew g n es r p ↔ (p .size ≤ longest)
   -- a delete is accepted exactly when its slot is used
   pub deletes : (k : ℕ) → Accepts g n r (delete k) ↔ UsedSlot es k
-  -- a rename, exactly when it has 36 units, its slot is used and no nonzero unit comes after a zero one
-  pub renames : (k : ℕ) (name : List ℕ) → Accepts g n r (rename k name) ↔ ((length name ≡ 36) × UsedSlot es k × NameOk name)
+  -- a rename, exactly when it has 36 units, its slot is used, no nonzero unit comes after a zero one, and the name is empty or no other used entry carries it
+  pub renames : (k : ℕ) (name : List ℕ)
+      → Accepts g n r (rename k name)
+      ↔ ((length name ≡ 36) × UsedSlot es k × NameOk name
+      × ((isZero (unitBytes name) ≡ true) ⊎ ((i : ℕ) → suc i ≢ k → ¬ EntryNamed es i name)))
   -- a resize, exactly when its slot is used, its size is not zero, and no block of the new range lies past N−34 or in another partition
   pub resizes : (k size : ℕ) → Accepts g n r (resize k size) ↔ (UsedSlot es k × ((0 < size) × FitsAlone (lastUsable g n) es k size))
 
@@ -149,6 +168,53 @@ NotEmpty =
     (g : Shape) (n : ℕ) (guid h t : List ℕ) → Formats g n guid h t → (cs : List Call)
     → let r = startAfter (format g n guid h t) in
     Serves g n (applied (g .first) (lastUsable g n) (zeros tableBytes) cs (answers (step g n) cs r)) (afterAll (step g n) cs r)
+
+-- ---- names
+
+-- On a disk that this library formatted, no two used entries carry the same name after any list of calls, unless it is empty: the boot loader finds each by
+-- its name.
+abbrev pub NamesDifferIn : Shape → ℕ → Snapshot → Type 0
+NamesDifferIn g n r = NamesDiffer (tableOf g n (r .head) (r .tail))
+
+abbrev pub OneByName : Type 0
+OneByName = AfterLists NamesDifferIn
+
+abbrev pub OneByNameAt512 : Type 0
+OneByNameAt512 = AfterListsAt512 NamesDifferIn
+
+abbrev pub OneByNameAt4096 : Type 0
+OneByNameAt4096 = AfterListsAt4096 NamesDifferIn
+
+-- and from every start afresh with a table whose names differ
+abbrev pub OneByNameFrom : Type 0
+OneByNameFrom =
+    (g : Shape) → headerBytes ≤ g .block → (n : ℕ) (es : List ℕ) (r : Snapshot) → StartsAfresh g n es r → NamesDiffer es
+    → (cs : List Call) → NamesDifferIn g n (afterAll (step g n) cs r)
+
+-- a4: 26, after 23 and before 24 (in rename, last): exactly where no row before it holds, the name is not empty and another used entry carries it
+abbrev pub TakenNameRefused : Type 0
+TakenNameRefused =
+    (g : Shape) (n : ℕ) (h t : List ℕ)
+    → let es = tableOf g n h t in
+    ((p : NewPartition)
+    → (step g n h t (edit (add p)) .answer ≡ refused 26)
+    ↔ ((refusal (openRows g n h t (lengthsOf (add p))) ≡ none) × GivenOk es p × (isZero (unitBytes (p .name)) ≡ false)
+    × ((i : ℕ) × EntryNamed es i (p .name))))
+    × ((k : ℕ) (name : List ℕ)
+    → (step g n h t (edit (rename k name)) .answer ≡ refused 26)
+    ↔ ((refusal (openRows g n h t (lengthsOf (rename k name))) ≡ none) × UsedSlot es k × NameOk name
+    × (isZero (unitBytes name) ≡ false) × ((i : ℕ) × (suc i ≢ k) × EntryNamed es i name)))
+
+-- a3: Disks that already hold doubles still read. Whatever 72 bytes another tool writes as the name of entry i alone, in both copies and with right CRCs, the
+-- disk still reads as state 1, with that table, and each entry has the blocks that it had.
+abbrev pub AnyNameReads : Type 0
+AnyNameReads =
+    (g : Shape) (n : ℕ) (h t : List ℕ) (i : ℕ) (name : List ℕ) → headerBytes ≤ g .block → i < slotCount → length name ≡ 72
+    → step g n h t read .answer ≡ accepted (1 ∷ [])
+    → let es = put (i * entryBytes + 56) name (tableOf g n h t) in
+    let h′ = withTable g n primary (guidIn g primary h) es h in
+    let t′ = withTable g n backup (guidIn g backup t) es t in
+    (step g n h′ t′ read .answer ≡ accepted (1 ∷ [])) × (tableOf g n h′ t′ ≡ es) × (rangesOf es ≡ rangesOf (tableOf g n h t))
 
 -- ---- demand 1. R1: A refusal returns its number alone .. and changes no lent byte.
 

@@ -2,12 +2,12 @@
 -- The rules are said here a second time, in byte positions: no field, entry or byte position is taken from Table, Disk or Calls.
 use mathlib.Core.Path.{_≡_}
 use mathlib.Core.Logic.{_⊎_, _≢_, _↔_}
-use mathlib.Core.Bool.{false}
-use mathlib.Core.List.{List, [], _∷_}
+use mathlib.Core.Bool.{true, false}
+use mathlib.Core.List.{List, [], _∷_, map}
 use Prim.Native.Nat.{ℕ, suc, _+_, _-_, _*_, _≤_, _<_}
 use lib.ListN.{length, getD}
 use Rattle.octets.specs.Ascii.{ascii}
-use Rattle.octets.specs.Bytes.{le, unle, part, put, zeros, isZero}
+use Rattle.octets.specs.Bytes.{le, unle, part, put, zeros, isZero, flat}
 use Rattle.crc_lanes.specs.Crc.{crc32}
 use Rattle.gpt_model.specs.Table.{rangesOf}
 use Rattle.gpt_model.specs.Disk.{Shape}
@@ -30,6 +30,10 @@ entryFirst es i = unle (part (i * 128 + 32) 8 es)
 abbrev pub entryLast : List ℕ → ℕ → ℕ
 entryLast es i = unle (part (i * 128 + 40) 8 es)
 
+-- D5: name 56 as 36 16-bit units
+abbrev pub entryNameBytes : List ℕ → ℕ → List ℕ
+entryNameBytes es i = part (i * 128 + 56) 72 es
+
 -- D6: An entry is unused when its type GUID is zero; a used entry is one that is not unused.
 abbrev pub EntryUsed : List ℕ → ℕ → Type 0
 EntryUsed es i = isZero (entryType es i) ≡ false
@@ -37,6 +41,19 @@ EntryUsed es i = isZero (entryType es i) ≡ false
 -- the two tables have the same used entries: each entry is used in neither, or has the same bytes in both
 abbrev pub SameUsed : List ℕ → List ℕ → Type 0
 SameUsed es es′ = (i : ℕ) → i < 128 → ((¬ EntryUsed es i) × (¬ EntryUsed es′ i)) ⊎ (part (i * 128) 128 es ≡ part (i * 128) 128 es′)
+
+-- the bytes of a name that is given as units
+abbrev pub unitBytes : List ℕ → List ℕ
+unitBytes units = flat (map (le 2) units)
+
+-- a1: entry i is used and carries that name, comparing all 72 bytes
+abbrev pub EntryNamed : List ℕ → ℕ → List ℕ → Type 0
+EntryNamed es i units = (i < 128) × EntryUsed es i × (entryNameBytes es i ≡ unitBytes units)
+
+-- no two used entries carry the same name. a2: An empty name may repeat.
+abbrev pub NamesDiffer : List ℕ → Type 0
+NamesDiffer es =
+    (i j : ℕ) → i < 128 → j < 128 → i ≢ j → EntryUsed es i → EntryUsed es j → entryNameBytes es i ≡ entryNameBytes es j → isZero (entryNameBytes es i) ≡ true
 
 -- D21: A block lies in a partition when it is one of first to last of a used entry
 abbrev pub EntryHolds : List ℕ → ℕ → ℕ → Type 0

@@ -27,6 +27,10 @@ firstOf e = field 32 8 e
 abbrev pub lastOf : List ℕ → ℕ
 lastOf e = field 40 8 e
 
+abbrev pub nameOf : List ℕ → List ℕ
+nameOf e = part 56 72 e
+
+-- the 72 bytes of a name, given as units
 abbrev pub nameBytes : List ℕ → List ℕ
 nameBytes units = flat (map (le 2) units)
 

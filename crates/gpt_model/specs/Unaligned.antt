@@ -7,11 +7,11 @@ use lib.Dec.{eqb}
 use Rattle.octets.specs.Tests.{_or_, any}
 use Rattle.octets.specs.Rows.{Row, row, refusal}
 use Rattle.octets.specs.Bytes.{isZero, putChunk}
-use Rattle.gpt_model.specs.Table.{entryBytes, unused, entries, rangesOf}
+use Rattle.gpt_model.specs.Table.{entryBytes, uniqueOf, unused, entries, rangesOf}
 use Rattle.gpt_model.specs.Disk.{Shape, lastUsable, primary, backup, guidIn, tableOf, withTable}
 use Rattle.gpt_model.specs.Ranges.{roomAt, lowestFrom}
 use Rattle.gpt_model.specs.declared.NewPartition.{NewPartition}
-use Rattle.gpt_model.specs.Calls.{add, accepted, Outcome, outcome, unlessRefused, badName, carries, isNone, orZero}
+use Rattle.gpt_model.specs.Calls.{add, accepted, Outcome, outcome, unlessRefused, badName, carries, nameTaken, isNone, orZero}
 use Rattle.gpt_model.specs.Calls.{lowestUnused, newEntry, lengthsOf, openRows}
 
 module _ (g : Shape) (n : ℕ) (h t : List ℕ) (p : NewPartition) where
@@ -22,14 +22,15 @@ module _ (g : Shape) (n : ℕ) (h t : List ℕ) (p : NewPartition) where
   abbrev pub startUnaligned : Option ℕ
   startUnaligned = lowestFrom (roomAt (rangesOf es) (lastUsable g n) (p .size)) (g .first) (suc (lastUsable g n) - g .first)
 
-  -- R27: Add: 1, 2, 10, 11, 20, 21, 22, 23, 24, 25.
+  -- R27: Add: 1, 2, 10, 11, 20, 21, 22, 23, 24, 25. a4: 26, after 23 and before 24
   abbrev pub rowsUnaligned : List Row
   rowsUnaligned =
       openRows g n h t (lengthsOf (add p))
       ++ (row (eqb (p .size) 0) 20
       ∷ row (isZero (p .kind)) 21
-      ∷ row (isZero (p .unique) or any (carries (p .unique)) (entries es)) 22
+      ∷ row (isZero (p .unique) or any (carries uniqueOf (p .unique)) (entries es)) 22
       ∷ row (badName (p .name)) 23
+      ∷ row (nameTaken (entries es) (p .name)) 26
       ∷ row (not (any unused (entries es))) 24
       ∷ row (isNone startUnaligned) 25
       ∷ [])

@@ -1,12 +1,13 @@
 -- Laws of refusal rows: `passes` hands out the fact of the row with a given number, whatever stands around it.
 use mathlib.Core.Path.{_≡_, refl, sym, ap, _∙_}
-use mathlib.Core.Logic.{_⊎_, inl, inr}
+use mathlib.Core.Logic.{_⊎_, inl, inr, _↔_}
 use mathlib.Core.Bool.{Bool, true, false, cond, true≢false, false≢true}
 use mathlib.Core.List.{List, [], _∷_, _++_}
 use mathlib.Core.Option.{Option, none, some}
 use Prim.Native.Nat.{ℕ}
 use lib.Dec.{eqb}
-use borrow.Author.Tests.{eq-eqb}
+use lib.ListN.{drop}
+use borrow.Author.Tests.{eq-eqb, eqb-true}
 use Rattle.octets.specs.Tests.{_and_, any}
 use Rattle.octets.specs.Rows.{Row, pickRow, refusal}
 use Rattle.octets.proofs.Bools.{and-i, or-il, or-ir, or-false-l, or-false-r, some-none, bool-cases, clash}
@@ -35,6 +36,11 @@ testOf k (r ∷ rs) = cond (eqb k (r .number)) (r .holds) (testOf k rs)
 abbrev pub rowsFrom : ℕ → List Row → List Row
 rowsFrom k [] = []
 rowsFrom k (r ∷ rs) = cond (eqb k (r .number)) (r ∷ rs) (rowsFrom k rs)
+
+-- the rows before that of the number k
+abbrev pub rowsBefore : ℕ → List Row → List Row
+rowsBefore k [] = []
+rowsBefore k (r ∷ rs) = cond (eqb k (r .number)) [] (r ∷ rowsBefore k rs)
 
 -- where no row holds, the row of each number does not: read off by number, whatever stands around it
 pub passes : (k : ℕ) (rs : List Row) → refusal rs ≡ none → testOf k rs ≡ false
@@ -98,3 +104,45 @@ refusal-holds k (r ∷ rs) e = go (bool-cases (r .holds)) (refusal-holds k rs)
         let z : k ≡ r .number = cc in
         or-il _ _ (and-i _ _ (eq-eqb k (r .number) z) q)
     go (inr q) ih = or-ir _ _ (ih (sym (pick-false (r .holds) (r .number) (refusal rs) q) ∙ e))
+
+-- ---- a refusal with the number k
+
+numberless : (k : ℕ) (rs : List Row) → any (λ r. eqb k (r .number)) rs ≡ false → refusal rs ≡ some k → ⊥
+numberless k [] o e = some-none (sym e)
+numberless k (r ∷ rs) o e = go (bool-cases (r .holds)) (numberless k rs)
+  where
+    go : (r .holds ≡ true) ⊎ (r .holds ≡ false) → (any (λ r. eqb k (r .number)) rs ≡ false → refusal rs ≡ some k → ⊥) → ⊥
+    go (inl q) ih =
+        let n : some (r .number) ≡ some k = sym (pick-true _ _ (refusal rs) q) ∙ e in
+        let w : k ≡ r .number = cc in
+        clash (eq-eqb k (r .number) w) (or-false-l _ _ o)
+    go (inr q) ih = ih (or-false-r _ _ o) (sym (pick-false _ _ (refusal rs) q) ∙ e)
+
+-- is given exactly where no row before that of k holds, and that one does; no row after it has its number
+pub refused-by : (k : ℕ) (rs : List Row) → any (λ r. eqb k (r .number)) (drop 1 (rowsFrom k rs)) ≡ false
+    → (refusal rs ≡ some k) ↔ ((refusal (rowsBefore k rs) ≡ none) × (testOf k rs ≡ true))
+refused-by k [] o = (λ e. absurd (some-none (sym e)), λ w. absurd (false≢true (w .1)))
+refused-by k (r ∷ rs) o = go (bool-cases (eqb k (r .number))) (bool-cases (r .holds)) (refused-by k rs)
+  where
+    Exactly : List Row → Type 0
+    Exactly qs = (refusal qs ≡ some k) ↔ ((refusal (rowsBefore k qs) ≡ none) × (testOf k qs ≡ true))
+
+    go : (eqb k (r .number) ≡ true) ⊎ (eqb k (r .number) ≡ false) → (r .holds ≡ true) ⊎ (r .holds ≡ false)
+        → (any (λ r. eqb k (r .number)) (drop 1 (rowsFrom k rs)) ≡ false → Exactly rs) → Exactly (r ∷ rs)
+    go (inl q) (inl h) ih = (λ e. rw q (refl, h), λ w. pick-true _ _ (refusal rs) h ∙ ap some (sym (eqb-true k (r .number) q)))
+    go (inl q) (inr h) ih = (
+      λ e. absurd (numberless k rs (rw q at o) (sym (pick-false _ _ (refusal rs) h) ∙ e)),
+      λ w. absurd (clash (rw q at (w .1)) h),
+    )
+    go (inr q) (inl h) ih = (
+      λ e. let n : some (r .number) ≡ some k = sym (pick-true _ _ (refusal rs) h) ∙ e in
+          let w : k ≡ r .number = cc in
+          absurd (clash (eq-eqb k (r .number) w) q),
+      λ w. absurd (some-none (sym (pick-true _ _ (refusal (rowsBefore k rs)) h) ∙ rw q at (w .0))),
+    )
+    go (inr q) (inr h) ih =
+        let v = ih (rw q at o) in (
+          λ e. let w = v .0 (sym (pick-false _ _ (refusal rs) h) ∙ e) in rw q (pick-false _ _ (refusal (rowsBefore k rs)) h ∙ w .0, w .1),
+          λ w. pick-false _ _ (refusal rs) h
+              ∙ v .1 (sym (pick-false _ _ (refusal (rowsBefore k rs)) h) ∙ rw q at (w .0), rw q at (w .1)),
+        )
