@@ -1,23 +1,23 @@
 -- The rows of a call by its stages: those before an edit's own, then its own over the table that reading uses.
-use mathlib.Core.Path.{_≡_, sym, ap, _∙_}
+use mathlib.Core.Path.{_≡_, refl, sym, ap, _∙_}
 use mathlib.Core.Logic.{_≢_}
 use mathlib.Core.Bool.{Bool, true, false, not}
-use mathlib.Core.List.{List, _++_}
+use mathlib.Core.List.{List, [], _∷_, _++_}
 use mathlib.Core.Option.{Option, none, some}
-use Prim.Native.Nat.{ℕ, _*_, _≤_, _<_}
+use Prim.Native.Nat.{ℕ, _-_, _*_, _≤_, _<_}
 use native.Mathlib.Omega.{arith}
 use lib.Dec.{eqb}
-use lib.ListN.{length}
+use lib.ListN.{length, set}
 use borrow.Author.Tests.{eqb-true, eqb-false, leb-true, eq-eqb, ne-eqb}
 use Rattle.octets.specs.Tests.{_and_}
 use Rattle.octets.specs.Rows.{Row, row, refusal}
 use Rattle.octets.proofs.Bools.{and-l, and-r, and-i, not-f, some-none}
 use Rattle.octets.proofs.Rows.{rowsFrom, passes, pick-true, pick-false, refusal-append, refusal-first, refusal-before}
 use Rattle.gpt_model.specs.Ranges.{lowestStart}
-use Rattle.gpt_model.specs.Table.{rangesOf}
+use Rattle.gpt_model.specs.Table.{entries, rangesOf}
 use Rattle.gpt_model.specs.Disk.{Shape, mostBlocks, lastUsable, inRange, primary, backup, lentBytes, entriesIn, state, tableOf}
 use Rattle.gpt_model.specs.declared.NewPartition.{NewPartition}
-use Rattle.gpt_model.specs.Calls.{Edit, add, delete, resize, rename, edit, slotRows, addRows, fitsAt, startFor, tableRows, isNone, lengthsOf, lengthsOk, lentRows, openRows, rowsOf, formatRows}
+use Rattle.gpt_model.specs.Calls.{Edit, add, delete, resize, rename, edit, badName, nameTaken, slotRows, addRows, fitsAt, startFor, tableRows, isNone, lengthsOf, lengthsOk, lentRows, openRows, rowsOf, formatRows}
 use Rattle.gpt_model.proofs.Outcomes.{edit-decides, edit-stops}
 use Rattle.gpt_model.proofs.Accepts.{alignment-least}
 use Rattle.gpt_model.proofs.States.{one-primary}
@@ -27,8 +27,8 @@ use Rattle.gpt_room.specs.declared.Place.{Place}
 use Rattle.gpt_room.specs.declared.Place.the-variants as found
 use Rattle.gpt_copies.specs.States.{stateNumber}
 use Rattle.gpt_copies.specs.declared.State.{State}
-use Rattle.gpt_checks.proofs.Rows.{rowsAfter, in-order, slot-number}
-use Rattle.gpt_checks.specs.Checks.{stopOf}
+use Rattle.gpt_checks.proofs.Rows.{in-order, row-is, slot-number}
+use Rattle.gpt_checks.specs.Checks.{stopOf, rowAfter}
 use Rattle.gpt_checks.specs.Refusals.{numberOf}
 use Rattle.gpt_checks.specs.declared.Refusal.{Refusal}
 use Rattle.gpt_checks.specs.declared.Check.{Check}
@@ -118,7 +118,7 @@ module _ (g : Shape) (n : ℕ) (h t : List ℕ) where
   pub open-stops : (d : Edit) → lengthsOf d ≡ true → (k : ℕ) → refusal (openRows g n h t true) ≡ some k → some k ≡ refusal (rowsOf g n h t (edit d))
   open-stops d l k e = sym (edit-stops g n h t d k (open-is d l ∙ e))
 
-  -- ---- R29: Rename the same, then 23. R30: Resize as delete, then 20, 25
+  -- ---- R29: Rename the same, then 23 (a4: 26 last). R30: Resize as delete, then 20, 25
 
   module _ (k : ℕ) where
     abbrev slotted : List Row
@@ -130,13 +130,39 @@ module _ (g : Shape) (n : ℕ) (h t : List ℕ) where
     pub delete-slot : refusal slotted ≡ none → (1 ≤ k) × (k ≤ 128)
     delete-slot e = slot-number k (passes 12 slotted e)
 
-    -- where the name has its length, the rows of renaming are those of a delete, then its own
-    pub rename-is : (name : List ℕ) → length name ≡ 36
-        → rowsAfter (refusal slotted) (rowsFrom 23 (rowsOf g n h t (edit (rename k name)))) ≡ refusal (rowsOf g n h t (edit (rename k name)))
-    rename-is name l =
-        in-order slotted (rowsFrom 23 (rowsOf g n h t (edit (rename k name))))
-        ∙ sym (ap (λ (b : Bool). refusal (openRows g n h t b ++ tableRows (g .first) (lastUsable g n) (tableOf g n h t) (rename k name)))
-        (eq-eqb (length name) 36 l))
+    -- where the name has its length, the rows of renaming are those of a delete, then 23 and 26
+    module _ (name : List ℕ) (l : length name ≡ 36) where
+      abbrev named : List Row
+      named = slotted ++ (row (badName name) 23 ∷ [])
+
+      abbrev last26 : List Row
+      last26 = rowsFrom 26 (rowsOf g n h t (edit (rename k name)))
+
+      abbrev renamed : Option ℕ
+      renamed = refusal (rowsOf g n h t (edit (rename k name)))
+
+      rename-is : refusal (named ++ last26) ≡ renamed
+      rename-is =
+          sym (ap (λ (b : Bool). refusal (openRows g n h t b ++ tableRows (g .first) (lastUsable g n) (tableOf g n h t) (rename k name))) (eq-eqb (length name) 36 l))
+
+      -- a row after the check of a delete
+      pub named-is : {q r : Option ℕ} {b : Bool} → r ≡ rowAfter q (row b 23) → q ≡ refusal slotted → b ≡ badName name → r ≡ refusal named
+      named-is e p f = e ∙ row-is 23 p f ∙ in-order slotted (row (badName name) 23 ∷ [])
+
+      pub rename-stops : (j : ℕ) → refusal named ≡ some j → some j ≡ renamed
+      rename-stops j e = sym (refusal-first named last26 j e) ∙ rename-is
+
+      pub rename-slot : refusal named ≡ none → refusal slotted ≡ none
+      rename-slot e = refusal-before slotted (row (badName name) 23 ∷ []) e .0
+
+      -- the other names are asked of a part tb of the head that holds the table
+      pub rename-last : refusal named ≡ none → (tb : List ℕ) → tb ≡ entriesIn g primary h → (b : Bool) → b ≡ nameTaken (set (entries tb) (k - 1) []) name
+          → rowAfter none (row b 26) ≡ renamed
+      rename-last e tb is b q =
+          row-is 26 refl (q ∙ ap (λ (es : List ℕ). nameTaken (set (entries es) (k - 1) []) name) (is ∙ table-is (delete-open (rename-slot e))))
+          ∙ in-order [] last26
+          ∙ sym (refusal-append named last26 e)
+          ∙ rename-is
 
     module _ (size : ℕ) where
       abbrev own : List Row

@@ -6,17 +6,18 @@ use mathlib.Core.Option.{Option, none, some}
 use Prim.Native.Nat.{ℕ, _*_, _≤_, _<_}
 use native.Mathlib.Omega.{arith}
 use lib.Dec.{leb, eqb}
-use lib.ListN.{length}
+use lib.ListN.{length, set}
 use borrow.Author.Tests.{eq-eqb, ne-eqb, eqb-true, eqb-false, le-leb, lt-leb, leb-true, le-ltb, lt-ltb}
 use mathlib.Core.Logic.{_≢_, _⊎_, inl, inr}
 use Rattle.octets.specs.Tests.{_and_, _or_, any, findIx}
+use Rattle.octets.specs.Bytes.{part, isZero}
 use Rattle.octets.specs.Rows.{Row, row, pickRow, refusal}
-use Rattle.octets.proofs.Bools.{and-l, and-r, and-i, not-f, bool-cases}
+use Rattle.octets.proofs.Bools.{and-l, and-r, and-i, and-t, and-false-l, not-f, bool-cases}
 use Rattle.octets.proofs.Rows.{rowsFrom, pick-true, pick-false, refusal-append, refusal-first}
 use Rattle.gpt_model.specs.Disk.{Shape, mostBlocks, primary, backup, lentBytes, inRange}
-use Rattle.gpt_model.specs.Table.{unused, entries}
-use Rattle.gpt_model.specs.Calls.{lengthsOk, lentRows, formatRows, entryOf, slotRows}
-use Rattle.gpt_table.proofs.Entries.{some-unused}
+use Rattle.gpt_model.specs.Table.{uniqueOf, nameOf, nameBytes, unused, entries}
+use Rattle.gpt_model.specs.Calls.{lengthsOk, lentRows, formatRows, entryOf, carries, nameTaken, slotRows}
+use Rattle.gpt_table.proofs.Entries.{some-unused, all-in}
 use Rattle.gpt_checks.specs.Checks.{stopOf, rowAfter}
 use Rattle.gpt_checks.specs.Refusals.{numberOf}
 use Rattle.gpt_checks.specs.declared.Refusal.{Refusal}
@@ -140,3 +141,24 @@ full-is es i e l = go (bool-cases (eqb i 128))
     go (inr q) =
         let w : i ≢ 128 = eqb-false i 128 q in
         q ∙ sym (ap not (some-unused es ∙ lt-ltb (findIx unused (entries es)) 128 (omega (arith, e, l))))
+
+-- ---- rows 22 and 26 of adding, 26 of renaming: a part that a used entry carries
+
+-- with none left out
+pub unique-is : (es unique : List ℕ) (b : Bool) → length unique ≡ 16 → b ≡ any (carries (part 16 (length unique)) unique) (set (entries es) 128 [])
+    → b ≡ any (carries uniqueOf unique) (entries es)
+unique-is es unique b l q =
+    q ∙ ap (λ (k : ℕ). any (carries (part 16 k) unique) (set (entries es) 128 [])) l ∙ ap (any (carries uniqueOf unique)) (all-in es)
+
+pub new-name-is : (es name : List ℕ) (b : Bool) → b ≡ nameTaken (set (entries es) 128 []) name → b ≡ nameTaken (entries es) name
+new-name-is es name b q = q ∙ ap (λ (ds : List (List ℕ)). nameTaken ds name) (all-in es)
+
+-- the bytes x of the name
+module _ (ds : List (List ℕ)) (name x : List ℕ) (e : x ≡ nameBytes name) where
+  pub name-empty : isZero x ≡ true → false ≡ nameTaken ds name
+  name-empty z = sym (and-false-l _ _ (ap not (sym (ap isZero e) ∙ z)))
+
+  pub name-is : length x ≡ 72 → isZero x ≡ false → (b : Bool) → b ≡ any (carries (part 56 (length x)) x) ds → b ≡ nameTaken ds name
+  name-is l z b q =
+      and-t (ap not (sym (ap isZero e) ∙ z))
+      (q ∙ ap (λ (k : ℕ). any (carries (part 56 k) x) ds) l ∙ ap (λ (y : List ℕ). any (carries nameOf y) ds) e)

@@ -2,9 +2,9 @@
 use Prim.Native.Nat.{ℕ}
 use Rattle.gpt_checks.specs.declared.Refusal.{Refusal}
 use Rattle.gpt_checks.specs.declared.Refusal.the-variants.{BlockSize, WrongLength, BlockCount, NoDiskGuid, NeitherGood, NotTheSame, NoSuchSlot}
-use Rattle.gpt_checks.specs.declared.Refusal.the-variants.{SlotUnused, NoSize, Alignment, NoType, NoUniqueGuid, BadName, NoUnusedSlot, NoRoom}
+use Rattle.gpt_checks.specs.declared.Refusal.the-variants.{SlotUnused, NoSize, Alignment, NoType, NoUniqueGuid, BadName, NameTaken, NoUnusedSlot, NoRoom}
 
--- l7 (6 for another block size), then R4 to R13, in the order there, with e5 (27 for any other alignment, after 20)
+-- l7 (6 for another block size), then R4 to R13, in the order there, with e5 (27 for any other alignment, after 20) and a4 (26, after 23 and before 24)
 abbrev pub numberOf : Refusal → ℕ
 numberOf BlockSize = 6
 numberOf WrongLength = 1
@@ -19,5 +19,6 @@ numberOf Alignment = 27
 numberOf NoType = 21
 numberOf NoUniqueGuid = 22
 numberOf BadName = 23
+numberOf NameTaken = 26
 numberOf NoUnusedSlot = 24
 numberOf NoRoom = 25

@@ -1,24 +1,27 @@
 // The judges of the disk calls: each goes through the call's rows of refusals in the rules' order, to the first that holds. They write nothing.
 // An inner crate: no user calls it, so its functions may have a `requires`, which each caller meets.
 use gpt_copies::State;
+use gpt_entry::NAME_AT;
 use gpt_model::Block;
 use gpt_model::NewPartition;
 use gpt_model::Shape;
 use gpt_places::SLOTS;
 use gpt_places::Side;
 use gpt_room::Place;
+use gpt_table::UNIQUE_AT;
 ghost use mathlib.Core.Path.{_≡_};
 ghost use mathlib.Core.Bool.{true, not};
+ghost use mathlib.Core.List.{[]};
 ghost use mathlib.Core.Option.{some};
 ghost use Prim.Native.Nat.{ℕ, _≤_};
-ghost use lib.ListN.{length};
+ghost use lib.ListN.{length, set};
 ghost use Rattle.octets.specs.Tests.{_or_, any};
 ghost use Rattle.octets.specs.Bytes.{isZero};
 ghost use Rattle.octets.specs.Rows.{row, refusal};
-ghost use Rattle.gpt_model.specs.Table.{tableBytes, unused, entries};
+ghost use Rattle.gpt_model.specs.Table.{tableBytes, uniqueOf, unused, entries};
 ghost use Rattle.gpt_model.specs.Ranges.{isAlignment};
 ghost use Rattle.gpt_model.specs.Disk.{lastUsable, mostBlocks, tableOf};
-ghost use Rattle.gpt_model.specs.Calls.{lentRows, openRows, formatRows, carries, slotRows, addRows, startFor, tableRows, rowsOf, edit};
+ghost use Rattle.gpt_model.specs.Calls.{lentRows, openRows, formatRows, carries, nameTaken, slotRows, addRows, startFor, tableRows, rowsOf, edit};
 ghost use Rattle.gpt_model.specs.Calls.{add as addCall, delete as deleteCall, resize as resizeCall, rename as renameCall};
 ghost use Rattle.gpt_places.specs.Invariants.{Legal, Fits};
 ghost use Rattle.gpt_checks.specs.Checks.{stopOf, rowAfter, stopBy, startBy};
@@ -39,6 +42,7 @@ pub enum Refusal {
     NoType,
     NoUniqueGuid,
     BadName,
+    NameTaken,
     NoUnusedSlot,
     NoRoom,
 }
@@ -150,16 +154,39 @@ pub fn delete(head: &[u8], tail: &[u8], n: u64, shape: Shape, number: u64) -> Ch
     }
 }
 
-// R29: Rename the same, then 23.
+// 26: the name is not empty, and some used entry but entry `but` (SLOTS: of all) has its 72 bytes.
+fn name_taken(table: &[u8], but: usize, name: &[u16]) -> bool
+    requires { ⌜ (length (now table) ≡ tableBytes) × (length (now name) ≡ 36) ⌝ }
+    ensures { λ r. ⌜ r ≡ nameTaken (set (entries (now (table .entry))) but []) (now (name .entry)) ⌝ }
+{
+    let bytes = gpt_entry::name_bytes(name);
+    if octets::is_zero(&bytes) {
+        return false;
+    }
+    gpt_table::carried(table, but, NAME_AT, &bytes)
+}
+
+// R29: Rename the same, then 23. a4: 26 (in rename, last).
 pub fn rename(head: &[u8], tail: &[u8], n: u64, shape: Shape, number: u64, name: &[u16]) -> Check
     requires { ⌜ (length (now name) ≡ 36) × Legal shape ⌝ }
     ensures { λ r. ⌜ stopOf r ≡ refusal (rowsOf shape n (now (head .entry)) (now (tail .entry)) (edit (renameCall number (now (name .entry))))) ⌝ }
 {
-    row_after(
+    match row_after(
         delete(head, tail, n, shape, number),
         gpt_table::bad_name(name),
         Refusal::BadName,
-    )
+    ) {
+        Check::Stop(r) => Check::Stop(r),
+        Check::Pass => row_after(
+            Check::Pass,
+            name_taken(
+                gpt_places::entries_in(head, Side::Primary, shape),
+                (number - 1) as usize,
+                name,
+            ),
+            Refusal::NameTaken,
+        ),
+    }
 }
 
 // R30: Resize as delete, then 20, 25. The room is asked before a last block is formed, so no size is too large.
@@ -188,13 +215,13 @@ pub fn resize(head: &[u8], tail: &[u8], n: u64, shape: Shape, number: u64, size:
 
 // 22: the unique GUID is zero, or some used entry has it.
 fn taken(table: &[u8], unique: &[u8]) -> bool
-    requires { ⌜ length (now table) ≡ tableBytes ⌝ }
-    ensures { λ r. ⌜ r ≡ (isZero (now (unique .entry)) or any (carries (now (unique .entry))) (entries (now (table .entry)))) ⌝ }
+    requires { ⌜ (length (now table) ≡ tableBytes) × (length (now unique) ≡ 16) ⌝ }
+    ensures { λ r. ⌜ r ≡ (isZero (now (unique .entry)) or any (carries uniqueOf (now (unique .entry))) (entries (now (table .entry)))) ⌝ }
 {
     if octets::is_zero(unique) {
         return true;
     }
-    gpt_table::carried(table, unique)
+    gpt_table::carried(table, SLOTS, UNIQUE_AT, unique)
 }
 
 // 24.
@@ -218,7 +245,7 @@ fn other_alignment(alignment: u64) -> bool
     alignment != 2048
 }
 
-// 20, 27, 21, 22, 23, 24.
+// 20, 27, 21, 22, 23, 26, 24.
 fn new(table: &[u8], p: NewPartition) -> Check
     requires { ⌜ length (now table) ≡ tableBytes ⌝ }
     ensures { λ r. ⌜ stopOf r ≡ refusal (addRows (now (table .entry)) p) ⌝ }
@@ -228,6 +255,7 @@ fn new(table: &[u8], p: NewPartition) -> Check
     let c = row_after(c, octets::is_zero(&p.kind), Refusal::NoType);
     let c = row_after(c, taken(table, &p.unique), Refusal::NoUniqueGuid);
     let c = row_after(c, gpt_table::bad_name(&p.name), Refusal::BadName);
+    let c = row_after(c, name_taken(table, SLOTS, &p.name), Refusal::NameTaken);
     row_after(c, full(table), Refusal::NoUnusedSlot)
 }
 
@@ -252,7 +280,7 @@ fn place(table: &[u8], n: u64, shape: Shape, p: NewPartition) -> Start
     }
 }
 
-// R27: Add: 1, 2, 10, 11, 20, 21, 22, 23, 24, 25. e5: 27 for any other alignment, after 20.
+// R27: Add: 1, 2, 10, 11, 20, 21, 22, 23, 24, 25. e5: 27 for any other alignment, after 20. a4: 26, after 23 and before 24.
 pub fn add(head: &[u8], tail: &[u8], n: u64, shape: Shape, p: NewPartition) -> Start
     requires { ⌜ Legal shape ⌝ }
     ensures { λ r. ⌜ (stopBy r ≡ refusal (rowsOf shape n (now (head .entry)) (now (tail .entry)) (edit (addCall p))))

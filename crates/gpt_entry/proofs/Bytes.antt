@@ -17,32 +17,40 @@ name-snoc : (us : List ℕ) (u : ℕ) → nameBytes (us ++ (u ∷ [])) ≡ nameB
 name-snoc [] u = append-nil (le 2 u)
 name-snoc (v ∷ us) u = ap (λ (l : List ℕ). le 2 v ++ l) (name-snoc us u) ∙ sym (append-assoc (le 2 v) (nameBytes us) (le 2 u))
 
--- the first i units of the name stand in e
-pub record Named (e₀ name e : List ℕ) (i : ℕ) : Type 0 where
+-- the first i units of the name stand in s, from at on
+pub record Named (s₀ : List ℕ) (at : ℕ) (name s : List ℕ) (i : ℕ) : Type 0 where
   pub below : i ≤ 36
-  pub width : length e ≡ length e₀
-  pub units : e ≡ put 56 (nameBytes (take i name)) e₀
+  pub width : length s ≡ length s₀
+  pub units : s ≡ put at (nameBytes (take i name)) s₀
 
-module _ {e₀ name : List ℕ} where
-  pub named-none : Named e₀ name e₀ 0
+module _ {s₀ : List ℕ} {at : ℕ} {name : List ℕ} where
+  pub named-none : Named s₀ at name s₀ 0
   unfolding put
   named-none = record { below = omega arith; width = refl; units = refl }
 
-  pub named-on : {e e′ : List ℕ} {i : ℕ} → length name ≡ 36 → i < 36 → e′ ≡ put (56 + 2 * i) (le 2 (getD name i 0)) e → Named e₀ name e i → Named e₀ name e′ (i + 1)
-  named-on {e} {e′} {i} l h q p =
+  pub named-on : {s s′ : List ℕ} {i : ℕ} → length name ≡ 36 → i < 36 → s′ ≡ put (at + 2 * i) (le 2 (getD name i 0)) s → Named s₀ at name s i
+      → Named s₀ at name s′ (i + 1)
+  named-on {s} {s′} {i} l h q p =
       let k : i < length name = omega arith in
-      let m : 56 + length (nameBytes (take i name)) ≡ 56 + 2 * i =
-      ap (λ (x : ℕ). 56 + x) (length-name (take i name) ∙ ap (λ (x : ℕ). 2 * x) (length-take-le i name (omega arith))) in
+      let m : at + length (nameBytes (take i name)) ≡ at + 2 * i =
+      ap (λ (x : ℕ). at + x) (length-name (take i name) ∙ ap (λ (x : ℕ). 2 * x) (length-take-le i name (omega arith))) in
       record {
         below = omega arith;
         width = ap length q ∙ length-put _ _ _ ∙ p .width;
         units =
-            then e₀ (nameBytes (take i name)) e (le 2 (getD name i 0)) e′ 56 (56 + 2 * i) (p .units) q m
-            ∙ ap (λ (x : List ℕ). put 56 x e₀) (sym (ap nameBytes (ap (λ (j : ℕ). take j name) (add-one i) ∙ take-suc name i 0 k) ∙ name-snoc (take i name) (getD name i 0)));
+            then s₀ (nameBytes (take i name)) s (le 2 (getD name i 0)) s′ at (at + 2 * i) (p .units) q m
+            ∙ ap (λ (x : List ℕ). put at x s₀) (sym (ap nameBytes (ap (λ (j : ℕ). take j name) (add-one i) ∙ take-suc name i 0 k) ∙ name-snoc (take i name) (getD name i 0)));
       }
 
-  pub named-all : {e : List ℕ} {i : ℕ} → length name ≡ 36 → 36 ≤ i → Named e₀ name e i → e ≡ put 56 (nameBytes name) e₀
-  named-all {e} {i} l h p = p .units ∙ ap (λ (x : List ℕ). put 56 (nameBytes x) e₀) (take-all i name (omega arith))
+  pub named-all : {s : List ℕ} {i : ℕ} → length name ≡ 36 → 36 ≤ i → Named s₀ at name s i → s ≡ put at (nameBytes name) s₀
+  named-all {s} {i} l h p = p .units ∙ ap (λ (x : List ℕ). put at (nameBytes x) s₀) (take-all i name (omega arith))
+
+-- a name by itself
+pub only-name : (name r : List ℕ) → length name ≡ 36 → r ≡ put 0 (nameBytes name) (replicate 72 0) → (r ≡ nameBytes name) × (length r ≡ 72)
+only-name name r l q =
+    let k : length (nameBytes name) ≡ 72 = length-name name ∙ omega arith in
+    let e : r ≡ nameBytes name = q ∙ put-all (nameBytes name) (replicate 72 0) (k ∙ sym (length-replicate {A = ℕ} 72 0)) in
+    (e, ap length e ∙ k)
 
 -- ---- an entry by value: all of another one copied, then one write; or the six fields of a new one
 

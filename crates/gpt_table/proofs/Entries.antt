@@ -9,13 +9,13 @@ use native.Mathlib.Decide.{decLt, ℕ-discrete}
 use native.Mathlib.Omega.{arith}
 use lib.Dec.{ltb}
 use lib.ListN.{length, getD, set, take, drop, length-set, length-drop}
-use lib.Seq.{length-take-le, getD-set-same, getD-set-other}
+use lib.Seq.{set-out, length-take-le, getD-set-same, getD-set-other}
 use borrow.Author.Tests.{lt-ltb, le-ltb}
 use Rattle.octets.specs.Tests.{_and_, _or_, any, findIx}
 use Rattle.octets.specs.Bytes.{part, same}
 use Rattle.octets.proofs.Bools.{bool-cases, clash, and-false-l}
 use Rattle.octets.proofs.Chunks.{chunk-part, length-chunks}
-use Rattle.gpt_model.specs.Table.{unused, uniqueOf, entries}
+use Rattle.gpt_model.specs.Table.{unused, entries}
 use Rattle.gpt_model.specs.Calls.{carries}
 use Rattle.gpt_model.proofs.Entries.{unused-nil}
 
@@ -50,14 +50,14 @@ some-found p (x ∷ xs) = go (bool-cases (p x)) (some-found p xs)
 pub some-unused : (t : List ℕ) → any unused (entries t) ≡ ltb (findIx unused (entries t)) 128
 some-unused t = some-found unused (entries t) ∙ ap (ltb (findIx unused (entries t))) (length-entries t)
 
--- ---- a used entry that carries a GUID
+-- ---- a used entry that carries bytes in a part of it
 
-pub carries-no : (unique e : List ℕ) → unused e ≡ true → false ≡ carries unique e
-carries-no unique e q = sym (and-false-l _ _ (ap not q))
+pub carries-no : (partOf : List ℕ → List ℕ) (bytes e : List ℕ) → unused e ≡ true → false ≡ carries partOf bytes e
+carries-no partOf bytes e q = sym (and-false-l _ _ (ap not q))
 
-pub carries-same : (unique e : List ℕ) → unused e ≡ false → same (uniqueOf e) unique ≡ carries unique e
+pub carries-same : (partOf : List ℕ → List ℕ) (bytes e : List ℕ) → unused e ≡ false → same (partOf e) bytes ≡ carries partOf bytes e
 unfolding _and_
-carries-same unique e q = sym (rw q)
+carries-same partOf bytes e q = sym (rw q)
 
 -- ---- one entry left out
 
@@ -77,3 +77,16 @@ module _ (es : List (List ℕ)) (but i : ℕ) (h : i < length es) where
 
 pub length-but : (t : List ℕ) (but : ℕ) → length (set (entries t) but []) ≡ 128
 length-but t but = length-set (entries t) but [] ∙ length-entries t
+
+-- the bytes from `at` on of an entry that is used and not left out
+pub carries-at : (t : List ℕ) (but i at : ℕ) (bytes e : List ℕ) → i < 128 → e ≡ getD (entries t) i [] → unused (getD (set (entries t) but []) i []) ≡ false
+    → same (take (at + length bytes - at) (drop at e)) bytes ≡ carries (part at (length bytes)) bytes (getD (set (entries t) but []) i [])
+unfolding part
+carries-at t but i at bytes e h q u =
+    let k : at + length bytes - at ≡ length bytes = omega arith in
+    let w = q ∙ sym (used-in (entries t) but i (omega (arith, length-entries t)) u) in
+    rw k (ap (λ (x : List ℕ). same (take (length bytes) (drop at x)) bytes) w ∙ carries-same (part at (length bytes)) bytes _ u)
+
+-- 128 leaves none out
+pub all-in : (t : List ℕ) → set (entries t) 128 [] ≡ entries t
+all-in t = set-out (entries t) 128 [] (omega (arith, length-entries t))

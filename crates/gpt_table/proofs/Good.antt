@@ -10,7 +10,7 @@ use native.Mathlib.Numerals.{add-one}
 use native.Mathlib.Omega.{arith}
 use lib.Dec.{eqb, leb, ltb}
 use lib.ListN.{length, getD, set, take, drop, length-map}
-use lib.Seq.{set-out, take-add, drop-drop, drop-cons}
+use lib.Seq.{take-add, drop-drop, drop-cons}
 use borrow.Author.Tests.{leb-true, eqb-true, eq-eqb, ne-eqb, lt-leb, le-leb, lt-ltb, le-ltb}
 use Rattle.octets.specs.Tests.{_and_, _or_, all, pairs}
 use Rattle.octets.specs.Bytes.{unle, part, field, isZero, same}
@@ -22,7 +22,7 @@ use Rattle.octets.proofs.Chunks.{chunk-part, length-chunk}
 use Rattle.gpt_model.specs.Table.{BlockRange, noBlocks, spans, rangeOf, bounded, apart, uniqueOf, firstOf, lastOf, unused, entryOk, pairOk, entries, goodTable}
 use Rattle.gpt_model.proofs.Entries.{range-used, pair-make}
 use Rattle.gpt_table.specs.Invariants.{used, Decoded, differ, Guids, ranges, Reordered, Ascending, InOrder}
-use Rattle.gpt_table.proofs.Entries.{length-entries}
+use Rattle.gpt_table.proofs.Entries.{length-entries, all-in}
 use Rattle.gpt_table.proofs.Used.{used-yes, used-no, used-each, low-at, high-at, length-ranges, getD-ranges}
 use Rattle.gpt_table.proofs.Reorders.{reordered-all, reordered-pairs}
 use Rattle.gpt_table.proofs.Exchanges.{ascends}
@@ -229,9 +229,6 @@ module _ (es : List (List ℕ)) (each : (i : ℕ) → i < length es → unused (
           at i j p q
           ∙ and-i _ _ (pairs-get differ es [] (and-l _ _ h) i j p q)
           (pairs-get apart (map rangeOf es) noBlocks (and-r _ _ h) i j p (omega (arith, length-map es rangeOf))))
-
-all-in : (t : List ℕ) → set (entries t) 128 [] ≡ entries t
-all-in t = set-out (entries t) 128 [] (omega (arith, length-entries t))
 
 or-both : (a b : Bool) → (a or b) ≡ (b or a)
 unfolding _or_

@@ -9,6 +9,7 @@ ghost use mathlib.Core.List.{[]};
 ghost use Prim.Native.Nat.{_+_, _*_, _≤_, _<_};
 ghost use lib.ListN.{length, getD, set};
 ghost use Rattle.octets.specs.Tests.{any, findIx};
+ghost use Rattle.octets.specs.Bytes.{part};
 ghost use Rattle.gpt_model.specs.Table.{entryBytes, slotCount, tableBytes, unused as unusedIn, entries};
 ghost use Rattle.gpt_model.specs.Calls.{carries as carriesIn, badName};
 ghost use Rattle.gpt_table.specs.Invariants.{used, Decoded};
@@ -64,24 +65,37 @@ pub fn first_unused(t: &[u8]) -> usize
     i
 }
 
-fn carries(e: &[u8], unique: &[u8]) -> bool
-    requires { ⌜ length (now e) ≡ entryBytes ⌝ }
-    ensures { λ r. ⌜ r ≡ carriesIn (now (unique .entry)) (now (e .entry)) ⌝ }
+// Entry i is used and not entry `but`.
+fn wanted(t: &[u8], but: usize, i: usize) -> bool
+    requires { ⌜ (i < slotCount) × (length (now t) ≡ tableBytes) ⌝ }
+    ensures { λ r. ⌜ r ≡ not (unusedIn (getD (set (entries (now (t .entry))) but []) i [])) ⌝ }
 {
-    if unused(e) {
+    if i == but {
         return false;
     }
-    octets::same(&e[UNIQUE_AT..FIRST_AT], unique)
+    !is_unused(t, i)
 }
 
-// Some used entry has this unique GUID.
-pub fn carried(t: &[u8], unique: &[u8]) -> bool
-    requires { ⌜ length (now t) ≡ tableBytes ⌝ }
-    ensures { λ r. ⌜ r ≡ any (carriesIn (now (unique .entry))) (entries (now (t .entry))) ⌝ }
+// Entry i is used, is not entry `but`, and has these bytes from `at` on.
+fn carries(t: &[u8], but: usize, i: usize, at: usize, bytes: &[u8]) -> bool
+    requires { ⌜ (i < slotCount) × (length (now t) ≡ tableBytes) × (at + length (now bytes) ≤ entryBytes) ⌝ }
+    ensures { λ r. ⌜ r ≡ carriesIn (part at (length (now (bytes .entry)))) (now (bytes .entry)) (getD (set (entries (now (t .entry))) but []) i []) ⌝ }
+{
+    if wanted(t, but, i) {
+        let end = at + bytes.len();
+        return octets::same(&entry(t, i)[at..end], bytes);
+    }
+    false
+}
+
+// Some used entry but entry `but` (SLOTS: of all) has these bytes from `at` on.
+pub fn carried(t: &[u8], but: usize, at: usize, bytes: &[u8]) -> bool
+    requires { ⌜ (length (now t) ≡ tableBytes) × (at + length (now bytes) ≤ entryBytes) ⌝ }
+    ensures { λ r. ⌜ r ≡ any (carriesIn (part at (length (now (bytes .entry)))) (now (bytes .entry))) (set (entries (now (t .entry))) but []) ⌝ }
 {
     let mut i = 0;
     while i < SLOTS {
-        if carries(entry(t, i), unique) {
+        if carries(t, but, i, at, bytes) {
             return true;
         }
         i += 1;
@@ -105,17 +119,6 @@ pub fn bad_name(name: &[u16]) -> bool
         i += 1;
     }
     false
-}
-
-// Entry i is used and not entry `but`.
-fn wanted(t: &[u8], but: usize, i: usize) -> bool
-    requires { ⌜ (i < slotCount) × (length (now t) ≡ tableBytes) ⌝ }
-    ensures { λ r. ⌜ r ≡ not (unusedIn (getD (set (entries (now (t .entry))) but []) i [])) ⌝ }
-{
-    if i == but {
-        return false;
-    }
-    !is_unused(t, i)
 }
 
 // Two numbers of each used entry but entry `but` (SLOTS: of all): of the 8 bytes from `at` on, and of the 8 bytes behind them. Returns how many entries.

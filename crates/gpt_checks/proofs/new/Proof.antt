@@ -1,8 +1,8 @@
-use Rattle.gpt_checks.proofs.Rows.{row-is, in-order}
-use Rattle.gpt_model.specs.Calls.{addRows}
-use denote.Ref.{now}
-use mathlib.Core.Path.{refl, _∙_}
 use mathlib.Core.List.{[]}
+use mathlib.Core.Path.{refl, _∙_}
+use denote.Ref.{now}
+use Rattle.gpt_model.specs.Calls.{addRows}
+use Rattle.gpt_checks.proofs.Rows.{row-is, in-order, new-name-is}
 use borrow.Author.Needs.{needs}
 use Rattle.gpt_checks.proofs.new.Statement.{statement}
 use Rattle.gpt_checks.proofs.new.Tie as tie
@@ -10,39 +10,46 @@ use Rattle.gpt_checks.proofs.new.Tie as tie
 row-after-requires : tie.Need-row-after-requires
 row-after-requires c κs = search needs
 
-is-zero-requires : tie.Need-is-zero-requires
-is-zero-requires c κs = search needs
+other-alignment-requires : tie.Need-other-alignment-requires
+other-alignment-requires c κs = search needs
 
 row-after-requires-2 : tie.Need-row-after-requires-2
 row-after-requires-2 c κs = search needs
 
-other-alignment-requires : tie.Need-other-alignment-requires
-other-alignment-requires c κs = search needs
-
-taken-requires : tie.Need-taken-requires
-taken-requires c κs = search needs
+is-zero-requires : tie.Need-is-zero-requires
+is-zero-requires c κs = search needs
 
 row-after-requires-3 : tie.Need-row-after-requires-3
 row-after-requires-3 c κs = search needs
 
-bad-name-requires : tie.Need-bad-name-requires
-bad-name-requires c κs = search needs
+taken-requires : tie.Need-taken-requires
+taken-requires c κs = search needs
 
 row-after-requires-4 : tie.Need-row-after-requires-4
 row-after-requires-4 c κs = search needs
 
-full-requires : tie.Need-full-requires
-full-requires c κs = search needs
+bad-name-requires : tie.Need-bad-name-requires
+bad-name-requires c κs = search needs
 
 row-after-requires-5 : tie.Need-row-after-requires-5
 row-after-requires-5 c κs = search needs
 
+name-taken-requires : tie.Need-name-taken-requires
+name-taken-requires c κs = search needs
+
 row-after-requires-6 : tie.Need-row-after-requires-6
 row-after-requires-6 c κs = search needs
 
+full-requires : tie.Need-full-requires
+full-requires c κs = search needs
+
+row-after-requires-7 : tie.Need-row-after-requires-7
+row-after-requires-7 c κs = search needs
+
 returns : tie.Need-returns
 returns c =
-    let at23 = c .before .before in
+    let at26 = c .before .before in
+    let at23 = at26 .before .before .before .before .before in
     let at22 = at23 .before .before .before .before .before in
     let at21 = at22 .before .before .before .before .before in
     let at27 = at21 .before .before .before .before .before in
@@ -53,7 +60,8 @@ returns c =
     let r21 = at21 .row-after3 .ensures ∙ row-is 21 r27 (at21 .before .is-zero .ensures) in
     let r22 = at22 .row-after4 .ensures ∙ row-is 22 r21 (at22 .before .taken .ensures) in
     let r23 = at23 .row-after5 .ensures ∙ row-is 23 r22 (at23 .before .bad-name .ensures) in
-    let r24 = c .row-after6 .ensures ∙ row-is 24 r23 (c .before .full .ensures) in
+    let r26 = at26 .row-after6 .ensures ∙ row-is 26 r23 (new-name-is (now (a .table)) (a .t2 .name) _ (at26 .before .name-taken .ensures)) in
+    let r24 = c .row-after7 .ensures ∙ row-is 24 r26 (c .before .full .ensures) in
     r24 ∙ in-order [] (addRows (now (a .table)) (a .t2))
 
 pub new-spec : {M : Type 1} → statement M
@@ -69,6 +77,8 @@ new-spec =
     row-after-requires-4
     bad-name-requires
     row-after-requires-5
-    full-requires
+    name-taken-requires
     row-after-requires-6
+    full-requires
+    row-after-requires-7
     returns)

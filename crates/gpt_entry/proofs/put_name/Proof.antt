@@ -6,10 +6,10 @@ use Rattle.gpt_entry.proofs.put_name.Statement.{statement}
 use Rattle.gpt_entry.proofs.put_name.Tie as tie
 
 abbrev Inv-loop : tie.InvT-loop
-Inv-loop e₀ name i₀ e i = Named e₀ name e i
+Inv-loop s₀ at name i₀ s i = Named s₀ at name s i
 
 abbrev μ-loop : tie.MeasureT-loop
-μ-loop e₀ name i₀ e i = 36 - i
+μ-loop s₀ at name i₀ s i = 36 - i
 
 loop-holds : tie.Need-loop-holds Inv-loop μ-loop
 loop-holds c = named-none
