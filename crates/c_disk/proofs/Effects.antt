@@ -12,7 +12,7 @@ use Rattle.gpt_calls.specs.Answers.{doneOf, readingOf}
 use Rattle.gpt_calls.specs.declared.Done.{Done}
 use Rattle.gpt_calls.specs.declared.Done.the-variants as done
 use Rattle.gpt_calls.specs.declared.Reading.{Reading}
-use Rattle.gpt_checks.specs.declared.Refusal.the-variants.{BlockSize, WrongLength, BlockCount, NoDiskGuid, NeitherGood, NotTheSame, NoSuchSlot, SlotUnused, NoSize, Alignment, NoType, NoUniqueGuid, BadName, NoUnusedSlot, NoRoom}
+use Rattle.gpt_checks.specs.declared.Refusal.the-variants.{BlockSize, WrongLength, BlockCount, NoDiskGuid, NeitherGood, NotTheSame, NoSuchSlot, SlotUnused, NoSize, Alignment, NoType, NoUniqueGuid, BadName, NameTaken, NoUnusedSlot, NoRoom}
 use Rattle.c_disk.specs.Effects.{GptEffect, resultOf, valuesOf, gptEffect, tablePlace, withTablePlace, tablePlaceBy}
 use Rattle.c_disk.specs.Claims.{NoRefusalIsZero}
 
@@ -69,5 +69,6 @@ no-refusal-is-zero Alignment e = omega arith
 no-refusal-is-zero NoType e = omega arith
 no-refusal-is-zero NoUniqueGuid e = omega arith
 no-refusal-is-zero BadName e = omega arith
+no-refusal-is-zero NameTaken e = omega arith
 no-refusal-is-zero NoUnusedSlot e = omega arith
 no-refusal-is-zero NoRoom e = omega arith

@@ -35,6 +35,7 @@ pub fn number(a: Refusal) -> u32
         Refusal::NoType => 21,
         Refusal::NoUniqueGuid => 22,
         Refusal::BadName => 23,
+        Refusal::NameTaken => 26,
         Refusal::NoUnusedSlot => 24,
         Refusal::NoRoom => 25,
     }
