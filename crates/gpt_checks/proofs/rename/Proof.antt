@@ -1,4 +1,5 @@
 use mathlib.Core.Path.{_∙_}
+use native.Mathlib.Omega.{arith}
 use denote.Ref.{now}
 use Rattle.gpt_checks.proofs.Judged.{passed, stopped, open-facts, delete-open, delete-slot, named-is, rename-stops, rename-slot, rename-last}
 use borrow.Author.Needs.{needs}
@@ -40,7 +41,8 @@ sub-name-taken c =
     (named-is (a .shape) (a .n) (now (a .head)) (now (a .tail)) (a .number) (now (a .name)) (o .pre .0) (c .before .before .before .row-after .ensures)
     (c5 .delete .ensures) (c .before .before .before .before .bad-name .ensures)) in
     let d = rename-slot (a .shape) (a .n) (now (a .head)) (now (a .tail)) (a .number) (now (a .name)) (o .pre .0) e in
-    delete-slot (a .shape) (a .n) (now (a .head)) (now (a .tail)) (a .number) d .0
+    let k = delete-slot (a .shape) (a .n) (now (a .head)) (now (a .tail)) (a .number) d .0 in
+    omega arith
 
 name-taken-requires : tie.Need-name-taken-requires
 name-taken-requires c κs = search needs
