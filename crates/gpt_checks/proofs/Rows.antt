@@ -15,7 +15,7 @@ use Rattle.octets.specs.Rows.{Row, row, pickRow, refusal}
 use Rattle.octets.proofs.Bools.{and-l, and-r, and-i, and-t, and-false-l, not-f, bool-cases}
 use Rattle.octets.proofs.Rows.{rowsFrom, pick-true, pick-false, refusal-append, refusal-first}
 use Rattle.gpt_model.specs.Disk.{Shape, mostBlocks, primary, backup, lentBytes, inRange}
-use Rattle.gpt_model.specs.Table.{uniqueOf, nameOf, nameBytes, unused, entries}
+use Rattle.gpt_model.specs.Table.{uniqueOf, partitionNameOf, nameBytes, unused, entries}
 use Rattle.gpt_model.specs.Calls.{lengthsOk, lentRows, formatRows, entryOf, carries, nameTaken, slotRows}
 use Rattle.gpt_table.proofs.Entries.{some-unused, all-in}
 use Rattle.gpt_checks.specs.Checks.{stopOf, rowAfter}
@@ -161,4 +161,4 @@ module _ (ds : List (List ℕ)) (name x : List ℕ) (e : x ≡ nameBytes name) w
   pub name-is : length x ≡ 72 → isZero x ≡ false → (b : Bool) → b ≡ any (carries (part 56 (length x)) x) ds → b ≡ nameTaken ds name
   name-is l z b q =
       and-t (ap not (sym (ap isZero e) ∙ z))
-      (q ∙ ap (λ (k : ℕ). any (carries (part 56 k) x) ds) l ∙ ap (λ (y : List ℕ). any (carries nameOf y) ds) e)
+      (q ∙ ap (λ (k : ℕ). any (carries (part 56 k) x) ds) l ∙ ap (λ (y : List ℕ). any (carries partitionNameOf y) ds) e)

@@ -166,7 +166,7 @@ fn name_taken(table: &[u8], but: usize, name: &[u16]) -> bool
     gpt_table::carried(table, but, NAME_AT, &bytes)
 }
 
-// R29: Rename the same, then 23. a4: 26 (in rename, last).
+// R29: Rename the same, then 23. a4: 26, after 23 and before 24 (in rename, last).
 pub fn rename(head: &[u8], tail: &[u8], n: u64, shape: Shape, number: u64, name: &[u16]) -> Check
     requires { ⌜ (length (now name) ≡ 36) × Legal shape ⌝ }
     ensures { λ r. ⌜ stopOf r ≡ refusal (rowsOf shape n (now (head .entry)) (now (tail .entry)) (edit (renameCall number (now (name .entry))))) ⌝ }

@@ -13,7 +13,7 @@ use Rattle.octets.proofs.Bools.{and-l, and-r, and-i, and-false-l, bool-cases, n
 use Rattle.octets.proofs.Tests.{any-get, any-make}
 use Rattle.octets.proofs.Equal.{same-true, same-refl}
 use Rattle.octets.proofs.Chunks.{length-chunks}
-use Rattle.gpt_model.specs.Table.{nameOf, nameBytes, unused, entries}
+use Rattle.gpt_model.specs.Table.{partitionNameOf, nameBytes, unused, entries}
 use Rattle.gpt_model.specs.Calls.{carries, nameTaken, otherEntries}
 use Rattle.gpt_model.specs.Stored.{unitBytes, EntryNamed}
 use Rattle.gpt_model.proofs.Entries.{unused-nil, entryAt}
@@ -75,7 +75,7 @@ module _ (partOf : List ℕ → List ℕ) (bytes : List ℕ) where
 -- an entry that carries a name, by its bytes
 module _ (es name : List ℕ) where
   abbrev Named : ℕ → Type 0
-  Named i = (i < 128) × Has nameOf (nameBytes name) (entryAt es i)
+  Named i = (i < 128) × Has partitionNameOf (nameBytes name) (entryAt es i)
 
   named-get : (i : ℕ) → Named i → EntryNamed es i name
   named-get i w = (w .0, sym (used-is es i (w .0)) ∙ w .1 .0, sym (name-is es i (w .0)) ∙ w .1 .1)
@@ -83,20 +83,20 @@ module _ (es name : List ℕ) where
   named-make : (i : ℕ) → EntryNamed es i name → Named i
   named-make i w = (w .0, (used-is es i (w .0) ∙ w .1, name-is es i (w .0) ∙ w .2))
 
-  pub some-named : (any (carries nameOf (nameBytes name)) (entries es) ≡ true) ↔ ((i : ℕ) × EntryNamed es i name)
+  pub some-named : (any (carries partitionNameOf (nameBytes name)) (entries es) ≡ true) ↔ ((i : ℕ) × EntryNamed es i name)
   some-named = (
-    λ e. let w = some-carry nameOf (nameBytes name) es .0 e in (w .0, named-get (w .0) (w .1, w .2)),
-    λ w. let v = named-make (w .0) (w .1) in some-carry nameOf (nameBytes name) es .1 (w .0, v .0, v .1),
+    λ e. let w = some-carry partitionNameOf (nameBytes name) es .0 e in (w .0, named-get (w .0) (w .1, w .2)),
+    λ w. let v = named-make (w .0) (w .1) in some-carry partitionNameOf (nameBytes name) es .1 (w .0, v .0, v .1),
   )
 
-  pub other-named : (k : ℕ) → 1 ≤ k → (any (carries nameOf (nameBytes name)) (otherEntries es k) ≡ true) ↔ ((i : ℕ) × (suc i ≢ k) × EntryNamed es i name)
+  pub other-named : (k : ℕ) → 1 ≤ k → (any (carries partitionNameOf (nameBytes name)) (otherEntries es k) ≡ true) ↔ ((i : ℕ) × (suc i ≢ k) × EntryNamed es i name)
   other-named k lo = (
-    λ e. let w = other-carries nameOf (nameBytes name) es k lo .0 e in (w .0, w .1, named-get (w .0) (w .2, w .3)),
-    λ w. let v = named-make (w .0) (w .2) in other-carries nameOf (nameBytes name) es k lo .1 (w .0, w .1, v .0, v .1),
+    λ e. let w = other-carries partitionNameOf (nameBytes name) es k lo .0 e in (w .0, w .1, named-get (w .0) (w .2, w .3)),
+    λ w. let v = named-make (w .0) (w .2) in other-carries partitionNameOf (nameBytes name) es k lo .1 (w .0, w .1, v .0, v .1),
   )
 
 -- the test: the name is not empty, and one of those entries carries it
-module _ (ds : List (List ℕ)) (name : List ℕ) {P : Type 0} (w : (any (carries nameOf (nameBytes name)) ds ≡ true) ↔ P) where
+module _ (ds : List (List ℕ)) (name : List ℕ) {P : Type 0} (w : (any (carries partitionNameOf (nameBytes name)) ds ≡ true) ↔ P) where
   pub taken-iff : (nameTaken ds name ≡ true) ↔ ((isZero (unitBytes name) ≡ false) × P)
   taken-iff = (λ e. (not-t _ (and-l _ _ e), w .0 (and-r _ _ e)), λ v. and-i _ _ (ap not (v .0)) (w .1 (v .1)))
 

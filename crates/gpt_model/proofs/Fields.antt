@@ -14,7 +14,7 @@ use Rattle.octets.proofs.Bools.{and-l, and-r}
 use Rattle.octets.proofs.Numbers.{length-le, unle-le}
 use Rattle.octets.proofs.Parts.{length-zeros}
 use Rattle.octets.proofs.Puts.{length-put, then, put-all, put-comm, part-put-below, part-put-above, part-put-same}
-use Rattle.gpt_model.specs.Table.{writeAll, typeOf, uniqueOf, firstOf, lastOf, nameOf, nameBytes}
+use Rattle.gpt_model.specs.Table.{writeAll, typeOf, uniqueOf, firstOf, lastOf, partitionNameOf, nameBytes}
 use Rattle.gpt_model.specs.declared.NewPartition.{NewPartition}
 use Rattle.gpt_model.specs.Calls.{newFields, newEntry}
 
@@ -98,7 +98,7 @@ module _ (p : NewPartition) (s : ℕ) where
   new-attributes =
       field-reads fs (zeros 128) 4 48 8 (le 8 (p .attributes)) (omega arith) refl refl (length-le 8 (p .attributes)) (omega (arith, length-zeros 128))
 
-  pub new-name : length (p .name) ≡ 36 → nameOf (newEntry p s) ≡ nameBytes (p .name)
+  pub new-name : length (p .name) ≡ 36 → partitionNameOf (newEntry p s) ≡ nameBytes (p .name)
   new-name e =
       field-reads fs (zeros 128) 5 56 72 (nameBytes (p .name)) (omega arith) refl refl (length-name (p .name) ∙ omega arith) (omega (arith, length-zeros 128))
 
@@ -144,7 +144,7 @@ module _ (e : List ℕ) (len : length e ≡ 128) (l : ℕ) where
   pub sized-last : l < 256 ^ 8 → lastOf sized ≡ l
   sized-last h = ap unle (part-put-at (le 8 l) e 40 8 (length-le 8 l) (omega arith)) ∙ unle-le 8 l h
 
-  pub sized-name : nameOf sized ≡ nameOf e
+  pub sized-name : partitionNameOf sized ≡ partitionNameOf e
   sized-name = part-put-below (le 8 l) e 56 72 40 (omega (arith, length-le 8 l))
 
 module _ (e : List ℕ) (len : length e ≡ 128) (bytes : List ℕ) where
@@ -166,5 +166,5 @@ module _ (e : List ℕ) (len : length e ≡ 128) (bytes : List ℕ) where
   pub named-last : lastOf named ≡ lastOf e
   named-last = ap unle (part-put-above bytes e 40 8 56 (omega arith))
 
-  pub named-name : length bytes ≡ 72 → nameOf named ≡ bytes
+  pub named-name : length bytes ≡ 72 → partitionNameOf named ≡ bytes
   named-name l = part-put-at bytes e 56 72 l (omega arith)

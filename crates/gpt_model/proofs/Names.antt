@@ -14,7 +14,7 @@ use Rattle.octets.specs.Bytes.{zeros, isZero}
 use Rattle.octets.proofs.Bools.{and-r, clash}
 use Rattle.octets.proofs.Chunks.{length-chunk}
 use Rattle.octets.proofs.Rows.{rowsFrom, rowsBefore, passes, pick-false, refusal-append, refusal-before, refused-by}
-use Rattle.gpt_model.specs.Table.{nameOf, nameBytes, unused, entries}
+use Rattle.gpt_model.specs.Table.{partitionNameOf, nameBytes, unused, entries}
 use Rattle.gpt_model.specs.Disk.{Shape, lastUsable, tableOf}
 use Rattle.gpt_model.specs.declared.NewPartition.{NewPartition}
 use Rattle.gpt_model.specs.Calls.{Edit, add, delete, resize, rename, edit, refused, Outcome, entryOf, nameTaken, otherEntries, orZero, startFor, slotRows, tableRows, change, edited, lengthsOf, openRows, rowsOf, step, format}
@@ -34,7 +34,7 @@ use Rattle.gpt_model.proofs.Demand3.{formatted, format-starts, starts-k
 -- ---- two entries, and every two of a table
 
 abbrev Differ : List ℕ → List ℕ → Type 0
-Differ e d = unused e ≡ false → unused d ≡ false → nameOf e ≡ nameOf d → isZero (nameOf e) ≡ true
+Differ e d = unused e ≡ false → unused d ≡ false → partitionNameOf e ≡ partitionNameOf d → isZero (partitionNameOf e) ≡ true
 
 differ-sym : (e d : List ℕ) → Differ e d → Differ d e
 differ-sym e d f u v q = ap isZero q ∙ f v u (sym q)
@@ -61,7 +61,7 @@ module _ (first last : ℕ) (es : List ℕ) (len : length es ≡ 16384) where
   edit-differs (add p) lens e f old j h ne u v q =
       let is = new-name p (orZero (startFor first last es p)) (eqb-true _ _ (and-r _ _ lens)) in
       ⊎-elim (λ z. ap isZero is ∙ z) (λ n. absurd (n (j, h, (v, sym q ∙ is))))
-      (free-iff (entries es) (p .name) (some-carry nameOf (nameBytes (p .name)) es) .0 (passes 26 (tableRows first last es (add p)) e))
+      (free-iff (entries es) (p .name) (some-carry partitionNameOf (nameBytes (p .name)) es) .0 (passes 26 (tableRows first last es (add p)) e))
   edit-differs (delete k) lens e f old j h ne u v q = absurd (clash (unused-zeros 128) u)
   edit-differs (resize k size) lens e f old j h ne u v q =
       let la = length-chunk 128 128 (k - 1) es (f .index) len in
@@ -73,7 +73,7 @@ module _ (first last : ℕ) (es : List ℕ) (len : length es ≡ 16384) where
       let is = named-name (entryOf es k) la (nameBytes name) (length-name name ∙ omega arith) in
       let lo = slot-rows es k .0 (refusal-before (slotRows es k) (rowsFrom 23 (tableRows first last es (rename k name))) e .0) .0 in
       ⊎-elim (λ z. ap isZero is ∙ z) (λ n. absurd (n (j, (λ x. ne (omega arith)), h, (v, sym q ∙ is))))
-      (free-iff (otherEntries es k) name (other-carries nameOf (nameBytes name) es k lo) .0 (passes 26 (tableRows first last es (rename k name)) e))
+      (free-iff (otherEntries es k) name (other-carries partitionNameOf (nameBytes name) es k lo) .0 (passes 26 (tableRows first last es (rename k name)) e))
 
   edited-differ : (d : Edit) → lengthsOf d ≡ true → refusal (tableRows first last es d) ≡ none → FitsEdit first last es d → NamesDiffer es
       → NamesDiffer (edited first last es d)

@@ -18,7 +18,7 @@ use Rattle.octets.proofs.Equal.{zero-zeros}
 use Rattle.octets.proofs.Parts.{length-zeros}
 use Rattle.octets.proofs.Rows.{rowsFrom, pick-true, pick-false}
 use Rattle.octets.proofs.Chunks.{length-chunks}
-use Rattle.gpt_model.specs.Table.{uniqueOf, nameOf, nameBytes, unused, noBlocks, rangeOf, entryOk, entries, rangesOf, goodTable}
+use Rattle.gpt_model.specs.Table.{uniqueOf, partitionNameOf, nameBytes, unused, noBlocks, rangeOf, entryOk, entries, rangesOf, goodTable}
 use Rattle.gpt_model.specs.Disk.{Shape, lastUsable, primary, backup, guidIn, state, tableOf, withTable}
 use Rattle.gpt_model.specs.Calls.{Edit, add, delete, resize, rename, Call, read, freeCounts, repair, edit, accepted, Outcome, unlessRefused}
 use Rattle.gpt_model.specs.Calls.{entryOf, carries, otherEntries, orZero, slotRows, lowestUnused, newEntry, startFor, tableRows, change, edited}
@@ -94,9 +94,9 @@ module _ (es es′ : List ℕ) (s : SameUsed es es′) where
 
   module _ (first last : ℕ) where
     same-refusal : (d : Edit) → refusal (tableRows first last es d) ≡ refusal (tableRows first last es′ d)
-    same-refusal (add p) = rw (same-carried uniqueOf (p .unique), same-carried nameOf (nameBytes (p .name)), any-by unused as-nil, same-ranges)
+    same-refusal (add p) = rw (same-carried uniqueOf (p .unique), same-carried partitionNameOf (nameBytes (p .name)), any-by unused as-nil, same-ranges)
     same-refusal (delete k) = rw (entry-by unused as-nil k)
-    same-refusal (rename k name) = rw (entry-by unused as-nil k, same-others k nameOf (nameBytes name))
+    same-refusal (rename k name) = rw (entry-by unused as-nil k, same-others k partitionNameOf (nameBytes name))
     same-refusal (resize k size) = go (bool-cases (unused (entryOf es k)))
       where
         behind : List ℕ → List Row

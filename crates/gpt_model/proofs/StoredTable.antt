@@ -11,7 +11,7 @@ use Rattle.octets.proofs.Parts.{part-part}
 use Rattle.octets.proofs.Equal.{same-false, same-refl}
 use Rattle.octets.proofs.Tests.{any-get, any-make}
 use Rattle.octets.proofs.Chunks.{chunk-part}
-use Rattle.gpt_model.specs.Table.{typeOf, uniqueOf, firstOf, lastOf, nameOf, unused, BlockRange, noBlocks, spans, rangeOf, apart, entryOk, rangesOf, goodTable}
+use Rattle.gpt_model.specs.Table.{typeOf, uniqueOf, firstOf, lastOf, partitionNameOf, unused, BlockRange, noBlocks, spans, rangeOf, apart, entryOk, rangesOf, goodTable}
 use Rattle.gpt_model.specs.Ranges.{blockIn}
 use Rattle.gpt_model.specs.Stored.{EntryUsed, entryType, entryUnique, entryFirst, entryLast, entryNameBytes, EntryHolds, TableRules}
 use Rattle.gpt_model.specs.Claims.{InSomeByBytes}
@@ -40,7 +40,7 @@ module _ (es : List ℕ) (i : ℕ) (h : i < 128) where
   last-is : lastOf (entryAt es i) ≡ entryLast es i
   last-is = ap unle (field-is 40 8 (omega arith))
 
-  pub name-is : nameOf (entryAt es i) ≡ entryNameBytes es i
+  pub name-is : partitionNameOf (entryAt es i) ≡ entryNameBytes es i
   name-is = field-is 56 72 (omega arith)
 
   pub used-is : unused (entryAt es i) ≡ isZero (entryType es i)

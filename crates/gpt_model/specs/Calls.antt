@@ -8,7 +8,7 @@ use lib.ListN.{length, getD, set}
 use Rattle.octets.specs.Tests.{_and_, _or_, any, findIx}
 use Rattle.octets.specs.Rows.{Row, row, refusal}
 use Rattle.octets.specs.Bytes.{le, put, zeros, isZero, same, putChunk}
-use Rattle.gpt_model.specs.Table.{writeAll, noBlocks, entryBytes, slotCount, tableBytes, uniqueOf, firstOf, nameOf, nameBytes, unused, entries, rangesOf}
+use Rattle.gpt_model.specs.Table.{writeAll, noBlocks, entryBytes, slotCount, tableBytes, uniqueOf, firstOf, partitionNameOf, nameBytes, unused, entries, rangesOf}
 use Rattle.gpt_model.specs.Disk.{Shape, lastUsable, inRange, primary, backup, lentBytes, guidIn, entriesIn, state, tableOf}
 use Rattle.gpt_model.specs.Disk.{withTable, withCopy, freshHead, freshTail}
 use Rattle.gpt_model.specs.declared.NewPartition.{NewPartition}
@@ -67,7 +67,7 @@ carries partOf bytes e = not (unused e) and same (partOf e) bytes
 
 -- a1: a name already carried by another used slot, comparing all 72 bytes. a2: An empty name may repeat. `among` are the entries of the other slots
 abbrev pub nameTaken : List (List ℕ) → List ℕ → Bool
-nameTaken among name = not (isZero (nameBytes name)) and any (carries nameOf (nameBytes name)) among
+nameTaken among name = not (isZero (nameBytes name)) and any (carries partitionNameOf (nameBytes name)) among
 
 -- the entries, that of slot k left empty
 abbrev pub otherEntries : List ℕ → ℕ → List (List ℕ)

@@ -46,7 +46,7 @@ SameUsed es es′ = (i : ℕ) → i < 128 → ((¬ EntryUsed es i) × (¬ EntryU
 abbrev pub unitBytes : List ℕ → List ℕ
 unitBytes units = flat (map (le 2) units)
 
--- a1: entry i is used and carries that name, comparing all 72 bytes
+-- a1: a name already carried by another used slot, comparing all 72 bytes. Entry i is used and carries the name
 abbrev pub EntryNamed : List ℕ → ℕ → List ℕ → Type 0
 EntryNamed es i units = (i < 128) × EntryUsed es i × (entryNameBytes es i ≡ unitBytes units)
 

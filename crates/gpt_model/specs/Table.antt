@@ -27,8 +27,8 @@ firstOf e = field 32 8 e
 abbrev pub lastOf : List ℕ → ℕ
 lastOf e = field 40 8 e
 
-abbrev pub nameOf : List ℕ → List ℕ
-nameOf e = part 56 72 e
+abbrev pub partitionNameOf : List ℕ → List ℕ
+partitionNameOf e = part 56 72 e
 
 -- the 72 bytes of a name, given as units
 abbrev pub nameBytes : List ℕ → List ℕ
