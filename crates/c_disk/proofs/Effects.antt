@@ -12,7 +12,8 @@ use Rattle.gpt_calls.specs.Answers.{doneOf, readingOf}
 use Rattle.gpt_calls.specs.declared.Done.{Done}
 use Rattle.gpt_calls.specs.declared.Done.the-variants as done
 use Rattle.gpt_calls.specs.declared.Reading.{Reading}
-use Rattle.gpt_checks.specs.declared.Refusal.the-variants.{BlockSize, WrongLength, BlockCount, NoDiskGuid, NeitherGood, NotTheSame, NoSuchSlot, SlotUnused, NoSize, Alignment, NoType, NoUniqueGuid, BadName, NameTaken, NoUnusedSlot, NoRoom}
+use Rattle.gpt_checks.specs.declared.Refusal.the-variants.{BlockSize, WrongLength, BlockCount, NoDiskGuid, NeitherGood, NotTheSame, NoSuchSlot}
+use Rattle.gpt_checks.specs.declared.Refusal.the-variants.{SlotUnused, NoSize, Alignment, NoType, NoUniqueGuid, BadName, NameTaken, NoUnusedSlot, NoRoom}
 use Rattle.c_disk.specs.Effects.{GptEffect, resultOf, valuesOf, gptEffect, tablePlace, withTablePlace, tablePlaceBy}
 use Rattle.c_disk.specs.Claims.{NoRefusalIsZero}
 

@@ -17,7 +17,8 @@ use Rattle.gpt_model.specs.Ranges.{lowestStart}
 use Rattle.gpt_model.specs.Table.{entries, rangesOf}
 use Rattle.gpt_model.specs.Disk.{Shape, mostBlocks, lastUsable, inRange, primary, backup, lentBytes, entriesIn, state, tableOf}
 use Rattle.gpt_model.specs.declared.NewPartition.{NewPartition}
-use Rattle.gpt_model.specs.Calls.{Edit, add, delete, resize, rename, edit, badName, nameTaken, slotRows, addRows, fitsAt, startFor, tableRows, isNone, lengthsOf, lengthsOk, lentRows, openRows, rowsOf, formatRows}
+use Rattle.gpt_model.specs.Calls.{Edit, add, delete, resize, rename, edit, badName, nameTaken}
+use Rattle.gpt_model.specs.Calls.{slotRows, addRows, fitsAt, startFor, tableRows, isNone, lengthsOf, lengthsOk, lentRows, openRows, rowsOf, formatRows}
 use Rattle.gpt_model.proofs.Outcomes.{edit-decides, edit-stops}
 use Rattle.gpt_model.proofs.Accepts.{alignment-least}
 use Rattle.gpt_model.proofs.States.{one-primary}
@@ -143,7 +144,8 @@ module _ (g : Shape) (n : ℕ) (h t : List ℕ) where
 
       rename-is : refusal (named ++ last26) ≡ renamed
       rename-is =
-          sym (ap (λ (b : Bool). refusal (openRows g n h t b ++ tableRows (g .first) (lastUsable g n) (tableOf g n h t) (rename k name))) (eq-eqb (length name) 36 l))
+          sym (ap (λ (b : Bool). refusal (openRows g n h t b ++ tableRows (g .first) (lastUsable g n) (tableOf g n h t) (rename k name)))
+          (eq-eqb (length name) 36 l))
 
       -- a row after the check of a delete
       pub named-is : {q r : Option ℕ} {b : Bool} → r ≡ rowAfter q (row b 23) → q ≡ refusal slotted → b ≡ badName name → r ≡ refusal named

@@ -22,7 +22,8 @@ use Rattle.gpt_model.specs.Table.{uniqueOf, firstOf, unused, BlockRange,
 use Rattle.gpt_model.specs.Disk.{Shape, lastUsable, tableOf}
 use Rattle.gpt_model.specs.Ranges.{blockIn, isAlignment}
 use Rattle.gpt_model.specs.declared.NewPartition.{NewPartition}
-use Rattle.gpt_model.specs.Calls.{Edit, resize, rename, edit, accepted, Outcome, badName, entryOf, carries, nameTaken, otherEntries, slotRows, addRows, fitsAt, tableRows, change, lengthsOf, openRows, rowsOf, step}
+use Rattle.gpt_model.specs.Calls.{Edit, resize, rename, edit, accepted, Outcome, badName, entryOf, carries, nameTaken, otherEntries}
+use Rattle.gpt_model.specs.Calls.{slotRows, addRows, fitsAt, tableRows, change, lengthsOf, openRows, rowsOf, step}
 use Rattle.gpt_model.specs.Stored.{unitBytes, EntryNamed}
 use Rattle.gpt_model.specs.Claims.{UsedSlot, NameOk, FitsAlone, GivenOk, NewOk}
 use Rattle.gpt_model.proofs.Room.{not-in-none, room-get, room-make}
@@ -101,7 +102,8 @@ module _ (es : List ℕ) (k : ℕ) where
         λ v. w .1 (⊎-elim (λ z. inl z) (λ f. inr (λ x. f (x .0) (x .1) (x .2))) v),
       )
 
-  pub rename-rows : (first last : ℕ) (name : List ℕ) → (refusal (tableRows first last es (rename k name)) ≡ none) ↔ (UsedSlot es k × (NameOk name × OtherFree name))
+  pub rename-rows : (first last : ℕ) (name : List ℕ)
+      → (refusal (tableRows first last es (rename k name)) ≡ none) ↔ (UsedSlot es k × (NameOk name × OtherFree name))
   rename-rows first last name =
       let rows : List Row = rowsFrom 23 (tableRows first last es (rename k name)) in
       then-rows rows (λ u. (

@@ -52,7 +52,9 @@ module _ (partOf : List ℕ → List ℕ) (bytes : List ℕ) where
       own : (i : ℕ) → i < 128 → suc i ≡ k → carries partOf bytes (getD (otherEntries es k) i []) ≡ false
       own i h q =
           let at : k - 1 ≡ i = omega arith in
-          ap (carries partOf bytes) (ap (λ (x : ℕ). getD (otherEntries es k) x []) (sym at) ∙ getD-set-same (entries es) (k - 1) [] [] (omega (arith, length-chunks 128 128 es)))
+          ap (carries partOf bytes)
+          (ap (λ (x : ℕ). getD (otherEntries es k) x []) (sym at)
+          ∙ getD-set-same (entries es) (k - 1) [] [] (omega (arith, length-chunks 128 128 es)))
           ∙ nil-carries
 
       pub other-carries : (any (carries partOf bytes) (otherEntries es k) ≡ true) ↔ ((i : ℕ) × (suc i ≢ k) × (i < 128) × Has (entryAt es i))
@@ -89,7 +91,8 @@ module _ (es name : List ℕ) where
     λ w. let v = named-make (w .0) (w .1) in some-carry partitionNameOf (nameBytes name) es .1 (w .0, v .0, v .1),
   )
 
-  pub other-named : (k : ℕ) → 1 ≤ k → (any (carries partitionNameOf (nameBytes name)) (otherEntries es k) ≡ true) ↔ ((i : ℕ) × (suc i ≢ k) × EntryNamed es i name)
+  pub other-named : (k : ℕ) → 1 ≤ k
+      → (any (carries partitionNameOf (nameBytes name)) (otherEntries es k) ≡ true) ↔ ((i : ℕ) × (suc i ≢ k) × EntryNamed es i name)
   other-named k lo = (
     λ e. let w = other-carries partitionNameOf (nameBytes name) es k lo .0 e in (w .0, w .1, named-get (w .0) (w .2, w .3)),
     λ w. let v = named-make (w .0) (w .2) in other-carries partitionNameOf (nameBytes name) es k lo .1 (w .0, w .1, v .0, v .1),

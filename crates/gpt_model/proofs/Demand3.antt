@@ -195,7 +195,10 @@ module _ (g : Shape) (n : ℕ) (r : Snapshot) (v : Kept g n r) where
     fits = fits-iff;
     fitsAtOne = λ p e one free longest a. fits-at-one p e one longest (counted-longest free longest a);
     deletes = λ k. accepts (delete k) refl (slot-rows tab k);
-    renames = λ k name. (named k name, λ w. accepts (rename k name) (eq-eqb _ _ (w .0)) (rename-rows tab k (g .first) (lastUsable g n) name) .1 (w .1, (w .2, w .3)));
+    renames = λ k name. (
+      named k name,
+      λ w. accepts (rename k name) (eq-eqb _ _ (w .0)) (rename-rows tab k (g .first) (lastUsable g n) name) .1 (w .1, (w .2, w .3)),
+    );
     resizes = λ k size. accepts (resize k size) refl (resize-rows tab k (g .first) (lastUsable g n) size);
   }
     where

@@ -17,7 +17,8 @@ use Rattle.octets.proofs.Rows.{rowsFrom, rowsBefore, passes, pick-false, refusa
 use Rattle.gpt_model.specs.Table.{partitionNameOf, nameBytes, unused, entries}
 use Rattle.gpt_model.specs.Disk.{Shape, lastUsable, tableOf}
 use Rattle.gpt_model.specs.declared.NewPartition.{NewPartition}
-use Rattle.gpt_model.specs.Calls.{Edit, add, delete, resize, rename, edit, refused, Outcome, entryOf, nameTaken, otherEntries, orZero, startFor, slotRows, tableRows, change, edited, lengthsOf, openRows, rowsOf, step, format}
+use Rattle.gpt_model.specs.Calls.{Edit, add, delete, resize, rename, edit, refused, Outcome, entryOf, nameTaken, otherEntries, orZero}
+use Rattle.gpt_model.specs.Calls.{startFor, slotRows, tableRows, change, edited, lengthsOf, openRows, rowsOf, step, format}
 use Rattle.gpt_model.specs.Lists.{startAfter}
 use Rattle.gpt_model.specs.Stored.{unitBytes, EntryNamed, NamesDiffer}
 use Rattle.gpt_model.specs.Claims.{UsedSlot, NameOk, GivenOk, OneByName, OneByNameFrom, TakenNameRefused}
@@ -80,7 +81,8 @@ module _ (first last : ℕ) (es : List ℕ) (len : length es ≡ 16384) where
   edited-differ d lens e f old =
       let all = differ-get es old in
       differ-make (edited first last es d)
-      (two-put first last es len (change first last es d .index) (change first last es d .entry) (f .index) (f .len) Differ differ-sym all (edit-differs d lens e f all))
+      (two-put first last es len (change first last es d .index) (change first last es d .entry) (f .index) (f .len) Differ differ-sym all
+      (edit-differs d lens e f all))
 
 pub oneByNameFrom : OneByNameFrom
 oneByNameFrom g wide n es r s names cs =

@@ -86,11 +86,11 @@ module _ (g : Shape) (n : ℕ) (h t : List ℕ) (wide : 92 ≤ g .block) (i : �
 -- the entry rules do not look at names
 pub anyNameReads : AnyNameReads
 anyNameReads g n h t i name wide hi ln one =
-    let d = entryAt (tableOf g n h t) i in
+    let es = tableOf g n h t in
+    let d = entryAt es i in
     let good = good-was g n h t wide i hi one in
     let same = named-alike d (length-was g n h t wide i hi one) name in
     let w = reads-again g n h t wide i hi one name 56 (omega arith)
-    (ok-alike (g .first) (lastUsable g n) (put 56 name d) d same (good-at (g .first) (lastUsable g n) (tableOf g n h t) good i hi))
-    (λ j hj ne. pair-alike (put 56 name d) d (entryAt (tableOf g n h t) j) same
-    (good-pair (g .first) (lastUsable g n) (tableOf g n h t) good i j hi hj (λ x. ne (sym x)))) in
-    (w .0, w .1, w .2 ∙ ap (set (rangesOf (tableOf g n h t)) i) (same .2 ∙ sym (getD-range (tableOf g n h t) i)) ∙ set-getD (rangesOf (tableOf g n h t)) i noBlocks)
+    (ok-alike (g .first) (lastUsable g n) (put 56 name d) d same (good-at (g .first) (lastUsable g n) es good i hi))
+    (λ j hj ne. pair-alike (put 56 name d) d (entryAt es j) same (good-pair (g .first) (lastUsable g n) es good i j hi hj (λ x. ne (sym x)))) in
+    (w .0, w .1, w .2 ∙ ap (set (rangesOf es) i) (same .2 ∙ sym (getD-range es i)) ∙ set-getD (rangesOf es) i noBlocks)

@@ -72,7 +72,8 @@ module _ (es es′ : List ℕ) (s : SameUsed es es′) where
   same-carried : (partOf : List ℕ → List ℕ) (bytes : List ℕ) → any (carries partOf bytes) (entries es) ≡ any (carries partOf bytes) (entries es′)
   same-carried partOf bytes = any-by (carries partOf bytes) (none-carried partOf bytes)
 
-  same-others : (k : ℕ) (partOf : List ℕ → List ℕ) (bytes : List ℕ) → any (carries partOf bytes) (otherEntries es k) ≡ any (carries partOf bytes) (otherEntries es′ k)
+  same-others : (k : ℕ) (partOf : List ℕ → List ℕ) (bytes : List ℕ)
+      → any (carries partOf bytes) (otherEntries es k) ≡ any (carries partOf bytes) (otherEntries es′ k)
   same-others k partOf bytes =
       let p = carries partOf bytes in
       any-map p (otherEntries es k)

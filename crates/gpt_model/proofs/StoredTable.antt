@@ -11,7 +11,8 @@ use Rattle.octets.proofs.Parts.{part-part}
 use Rattle.octets.proofs.Equal.{same-false, same-refl}
 use Rattle.octets.proofs.Tests.{any-get, any-make}
 use Rattle.octets.proofs.Chunks.{chunk-part}
-use Rattle.gpt_model.specs.Table.{typeOf, uniqueOf, firstOf, lastOf, partitionNameOf, unused, BlockRange, noBlocks, spans, rangeOf, apart, entryOk, rangesOf, goodTable}
+use Rattle.gpt_model.specs.Table.{typeOf, uniqueOf, firstOf, lastOf, partitionNameOf, unused, BlockRange, noBlocks, spans}
+use Rattle.gpt_model.specs.Table.{rangeOf, apart, entryOk, rangesOf, goodTable}
 use Rattle.gpt_model.specs.Ranges.{blockIn}
 use Rattle.gpt_model.specs.Stored.{EntryUsed, entryType, entryUnique, entryFirst, entryLast, entryNameBytes, EntryHolds, TableRules}
 use Rattle.gpt_model.specs.Claims.{InSomeByBytes}

@@ -8,7 +8,8 @@ use lib.ListN.{length, getD, set}
 use Rattle.octets.specs.Tests.{_and_, _or_, any, findIx}
 use Rattle.octets.specs.Rows.{Row, row, refusal}
 use Rattle.octets.specs.Bytes.{le, put, zeros, isZero, same, putChunk}
-use Rattle.gpt_model.specs.Table.{writeAll, noBlocks, entryBytes, slotCount, tableBytes, uniqueOf, firstOf, partitionNameOf, nameBytes, unused, entries, rangesOf}
+use Rattle.gpt_model.specs.Table.{writeAll, noBlocks, entryBytes, slotCount, tableBytes}
+use Rattle.gpt_model.specs.Table.{uniqueOf, firstOf, partitionNameOf, nameBytes, unused, entries, rangesOf}
 use Rattle.gpt_model.specs.Disk.{Shape, lastUsable, inRange, primary, backup, lentBytes, guidIn, entriesIn, state, tableOf}
 use Rattle.gpt_model.specs.Disk.{withTable, withCopy, freshHead, freshTail}
 use Rattle.gpt_model.specs.declared.NewPartition.{NewPartition}

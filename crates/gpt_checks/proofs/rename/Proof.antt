@@ -27,10 +27,11 @@ entries-in-requires c κs =
     let o = c4 .before .before .before .before in
     let a = o .args in
     let e = passed _ (c .enum-told .given .1)
-    (named-is (a .shape) (a .n) (now (a .head)) (now (a .tail)) (a .number) (now (a .name)) (o .pre .0) (c .before .before .row-after .ensures) (c4 .delete .ensures)
-    (c .before .before .before .bad-name .ensures)) in
+    (named-is (a .shape) (a .n) (now (a .head)) (now (a .tail)) (a .number) (now (a .name)) (o .pre .0) (c .before .before .row-after .ensures)
+    (c4 .delete .ensures) (c .before .before .before .bad-name .ensures)) in
     let d = rename-slot (a .shape) (a .n) (now (a .head)) (now (a .tail)) (a .number) (now (a .name)) (o .pre .0) e in
-    (open-facts (a .shape) (a .n) (now (a .head)) (now (a .tail)) (delete-open (a .shape) (a .n) (now (a .head)) (now (a .tail)) (a .number) d) .head, o .pre .1)
+    let f = open-facts (a .shape) (a .n) (now (a .head)) (now (a .tail)) (delete-open (a .shape) (a .n) (now (a .head)) (now (a .tail)) (a .number) d) in
+    (f .head, o .pre .1)
 
 sub-name-taken : tie.Need-sub-name-taken
 sub-name-taken c =

@@ -36,7 +36,9 @@ returns c =
     let a = c3 .before .before .before .args in
     let l = c3 .loop in
     let k = length-but (now (a .t)) (a .but) in
-    sym (sym (l .inv .1) ∙ any-stop (test (a .at) (now (a .bytes))) (set (entries (now (a .t))) (a .but) []) [] (l .i) (omega arith) (sym (c .before .carries .ensures) ∙ c .if1 .taken))
+    sym (sym (l .inv .1)
+    ∙ any-stop (test (a .at) (now (a .bytes))) (set (entries (now (a .t))) (a .but) []) [] (l .i) (omega arith)
+    (sym (c .before .carries .ensures) ∙ c .if1 .taken))
 
 add-i : tie.Need-add-i Inv-loop μ-loop
 add-i c = search needs
@@ -51,7 +53,8 @@ loop-again c =
     let l = c3 .loop in
     let k = length-but (now (a .t)) (a .but) in (
       omega arith,
-      sym (any-on (test (a .at) (now (a .bytes))) (set (entries (now (a .t))) (a .but) []) [] (l .i) (omega arith) (sym (c .before .carries .ensures) ∙ c .if1 .left))
+      sym (any-on (test (a .at) (now (a .bytes))) (set (entries (now (a .t))) (a .but) []) [] (l .i) (omega arith)
+          (sym (c .before .carries .ensures) ∙ c .if1 .left))
           ∙ l .inv .1,
     )
 
