@@ -77,21 +77,6 @@ pub refusal-without : (rs : List Row) (r : Row) (qs : List Row) → r .holds ≡
 refusal-without [] r qs e = pick-false (r .holds) (r .number) (refusal qs) e
 refusal-without (x ∷ rs) r qs e = ap (pickRow (x .holds) (x .number)) (refusal-without rs r qs e)
 
--- a number that none of the rows rs has comes from the rows behind them
-pub refusal-behind : (k : ℕ) (rs qs : List Row) → any (λ r. eqb k (r .number)) rs ≡ false → refusal (rs ++ qs) ≡ some k
-    → (refusal rs ≡ none) × (refusal qs ≡ some k)
-refusal-behind k [] qs n e = (refl, e)
-refusal-behind k (r ∷ rs) qs n e = go (bool-cases (r .holds)) (refusal-behind k rs qs (or-false-r _ _ n))
-  where
-    go : (r .holds ≡ true) ⊎ (r .holds ≡ false) → (refusal (rs ++ qs) ≡ some k → (refusal rs ≡ none) × (refusal qs ≡ some k))
-        → (refusal (r ∷ rs) ≡ none) × (refusal qs ≡ some k)
-    go (inl q) ih =
-        let w = pick-true (r .holds) (r .number) (refusal (rs ++ qs)) q in
-        let z : k ≡ r .number = cc in
-        absurd (clash (eq-eqb k (r .number) z) (or-false-l _ _ n))
-    go (inr q) ih =
-        let v = ih (sym (pick-false (r .holds) (r .number) (refusal (rs ++ qs)) q) ∙ e) in (pick-false (r .holds) (r .number) (refusal rs) q ∙ v .0, v .1)
-
 -- a number that is given is that of a row that holds
 pub refusal-holds : (k : ℕ) (rs : List Row) → refusal rs ≡ some k → any (λ r. eqb k (r .number) and r .holds) rs ≡ true
 refusal-holds k [] e = absurd (some-none (sym e))
