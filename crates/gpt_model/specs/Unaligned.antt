@@ -1,4 +1,4 @@
--- Adding as rules D15 and R27 have it, without an alignment: what an add at alignment 1 is to be. Definitions only.
+-- Adding as rules D15 and R27 have it, with the row of a4 and without an alignment: what an add at alignment 1 is to be. Definitions only.
 use mathlib.Core.Bool.{not}
 use mathlib.Core.List.{List, [], _∷_, _++_}
 use mathlib.Core.Option.{Option}
