@@ -2,7 +2,7 @@ use crate::block::{BlockSize, ENTRIES_LEN, ENTRY_LEN, GUID_IN_TAIL};
 use crate::raw;
 use crate::refusal::accepted;
 use crate::refused::{Detail, Refused};
-use crate::Guid;
+use crate::{Guid, Name};
 
 /// A disk of `n` blocks, by its first and its last blocks: `head` and `tail` have the lengths that the
 /// block size decides, else every call is refused with 1. The caller reads and writes these blocks; the
@@ -83,27 +83,6 @@ pub struct Partition {
 impl Partition {
     pub fn run(&self) -> Run {
         Run { first: self.first, last: self.last }
-    }
-}
-
-/// A partition's name: 36 units of UTF-16.
-#[derive(Clone, Copy, Debug, PartialEq, Eq)]
-pub struct Name(pub [u16; 36]);
-
-impl Name {
-    /// The text's units and then zeros; `None` if it has more than 36 units.
-    pub fn new(text: &str) -> Option<Name> {
-        let mut name = [0; 36];
-        for (place, unit) in text.encode_utf16().enumerate() {
-            *name.get_mut(place)? = unit;
-        }
-        Some(Name(name))
-    }
-
-    /// The units before the first zero; what is no UTF-16 is replaced.
-    pub fn to_text(self) -> String {
-        let units = self.0.iter().take_while(|unit| **unit != 0).copied();
-        char::decode_utf16(units).map(|c| c.unwrap_or(char::REPLACEMENT_CHARACTER)).collect()
     }
 }
 
@@ -200,7 +179,12 @@ impl Disk<'_> {
         let (mut slot, mut first) = (0, 0);
         let answer =
             raw::gpt_add(self.head, self.tail, self.n, self.block.bytes(), &lent, &mut slot, &mut first);
-        self.accepted(answer, &[Detail::NewSize(new.size, new.alignment), Detail::Alignment(new.alignment)])?;
+        let details = [
+            Detail::NewSize(new.size, new.alignment),
+            Detail::Alignment(new.alignment),
+            Detail::Name(new.name),
+        ];
+        self.accepted(answer, &details)?;
         Ok(Placed { slot, first })
     }
 
@@ -217,7 +201,7 @@ impl Disk<'_> {
 
     pub fn rename(&mut self, slot: u64, name: &Name) -> Result<(), Refused> {
         let answer = raw::gpt_rename(self.head, self.tail, self.n, self.block.bytes(), slot, &name.0);
-        self.accepted(answer, &[Detail::Slot(slot)])
+        self.accepted(answer, &[Detail::Slot(slot), Detail::Name(*name)])
     }
 
     /// Makes both copies good and the same; answers the state found (rule D24).
@@ -369,12 +353,5 @@ mod tests {
             let mut disk = Disk { head: &mut head, tail: &mut tail, n: 100, block: block.other() };
             assert_eq!(words(disk.format(Guid([1; 16]))), "1: a lent buffer has a wrong length");
         }
-    }
-
-    #[test]
-    fn a_name_has_at_most_36_units() {
-        assert_eq!(Name::new(&"x".repeat(36)).unwrap().0, [u16::from(b'x'); 36]);
-        assert_eq!(Name::new(&"x".repeat(37)), None);
-        assert_eq!(Name::new("a").unwrap().to_text(), "a");
     }
 }
