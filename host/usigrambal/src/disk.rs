@@ -86,6 +86,13 @@ impl Partition {
     }
 }
 
+/// A name that more than one partition has, and their slots in order.
+#[derive(Clone, Debug, PartialEq, Eq)]
+pub struct SharedName {
+    pub name: Name,
+    pub slots: Vec<u64>,
+}
+
 impl Disk<'_> {
     /// Writes an empty table, in both copies, and block 0 (rule D13).
     pub fn format(&mut self, guid: Guid) -> Result<(), Refused> {
@@ -152,6 +159,20 @@ impl Disk<'_> {
     pub fn stale_slots(&self) -> Result<Vec<u64>, Refused> {
         let stale = |entry: &[u8]| !used(entry) && entry.iter().any(|byte| *byte != 0);
         Ok(self.slots()?.filter(|(entry, _)| stale(entry)).map(|(_, slot)| slot).collect())
+    }
+
+    /// The names that more than one partition has, the empty one left out, by the lowest of their slots. All 72 bytes are
+    /// compared, as an add compares them (rule a1): two names that differ behind a zero have one text and are not shared.
+    pub fn shared_names(&self) -> Result<Vec<SharedName>, Refused> {
+        let mut names: Vec<SharedName> = Vec::new();
+        for Partition { name, slot, .. } in self.partitions()? {
+            match names.iter_mut().find(|shared| shared.name == name) {
+                Some(shared) => shared.slots.push(slot),
+                None => names.push(SharedName { name, slots: vec![slot] }),
+            }
+        }
+        names.retain(|shared| shared.name != Name::EMPTY && shared.slots.len() > 1);
+        Ok(names)
     }
 
     fn slots(&self) -> Result<impl Iterator<Item = (&[u8], u64)>, Refused> {
@@ -253,7 +274,7 @@ mod tests {
     use super::*;
 
     fn new_partition(size: u64, unique: u8) -> NewPartition {
-        let name = Name::new("Größe").unwrap();
+        let name = Name::new(&format!("Größe {unique}")).unwrap();
         let (kind, unique) = (Guid([7; 16]), Guid([unique; 16]));
         NewPartition { kind, unique, size, alignment: 1, attributes: 5, name }
     }
@@ -288,8 +309,8 @@ mod tests {
         let partitions = disk.partitions().unwrap();
         let told: Vec<_> =
             partitions.iter().map(|p| (p.slot, p.first - start, p.last - start, p.name.to_text())).collect();
-        let name = || String::from("Größe");
-        assert_eq!(told, [(1, 15, 32, "boot".into()), (2, 10, 14, name()), (3, 0, 9, name())]);
+        let expected = [(1, 15, 32, "boot"), (2, 10, 14, "Größe 2"), (3, 0, 9, "Größe 3")];
+        assert_eq!(told, expected.map(|(slot, first, last, name)| (slot, first, last, name.to_string())));
         assert_eq!(partitions[2].unique, Guid([3; 16]));
         assert_eq!(partitions[2].attributes, 5);
     }

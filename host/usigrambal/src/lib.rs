@@ -13,7 +13,7 @@ mod refused;
 mod rule;
 
 pub use block::BlockSize;
-pub use disk::{Disk, Free, NewPartition, Partition, Placed, Run, State, ALIGNMENTS};
+pub use disk::{Disk, Free, NewPartition, Partition, Placed, Run, SharedName, State, ALIGNMENTS};
 pub use guid::Guid;
 pub use name::Name;
 pub use refusal::Refusal;

@@ -5,6 +5,9 @@ use std::fmt;
 pub struct Name(pub [u16; 36]);
 
 impl Name {
+    /// The one that any number of partitions may have (rule a2): 72 zero bytes.
+    pub const EMPTY: Name = Name([0; 36]);
+
     /// The text's units and then zeros; `None` if it has more than 36 units.
     pub fn new(text: &str) -> Option<Name> {
         let mut name = [0; 36];
