@@ -251,7 +251,6 @@ class Samples(unittest.TestCase):
             for blocks in (1, 1000):
                 self.refused(26, usi.gpt_add, *disk, *size, TWO, guid(4), blocks, name="scratch", alignment=1)
             self.refused(22, usi.gpt_add, *disk, *size, TWO, guid(3), 1, name="scratch", alignment=1)
-            self.refused(23, usi.gpt_add, *disk, *size, TWO, guid(4), 1, name=[*b"scratch", 0, 1] + [0] * 27, alignment=1)
             self.assertEqual(usi.gpt_rename(*disk, *size, 1, "scratch"), disk)
             self.refused(26, usi.gpt_rename, *disk, *size, 2, "scratch")
             self.refused(13, usi.gpt_rename, *disk, *size, 4, "scratch")
@@ -260,6 +259,9 @@ class Samples(unittest.TestCase):
             called = "scratch".encode("utf-16-le")
             foreign = poked(*disk, block, 3, 56, called + bytes(2) + b"z")
             self.assertEqual(usi.gpt_rename(*foreign, *size, 1, "scratch"), foreign)
+            units = [*b"scratch", 0, ord("z")] + [0] * 27
+            self.refused(23, usi.gpt_add, *foreign, *size, TWO, guid(4), 1, name=units, alignment=1)
+            self.refused(23, usi.gpt_rename, *foreign, *size, 2, units)
             double = poked(*disk, block, 3, 56, called)
             self.assertEqual(usi.gpt_read(*double, *size), State.SAME)
             self.refused(26, usi.gpt_rename, *double, *size, 1, "scratch")

@@ -164,14 +164,17 @@ impl Disk<'_> {
     /// The names that more than one partition has, the empty one left out, by the lowest of their slots. All 72 bytes are
     /// compared, as an add compares them (rule a1): two names that differ behind a zero have one text and are not shared.
     pub fn shared_names(&self) -> Result<Vec<SharedName>, Refused> {
-        let mut names: Vec<SharedName> = Vec::new();
-        for Partition { name, slot, .. } in self.partitions()? {
-            match names.iter_mut().find(|shared| shared.name == name) {
-                Some(shared) => shared.slots.push(slot),
-                None => names.push(SharedName { name, slots: vec![slot] }),
-            }
-        }
-        names.retain(|shared| shared.name != Name::EMPTY && shared.slots.len() > 1);
+        let mut held = self.partitions()?;
+        held.retain(|partition| partition.name != Name::EMPTY);
+        held.sort_by(|a, b| a.name.0.cmp(&b.name.0));
+        let alike = held.chunk_by(|a, b| a.name == b.name).filter(|alike| alike.len() > 1);
+        let mut names: Vec<SharedName> = alike
+            .map(|alike| SharedName {
+                name: alike[0].name,
+                slots: alike.iter().map(|held| held.slot).collect(),
+            })
+            .collect();
+        names.sort_by_key(|shared| shared.slots[0]);
         Ok(names)
     }
 

@@ -1,4 +1,4 @@
-use std::fmt;
+use std::fmt::{self, Write};
 
 /// A partition's name: 36 units of UTF-16.
 #[derive(Clone, Copy, Debug, PartialEq, Eq)]
@@ -28,7 +28,8 @@ impl Name {
 impl fmt::Display for Name {
     fn fmt(&self, f: &mut fmt::Formatter<'_>) -> fmt::Result {
         self.to_text().chars().try_for_each(|c| match c {
-            '"' | '\'' => write!(f, "{c}"),
+            '\\' => f.write_str("\\\\"),
+            ' '..='~' => f.write_char(c),
             c => write!(f, "{}", c.escape_debug()),
         })
     }
