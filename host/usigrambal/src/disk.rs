@@ -223,6 +223,7 @@ impl Disk<'_> {
         self.accepted(answer, &[Detail::Slot(slot), Detail::SlotSize(slot, size)])
     }
 
+    /// Gives a partition a name that no other one has, or the empty one (rules a1, a2).
     pub fn rename(&mut self, slot: u64, name: &Name) -> Result<(), Refused> {
         let answer = raw::gpt_rename(self.head, self.tail, self.n, self.block.bytes(), slot, &name.0);
         self.accepted(answer, &[Detail::Slot(slot), Detail::Name(*name)])

@@ -152,7 +152,7 @@ pub static VERBS: &[Verb] = &[
         about: "Check both copies of the table, and the record of block 0 by which other systems see it. \
                 Exit status 0 only if the copies are good and the same and the record is there, 1 where one of them is not. \
                 Bytes of deleted partitions in unused slots are noted; they are no fault. \
-                Partitions that have one name are warned of, as a boot loader may find a partition by it; the exit status stays.",
+                Partitions that have one name are warned of, as a boot loader may find a partition by it; that does not change the exit status.",
         examples: &["usigrambal gpt verify disk.img && echo good", "usigrambal gpt verify disk.img /dev/sdb --json"],
         always: &UNVERIFIED,
         run: gpt::verify,
