@@ -166,7 +166,7 @@ impl Disk<'_> {
     pub fn shared_names(&self) -> Result<Vec<SharedName>, Refused> {
         let mut held = self.partitions()?;
         held.retain(|partition| partition.name != Name::EMPTY);
-        held.sort_by(|a, b| a.name.0.cmp(&b.name.0));
+        held.sort_by_key(|partition| partition.name.0);
         let alike = held.chunk_by(|a, b| a.name == b.name).filter(|alike| alike.len() > 1);
         let mut names: Vec<SharedName> = alike
             .map(|alike| SharedName {
