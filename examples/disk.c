@@ -1,5 +1,5 @@
-/* Formats a disk in memory, adds a partition at a multiple of 2048 blocks, and is refused a second one that has no room: with blocks of
- * 512 bytes, and with blocks of 4096. Then it names a block size that is refused. Prints each answer. */
+/* Formats a disk in memory, adds a partition at a multiple of 2048 blocks, and is refused a second one of the same name and one that has no
+ * room: with blocks of 512 bytes, and with blocks of 4096. Then it names a block size that is refused. Prints each answer. */
 #include "usigrambal.h"
 
 #include <inttypes.h>
@@ -16,8 +16,7 @@ static uint32_t format(void) {
     return usi_gpt_format(head, USI_HEAD_LEN(block), tail, USI_TAIL_LEN(block), N, block, disk, sizeof disk);
 }
 
-static uint32_t add(const uint8_t *unique, uint64_t size, uint64_t *slot, uint64_t *first) {
-    static const uint16_t name[USI_NAME_UNITS] = {'d', 'a', 't', 'a'};
+static uint32_t add(const uint8_t *unique, const uint16_t *name, uint64_t size, uint64_t *slot, uint64_t *first) {
     uint8_t kind[USI_GUID_LEN];
     usi_type_read((const uint8_t *)"linux", 5, kind, sizeof kind);
     return usi_gpt_add(head, USI_HEAD_LEN(block), tail, USI_TAIL_LEN(block), N, block, kind, sizeof kind, unique, USI_GUID_LEN, size, ALIGNMENT,
@@ -26,11 +25,13 @@ static uint32_t add(const uint8_t *unique, uint64_t size, uint64_t *slot, uint64
 
 static void fill(void) {
     static const uint8_t one[USI_GUID_LEN] = {2}, two[USI_GUID_LEN] = {3};
+    static const uint16_t data[USI_NAME_UNITS] = {'d', 'a', 't', 'a'}, logs[USI_NAME_UNITS] = {'l', 'o', 'g', 's'};
     uint64_t slot = 0, first = 0, free_blocks = 0, longest = 0;
     printf("format %" PRIu32 "\n", format());
-    printf("add %" PRIu32, add(one, 2048, &slot, &first));
+    printf("add %" PRIu32, add(one, data, 2048, &slot, &first));
     printf(" slot %" PRIu64 " first %" PRIu64 "\n", slot, first);
-    printf("add %" PRIu32 "\n", add(two, N, &slot, &first));
+    printf("add %" PRIu32 "\n", add(two, data, 2048, &slot, &first));
+    printf("add %" PRIu32 "\n", add(two, logs, N, &slot, &first));
     printf("free %" PRIu32, usi_gpt_free(head, USI_HEAD_LEN(block), tail, USI_TAIL_LEN(block), N, block, &free_blocks, &longest));
     printf(" %" PRIu64 " %" PRIu64 "\n", free_blocks, longest);
 }

@@ -22,9 +22,9 @@ extern "C" {
 #endif
 
 #define USI_VERSION_MAJOR 0
-#define USI_VERSION_MINOR 3
+#define USI_VERSION_MINOR 4
 #define USI_VERSION_PATCH 0
-#define USI_VERSION "0.3.0"
+#define USI_VERSION "0.4.0"
 
 /* What a call returns. */
 enum usi_answer {
@@ -43,6 +43,7 @@ enum usi_answer {
     USI_BAD_PARTITION_NAME = 23,
     USI_NO_UNUSED_SLOT = 24,
     USI_NO_ROOM = 25,
+    USI_PARTITION_NAME_TAKEN = 26,
     USI_ALIGNMENT = 27,
     USI_NOT_A_GUID = 30,
     USI_IMAGE_LENGTH = 40,
@@ -84,6 +85,7 @@ static inline const char *usi_words(uint32_t number)
     case USI_BAD_PARTITION_NAME: return "the name has a nonzero unit after a zero one";
     case USI_NO_UNUSED_SLOT: return "no unused slot";
     case USI_NO_ROOM: return "no room";
+    case USI_PARTITION_NAME_TAKEN: return "the name is already in another used slot";
     case USI_ALIGNMENT: return "the alignment is not 1, 8 or 2048 blocks";
     case USI_NOT_A_GUID: return "not a GUID text";
     case USI_IMAGE_LENGTH: return "the image length is outside its range";
@@ -295,7 +297,8 @@ uint32_t usi_gpt_free(const uint8_t *head, size_t head_len, const uint8_t *tail,
  * blocks from it on; answers slot and first block. The multiple is of the block's number on the disk, whatever the first usable block is.
  * All 128 bytes of the slot are written, whatever it held.
  * Refusals in order: 6, 1, 2, 10, 11; 20 size is 0; 27 alignment is not 1, 8 or 2048; 21 the type is all zero;
- * 22 the unique GUID is all zero or already in a used slot; 23 the name has a unit other than zero after a zero one; 24 no unused slot;
+ * 22 the unique GUID is all zero or already in a used slot; 23 the name has a unit other than zero after a zero one;
+ * 26 the name is not empty and another used slot has the same 72 bytes; 24 no unused slot;
  * 25 no room: no multiple of alignment has size free blocks from it on. */
 uint32_t usi_gpt_add(uint8_t *head, size_t head_len, uint8_t *tail, size_t tail_len, uint64_t n, uint64_t block, const uint8_t *kind, size_t kind_len,
                      const uint8_t *unique, size_t unique_len, uint64_t size, uint64_t alignment, uint64_t attributes, const uint16_t *name,
@@ -308,7 +311,8 @@ uint32_t usi_gpt_delete(uint8_t *head, size_t head_len, uint8_t *tail, size_t ta
  * 25 a block of the new range lies past the last usable one or in another partition. */
 uint32_t usi_gpt_resize(uint8_t *head, size_t head_len, uint8_t *tail, size_t tail_len, uint64_t n, uint64_t block, uint64_t slot, uint64_t size);
 
-/* Sets a partition's name alone. Refusals in order: 6, 1, 2, 10, 11, 12, 13; 23 the name has a unit other than zero after a zero one. */
+/* Sets a partition's name alone. Refusals in order: 6, 1, 2, 10, 11, 12, 13; 23 the name has a unit other than zero after a zero one;
+ * 26 the name is not empty and another used slot has the same 72 bytes. A partition may be given the name that it has, unless another one has it too. */
 uint32_t usi_gpt_rename(uint8_t *head, size_t head_len, uint8_t *tail, size_t tail_len, uint64_t n, uint64_t block, uint64_t slot,
                         const uint16_t *name, size_t name_units);
 

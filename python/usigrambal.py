@@ -18,7 +18,7 @@ import ctypes
 import enum
 import os
 
-__version__ = "0.3.0"
+__version__ = "0.4.0"
 
 BLOCK_SIZES = (512, 4096)
 ENTRIES_LEN = 16384
@@ -59,6 +59,7 @@ class Refusal(_Worded):
     BAD_PARTITION_NAME = 23, "the name has a nonzero unit after a zero one"
     NO_UNUSED_SLOT = 24, "no unused slot"
     NO_ROOM = 25, "no room"
+    PARTITION_NAME_TAKEN = 26, "the name is already in another used slot"
     ALIGNMENT = 27, "the alignment is not 1, 8 or 2048 blocks"
     NOT_A_GUID = 30, "not a GUID text"
     IMAGE_LENGTH = 40, "the image length is outside its range"
@@ -327,7 +328,7 @@ def gpt_free(head, tail, n, block):
 
 def gpt_add(head, tail, n, block, kind, unique, size, attributes=0, name="", *, alignment=2048):
     """Head and tail with a new partition of `size` blocks, then its slot and its first block: the lowest multiple of `alignment`
-    (1, 8 or 2048 blocks) with room. The name is a text or a list of 36 units. Refused: 6, 1, 2, 10, 11, 20, 27, 21 to 25."""
+    (1, 8 or 2048 blocks) with room. The name is a text or a list of 36 units. Refused: 6, 1, 2, 10, 11, 20, 27, 21 to 23, 26, 24, 25."""
     slot, first = _answers(2)
     more = (_copy(kind), _copy(unique), size, alignment, attributes, _name(name), slot, first)
     head, tail = _edited("usi_gpt_add", head, tail, n, block, *more)
@@ -345,7 +346,7 @@ def gpt_resize(head, tail, n, block, slot, size):
 
 
 def gpt_rename(head, tail, n, block, slot, name):
-    """Head and tail with another name of a partition. Refused: 6, 1, 2, 10 to 13, 23."""
+    """Head and tail with another name of a partition. Refused: 6, 1, 2, 10 to 13, 23, 26."""
     return _edited("usi_gpt_rename", head, tail, n, block, slot, _name(name))
 
 

@@ -1,6 +1,6 @@
 /* Holds the constants of the header to what the calls do: each length is the one that is not refused, each field stands where a call wrote it;
- * every disk call to its first refusal, a block size that is none; adds to the alignment of their start; and entries to what makes them unused,
- * their type alone. */
+ * every disk call to its first refusal, a block size that is none; adds to the alignment of their start, adds and renames to a name of their own;
+ * and entries to what makes them unused, their type alone. */
 #include "usigrambal.h"
 
 #include <stdio.h>
@@ -154,6 +154,51 @@ static void alignments(void) {
     }
 }
 
+static uint32_t add_named(const uint8_t *unique, const uint16_t *called, uint64_t size) {
+    uint64_t slot, first;
+    return usi_gpt_add(HEAD, TAIL, 100, block, two, USI_GUID_LEN, unique, USI_GUID_LEN, size, 1, 0, called, USI_NAME_UNITS, &slot, &first);
+}
+
+static uint32_t rename_to(uint64_t slot, const uint16_t *called) {
+    return usi_gpt_rename(HEAD, TAIL, 100, block, slot, called, USI_NAME_UNITS);
+}
+
+/* Writes bytes of a slot in both copies, as no call does. */
+static void poke(int slot, size_t at, const void *stored, size_t len) {
+    uint8_t *entries[2];
+    entries[0] = head + USI_HEAD_LEN(block) - USI_ENTRIES_LEN;
+    entries[1] = tail;
+    for (int k = 0; k < 2; k++) {
+        memcpy(entries[k] + (slot - 1) * USI_ENTRY_LEN + at, stored, len);
+        sum(k == 0 ? head + block : tail + USI_ENTRIES_LEN, entries[k]);
+    }
+}
+
+/* All 72 bytes of a name are compared, with those of the other used slots; the empty one may repeat. A disk on which two have one name reads. */
+static void names(void) {
+    static const uint8_t uniques[4][USI_GUID_LEN] = {{11}, {12}, {13}, {14}}, zeros[USI_GUID_LEN] = {0};
+    static const uint16_t empty[USI_NAME_UNITS] = {0}, behind[USI_NAME_UNITS] = {'n', 0, 'z'};
+    uint16_t full[USI_NAME_UNITS], end[USI_NAME_UNITS];
+    uint64_t found = 0;
+    for (int unit = 0; unit < USI_NAME_UNITS; unit++) full[unit] = end[unit] = 0x6161;
+    end[USI_NAME_UNITS - 1] = 0x6162;
+    HOLDS(format(USI_HEAD_LEN(block), USI_TAIL_LEN(block), 100, USI_GUID_LEN) == USI_ACCEPTED);
+    HOLDS(add_named(uniques[0], full, 1) == USI_ACCEPTED && add_named(uniques[1], full, 1) == USI_PARTITION_NAME_TAKEN);
+    HOLDS(add_named(uniques[0], full, 1) == USI_BAD_UNIQUE_GUID && add_named(uniques[1], full, 1000) == USI_PARTITION_NAME_TAKEN);
+    HOLDS(add_named(uniques[1], end, 1) == USI_ACCEPTED);
+    HOLDS(add_named(uniques[2], empty, 1) == USI_ACCEPTED && add_named(uniques[3], empty, 1) == USI_ACCEPTED);
+    HOLDS(rename_to(1, full) == USI_ACCEPTED && rename_to(2, full) == USI_PARTITION_NAME_TAKEN && rename_to(2, empty) == USI_ACCEPTED);
+    HOLDS(rename_to(5, full) == USI_SLOT_UNUSED);
+    poke(2, USI_ENTRY_NAME, behind, sizeof behind);
+    HOLDS(add_named(one, behind, 1) == USI_BAD_PARTITION_NAME && rename_to(3, behind) == USI_BAD_PARTITION_NAME);
+    HOLDS(rename_to(3, name) == USI_ACCEPTED);
+    poke(4, USI_ENTRY_NAME, name, 2 * USI_NAME_UNITS);
+    HOLDS(usi_gpt_read(HEAD, TAIL, 100, block, &found) == USI_ACCEPTED && found == USI_STATE_SAME);
+    HOLDS(rename_to(3, name) == USI_PARTITION_NAME_TAKEN && rename_to(4, name) == USI_PARTITION_NAME_TAKEN);
+    poke(4, USI_ENTRY_TYPE, zeros, USI_GUID_LEN);
+    HOLDS(rename_to(3, name) == USI_ACCEPTED);
+}
+
 /* Each disk call, on the disk that is there, with the block size in hand. */
 static void refused_for_its_block(size_t head_len, size_t tail_len, uint64_t n, size_t guid_len, size_t units) {
     uint64_t a = 77, b = 78;
@@ -262,6 +307,7 @@ int main(void) {
         disk();
         unused();
         alignments();
+        names();
         block_sizes();
     }
     guid();
@@ -270,6 +316,6 @@ int main(void) {
     sprintf(version, "%d.%d.%d", USI_VERSION_MAJOR, USI_VERSION_MINOR, USI_VERSION_PATCH);
     HOLDS(strcmp(version, USI_VERSION) == 0);
     HOLDS(strcmp(usi_words(USI_NO_ROOM), "no room") == 0 && strcmp(usi_words(99), usi_words(100)) == 0);
-    printf("%d claims about the header's constants, block sizes, alignments and unused entries hold\n", held);
+    printf("%d claims about the header's constants, block sizes, alignments, names and unused entries hold\n", held);
     return 0;
 }

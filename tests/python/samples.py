@@ -47,6 +47,12 @@ def summed(head, tail, block):
     return head[:block] + header(head[block : 2 * block], head[2 * block :]) + head[2 * block :], tail[:entries] + header(tail[entries:], tail[:entries])
 
 
+def poked(head, tail, block, slot, at, stored):
+    """Head and tail with other bytes from a place of a slot on, in both copies, and the CRCs that belong to them."""
+    place = usi.ENTRY_LEN * (slot - 1) + at
+    return summed(replaced(head, 2 * block + place, stored), replaced(tail, place, stored), block)
+
+
 class Names(unittest.TestCase):
     def test_refusals_and_rules(self):
         numbers = {name: int(number) for name, number in re.findall(r"^    USI_(\w+) = (\d+)", HEADER, re.M)}
@@ -234,6 +240,35 @@ class Samples(unittest.TestCase):
                     usi.gpt_read(head, tail, number, block)
                 with self.assertRaises(OverflowError):
                     usi.gpt_read(head, tail, 1 << 32, number)
+
+    def test_names(self):
+        """A name that another used slot has is 26, after 23 and before 24 and 25, in a rename last; all 72 bytes count, and '' may repeat."""
+        for block in usi.BLOCK_SIZES:
+            size = 100, block
+            guid = lambda number: bytes([number] * 16)
+            add = lambda disk, number, name: usi.gpt_add(*disk, *size, TWO, guid(number), 1, name=name, alignment=1)[:2]
+            disk = add(add(add(formatted(*size), 1, "scratch"), 2, ""), 3, "")
+            for blocks in (1, 1000):
+                self.refused(26, usi.gpt_add, *disk, *size, TWO, guid(4), blocks, name="scratch", alignment=1)
+            self.refused(22, usi.gpt_add, *disk, *size, TWO, guid(3), 1, name="scratch", alignment=1)
+            self.assertEqual(usi.gpt_rename(*disk, *size, 1, "scratch"), disk)
+            self.refused(26, usi.gpt_rename, *disk, *size, 2, "scratch")
+            self.refused(13, usi.gpt_rename, *disk, *size, 4, "scratch")
+            self.refused(26, usi.gpt_rename, *add(usi.gpt_rename(*disk, *size, 2, "x" * 36), 4, "x" * 35 + "y"), *size, 3, "x" * 36)
+            # By no call: a unit behind the name and a zero, the name twice, and the second without a type.
+            called = "scratch".encode("utf-16-le")
+            foreign = poked(*disk, block, 3, 56, called + bytes(2) + b"z")
+            self.assertEqual(usi.gpt_rename(*foreign, *size, 1, "scratch"), foreign)
+            units = [*b"scratch", 0, ord("z")] + [0] * 27
+            self.refused(23, usi.gpt_add, *foreign, *size, TWO, guid(4), 1, name=units, alignment=1)
+            self.refused(23, usi.gpt_rename, *foreign, *size, 2, units)
+            double = poked(*disk, block, 3, 56, called)
+            self.assertEqual(usi.gpt_read(*double, *size), State.SAME)
+            self.refused(26, usi.gpt_rename, *double, *size, 1, "scratch")
+            self.refused(26, usi.gpt_rename, *double, *size, 3, "scratch")
+            self.assertEqual(usi.gpt_rename(*double, *size, 3, ""), disk)
+            unused = poked(*double, block, 3, 0, bytes(16))
+            self.assertEqual(usi.gpt_rename(*unused, *size, 1, "scratch"), unused)
 
     def test_stale_bytes(self):
         """A zero type GUID alone makes a slot unused, and an add writes all of it."""

@@ -8,9 +8,17 @@ use usigrambal::{raw, BlockSize};
 const N: u64 = 1 << 20;
 pub const KIND: [u8; 16] = [0xAF; 16];
 const ENTRY_LEN: usize = 128;
-const NAME: [u16; 36] = [0; 36];
-/// The size of the add that is timed; longer than every gap but the last.
+pub const NO_NAME: [u16; 36] = [0; 36];
+/// The add that is timed: a partition that no disk has, and its size, longer than every gap but the last.
+pub const NEW: u8 = 255;
 const ASKED: u64 = 2;
+
+/// A partition's name. They differ in their last unit alone, so that no two can be told apart before it.
+pub fn name(partition: u8) -> [u16; 36] {
+    let mut name = [u16::from(b'n'); 36];
+    name[35] = 0x100 + u16::from(partition);
+    name
+}
 
 #[derive(Clone)]
 pub struct Disk {
@@ -70,8 +78,8 @@ impl Disk {
     /// The disk with another name of the last partition in its tail: both copies good but different.
     pub fn with_another_tail(&self) -> Disk {
         let mut other = self.clone();
-        let mut name = NAME;
-        name[0] = 1;
+        let mut name = name(128);
+        name[0] = u16::from(b'm');
         assert_eq!(raw::gpt_rename(&mut other.head, &mut other.tail, N, self.block.bytes(), 128, &name), 0);
         let disk = Disk { head: self.head.clone(), ..other };
         assert_eq!(disk.read(), 2);
@@ -129,9 +137,13 @@ impl Disk {
         self.firsts().len()
     }
 
-    fn add(&mut self, unique: u8, size: u64, alignment: u64) -> u32 {
-        let (kind, unique) = (&KIND, &[unique; 16]);
-        let new = raw::NewPartition { kind, unique, size, alignment, attributes: 0, name: &NAME };
+    fn add(&mut self, partition: u8, size: u64, alignment: u64) -> u32 {
+        self.add_named(partition, size, alignment, &name(partition))
+    }
+
+    fn add_named(&mut self, partition: u8, size: u64, alignment: u64, name: &[u16]) -> u32 {
+        let (kind, unique) = (&KIND, &[partition; 16]);
+        let new = raw::NewPartition { kind, unique, size, alignment, attributes: 0, name };
         raw::gpt_add(&mut self.head, &mut self.tail, N, self.block.bytes(), &new, &mut 0, &mut 0)
     }
 
@@ -148,10 +160,10 @@ impl Disk {
     }
 
     /// Adds a partition to a copy of the disk; the copy's time counts too.
-    pub fn add_to(&self, copy: &mut Disk, alignment: u64) -> u32 {
+    pub fn add_to(&self, copy: &mut Disk, alignment: u64, name: &[u16]) -> u32 {
         copy.head.copy_from_slice(&self.head);
         copy.tail.copy_from_slice(&self.tail);
-        let refusal = copy.add(255, ASKED, alignment);
+        let refusal = copy.add_named(NEW, ASKED, alignment, name);
         assert_eq!(refusal, 0);
         refusal
     }

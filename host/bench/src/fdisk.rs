@@ -1,7 +1,7 @@
 //! The rows of the disk calls on a disk in a file, beside libfdisk: both open the file, read it, do the work and close it.
 
 use crate::check::{self, PARTITIONS};
-use crate::disk::{Disk, KIND};
+use crate::disk::{self, Disk, KIND, NEW};
 use crate::gpt::Disks;
 use crate::library::Library;
 use crate::table::{Label, Table};
@@ -124,11 +124,11 @@ fn list(path: &Path) -> usize {
 fn add(path: &Path) -> usize {
     let new = NewPartition {
         kind: Guid(KIND),
-        unique: Guid([255; 16]),
+        unique: Guid([NEW; 16]),
         size: 2,
         alignment: 1,
         attributes: 0,
-        name: Name::new("").expect("no unit"),
+        name: Name(disk::name(NEW)),
     };
     changed(path, |disk| {
         disk.add(&new).expect("room");

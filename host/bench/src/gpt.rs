@@ -1,7 +1,7 @@
-//! The rows of the disk calls in memory, in units of a CRC-32, with blocks of 4096 bytes beside blocks of 512, and an add at
-//! a multiple of 2048 blocks beside one at any block.
+//! The rows of the disk calls in memory, in units of a CRC-32, with blocks of 4096 bytes beside blocks of 512, an add at a
+//! multiple of 2048 blocks beside one at any block, and an add with a name beside one without.
 
-use crate::disk::Disk;
+use crate::disk::{name, Disk, NEW, NO_NAME};
 use crate::peers;
 use crate::table::{Label, Table};
 use crate::timed::{calls, Timed};
@@ -15,6 +15,8 @@ const LARGE_MOST: f64 = 1.3;
 /// The time of an add at an alignment of 2048 blocks, in units of that at 1.
 const ALIGNED_MOST: f64 = 1.3;
 const ALIGNMENT: u64 = 2048;
+/// The time of an add with a name, in units of that without, which is held to no other partition's.
+const NAMED_MOST: f64 = 1.1;
 
 /// A gap behind each partition: 128 partitions, in the slots' order and against it; and 127 with room for one more behind the last gap.
 pub struct Disks {
@@ -49,6 +51,7 @@ pub fn rows<'a>(t: &mut Table<'a>, disks: &'a Disks) {
     unit_rows(t, disks);
     large_rows(t, disks);
     aligned_row(t, &disks.room);
+    named_row(t, &disks.room);
 }
 
 fn unit_rows<'a>(t: &mut Table<'a>, disks: &'a Disks) {
@@ -94,6 +97,12 @@ fn aligned_row<'a>(t: &mut Table<'a>, room: &'a Disk) {
     t.row(label.at_most_units(ALIGNED_MOST), adds(room, ALIGNMENT), adds(room, 1));
 }
 
+/// On the same disk, whose partitions all have names that are told apart by their last unit alone.
+fn named_row<'a>(t: &mut Table<'a>, room: &'a Disk) {
+    let label = Label::new("gpt add with a name, in memory", "itself without").size("127 partitions");
+    t.row(label.at_most_units(NAMED_MOST), adds(room, 1), adds_named(room, 1, NO_NAME));
+}
+
 fn reads(disk: &Disk) -> Timed<'_> {
     calls(|| disk.read())
 }
@@ -102,7 +111,12 @@ fn frees(disk: &Disk) -> Timed<'_> {
     calls(|| disk.free())
 }
 
+/// With a name that goes along with every other one up to its last unit.
 fn adds(disk: &Disk, alignment: u64) -> Timed<'_> {
+    adds_named(disk, alignment, name(NEW))
+}
+
+fn adds_named(disk: &Disk, alignment: u64, name: [u16; 36]) -> Timed<'_> {
     let mut copy = disk.clone();
-    calls(move || disk.add_to(&mut copy, alignment))
+    calls(move || disk.add_to(&mut copy, alignment, &name))
 }

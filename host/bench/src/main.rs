@@ -20,16 +20,19 @@ mod work;
 use gpt::Disks;
 use table::{Row, Table, ROUNDS};
 
-const USAGE: &str = "bench [--markdown] [--peers] [--commands] [--quick]
+const USAGE: &str = "bench [--markdown] [--peers] [--commands] [--quick] [--only WORDS]
   --markdown  the table in Markdown
   --peers     only the rows beside other programs and libraries, not those of inner functions and of growing inputs
   --commands  only the rows of the command beside other commands
-  --quick     one round, which shows that every row can be measured and no more";
+  --quick     one round, which shows that every row can be measured and no more
+  --only      only the rows with these words in their first column";
 
 const OPTIONS: [&str; 4] = ["--markdown", "--peers", "--commands", "--quick"];
 
 fn main() {
-    let words: Vec<String> = std::env::args().skip(1).collect();
+    let mut words: Vec<String> = std::env::args().skip(1).collect();
+    let only = words.iter().position(|word| word == "--only").filter(|at| at + 1 < words.len());
+    let only = only.map(|at| words.drain(at..at + 2).nth(1).expect("two words"));
     if let Some(word) = words.iter().find(|word| !OPTIONS.contains(&word.as_str())) {
         eprintln!("{word}: no such option\n{USAGE}");
         std::process::exit(2);
@@ -38,7 +41,7 @@ fn main() {
     // All files in memory, so that no disk is in the measure.
     std::env::set_var("TMPDIR", "/dev/shm");
     let disks = Disks::new();
-    let mut table = Table::default();
+    let mut table = Table::with(only);
     if given("--commands") {
         command::rows(&mut table, &disks);
     } else {

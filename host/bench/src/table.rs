@@ -66,14 +66,23 @@ struct Side<'a> {
 #[derive(Default)]
 pub struct Table<'a> {
     rows: Vec<(Label, Side<'a>, Side<'a>)>,
+    /// Words without which a row is not measured.
+    only: Option<String>,
     /// One sentence for each peer that is not there.
     pub left_out: Vec<String>,
 }
 
 impl<'a> Table<'a> {
+    /// A table of the rows with these words in their first column, if there are any.
+    pub fn with(only: Option<String>) -> Table<'a> {
+        Table { only, ..Table::default() }
+    }
+
     /// Adds a row: our work and the peer's.
     pub fn row(&mut self, label: Label, ours: Timed<'a>, peer: Timed<'a>) {
-        self.rows.push((label, side(ours), side(peer)));
+        if self.only.iter().all(|words| label.what.contains(words)) {
+            self.rows.push((label, side(ours), side(peer)));
+        }
     }
 
     /// Times all rows, round by round.
@@ -124,6 +133,16 @@ mod tests {
     fn sizes_have_their_unit() {
         let sizes = [92, 1025, 16 << 10, 1 << 20, 16 << 20].map(size_text);
         assert_eq!(sizes, ["92 B", "1025 B", "16 KiB", "1 MiB", "16 MiB"]);
+    }
+
+    #[test]
+    fn only_the_rows_that_are_asked_for() {
+        let mut table = Table::with(Some("gpt add".into()));
+        for what in ["gpt add, in memory", "gpt read", "usigrambal gpt add"] {
+            table.row(Label::new(what, ""), Box::new(|_| 1.0), Box::new(|_| 1.0));
+        }
+        let measured: Vec<String> = table.measured(1).into_iter().map(|row| row.label.what).collect();
+        assert_eq!(measured, ["gpt add, in memory", "usigrambal gpt add"]);
     }
 
     #[test]

@@ -100,7 +100,7 @@ fn an_empty_and_a_full_table_are_drawn() {
     assert!(shown.contains("\nno partitions\n"), "{shown}");
     assert_eq!(shown.lines().last(), Some(".".repeat(64).as_str()));
     for _ in 0..128 {
-        add(&image, "1", "x");
+        add(&image, "1", "");
     }
     run!["gpt", "add", image, "--size", "1"].refused(24);
     for slot in (1..=128).step_by(2) {

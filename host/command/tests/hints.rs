@@ -2,7 +2,7 @@
 
 mod common;
 
-use common::{add, disk, refused, spoil, Ended, Folder};
+use common::{add, disk, refused, set_name, spoil, Ended, Folder};
 use std::ffi::OsStr;
 use std::os::unix::ffi::OsStrExt;
 use std::process::Command;
@@ -107,7 +107,7 @@ fn tables_that_cannot_be_edited() {
 fn a_full_table() {
     let folder = Folder::new();
     let image = disk(&folder, "disk.img", 1000);
-    (0..128).for_each(|_| drop(add(&image, "1", "x")));
+    (0..128).for_each(|_| drop(add(&image, "1", "")));
     let path = image.to_str().expect("UTF-8");
     let hint = format!("all numbers are in use; usigrambal gpt delete {path} NUMBER frees one");
     refused(&["gpt", "add", path, "--size", "1"], 24, "no unused slot", &hint);
@@ -124,9 +124,10 @@ fn a_full_table() {
 fn partitions_by_name() {
     let folder = Folder::new();
     let image = disk(&folder, "disk.img", 1000);
-    for name in ["boot", "pages", "pages", "7", GUID] {
+    for name in ["boot", "pages", "", "7", GUID] {
         add(&image, "10", name);
     }
+    set_name(&image, 512, [3], "pages");
     run!["gpt", "add", image, "--size", "10", "--align", "1", "--guid", GUID, "--name", "last"].done();
     let told = |words: &[&str]| {
         let (verb, rest) = words.split_first().expect("a verb");

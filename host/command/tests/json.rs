@@ -164,6 +164,14 @@ fn disks(printed: &mut Printed, folder: &Folder) {
     common::clear_types(&folder.path("stale.img"), 512, [1]);
     call("gpt show stale.img");
     call("gpt verify stale.img");
+    folder.sparse("shared.img", 100 * 512);
+    call("gpt format shared.img");
+    (0..4).for_each(|_| call("gpt add shared.img --size 1 --align 1"));
+    common::set_name(&folder.path("shared.img"), 512, [1, 2], "scratch");
+    common::set_name(&folder.path("shared.img"), 512, [3, 4], "scratch\0z");
+    call("gpt show shared.img");
+    call("gpt verify shared.img");
+    call("gpt add shared.img --size 1 --align 1 --name scratch");
 }
 
 fn images(printed: &mut Printed, folder: &Folder) {

@@ -185,7 +185,7 @@ fn copies_that_differ_in_them() {
 fn a_table_of_nothing_else() {
     let folder = Folder::new();
     let image = disk(&folder, "disk.img", 1000);
-    (0..128).for_each(|_| drop(add(&image, "1", "x")));
+    (0..128).for_each(|_| drop(add(&image, "1", "")));
     run!["gpt", "add", image, "--size", "1"].refused(24);
     clear_types(&image, 512, 1..=128);
     let shown = run!["gpt", "show", image].done();

@@ -2,7 +2,7 @@ use crate::block::{BlockSize, ENTRIES_LEN, ENTRY_LEN, GUID_IN_TAIL};
 use crate::raw;
 use crate::refusal::accepted;
 use crate::refused::{Detail, Refused};
-use crate::Guid;
+use crate::{Guid, Name};
 
 /// A disk of `n` blocks, by its first and its last blocks: `head` and `tail` have the lengths that the
 /// block size decides, else every call is refused with 1. The caller reads and writes these blocks; the
@@ -86,25 +86,11 @@ impl Partition {
     }
 }
 
-/// A partition's name: 36 units of UTF-16.
-#[derive(Clone, Copy, Debug, PartialEq, Eq)]
-pub struct Name(pub [u16; 36]);
-
-impl Name {
-    /// The text's units and then zeros; `None` if it has more than 36 units.
-    pub fn new(text: &str) -> Option<Name> {
-        let mut name = [0; 36];
-        for (place, unit) in text.encode_utf16().enumerate() {
-            *name.get_mut(place)? = unit;
-        }
-        Some(Name(name))
-    }
-
-    /// The units before the first zero; what is no UTF-16 is replaced.
-    pub fn to_text(self) -> String {
-        let units = self.0.iter().take_while(|unit| **unit != 0).copied();
-        char::decode_utf16(units).map(|c| c.unwrap_or(char::REPLACEMENT_CHARACTER)).collect()
-    }
+/// A name that more than one partition has, and their slots in order.
+#[derive(Clone, Debug, PartialEq, Eq)]
+pub struct SharedName {
+    pub name: Name,
+    pub slots: Vec<u64>,
 }
 
 impl Disk<'_> {
@@ -175,6 +161,23 @@ impl Disk<'_> {
         Ok(self.slots()?.filter(|(entry, _)| stale(entry)).map(|(_, slot)| slot).collect())
     }
 
+    /// The names that more than one partition has, the empty one left out, by the lowest of their slots. All 72 bytes are
+    /// compared, as an add compares them (rule a1): two names that differ behind a zero have one text and are not shared.
+    pub fn shared_names(&self) -> Result<Vec<SharedName>, Refused> {
+        let mut held = self.partitions()?;
+        held.retain(|partition| partition.name != Name::EMPTY);
+        held.sort_by_key(|partition| partition.name.0);
+        let alike = held.chunk_by(|a, b| a.name == b.name).filter(|alike| alike.len() > 1);
+        let mut names: Vec<SharedName> = alike
+            .map(|alike| SharedName {
+                name: alike[0].name,
+                slots: alike.iter().map(|held| held.slot).collect(),
+            })
+            .collect();
+        names.sort_by_key(|shared| shared.slots[0]);
+        Ok(names)
+    }
+
     fn slots(&self) -> Result<impl Iterator<Item = (&[u8], u64)>, Refused> {
         Ok(self.entries()?.chunks_exact(ENTRY_LEN).zip(1..))
     }
@@ -200,7 +203,12 @@ impl Disk<'_> {
         let (mut slot, mut first) = (0, 0);
         let answer =
             raw::gpt_add(self.head, self.tail, self.n, self.block.bytes(), &lent, &mut slot, &mut first);
-        self.accepted(answer, &[Detail::NewSize(new.size, new.alignment), Detail::Alignment(new.alignment)])?;
+        let details = [
+            Detail::NewSize(new.size, new.alignment),
+            Detail::Alignment(new.alignment),
+            Detail::Name(new.name),
+        ];
+        self.accepted(answer, &details)?;
         Ok(Placed { slot, first })
     }
 
@@ -215,9 +223,10 @@ impl Disk<'_> {
         self.accepted(answer, &[Detail::Slot(slot), Detail::SlotSize(slot, size)])
     }
 
+    /// Gives a partition a name that no other one has, or the empty one (rules a1, a2).
     pub fn rename(&mut self, slot: u64, name: &Name) -> Result<(), Refused> {
         let answer = raw::gpt_rename(self.head, self.tail, self.n, self.block.bytes(), slot, &name.0);
-        self.accepted(answer, &[Detail::Slot(slot)])
+        self.accepted(answer, &[Detail::Slot(slot), Detail::Name(*name)])
     }
 
     /// Makes both copies good and the same; answers the state found (rule D24).
@@ -269,7 +278,7 @@ mod tests {
     use super::*;
 
     fn new_partition(size: u64, unique: u8) -> NewPartition {
-        let name = Name::new("Größe").unwrap();
+        let name = Name::new(&format!("Größe {unique}")).unwrap();
         let (kind, unique) = (Guid([7; 16]), Guid([unique; 16]));
         NewPartition { kind, unique, size, alignment: 1, attributes: 5, name }
     }
@@ -304,8 +313,8 @@ mod tests {
         let partitions = disk.partitions().unwrap();
         let told: Vec<_> =
             partitions.iter().map(|p| (p.slot, p.first - start, p.last - start, p.name.to_text())).collect();
-        let name = || String::from("Größe");
-        assert_eq!(told, [(1, 15, 32, "boot".into()), (2, 10, 14, name()), (3, 0, 9, name())]);
+        let expected = [(1, 15, 32, "boot"), (2, 10, 14, "Größe 2"), (3, 0, 9, "Größe 3")];
+        assert_eq!(told, expected.map(|(slot, first, last, name)| (slot, first, last, name.to_string())));
         assert_eq!(partitions[2].unique, Guid([3; 16]));
         assert_eq!(partitions[2].attributes, 5);
     }
@@ -369,12 +378,5 @@ mod tests {
             let mut disk = Disk { head: &mut head, tail: &mut tail, n: 100, block: block.other() };
             assert_eq!(words(disk.format(Guid([1; 16]))), "1: a lent buffer has a wrong length");
         }
-    }
-
-    #[test]
-    fn a_name_has_at_most_36_units() {
-        assert_eq!(Name::new(&"x".repeat(36)).unwrap().0, [u16::from(b'x'); 36]);
-        assert_eq!(Name::new(&"x".repeat(37)), None);
-        assert_eq!(Name::new("a").unwrap().to_text(), "a");
     }
 }

@@ -6,14 +6,16 @@ mod disk;
 pub mod flash;
 mod guid;
 pub mod layout;
+mod name;
 pub mod raw;
 mod refusal;
 mod refused;
 mod rule;
 
 pub use block::BlockSize;
-pub use disk::{Disk, Free, Name, NewPartition, Partition, Placed, Run, State, ALIGNMENTS};
+pub use disk::{Disk, Free, NewPartition, Partition, Placed, Run, SharedName, State, ALIGNMENTS};
 pub use guid::Guid;
+pub use name::Name;
 pub use refusal::Refusal;
 pub use refused::{Refused, IMAGE_MAX, TEXT_MAX};
 

@@ -55,6 +55,7 @@ refusals! {
     23 BadPartitionName "the name has a nonzero unit after a zero one"
     24 NoUnusedSlot "no unused slot"
     25 NoRoom "no room"
+    26 PartitionNameTaken "the name is already in another used slot"
     27 Alignment "the alignment is not 1, 8 or 2048 blocks"
     30 NotAGuid "not a GUID text"
     40 ImageLength "the image length is outside its range"
@@ -107,7 +108,7 @@ mod tests {
             assert_eq!(accepted(refusal.number()).unwrap_err().refusal, *refusal);
         }
         assert_eq!(Refusal::from_number(0), None);
-        assert_eq!(Refusal::from_number(26), None);
+        assert_eq!(Refusal::from_number(29), None);
     }
 
     #[test]

@@ -1,6 +1,6 @@
 //! A refused call: the refusal, and the argument that it is about.
 
-use crate::Refusal;
+use crate::{Name, Refusal};
 use std::error::Error;
 use std::fmt;
 
@@ -35,6 +35,8 @@ pub(crate) enum Detail {
     Alignment(u64),
     /// A partition to be given so many blocks.
     SlotSize(u64, u64),
+    /// The name that a partition is to have.
+    Name(Name),
     /// An image of so many bytes, where the layout text states so many.
     Stated(usize, u64),
     /// The name of an area to be carried, and zeros.
@@ -84,6 +86,7 @@ impl Detail {
             Detail::Slot(_) => matches!(refusal, Refusal::NoSuchSlot | Refusal::SlotUnused),
             Detail::NewSize(..) | Detail::SlotSize(..) => refusal == Refusal::NoRoom,
             Detail::Alignment(_) => refusal == Refusal::Alignment,
+            Detail::Name(_) => refusal == Refusal::PartitionNameTaken,
             Detail::Stated(..) => refusal == Refusal::WrongLength,
             Detail::Area(_) => matches!(refusal, Refusal::AreaMissing | Refusal::AreaOtherSize),
         }
@@ -106,6 +109,7 @@ impl fmt::Display for Detail {
             Detail::SlotSize(slot, size) => {
                 write!(f, "slot {slot} cannot have {size} block{}", s(*size))
             }
+            Detail::Name(name) => write!(f, "\"{name}\""),
             Detail::Stated(len, stated) => {
                 f.write_str("the image has ")?;
                 bytes(f, *len, IMAGE_MAX)?;
@@ -162,6 +166,16 @@ mod tests {
         assert_eq!(one, "2: the number of blocks is outside its range: 1 block");
         let bytes = refused(Refusal::BlockSize, &[Detail::BlockBytes(1024)]);
         assert_eq!(bytes, "6: the block size is neither 512 nor 4096: 1024 bytes");
+    }
+
+    /// Rule a1.
+    #[test]
+    fn a_name_that_is_taken_is_told() {
+        let name = Name::new("scratch\n").unwrap();
+        let taken = refused(Refusal::PartitionNameTaken, &[Detail::Slot(3), Detail::Name(name)]);
+        assert_eq!(taken, "26: the name is already in another used slot: \"scratch\\n\"");
+        let unused = refused(Refusal::SlotUnused, &[Detail::Slot(3), Detail::Name(name)]);
+        assert_eq!(unused, "13: the slot is unused: slot 3");
     }
 
     /// Rule e4: the longest run may be longer than the size that has no room at a multiple.

@@ -14,7 +14,7 @@ fn filled(shape: Shape, count: u8) -> Stored {
     let mut disk = lent(&mut stored);
     disk.format(Guid([1; 16])).expect("a table");
     for unique in 1..=count {
-        let (kind, unique, name) = (Guid([0xB7; 16]), Guid([unique; 16]), Name([u16::from(b'n'); 36]));
+        let (kind, unique, name) = (Guid([0xB7; 16]), Guid([unique; 16]), Name([u16::from(unique); 36]));
         let new = NewPartition { kind, unique, size: 1, alignment: 1, attributes: u64::MAX, name };
         disk.add(&new).expect("room");
     }

@@ -1,6 +1,6 @@
 //! The verbs that edit a table.
 
-use super::hints::{advised, no_guid, of_add, of_resize, of_slot, slot};
+use super::hints::{advised, no_guid, of_add, of_rename, of_resize, of_slot, slot};
 use super::words::{copies, described, in_words};
 use super::{otherwise, random_guid};
 use crate::arguments::Given;
@@ -10,7 +10,6 @@ use crate::failure::{Failure, On};
 use crate::json::Json;
 use crate::paths::shown;
 use crate::report::Report;
-use crate::show::printable;
 use crate::sizes::{self, of_blocks, Size};
 use crate::storage::Opened;
 use usigrambal::{BlockSize, Disk, Guid, Name, NewPartition, Partition, State};
@@ -92,19 +91,14 @@ pub fn rename(given: &Given) -> Result<Report, Failure> {
     let call = |disk: &mut Disk| {
         let slot = slot(disk, path, text)?;
         let held = partition(disk, slot);
-        disk.rename(slot, &name).map_err(|refused| of_slot(refused, path, disk, slot))?;
+        disk.rename(slot, &name).map_err(|refused| of_rename(refused, path, disk, slot, &name))?;
         Ok((held?, partition(disk, slot)?))
     };
     edited(given, mode, call, |(before, after), how| {
-        let was = before.name.to_text();
-        let text = format!(
-            "{} {}; before: \"{}\"\n",
-            how.word("renamed", "would rename"),
-            in_words(after, how.block),
-            printable(&was)
-        );
+        let told = in_words(after, how.block);
+        let text = format!("{} {told}; before: \"{}\"\n", how.word("renamed", "would rename"), before.name);
         let mut json = described(after, how.block);
-        json.push(("name_before", was.into()));
+        json.push(("name_before", before.name.to_text().into()));
         (text, json)
     })
 }

@@ -1,13 +1,13 @@
 //! What would help against a refusal of a call on a disk.
 
-use super::why;
 use super::words::{copies, numbers};
+use super::{names, why};
 use crate::block::{is_file, operand};
 use crate::failure::Failure;
 use crate::show::printable;
 use crate::sizes::{human, of_blocks, plural};
 use std::path::Path;
-use usigrambal::{BlockSize, Disk, Guid, NewPartition, Partition, Refusal, Refused, State, ALIGNMENTS};
+use usigrambal::{BlockSize, Disk, Guid, Name, NewPartition, Partition, Refusal, Refused, State, ALIGNMENTS};
 
 pub const TYPES: &str = "system, msft, data, linux, swap";
 
@@ -74,8 +74,7 @@ fn used(partitions: &[Partition]) -> String {
 
 /// The partitions with their names, where they are few.
 fn named(partitions: &[Partition]) -> String {
-    let named =
-        |partition: &Partition| format!("{} \"{}\"", partition.slot, printable(&partition.name.to_text()));
+    let named = |partition: &Partition| format!("{} \"{}\"", partition.slot, partition.name);
     match partitions.len() {
         0 | 9.. => used(partitions),
         _ => format!("there are {}", partitions.iter().map(named).collect::<Vec<_>>().join(", ")),
@@ -87,6 +86,7 @@ pub fn of_add(refused: Refused, path: &Path, disk: &Disk, new: &NewPartition) ->
     let hint = match refused.refusal {
         Refusal::NoRoom => with_less_alignment(disk, new).or_else(|| free_blocks(disk)),
         Refusal::BadUniqueGuid => disk.partitions().ok().map(|held| another_guid(&held, new.unique)),
+        Refusal::PartitionNameTaken => names::of_add(path, disk, &new.name),
         _ => None,
     };
     advised(refused, path, disk).hint_if(hint)
@@ -135,6 +135,15 @@ pub fn of_slot(refused: Refused, path: &Path, disk: &Disk, slot: u64) -> Failure
         )),
         _ => failure,
     }
+}
+
+/// A refused rename.
+pub fn of_rename(refused: Refused, path: &Path, disk: &Disk, slot: u64, name: &Name) -> Failure {
+    let hint = match refused.refusal {
+        Refusal::PartitionNameTaken => names::of_rename(path, disk, slot, name),
+        _ => None,
+    };
+    of_slot(refused, path, disk, slot).hint_if(hint)
 }
 
 /// A refused resize.
@@ -200,7 +209,6 @@ pub fn slot(disk: &Disk, path: &Path, text: &str) -> Result<u64, Failure> {
 #[cfg(test)]
 mod tests {
     use super::*;
-    use usigrambal::Name;
 
     #[test]
     fn the_short_names_are_types() {
@@ -217,7 +225,7 @@ mod tests {
             first: 34,
             last: 34,
             attributes: 0,
-            name: Name([0; 36]),
+            name: Name::EMPTY,
         };
         let told = |slots: &[u64]| used(&slots.iter().map(|slot| one(*slot)).collect::<Vec<_>>());
         assert_eq!(told(&[]), "the table has no partitions");

@@ -1,8 +1,8 @@
 //! The verbs that only read.
 
 use super::hints::advised;
-use super::otherwise;
 use super::words::{copies, described, drawing, partition_table, run_table, runs_json, stale};
+use super::{names, otherwise};
 use crate::arguments::Given;
 use crate::block::{self, as_device, is_file, operand, By};
 use crate::disk::Ends;
@@ -33,7 +33,8 @@ fn shown_disk(given: &Given, ends: &mut Ends, width: usize) -> Result<(State, Re
     let unprotected = (!ends.protected()).then(|| NO_RECORD.to_string());
     let disk = ends.disk();
     let state = disk.state().map_err(|refused| advised(refused, path, &disk))?;
-    let (partitions, runs, slots) = (disk.partitions()?, disk.free_runs()?, disk.stale_slots()?);
+    let (partitions, runs) = (disk.partitions()?, disk.free_runs()?);
+    let (slots, shared) = (disk.stale_slots()?, disk.shared_names()?);
     let (guid, free, usable) = (disk.guid()?, disk.free()?, disk.usable()?);
     let drawing = drawing(&partitions, &runs, width);
     if given.has("--json") {
@@ -51,6 +52,7 @@ fn shown_disk(given: &Given, ends: &mut Ends, width: usize) -> Result<(State, Re
             ("free_blocks", free.blocks.into()),
             ("longest_run", free.longest_run.into()),
             ("partitions", partitions.iter().map(described).collect()),
+            ("shared_names", names::shared_json(&shared)),
             ("stale_slots", slots.into_iter().collect()),
             ("free_runs", runs_json(&runs, block)),
             ("drawing", drawing.into()),
@@ -68,6 +70,7 @@ fn shown_disk(given: &Given, ends: &mut Ends, width: usize) -> Result<(State, Re
         of_blocks(free.longest_run, block)
     );
     text.extend(stale(&slots).map(|words| format!("stale:         {words}\n")));
+    text.extend(shared.iter().map(|name| format!("same name:     {}\n", names::shared(name))));
     text += "\n";
     text += &match partitions.is_empty() {
         true => "no partitions\n".to_string(),
@@ -120,7 +123,8 @@ fn verified(path: &Path, ends: &mut Ends) -> Result<(State, Report), Failure> {
     let (block, by, protected) = (ends.block, ends.by, ends.protected());
     let disk = ends.disk();
     let state = disk.state().map_err(|refused| advised(refused, path, &disk))?;
-    let (alike, slots) = (state == State::Same, disk.stale_slots()?);
+    let (slots, shared) = (disk.stale_slots()?, disk.shared_names()?);
+    let alike = state == State::Same;
     let mut text = format!("{}: {}\n{}", shown(path), copies(state), note(block, by));
     text.extend(
         stale(&slots).map(|words| format!("note: {words}; that is no fault, and adding overwrites them\n")),
@@ -146,10 +150,11 @@ fn verified(path: &Path, ends: &mut Ends) -> Result<(State, Report), Failure> {
         ("state", (state as u64).into()),
         ("copies", copies(state).into()),
         ("protective_record", protected.into()),
+        ("shared_names", names::shared_json(&shared)),
         ("stale_slots", slots.into_iter().collect()),
         ("hint", hint.into()),
     ];
-    let report = Report::new(text, json);
+    let report = Report::new(text, json).warn(shared.iter().map(|name| names::warning(path, block, name)));
     Ok((state, if alike && protected { report } else { report.found() }))
 }
 

@@ -5,6 +5,7 @@ mod format;
 mod found;
 mod hints;
 mod look;
+mod names;
 mod otherwise;
 mod probe;
 mod why;

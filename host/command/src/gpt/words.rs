@@ -1,7 +1,7 @@
 //! Partitions, free runs and states, in words, in tables and in JSON.
 
 use crate::json::Json;
-use crate::show::{bar, printable, Item, Side, Table};
+use crate::show::{bar, Item, Side, Table};
 use crate::sizes::{human, of_blocks};
 use usigrambal::{BlockSize, Guid, Name, Partition, Run, State};
 
@@ -51,13 +51,11 @@ fn kind(guid: Guid) -> String {
 pub fn in_words(partition: &Partition, block: BlockSize) -> String {
     let Partition { slot, first, last, .. } = partition;
     let size = of_blocks(partition.run().blocks(), block);
-    let name = printable(&partition.name.to_text());
-    format!("partition {slot}: blocks {first} to {last}, {size}, {}, \"{name}\"", kind(partition.kind))
+    let (kind, name) = (kind(partition.kind), partition.name);
+    format!("partition {slot}: blocks {first} to {last}, {size}, {kind}, \"{name}\"")
 }
 
 pub fn described(partition: &Partition, block: BlockSize) -> Vec<(&'static str, Json)> {
-    let name = partition.name.to_text();
-    let exact = Name::new(&name) == Some(partition.name);
     let mut fields = vec![("number", partition.slot.into())];
     fields.extend(blocks_of(partition.run(), block));
     fields.extend([
@@ -65,12 +63,18 @@ pub fn described(partition: &Partition, block: BlockSize) -> Vec<(&'static str, 
         ("type_name", partition.kind.short_name().into()),
         ("guid", partition.unique.to_string().into()),
         ("attributes", format!("{:#x}", partition.attributes).into()),
-        ("name", name.into()),
     ]);
-    if !exact {
-        fields.push(("name_units", partition.name.0.iter().map(|unit| u64::from(*unit)).collect()));
-    }
+    fields.extend(name_fields(partition.name));
     fields
+}
+
+/// Its text, and its units where that does not tell them.
+pub fn name_fields(name: Name) -> Vec<(&'static str, Json)> {
+    let text = name.to_text();
+    let units =
+        (Name::new(&text) != Some(name)).then(|| name.0.iter().map(|unit| u64::from(*unit)).collect());
+    let units = units.map(|units| ("name_units", units));
+    [("name", text.into())].into_iter().chain(units).collect()
 }
 
 fn blocks_of(run: Run, block: BlockSize) -> Vec<(&'static str, Json)> {
@@ -110,7 +114,7 @@ pub fn partition_table(partitions: &[Partition], block: BlockSize) -> String {
             kind(partition.kind),
             partition.unique.to_string(),
             format!("{:#x}", partition.attributes),
-            printable(&partition.name.to_text()),
+            partition.name.to_string(),
         ]);
     }
     table.text()

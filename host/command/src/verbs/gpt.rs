@@ -15,7 +15,7 @@ pub static VERBS: &[Verb] = &[
         options: &[value("--width", "N", "columns of the drawing, 64 if not given"), BLOCK, JSON],
         required: 0,
         about: "Show the partitions of a disk, the state of its two table copies, its free runs, \
-                which unused slots still hold bytes of deleted partitions, \
+                which unused slots still hold bytes of deleted partitions, which partitions have one name, \
                 and its blocks drawn to scale: a partition as its number and =, free blocks as dots.",
         examples: &[
             "usigrambal gpt show disk.img",
@@ -74,7 +74,11 @@ pub static VERBS: &[Verb] = &[
             ),
             value("--type", "TYPE", "its type, a GUID or system, msft, data, linux, swap; linux if not given"),
             value("--guid", "GUID", "its unique GUID; a random one if not given"),
-            value("--name", "NAME", "its name, at most 36 UTF-16 units; none if not given"),
+            value(
+                "--name",
+                "NAME",
+                "its name, at most 36 UTF-16 units, which no other partition has; none if not given",
+            ),
             value("--attributes", "NUMBER", "its 64 attribute bits; 0 if not given"),
             BLOCK_WRITTEN,
             DRY,
@@ -84,7 +88,8 @@ pub static VERBS: &[Verb] = &[
         required: 1,
         about: "Add a partition in the lowest unused slot, at the lowest block with room for it whose number is a multiple of --align; \
                 tells slot, first and last block. \
-                A slot whose type GUID is zero is unused; what else it holds is overwritten.",
+                A slot whose type GUID is zero is unused; what else it holds is overwritten. \
+                A name that another partition has is refused; any number of partitions may have none.",
         examples: &[
             "usigrambal gpt add disk.img --size 10M --name boot --type system",
             "usigrambal gpt add disk.img --size 2048 --attributes 0x4",
@@ -121,8 +126,9 @@ pub static VERBS: &[Verb] = &[
         operands: &["DISK", "PARTITION", "NAME"],
         options: EDIT,
         required: 0,
-        about: "Give a partition another name, of at most 36 UTF-16 units. PARTITION is its number, its name or its unique GUID.",
-        examples: &["usigrambal gpt rename disk.img 1 boot"],
+        about: "Give a partition another name, of at most 36 UTF-16 units, which no other partition has (an empty one may repeat). \
+                PARTITION is its number, its name or its unique GUID; where two have the name, the number.",
+        examples: &["usigrambal gpt rename disk.img 1 boot", "usigrambal gpt rename disk.img pages scratch"],
         always: &[],
         run: gpt::rename,
     },
@@ -145,7 +151,8 @@ pub static VERBS: &[Verb] = &[
         required: 0,
         about: "Check both copies of the table, and the record of block 0 by which other systems see it. \
                 Exit status 0 only if the copies are good and the same and the record is there, 1 where one of them is not. \
-                Bytes of deleted partitions in unused slots are noted; they are no fault.",
+                Bytes of deleted partitions in unused slots are noted; they are no fault. \
+                Partitions that have one name are warned of, as a boot loader may find a partition by it; that does not change the exit status.",
         examples: &["usigrambal gpt verify disk.img && echo good", "usigrambal gpt verify disk.img /dev/sdb --json"],
         always: &UNVERIFIED,
         run: gpt::verify,

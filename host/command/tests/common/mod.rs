@@ -275,6 +275,13 @@ pub fn clear_types(path: &Path, block: u64, slots: impl IntoIterator<Item = u64>
     change_slots(path, block, slots, |entry| entry[..16].fill(0));
 }
 
+/// Writes the 72 bytes of a name into slots, as no edit would where another one has them: the text's units and then zeros.
+pub fn set_name(path: &Path, block: u64, slots: impl IntoIterator<Item = u64>, text: &str) {
+    let mut stored: Vec<u8> = text.encode_utf16().flat_map(u16::to_le_bytes).collect();
+    stored.resize(72, 0);
+    change_slots(path, block, slots, |entry| entry[56..].copy_from_slice(&stored));
+}
+
 /// Says so where the test's own output is not shown.
 pub fn skipped(what: &str) {
     let _ = writeln!(std::io::stdout(), "skipped: {what}");
