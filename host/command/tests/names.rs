@@ -77,14 +77,12 @@ impl Image {
     /// How the name becomes free that one partition has.
     fn freed(&self, slot: u64) -> String {
         let disk = self.operand();
-        format!("usigrambal gpt rename {disk} {slot} NAME or usigrambal gpt delete {disk} {slot} frees it")
+        format!("usigrambal gpt rename {disk} {slot} NAME gives that one another")
     }
 
     fn freed_of_each(&self) -> String {
         let disk = self.operand();
-        format!(
-            "usigrambal gpt rename {disk} NUMBER NAME or usigrambal gpt delete {disk} NUMBER, for each of them, frees it"
-        )
+        format!("usigrambal gpt rename {disk} NUMBER NAME gives each of them another")
     }
 
     /// The warning of `gpt verify` about partitions of one name.
@@ -166,22 +164,22 @@ fn a_rename_to_a_name_that_is_taken() {
     }
 }
 
-/// What the hint advises does free it.
+/// What the hint advises does free it, and so does a delete.
 #[test]
-fn advised_commands_free_the_name() {
+fn advised_command_frees_the_name() {
     let folder = Folder::new();
     for image in both(&folder) {
         ["boot", "pages"].iter().for_each(|name| image.add(name));
         let add = ["--size", "1", "--align", "1", "--name", "boot"];
         let hint = image.call("add", &add).hint();
         let (_, advised) = hint.split_once(", or usigrambal ").expect("a command");
-        let (rename, delete) = advised.split_once(" or usigrambal ").expect("two commands");
+        let rename = advised.trim_end_matches(" gives that one another").replace("NAME", "old");
         let before = image.bytes();
-        for line in [rename.replace("NAME", "old"), delete.trim_end_matches(" frees it").to_string()] {
-            common::run(&line.split(' ').map(OsStr::new).collect::<Vec<_>>()).done();
-            image.call("add", &add).done();
-            fs::write(&image.path, &before).expect("an image");
-        }
+        common::run(&rename.split(' ').map(OsStr::new).collect::<Vec<_>>()).done();
+        image.call("add", &add).done();
+        fs::write(&image.path, &before).expect("an image");
+        image.call("delete", &["boot"]).done();
+        image.call("add", &add).done();
     }
 }
 

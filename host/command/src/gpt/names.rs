@@ -62,14 +62,11 @@ fn have(slots: &[u64]) -> String {
     }
 }
 
-/// How they lose it.
+/// How they get another one. A delete would free the name too; it is not advised, since it gives up blocks.
 fn freed(path: &Path, block: BlockSize, slots: &[u64]) -> String {
     let disk = operand(path, block);
-    let (number, each) = match slots {
-        [one] => (one.to_string(), ""),
-        _ => ("NUMBER".to_string(), ", for each of them,"),
-    };
-    format!(
-        "usigrambal gpt rename {disk} {number} NAME or usigrambal gpt delete {disk} {number}{each} frees it"
-    )
+    match slots {
+        [one] => format!("usigrambal gpt rename {disk} {one} NAME gives that one another"),
+        _ => format!("usigrambal gpt rename {disk} NUMBER NAME gives each of them another"),
+    }
 }
