@@ -60,7 +60,7 @@ fn give(run: &mut Run, disk: &Disk, indexes: &[usize], name: &[u16], what: &'sta
 /// By a slot before the one that gets it, or behind it; then names that are one unit longer or shorter, or in the other
 /// case of letters.
 fn carried(run: &mut Run, disk: &Disk) -> Outcome {
-    for length in [1, 2, 35, NAME_UNITS] {
+    for length in [1, 5, NAME_UNITS] {
         let mut name = name::of_length(length, &mut run.random);
         // A letter, or a unit whose low byte is zero.
         name[0] = run.random.pick(&[0x61, 0x0100]);
@@ -85,30 +85,31 @@ fn carried(run: &mut Run, disk: &Disk) -> Outcome {
     Ok(())
 }
 
-/// A name of 36 units but for one byte.
+/// A name of 36 units but for one byte: an add for the even ones and a rename for the odd ones, at 4096 bytes the other way
+/// round.
 fn each_byte(run: &mut Run, disk: &Disk) -> Outcome {
     let name = [0x0141; NAME_UNITS];
     let disk = with(disk, &[(2, &name)]);
-    for unit in 0..NAME_UNITS {
-        for bit in [0, 8] {
-            let mut near = name;
-            near[unit] ^= 2 << (bit + run.random.below(7));
-            let call = if (unit + bit) % 2 == 0 { add(run, &near) } else { rename(1, &near) };
-            disk.meeting(run, &call, NEAR)?;
-        }
+    for byte in 0..2 * NAME_UNITS {
+        let mut near = name;
+        // The bits that these units have not.
+        near[byte / 2] ^= 2 << (8 * (byte % 2) + run.random.below(5));
+        let adds = (byte % 2 == 0) == (disk.block == 512);
+        let call = if adds { add(run, &near) } else { rename(1, &near) };
+        disk.meeting(run, &call, NEAR)?;
     }
     Ok(())
 }
 
 /// What another tool leaves behind a zero unit is compared too; given itself, it is refused as a name.
 fn behind_zero(run: &mut Run, disk: &Disk) -> Outcome {
-    for (length, behind) in [(1, 2), (2, 3), (5, 20), (2, 35), (0, 1)] {
+    for (length, behind) in [(1, 2), (5, 35), (0, 1)] {
         let text = name::of_length(length, &mut run.random);
         let mut foreign = text.clone();
         foreign[behind] = 0x7A;
         let disk = with(disk, &[(2, &foreign)]);
-        give(run, &disk, &[1, 2, 4], &text, BEFORE_ZERO)?;
-        give(run, &disk, &[1, 2], &foreign, BEFORE_ZERO)?;
+        give(run, &disk, &[1, 2], &text, BEFORE_ZERO)?;
+        give(run, &disk, &[4], &foreign, BEFORE_ZERO)?;
     }
     Ok(())
 }

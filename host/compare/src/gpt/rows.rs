@@ -75,35 +75,42 @@ pub fn each_two(run: &mut Run) -> Outcome {
 fn each_two_of(run: &mut Run, shape: Shape) -> Outcome {
     let (some, all) = (some_slots_used(run, shape), all_slots_used(run, shape));
     for (call, faults) in calls(&mut run.random) {
-        with_faults(run, &some, &all, &call, &[])?;
+        let with = |run: &mut Run, faults: &[Fault]| {
+            let disk = if faults.contains(&AllSlotsUsed) { &all } else { &some };
+            with_faults(disk, &call, faults, &mut run.random)
+        };
+        let (mut disk, sound) = with(run, &[]);
+        disk.call_in_state(run, &sound)?;
         for (k, fault) in faults.iter().enumerate() {
-            for earlier in &faults[..=k] {
-                with_faults(run, &some, &all, &call, &[*earlier, *fault])?;
+            let (mut disk, faulty) = with(run, &[*fault]);
+            disk.call_in_state(run, &faulty)?;
+            for earlier in &faults[..k] {
+                let (mut disk, faulty) = with(run, &[*earlier, *fault]);
+                disk.call(run, &faulty)?;
             }
         }
     }
     Ok(())
 }
 
-fn with_faults(run: &mut Run, some: &Disk, all: &Disk, call: &Call, faults: &[Fault]) -> Outcome {
-    let mut disk = if faults.contains(&AllSlotsUsed) { all.clone() } else { some.clone() };
+fn with_faults(disk: &Disk, call: &Call, faults: &[Fault], random: &mut Random) -> (Disk, Call) {
+    let mut disk = disk.clone();
     let mut call = call.clone();
     for fault in faults {
-        on_call(&mut call, *fault, &mut disk, &mut run.random);
+        on_call(&mut call, *fault, &mut disk, random);
     }
     // Before the copies are made bad or different, since both get the name.
     if faults.contains(&TakenName) {
         take_name(&mut disk, &call);
     }
     for fault in faults {
-        on_disk(&mut disk, *fault, &mut run.random);
+        on_disk(&mut disk, *fault, random);
     }
     // The lengths last, since the other faults know the whole disk.
     for fault in faults {
-        wrong_length(&mut disk, &mut call, *fault, &mut run.random);
+        wrong_length(&mut disk, &mut call, *fault, random);
     }
-    disk.call_in_state(run, &call)?;
-    Ok(())
+    (disk, call)
 }
 
 /// Slots 2, 3 and 5 of a disk of 33 usable blocks, of which they have 2 to 4, 11 to 16 and the last; slots 1 and 4 are
