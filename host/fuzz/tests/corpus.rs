@@ -5,6 +5,9 @@ use fuzz::{Target, TARGETS};
 use second::rules::{AlignmentSlip, CarrySlip, NameSlip, Row, Span, UsedIn, Which, WholeIn};
 use second::{Rules, RULES};
 
+/// A call, and what makes an implementation of it wrong.
+type Wrong = (&'static str, fn(&mut Rules));
+
 #[test]
 fn every_call_of_the_header_has_a_target() {
     let header = testkit::host().join("../include/usigrambal.h");
@@ -43,7 +46,6 @@ fn every_input_is_one() {
 /// A wrong implementation of each call, in an accepted answer: the first inputs suffice to show it.
 #[test]
 fn each_target_shows_a_wrong_answer() {
-    type Wrong = (&'static str, fn(&mut Rules));
     let wrong: &[Wrong] = &[
         ("usi_crc32", |r| r.crc.start = 0),
         ("usi_guid_read", |r| r.guid.reversed_groups = 2),
@@ -151,7 +153,7 @@ fn the_targets_of_adding_and_renaming_show_wrong_names() {
             assert!(shows(target(call), &changed(change)), "{call}: {number}");
         }
     }
-    let of_one: &[(&str, fn(&mut Rules))] = &[
+    let of_one: &[Wrong] = &[
         ("usi_gpt_add", |r| r.gpt.unused.stale_used_in = Some(UsedIn::NameInAdd)),
         ("usi_gpt_rename", |r| r.gpt.unused.stale_used_in = Some(UsedIn::NameInRename)),
         ("usi_gpt_rename", |r| r.gpt.names.own_counts = true),
@@ -183,7 +185,6 @@ fn each_disk_target_shows_stale_entries_taken_for_used_ones() {
 /// What the calls do with the bytes of stale entries shows too.
 #[test]
 fn disk_targets_show_wrong_bytes_of_stale_entries() {
-    type Wrong = (&'static str, fn(&mut Rules));
     let wrong: &[Wrong] = &[
         ("usi_gpt_read", |r| r.gpt.unused.stale_zero_in = Some(WholeIn::Comparison)),
         ("usi_gpt_repair", |r| r.gpt.unused.stale_zero_in = Some(WholeIn::Repair)),

@@ -49,7 +49,7 @@ fn is_same(rules: &Rules, name: &[u8], carried: &[u8]) -> bool {
     let [name, carried] = [name, carried].map(|name| part(name, compared.at, compared.len));
     match rules.gpt.names.slip {
         Some(UpToZero) => text(name) == text(carried),
-        Some(WithoutCase) => name.to_ascii_lowercase() == carried.to_ascii_lowercase(),
+        Some(WithoutCase) => name.eq_ignore_ascii_case(carried),
         Some(LowBytes) => name.iter().step_by(2).eq(carried.iter().step_by(2)),
         Some(HighBytes) => name.iter().skip(1).step_by(2).eq(carried.iter().skip(1).step_by(2)),
         Some(BeginsAnother) => carried.starts_with(text(name)),

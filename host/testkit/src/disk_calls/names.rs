@@ -6,6 +6,9 @@ use super::{unique, Calls, New, DISK_GUID, NAMES};
 use crate::disk::{Disk, Shape, SHAPES};
 
 pub(super) const NAME: &str = "scratch";
+/// An edit of a disk.
+type Edit = fn(&Calls, &mut Disk) -> Result<(), u32>;
+
 /// A unit behind a zero one.
 const FOREIGN: &str = "scratch\0z";
 
@@ -141,7 +144,7 @@ pub fn disks_with_a_name_twice_are_read_and_edited(calls: &Calls) {
             assert_eq!(given(calls, &disk, slot, NAME), [Err(26); 2]);
             assert_eq!(given(calls, &disk, slot, "new"), [Ok(()); 2]);
         }
-        let edits: [fn(&Calls, &mut Disk) -> Result<(), u32>; 5] = [
+        let edits: [Edit; 5] = [
             |calls, disk| (calls.delete)(disk, 1),
             |calls, disk| (calls.delete)(disk, 2),
             |calls, disk| (calls.resize)(disk, 3, 70),
