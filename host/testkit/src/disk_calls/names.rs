@@ -112,16 +112,18 @@ pub fn units_behind_a_zero_are_compared(calls: &Calls) {
     }
 }
 
+/// Whether the new partition gets the stale slot or another one.
 pub fn names_of_stale_slots_are_free(calls: &Calls) {
     for shape in SHAPES {
-        for stale in [1, 3] {
+        for (stale, added) in [(1, 1), (3, 2)] {
             let mut disk = named(calls, shape, &["", "", "", "last"]);
             calls.rename_used(&mut disk, stale, NAME);
             disk.entry(stale).into_iter().for_each(|entry| entry[..16].fill(0));
             disk.set_crcs(calls.crc32);
-            assert_eq!(given(calls, &disk, 2, NAME), [Ok(()); 2]);
-            assert_eq!(add(calls, &mut disk, NAME), Ok(stale));
-            assert_eq!(given(calls, &disk, 2, NAME), [Err(26); 2]);
+            calls.delete_used(&mut disk, 2);
+            assert_eq!(given(calls, &disk, 4, NAME), [Ok(()); 2]);
+            assert_eq!(add(calls, &mut disk, NAME), Ok(added));
+            assert_eq!(given(calls, &disk, 4, NAME), [Err(26); 2]);
         }
     }
 }
