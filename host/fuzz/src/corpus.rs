@@ -12,6 +12,8 @@ use testkit::fixture;
 fn disk_arguments(call: &str) -> Vec<Vec<u8>> {
     let guid = |tag: u8| vec![0, tag];
     let name = |filled: u8, place: u8, unit: u8| vec![0, filled, place, unit, 0];
+    // Its first unit has a zero byte below.
+    let high = vec![0, 4, 0, 0, 1];
     match call {
         "usi_gpt_format" => vec![guid(0x61), guid(0), vec![0xF8, 0x61]],
         "usi_gpt_add" => {
@@ -22,6 +24,7 @@ fn disk_arguments(call: &str) -> Vec<Vec<u8>> {
                 (1, name(4, 0, 0)),
                 (1, name(0, 0, 0)),
                 (1, name(36, 0, 0)),
+                (1, high),
                 (0, name(4, 0, 0)),
                 (30, name(2, 5, 7)),
                 (200, name(36, 0, 0)),
@@ -36,7 +39,7 @@ fn disk_arguments(call: &str) -> Vec<Vec<u8>> {
         "usi_gpt_resize" => vec![vec![1, 1], vec![1, 200], vec![2, 0], vec![7, 20]],
         "usi_gpt_rename" => {
             let to = |slot: u8, name: Vec<u8>| [vec![slot], name].concat();
-            let names = [name(36, 0, 0), name(4, 0, 0), name(0, 0, 0)].map(|name| to(1, name));
+            let names = [name(36, 0, 0), name(4, 0, 0), name(0, 0, 0), high].map(|name| to(1, name));
             [&names[..], &[to(2, name(3, 9, 9)), vec![0]]].concat()
         }
         _ => vec![vec![]],
@@ -89,7 +92,7 @@ fn by_scripts(tag: u8, shape: Shape, arguments: &[u8]) -> Vec<Vec<u8>> {
         input(least - 1, [0, 0xFF], &[]),
         input(least - 1, [0, 0], &[]),
     ];
-    let steps = stale(shape).into_iter().chain(named());
+    let steps = stale(shape).into_iter().chain(named(shape));
     inputs.extend(steps.map(|steps| input(n, [0, 0], &[&partitions[..], &steps].concat())));
     inputs
 }
@@ -114,17 +117,18 @@ fn stale(shape: Shape) -> [Vec<u8>; 2] {
 }
 
 /// What gives slot 1 or slot 7 the call's name, as it is or but for one byte: the case of a letter, the high byte of a unit,
-/// the last byte of all, the unit behind the name or the one after that; then both, then a stale slot; then a name twice
-/// that the call does not give.
-fn named() -> Vec<Vec<u8>> {
+/// the last byte of all, the unit behind the name or the one after that; then both, then the last slot, then a stale one;
+/// then a name twice that the call does not give.
+fn named(shape: Shape) -> Vec<Vec<u8>> {
     let name = |slot: u8, from: u8, at: u8, change: u8| vec![NAME, slot, 0, from, at, change];
     let same = |slot: u8| name(slot, OF_CALL, 0, 0);
     let near = [(0, 0x20), (7, 1), (71, 1), (8, 0x7A), (10, 0x7A)].map(|(at, by)| name(6, OF_CALL, at, by));
     let one = [same(0), same(6)].into_iter().chain(near);
     let both = [same(0), same(6)].concat();
+    let last = [place(127, shape.first_usable + 20, 1, 4), same(127)].concat();
     let stale = [same(6), vec![CLEAR_TYPE, 6, 0]].concat();
     let twice = [name(1, OF_CALL, 0, 0x7F), name(6, 1, 0, 0)].concat();
-    one.chain([both, stale, twice]).collect()
+    one.chain([both, last, stale, twice]).collect()
 }
 
 /// Images of 220 bytes by steps of a script, with areas FMAP, A and B, the latter two preserved; then B elsewhere, of another size, none.

@@ -139,8 +139,10 @@ fn the_targets_of_adding_and_renaming_show_wrong_names() {
     let wrong: &[fn(&mut Rules)] = &[
         |r| r.refusals.renumber(Row::NameTaken, 99),
         |r| r.gpt.names.empty_repeats = false,
+        |r| r.gpt.names.empty_by.len = 1,
         |r| r.gpt.names.compared.len = 71,
         |r| r.gpt.names.compared.len = 8,
+        |r| r.gpt.names.slots.len = 127,
         |r| r.gpt.names.slip = Some(NameSlip::UpToZero),
         |r| r.gpt.names.slip = Some(NameSlip::WithoutCase),
         |r| r.gpt.names.slip = Some(NameSlip::LowBytes),
