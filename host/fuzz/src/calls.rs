@@ -95,7 +95,7 @@ pub fn usi_fmap_carry(rules: &Rules, input: &mut Input) -> Outcome {
 
 pub fn usi_gpt_format(rules: &Rules, input: &mut Input) -> Outcome {
     let (lengths, guid) = (lengths(input), input.guid());
-    let (n, block, [head, tail]) = (lengths.n, lengths.block, script(&lengths, input));
+    let (n, block, [head, tail]) = (lengths.n, lengths.block, script(&lengths, &[], input));
     both(
         [head, tail, guid],
         |[head, tail, guid], []| raw::gpt_format(head, tail, n, block, guid),
@@ -107,7 +107,7 @@ pub fn usi_gpt_read(rules: &Rules, input: &mut Input) -> Outcome {
     let lengths = lengths(input);
     let (n, block) = (lengths.n, lengths.block);
     both(
-        script(&lengths, input),
+        script(&lengths, &[], input),
         |[head, tail], [state]| raw::gpt_read(head, tail, n, block, state),
         |[head, tail], [state]| second::gpt_read(rules, head, tail, n, block, state),
     )
@@ -117,7 +117,7 @@ pub fn usi_gpt_table(rules: &Rules, input: &mut Input) -> Outcome {
     let lengths = lengths(input);
     let (n, block) = (lengths.n, lengths.block);
     both(
-        script(&lengths, input),
+        script(&lengths, &[], input),
         |[head, tail], [in_tail, offset]| raw::gpt_table(head, tail, n, block, in_tail, offset),
         |[head, tail], [in_tail, offset]| second::gpt_table(rules, head, tail, n, block, in_tail, offset),
     )
@@ -127,7 +127,7 @@ pub fn usi_gpt_free(rules: &Rules, input: &mut Input) -> Outcome {
     let lengths = lengths(input);
     let (n, block) = (lengths.n, lengths.block);
     both(
-        script(&lengths, input),
+        script(&lengths, &[], input),
         |[head, tail], [free, longest]| raw::gpt_free(head, tail, n, block, free, longest),
         |[head, tail], [free, longest]| second::gpt_free(rules, head, tail, n, block, free, longest),
     )
@@ -139,7 +139,7 @@ pub fn usi_gpt_add(rules: &Rules, input: &mut Input) -> Outcome {
     let (kind, unique) = (input.guid(), input.guid());
     let (size, alignment) = (input.number(n), input.alignment());
     let (attributes, name) = (input.number(0), input.name());
-    let [head, tail] = script(&lengths, input);
+    let [head, tail] = script(&lengths, &name, input);
     both(
         [head, tail, kind, unique, name],
         |[head, tail, kind, unique, name], [slot, first]| {
@@ -157,7 +157,7 @@ pub fn usi_gpt_delete(rules: &Rules, input: &mut Input) -> Outcome {
     let (lengths, slot) = (lengths(input), input.number(0));
     let (n, block) = (lengths.n, lengths.block);
     both(
-        script(&lengths, input),
+        script(&lengths, &[], input),
         |[head, tail], []| raw::gpt_delete(head, tail, n, block, slot),
         |[head, tail], []| second::gpt_delete(rules, head, tail, n, block, slot),
     )
@@ -168,7 +168,7 @@ pub fn usi_gpt_resize(rules: &Rules, input: &mut Input) -> Outcome {
     let (n, block) = (lengths.n, lengths.block);
     let size = input.number(n);
     both(
-        script(&lengths, input),
+        script(&lengths, &[], input),
         |[head, tail], []| raw::gpt_resize(head, tail, n, block, slot, size),
         |[head, tail], []| second::gpt_resize(rules, head, tail, n, block, slot, size),
     )
@@ -176,7 +176,7 @@ pub fn usi_gpt_resize(rules: &Rules, input: &mut Input) -> Outcome {
 
 pub fn usi_gpt_rename(rules: &Rules, input: &mut Input) -> Outcome {
     let (lengths, slot, name) = (lengths(input), input.number(0), input.name());
-    let (n, block, [head, tail]) = (lengths.n, lengths.block, script(&lengths, input));
+    let (n, block, [head, tail]) = (lengths.n, lengths.block, script(&lengths, &name, input));
     both(
         [head, tail, name],
         |[head, tail, name], []| raw::gpt_rename(head, tail, n, block, slot, in_place(name)),
@@ -188,7 +188,7 @@ pub fn usi_gpt_repair(rules: &Rules, input: &mut Input) -> Outcome {
     let lengths = lengths(input);
     let (n, block) = (lengths.n, lengths.block);
     both(
-        script(&lengths, input),
+        script(&lengths, &[], input),
         |[head, tail], [state]| raw::gpt_repair(head, tail, n, block, state),
         |[head, tail], [state]| second::gpt_repair(rules, head, tail, n, block, state),
     )

@@ -1,6 +1,8 @@
 //! The first inputs of each target, from the fixtures.
 
-use crate::disk::{ALL_SLOTS, ANY_BLOCK_SIZE, CLEAR_TYPE, FLIP, MANY, OTHER_BLOCK_SIZE, PLACE};
+use crate::disk::{
+    ALL_SLOTS, ANY_BLOCK_SIZE, CLEAR_TYPE, FLIP, MANY, NAME, OF_CALL, OTHER_BLOCK_SIZE, PLACE,
+};
 use crate::input::{alignment, number};
 use crate::{disk, flash};
 use testkit::disk::{Shape, SHAPES};
@@ -10,13 +12,23 @@ use testkit::fixture;
 fn disk_arguments(call: &str) -> Vec<Vec<u8>> {
     let guid = |tag: u8| vec![0, tag];
     let name = |filled: u8, place: u8, unit: u8| vec![0, filled, place, unit, 0];
+    // Its first unit has a zero byte below.
+    let high = vec![0, 4, 0, 0, 1];
     match call {
         "usi_gpt_format" => vec![guid(0x61), guid(0), vec![0xF8, 0x61]],
         "usi_gpt_add" => {
             let new = |size: u8, at: u64, name: Vec<u8>| {
                 [guid(0x61), guid(0x62), vec![size], alignment(at), vec![0], name].concat()
             };
-            let names = [(1, name(4, 0, 0)), (0, name(4, 0, 0)), (30, name(2, 5, 7)), (200, name(36, 0, 0))];
+            let names = [
+                (1, name(4, 0, 0)),
+                (1, name(0, 0, 0)),
+                (1, name(36, 0, 0)),
+                (1, high),
+                (0, name(4, 0, 0)),
+                (30, name(2, 5, 7)),
+                (200, name(36, 0, 0)),
+            ];
             // To the last usable block or past it, on the disks of 100 and of 2,100 blocks.
             let places = [(1, 8), (27, 8), (28, 8), (1, 2048), (19, 2048), (20, 2048)];
             let refused = [0, 16, (1 << 32) + 8].map(|at| (1, at));
@@ -26,7 +38,9 @@ fn disk_arguments(call: &str) -> Vec<Vec<u8>> {
         "usi_gpt_delete" => vec![vec![1], vec![2], vec![0], vec![129]],
         "usi_gpt_resize" => vec![vec![1, 1], vec![1, 200], vec![2, 0], vec![7, 20]],
         "usi_gpt_rename" => {
-            vec![[vec![1], name(36, 0, 0)].concat(), [vec![2], name(3, 9, 9)].concat(), vec![0]]
+            let to = |slot: u8, name: Vec<u8>| [vec![slot], name].concat();
+            let names = [name(36, 0, 0), name(4, 0, 0), name(0, 0, 0), high].map(|name| to(1, name));
+            [&names[..], &[to(2, name(3, 9, 9)), vec![0]]].concat()
         }
         _ => vec![vec![]],
     }
@@ -57,7 +71,8 @@ fn disks(call: &str) -> Vec<Vec<u8>> {
 
 /// An empty disk of 33 usable blocks, one with a partition of each size to 3 by steps of a script, one of 2,100 blocks, the
 /// same with the blocks from 2048 on free, the largest with its last usable block free, one of 230 blocks with partitions in
-/// all slots, those with stale entries, and three that are refused for lengths or number of blocks.
+/// all slots, those with stale entries, those with the call's name or with a name twice, and three that are refused for
+/// lengths or number of blocks.
 fn by_scripts(tag: u8, shape: Shape, arguments: &[u8]) -> Vec<Vec<u8>> {
     let (least, first) = (shape.least_blocks(), shape.first_usable);
     let input = |n: u64, lengths: [u8; 2], script: &[u8]| {
@@ -77,7 +92,8 @@ fn by_scripts(tag: u8, shape: Shape, arguments: &[u8]) -> Vec<Vec<u8>> {
         input(least - 1, [0, 0xFF], &[]),
         input(least - 1, [0, 0], &[]),
     ];
-    inputs.extend(stale(shape).iter().map(|steps| input(n, [0, 0], &[&partitions[..], steps].concat())));
+    let steps = stale(shape).into_iter().chain(named(shape));
+    inputs.extend(steps.map(|steps| input(n, [0, 0], &[&partitions[..], &steps].concat())));
     inputs
 }
 
@@ -98,6 +114,21 @@ fn stale(shape: Shape) -> [Vec<u8>; 2] {
         [&CLEARED[..], &place(8, shape.first_usable, 1, 7)].concat(),
         [&CLEARED[..], &[FLIP, 1, 100, 0]].concat(),
     ]
+}
+
+/// What gives slot 1 or slot 7 the call's name, as it is or but for one byte: the case of a letter, the high byte of a unit,
+/// the last byte of all, the unit behind the name or the one after that; then both, then the last slot, then a stale one;
+/// then a name twice that the call does not give.
+fn named(shape: Shape) -> Vec<Vec<u8>> {
+    let name = |slot: u8, from: u8, at: u8, change: u8| vec![NAME, slot, 0, from, at, change];
+    let same = |slot: u8| name(slot, OF_CALL, 0, 0);
+    let near = [(0, 0x20), (7, 1), (71, 1), (8, 0x7A), (10, 0x7A)].map(|(at, by)| name(6, OF_CALL, at, by));
+    let one = [same(0), same(6)].into_iter().chain(near);
+    let both = [same(0), same(6)].concat();
+    let last = [place(127, shape.first_usable + 20, 1, 4), same(127)].concat();
+    let stale = [same(6), vec![CLEAR_TYPE, 6, 0]].concat();
+    let twice = [name(1, OF_CALL, 0, 0x7F), name(6, 1, 0, 0)].concat();
+    one.chain([both, last, stale, twice]).collect()
 }
 
 /// Images of 220 bytes by steps of a script, with areas FMAP, A and B, the latter two preserved; then B elsewhere, of another size, none.

@@ -7,6 +7,9 @@ use usigrambal::crc32;
 use usigrambal::raw::gpt_format;
 
 const ENTRY_LEN: usize = 128;
+/// Where the name of an entry begins, and its bytes.
+const NAME_AT: usize = 56;
+const NAME_LEN: usize = 72;
 
 /// The byte that names the block size: any number follows, or else its lowest bit chooses one of the two, by which the
 /// disk is made; with the highest bit the call is told the other one.
@@ -24,9 +27,11 @@ pub const PLACE: u8 = 1;
 pub const MANY: u8 = 6;
 pub const CLEAR_TYPE: u8 = 8;
 pub const FLIP: u8 = 9;
+pub const NAME: u8 = 10;
 
-/// The slot that stands for all of them where types are cleared.
+/// The slot that stands for all of them where types are cleared, and for the call where a name is taken from it.
 pub const ALL_SLOTS: u8 = 128;
+pub const OF_CALL: u8 = 128;
 
 /// Where a copy has its header and its entries.
 #[derive(Clone, Copy)]
@@ -93,8 +98,8 @@ fn block_size(input: &mut Input) -> (u64, Shape) {
     }
 }
 
-/// Head and tail after all steps of the script.
-pub fn script(lengths: &Lengths, input: &mut Input) -> [Vec<u8>; 2] {
+/// Head and tail after all steps of the script; `name` is what the call gives.
+pub fn script(lengths: &Lengths, name: &[u8], input: &mut Input) -> [Vec<u8>; 2] {
     let flags = input.byte();
     let shape = lengths.shape;
     let mut disk = shape.filled(lengths.n, 0);
@@ -103,7 +108,7 @@ pub fn script(lengths: &Lengths, input: &mut Input) -> [Vec<u8>; 2] {
         gpt_format(&mut disk.head, &mut disk.tail, n, disk.block, &[0xD1; 16]);
     }
     while !input.is_empty() {
-        step(&mut disk, input);
+        step(&mut disk, name, input);
     }
     if flags & HEAD_UNSEALED == 0 {
         seal(&mut disk, Side::Head);
@@ -116,8 +121,8 @@ pub fn script(lengths: &Lengths, input: &mut Input) -> [Vec<u8>; 2] {
     [disk.head, disk.tail]
 }
 
-fn step(disk: &mut Disk, input: &mut Input) {
-    match input.byte() % 10 {
+fn step(disk: &mut Disk, name: &[u8], input: &mut Input) {
+    match input.byte() % 11 {
         PUT => {
             let (which, at, len) =
                 (Side::of(input.byte()), input.number(0) as usize, usize::from(input.byte()));
@@ -135,6 +140,7 @@ fn step(disk: &mut Disk, input: &mut Input) {
         MANY => many(disk, input),
         7 => copy_entry(disk, input),
         CLEAR_TYPE => clear_type(disk, input),
+        NAME => name_entry(disk, name, input),
         _ => {
             let (which, at, bit) = (Side::of(input.byte()), input.number(0) as usize, input.byte() % 8);
             if let Some(byte) = side(disk, which).get_mut(at) {
@@ -152,7 +158,7 @@ fn place(disk: &mut Disk, input: &mut Input) {
     let (kind, unique, name) = (input.byte(), input.byte(), input.byte());
     let mut entry = [&[kind; 16], &[unique; 16], &first.to_le_bytes()[..], &last.to_le_bytes()].concat();
     entry.resize(ENTRY_LEN, 0);
-    entry[56 + usize::from(name % 72)] = name / 72;
+    entry[NAME_AT + usize::from(name) % NAME_LEN] = name / NAME_LEN as u8;
     sides_of(sides).iter().for_each(|which| put_entry(disk, *which, slot, &entry));
 }
 
@@ -174,10 +180,30 @@ fn clear_type(disk: &mut Disk, input: &mut Input) {
     }
 }
 
+/// The name of an entry, in both copies or in one: that of another entry, or the call's, as it is or but for one byte.
+fn name_entry(disk: &mut Disk, call: &[u8], input: &mut Input) {
+    let (slot, sides, from) = (usize::from(input.byte() & 127), input.byte(), input.byte());
+    let mut name = match from {
+        OF_CALL.. => call.to_vec(),
+        _ => {
+            let at = Side::Head.entries_at(disk.shape()) + usize::from(from) * ENTRY_LEN + NAME_AT;
+            disk.head[at..at + NAME_LEN].to_vec()
+        }
+    };
+    name.resize(NAME_LEN, 0);
+    let (at, change) = (usize::from(input.byte()) % NAME_LEN, input.byte());
+    name[at] ^= change;
+    sides_of(sides).iter().for_each(|which| put_in_entry(disk, *which, slot, NAME_AT, &name));
+}
+
 /// The first bytes of an entry, or all.
 fn put_entry(disk: &mut Disk, which: Side, slot: usize, entry: &[u8]) {
-    let at = which.entries_at(disk.shape()) + slot * ENTRY_LEN;
-    put(side(disk, which), at, entry);
+    put_in_entry(disk, which, slot, 0, entry);
+}
+
+fn put_in_entry(disk: &mut Disk, which: Side, slot: usize, at: usize, bytes: &[u8]) {
+    let at = which.entries_at(disk.shape()) + slot * ENTRY_LEN + at;
+    put(side(disk, which), at, bytes);
 }
 
 /// Partitions of one block each in the first slots, with a free block after some.

@@ -2,8 +2,11 @@
 
 use fuzz::corpus::corpus;
 use fuzz::{Target, TARGETS};
-use second::rules::{AlignmentSlip, CarrySlip, Row, Span, UsedIn, Which, WholeIn};
+use second::rules::{AlignmentSlip, CarrySlip, NameSlip, Row, Span, UsedIn, Which, WholeIn};
 use second::{Rules, RULES};
+
+/// A call, and what makes an implementation of it wrong.
+type Wrong = (&'static str, fn(&mut Rules));
 
 #[test]
 fn every_call_of_the_header_has_a_target() {
@@ -43,7 +46,6 @@ fn every_input_is_one() {
 /// A wrong implementation of each call, in an accepted answer: the first inputs suffice to show it.
 #[test]
 fn each_target_shows_a_wrong_answer() {
-    type Wrong = (&'static str, fn(&mut Rules));
     let wrong: &[Wrong] = &[
         ("usi_crc32", |r| r.crc.start = 0),
         ("usi_guid_read", |r| r.guid.reversed_groups = 2),
@@ -131,12 +133,53 @@ fn the_target_of_adding_shows_a_wrong_alignment() {
     }
 }
 
-/// Each disk target but formatting is given stale entries: unused ones that are not all zero.
+/// Adds and renames are given names that a slot has, or nearly has, and the empty one.
+#[test]
+fn the_targets_of_adding_and_renaming_show_wrong_names() {
+    let wrong: &[fn(&mut Rules)] = &[
+        |r| r.refusals.renumber(Row::NameTaken, 99),
+        |r| r.gpt.names.empty_repeats = false,
+        |r| r.gpt.names.empty_by.len = 1,
+        |r| r.gpt.names.compared.len = 71,
+        |r| r.gpt.names.compared.len = 8,
+        |r| r.gpt.names.slots.len = 127,
+        |r| r.gpt.names.slip = Some(NameSlip::UpToZero),
+        |r| r.gpt.names.slip = Some(NameSlip::WithoutCase),
+        |r| r.gpt.names.slip = Some(NameSlip::LowBytes),
+        |r| r.gpt.names.slip = Some(NameSlip::BeginsAnother),
+        |r| r.gpt.names.slip = Some(NameSlip::SlotsBefore),
+        |r| r.gpt.names.slip = Some(NameSlip::OfDoubles),
+    ];
+    for call in ["usi_gpt_add", "usi_gpt_rename"] {
+        for (number, change) in wrong.iter().enumerate() {
+            assert!(shows(target(call), &changed(change)), "{call}: {number}");
+        }
+    }
+    let of_one: &[Wrong] = &[
+        ("usi_gpt_add", |r| r.gpt.unused.stale_used_in = Some(UsedIn::NameInAdd)),
+        ("usi_gpt_rename", |r| r.gpt.unused.stale_used_in = Some(UsedIn::NameInRename)),
+        ("usi_gpt_rename", |r| r.gpt.names.own_counts = true),
+        ("usi_gpt_rename", |r| r.gpt.names.slip = Some(NameSlip::OwnName)),
+    ];
+    for (number, (call, change)) in of_one.iter().enumerate() {
+        assert!(shows(target(call), &changed(change)), "{call}: {number}");
+    }
+}
+
+/// Each disk target but formatting is given disks that have a name twice.
+#[test]
+fn each_disk_target_shows_that_a_name_twice_is_read() {
+    let rules = changed(|r| r.gpt.names.doubles_good = false);
+    for target in on_tables() {
+        assert!(shows(target, &rules), "{}", target.call);
+    }
+}
+
+/// Each of them is given stale entries: unused ones that are not all zero.
 #[test]
 fn each_disk_target_shows_stale_entries_taken_for_used_ones() {
-    let disk_calls = TARGETS.iter().filter(|target| target.call.starts_with("usi_gpt_"));
     let rules = changed(|r| r.gpt.unused.by = Span { at: 0, len: 128 });
-    for target in disk_calls.filter(|target| target.call != "usi_gpt_format") {
+    for target in on_tables() {
         assert!(shows(target, &rules), "{}", target.call);
     }
 }
@@ -144,7 +187,6 @@ fn each_disk_target_shows_stale_entries_taken_for_used_ones() {
 /// What the calls do with the bytes of stale entries shows too.
 #[test]
 fn disk_targets_show_wrong_bytes_of_stale_entries() {
-    type Wrong = (&'static str, fn(&mut Rules));
     let wrong: &[Wrong] = &[
         ("usi_gpt_read", |r| r.gpt.unused.stale_zero_in = Some(WholeIn::Comparison)),
         ("usi_gpt_repair", |r| r.gpt.unused.stale_zero_in = Some(WholeIn::Repair)),
@@ -157,6 +199,12 @@ fn disk_targets_show_wrong_bytes_of_stale_entries() {
     for (call, change) in wrong {
         assert!(shows(target(call), &changed(change)), "{call}");
     }
+}
+
+/// The targets of the disk calls but formatting.
+fn on_tables() -> impl Iterator<Item = &'static Target> {
+    let disk_calls = TARGETS.iter().filter(|target| target.call.starts_with("usi_gpt_"));
+    disk_calls.filter(|target| target.call != "usi_gpt_format")
 }
 
 fn target(call: &str) -> &'static Target {

@@ -6,7 +6,7 @@ use std::path::PathBuf;
 use std::{env, fs};
 
 /// The newest file that is valid for the calls as they are now.
-const FILE: &str = "disk-3-e.txt";
+const FILE: &str = "disk-4-a.txt";
 
 /// Names the folder of these files; else it is `../shared/vectors`, seen from the repository's root.
 const FOLDER: &str = "USIGRAMBAL_VECTORS";

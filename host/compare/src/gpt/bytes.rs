@@ -3,7 +3,7 @@
 use super::call::{Call, GUID_LEN};
 use super::damage::HEADER_FIELDS;
 use super::disk::{Disk, Side, ENTRY_LEN, SIDES};
-use super::sample;
+use super::{name, sample};
 use crate::run::{Outcome, Run};
 use testkit::disk::{Shape, HEADER_LEN, SHAPES};
 
@@ -189,7 +189,7 @@ fn unjudged_of(run: &mut Run, mut disk: Disk) -> Outcome {
 }
 
 fn edits(run: &mut Run, disk: &Disk) -> Outcome {
-    let name = sample::good_name(&mut run.random);
+    let name = name::good(&mut run.random);
     let rename = Call::Rename { slot: 1, name };
     for call in [Call::Delete { slot: 3 }, Call::Resize { slot: 128, size: 66 }, rename] {
         disk.clone().call(run, &call)?;

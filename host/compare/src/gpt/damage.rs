@@ -1,7 +1,7 @@
 //! Damage to a disk: single bytes, whole fields, CRCs made right again.
 
 use super::call::GUID_LEN;
-use super::disk::{Disk, Side, ENTRY_LEN, SIDES, SLOTS};
+use super::disk::{Disk, Side, ENTRY_LEN, NAME_AT, SIDES, SLOTS};
 use testkit::random::Random;
 
 /// Begin and length of the fields of a header, the CRCs left out.
@@ -126,7 +126,7 @@ fn change_entry(entry: &mut [u8], another: &[u8], usable: (u64, u64), random: &m
     let own_first = number(entry, 32);
     let (first, last) = (number(another, 32), number(another, 40));
     let mut set = |at: usize, value: u64| entry[at..at + 8].copy_from_slice(&value.to_le_bytes());
-    match random.below(18) {
+    match random.below(20) {
         0 => entry[16..32].fill(0),
         1 => entry[16..32].copy_from_slice(&another[16..32]),
         2 => set(32, usable.0 - 1),
@@ -141,9 +141,12 @@ fn change_entry(entry: &mut [u8], another: &[u8], usable: (u64, u64), random: &m
         11 => set(32, u64::MAX),
         12 => set(40, u64::MAX),
         13 => entry[48..56].copy_from_slice(&random.bytes(8)),
-        14 => entry[56..].copy_from_slice(&random.bytes(72)),
+        14 => entry[NAME_AT..].copy_from_slice(&random.bytes(ENTRY_LEN - NAME_AT)),
         15 => entry.copy_from_slice(another),
-        16 => {
+        16 => entry[NAME_AT..].copy_from_slice(&another[NAME_AT..]),
+        // A unit behind a zero one.
+        17 => entry[ENTRY_LEN - 4..].copy_from_slice(&[0, 0, 0x7A, 0]),
+        18 => {
             entry.fill(0);
             entry[random.below(ENTRY_LEN)] = 1 << random.below(8);
         }

@@ -1,12 +1,15 @@
 use super::call::{Call, GUID_LEN};
+use super::name;
 use crate::number::Answers;
-use crate::run::{Buffer, Cell, Difference, Lent, Run};
+use crate::run::{Buffer, Cell, Difference, Lent, Outcome, Run};
 use second::RULES;
 use testkit::disk::{Shape, ENTRIES_LEN, HEADER_LEN};
 use testkit::random::Random;
 
 pub const SLOTS: usize = 128;
 pub const ENTRY_LEN: usize = 128;
+/// Where the name of an entry begins.
+pub const NAME_AT: usize = 56;
 
 /// Which copy; where its header block and its entries begin in its buffer.
 #[derive(Clone, Copy, Debug, PartialEq, Eq)]
@@ -107,6 +110,16 @@ impl Disk {
         Ok(reply)
     }
 
+    /// Makes the call on a copy of the disk, and counts its answer under what it met.
+    pub fn meeting(&self, run: &mut Run, call: &Call, what: &'static str) -> Outcome {
+        let cell = match self.clone().call(run, call)?.number {
+            0 => Cell::On(what),
+            number => Cell::By(number, what),
+        };
+        run.reach(call.name(self.block), cell);
+        Ok(())
+    }
+
     fn note(&self, run: &mut Run, call: &Call, answer: u32) {
         run.reach(call.name(self.block), Cell::Answer(answer));
         if let ([buffer], 1) = (&call.wrong_lengths(self)[..], answer) {
@@ -170,10 +183,27 @@ impl Disk {
         let mut entry = random.bytes(ENTRY_LEN);
         entry[32..40].copy_from_slice(&first.to_le_bytes());
         entry[40..48].copy_from_slice(&last.to_le_bytes());
-        if random.below(2) == 0 {
+        let kind = random.below(4);
+        if kind < 2 {
             entry[48..].fill(0);
         }
         SIDES.into_iter().for_each(|side| self.entry(side, index).copy_from_slice(&entry));
+        match kind {
+            1 => self.set_name(index, &name::good(random)),
+            2 => self.set_name(index, &name::bad(random)),
+            _ => {}
+        }
+    }
+
+    pub fn name(&mut self, side: Side, index: usize) -> Vec<u16> {
+        let bytes = &self.entry(side, index)[NAME_AT..];
+        bytes.chunks(2).map(|unit| u16::from_le_bytes([unit[0], unit[1]])).collect()
+    }
+
+    /// Gives an entry a name in both copies, whose CRCs are then still those of before.
+    pub fn set_name(&mut self, index: usize, name: &[u16]) {
+        let bytes: Vec<u8> = name.iter().flat_map(|unit| unit.to_le_bytes()).collect();
+        SIDES.into_iter().for_each(|side| self.entry(side, index)[NAME_AT..].copy_from_slice(&bytes));
     }
 
     /// Makes an entry unused in each of the copies, whose CRCs are then still those of before.

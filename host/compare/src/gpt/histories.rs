@@ -1,9 +1,10 @@
 //! Lists of calls on one disk.
 
 use super::call::Call;
-use super::disk::{Disk, Reply, Side, SIDES, SLOTS};
-use super::{damage, sample};
+use super::disk::{Disk, Reply, Side, NAME_AT, SIDES, SLOTS};
+use super::{damage, name, sample};
 use crate::run::{Difference, Outcome, Run};
+use second::rules::LedgerRules;
 use second::Ledger;
 use testkit::disk::{Shape, SHAPES};
 use testkit::random::Random;
@@ -62,7 +63,8 @@ fn next_call(disk: &mut Disk, read: Reply, random: &mut Random) -> Call {
     }
 }
 
-/// A disk of any size with partitions in random slots; of some disks a few slots or all are stale.
+/// A disk of any size with partitions in random slots; on some disks a few of them carry one name, and of some a few
+/// slots or all are stale.
 fn crowded(run: &mut Run) -> Disk {
     let shape = run.random.pick(&SHAPES);
     let n = match run.random.below(5) {
@@ -85,8 +87,12 @@ fn crowded(run: &mut Run) -> Disk {
         disk.place(index, first, last, &mut run.random);
         next = last + 1;
     }
-    let stale = run.random.pick(&[0, 0, 1, 4]);
+    let (alike, stale) = (run.random.pick(&[0, 0, 1]), run.random.pick(&[0, 0, 1, 4]));
+    let name = name::filled(&mut run.random);
     for (index, ..) in disk.partitions(Side::Head) {
+        if run.random.below(4) < alike {
+            disk.set_name(index, &name);
+        }
         if run.random.below(4) < stale {
             disk.clear_type(&SIDES, index);
         }
@@ -101,8 +107,9 @@ fn near_multiple(shape: Shape, random: &mut Random) -> u64 {
     multiple + shape.first_usable + random.pick(&[0, 1, 7, 60]) - random.pick(&[0, 1, 2])
 }
 
-/// D19 to D22, e4: calls after an accepted formatting; what they granted and gave back is what the entries hold, no
-/// block lies in two partitions, and room is refused exactly where no multiple has enough free blocks from it on.
+/// D19 to D22, e4, a1: calls after an accepted formatting; what they granted and gave back is what the entries hold, no
+/// block lies in two partitions, no two of them carry one name, and room is refused exactly where no multiple has enough
+/// free blocks from it on.
 pub fn ledger(run: &mut Run) -> Outcome {
     for _ in 0..LEDGER_HISTORIES {
         let shape = run.random.pick(&SHAPES);
@@ -176,7 +183,20 @@ fn claims(run: &mut Run, disk: &mut Disk, ledger: &Ledger) -> Outcome {
     let apart = ranges.windows(2).all(|two| two[0].1 < two[1].0);
     let (start, end) = (disk.shape.first_usable, disk.end());
     let in_order = ranges.iter().all(|(first, last)| start <= *first && first <= last && *last < end);
-    claim(apart && in_order, || format!("the partitions are {ranges:?}"))
+    claim(apart && in_order, || format!("the partitions are {ranges:?}"))?;
+    SIDES.into_iter().try_for_each(|side| names_differ(run, disk, side))
+}
+
+/// a1, a2: of the names that the used entries of a copy hold, no two are the same but for empty ones, byte by byte.
+fn names_differ(run: &Run, disk: &mut Disk, side: Side) -> Outcome {
+    let LedgerRules { names_differ_in, empty_names_repeat, .. } = run.rules.gpt.ledger;
+    let used = disk.partitions(side);
+    let names = used.iter().map(|(index, ..)| disk.entry(side, *index)[NAME_AT..].to_vec());
+    let mut names: Vec<_> =
+        names.filter(|name| !empty_names_repeat || name.iter().any(|byte| *byte != 0)).collect();
+    names.sort();
+    let differ = names.windows(2).all(|two| two[0][..names_differ_in] != two[1][..names_differ_in]);
+    claim(differ, || format!("the names are {names:02X?}"))
 }
 
 fn claim(holds: bool, what: impl Fn() -> String) -> Outcome {

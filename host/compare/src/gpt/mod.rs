@@ -3,7 +3,9 @@ mod bytes;
 mod call;
 mod damage;
 mod disk;
+mod doubles;
 mod histories;
+mod name;
 mod rows;
 mod sample;
 mod stale;
@@ -19,9 +21,9 @@ pub const TOPIC: Topic = Topic {
         ("gpt: each byte of a GUID", bytes::sparse_guids),
         ("gpt: each alignment", aligned::each_alignment),
         ("gpt: each row, and each two together", rows::each_two),
+        ("gpt: names of other slots", doubles::each_name),
         ("gpt: gaps at multiples", aligned::gaps),
         ("gpt: ranges of an entry", bytes::ranges),
-        ("gpt: each length", rows::each_length),
         ("gpt: N outside its range", rows::each_block_count),
         ("gpt: another block size", rows::each_block_size),
         ("gpt: usable blocks at multiples", aligned::usable),
@@ -31,28 +33,29 @@ pub const TOPIC: Topic = Topic {
         ("gpt: all slots stale", stale::all_slots),
         ("gpt: N from the least to 2^32", histories::block_counts),
         ("gpt: lists of calls and their sums", histories::ledger),
+        ("gpt: each length", rows::each_length),
         ("gpt: each byte of an entry", bytes::entries),
         ("gpt: histories with damage", histories::damaged),
     ],
     cells: &[
         ("gpt_format", &[BLOCK, LENT, &[By(1, "guid"), Answer(3)]]),
-        ("gpt_read", &[BLOCK, LENT, READ, STALE]),
-        ("gpt_table", &[BLOCK, LENT, READ, STALE]),
-        ("gpt_free", &[BLOCK, LENT, READ, STALE]),
-        ("gpt_add", &[BLOCK, LENT, READ, NOT_SAME, NEW, SIZE, ALIGNED, NAME, STALE_ADD]),
-        ("gpt_delete", &[BLOCK, LENT, READ, NOT_SAME, SLOT, STALE_SLOT]),
-        ("gpt_rename", &[BLOCK, LENT, READ, NOT_SAME, SLOT, NAME, STALE_SLOT]),
-        ("gpt_resize", &[BLOCK, LENT, READ, NOT_SAME, SLOT, SIZE, STALE_SLOT]),
-        ("gpt_repair", &[BLOCK, LENT, READ, STALE]),
+        ("gpt_read", &[BLOCK, LENT, READ, STALE, TWICE]),
+        ("gpt_table", &[BLOCK, LENT, READ, STALE, TWICE]),
+        ("gpt_free", &[BLOCK, LENT, READ, STALE, TWICE]),
+        ("gpt_add", &[BLOCK, LENT, READ, NOT_SAME, NEW, SIZE, ALIGNED, NAME, GIVEN, TWICE, STALE_ADD]),
+        ("gpt_delete", &[BLOCK, LENT, READ, NOT_SAME, SLOT, STALE_SLOT, TWICE]),
+        ("gpt_rename", &[BLOCK, LENT, READ, NOT_SAME, SLOT, NAME, GIVEN, OWN, TWICE, STALE_SLOT]),
+        ("gpt_resize", &[BLOCK, LENT, READ, NOT_SAME, SLOT, SIZE, STALE_SLOT, TWICE]),
+        ("gpt_repair", &[BLOCK, LENT, READ, STALE, TWICE]),
         ("gpt_format at 4096", &[LENT, &[By(1, "guid"), Answer(3)]]),
-        ("gpt_read at 4096", &[LENT, READ, STALE]),
-        ("gpt_table at 4096", &[LENT, READ, STALE]),
-        ("gpt_free at 4096", &[LENT, READ, STALE]),
-        ("gpt_add at 4096", &[LENT, READ, NOT_SAME, NEW, SIZE, ALIGNED, NAME, STALE_ADD]),
-        ("gpt_delete at 4096", &[LENT, READ, NOT_SAME, SLOT, STALE_SLOT]),
-        ("gpt_rename at 4096", &[LENT, READ, NOT_SAME, SLOT, NAME, STALE_SLOT]),
-        ("gpt_resize at 4096", &[LENT, READ, NOT_SAME, SLOT, SIZE, STALE_SLOT]),
-        ("gpt_repair at 4096", &[LENT, READ, STALE]),
+        ("gpt_read at 4096", &[LENT, READ, STALE, TWICE]),
+        ("gpt_table at 4096", &[LENT, READ, STALE, TWICE]),
+        ("gpt_free at 4096", &[LENT, READ, STALE, TWICE]),
+        ("gpt_add at 4096", &[LENT, READ, NOT_SAME, NEW, SIZE, ALIGNED, NAME, GIVEN, TWICE, STALE_ADD]),
+        ("gpt_delete at 4096", &[LENT, READ, NOT_SAME, SLOT, STALE_SLOT, TWICE]),
+        ("gpt_rename at 4096", &[LENT, READ, NOT_SAME, SLOT, NAME, GIVEN, OWN, TWICE, STALE_SLOT]),
+        ("gpt_resize at 4096", &[LENT, READ, NOT_SAME, SLOT, SIZE, STALE_SLOT, TWICE]),
+        ("gpt_repair at 4096", &[LENT, READ, STALE, TWICE]),
     ],
     at_least: ("gpt_", 40_000),
     variants: variants::all,
@@ -68,7 +71,17 @@ const SLOT: &[Cell] = &[Answer(12), Answer(13)];
 const NEW: &[Cell] = &[By(1, "type"), By(1, "unique"), Answer(21), Answer(22), Answer(24)];
 const SIZE: &[Cell] = &[Answer(20), Answer(25)];
 const ALIGNED: &[Cell] = &[Answer(27), On(aligned::PAST), By(25, aligned::ROOM_BESIDE)];
-const NAME: &[Cell] = &[By(1, "name"), Answer(23)];
+const NAME: &[Cell] = &[By(1, "name"), Answer(23), Answer(26), By(26, doubles::TWICE)];
+const GIVEN: &[Cell] = &[
+    By(26, doubles::CARRIED),
+    On(doubles::NEAR),
+    On(doubles::BEFORE_ZERO),
+    By(23, doubles::BEFORE_ZERO),
+    On(doubles::EMPTY),
+    On(doubles::OF_STALE),
+];
+const OWN: &[Cell] = &[On(doubles::OWN)];
+const TWICE: &[Cell] = &[On(doubles::TWICE)];
 const STALE: &[Cell] = &[On(stale::BESIDE), On(stale::ONE_COPY), On(stale::ALL)];
 const STALE_ADD: &[Cell] = &[On(stale::SLOT), On(stale::ALL)];
 const STALE_SLOT: &[Cell] = &[By(13, stale::SLOT), On(stale::BESIDE)];

@@ -2,7 +2,7 @@
 
 use super::call::{Call, GUID_LEN, NAME_UNITS};
 use super::disk::{Disk, Side, SIDES, SLOTS};
-use super::sample;
+use super::{name, sample};
 use crate::run::{Lent, Outcome, Run};
 use testkit::disk::{Shape, SHAPES};
 use testkit::random::Random;
@@ -29,6 +29,7 @@ enum Fault {
     ZeroUnique,
     TakenUnique,
     BadName,
+    TakenName,
     AllSlotsUsed,
     NoRoom,
 }
@@ -44,22 +45,24 @@ const SLOT: [Fault; 3] = [Slot(0), Slot(129), UnusedSlot];
 /// The calls, each with the faults that concern it, in the order of its rows.
 fn calls(random: &mut Random) -> Vec<(Call, Vec<Fault>)> {
     let slot = 2;
-    let name = sample::good_name(random);
+    let name = name::filled(random);
     let lent = [&SIZE[..], &LENGTHS].concat();
     let reading = [&lent[..], &COUNT, &[NoGoodCopy], &NOT_SAME].concat();
     let editing = [&reading[..], &SLOT].concat();
     let format = [&lent[..], &[Length("guid")], &COUNT, &[ZeroDiskGuid]].concat();
     let new = [Length("type"), Length("unique"), Length("name")];
-    let judged = [ZeroSize, BadAlignment, ZeroType, ZeroUnique, TakenUnique, BadName, AllSlotsUsed, NoRoom];
+    let judged = [ZeroSize, BadAlignment, ZeroType, ZeroUnique, TakenUnique];
+    let named = [BadName, TakenName];
+    let placed = [AllSlotsUsed, NoRoom];
     vec![
         (Call::Format { guid: sample::guid(random) }, format),
         (Call::Read, reading.clone()),
         (Call::Table, reading.clone()),
         (Call::Free, reading.clone()),
         (Call::Repair, reading.clone()),
-        (sample::good_add(3, random), [&new, &reading[..], &judged].concat()),
+        (sample::good_add(3, random), [&new, &reading[..], &judged, &named, &placed].concat()),
         (Call::Delete { slot }, editing.clone()),
-        (Call::Rename { slot, name }, [&[Length("name")], &editing[..], &[BadName]].concat()),
+        (Call::Rename { slot, name }, [&[Length("name")], &editing[..], &named].concat()),
         (Call::Resize { slot, size: 4 }, [&editing[..], &[ZeroSize, NoRoom]].concat()),
     ]
 }
@@ -72,29 +75,42 @@ pub fn each_two(run: &mut Run) -> Outcome {
 fn each_two_of(run: &mut Run, shape: Shape) -> Outcome {
     let (some, all) = (some_slots_used(run, shape), all_slots_used(run, shape));
     for (call, faults) in calls(&mut run.random) {
-        with_faults(run, &some, &all, &call, &[])?;
+        let with = |run: &mut Run, faults: &[Fault]| {
+            let disk = if faults.contains(&AllSlotsUsed) { &all } else { &some };
+            with_faults(disk, &call, faults, &mut run.random)
+        };
+        let (mut disk, sound) = with(run, &[]);
+        disk.call_in_state(run, &sound)?;
         for (k, fault) in faults.iter().enumerate() {
-            for earlier in &faults[..=k] {
-                with_faults(run, &some, &all, &call, &[*earlier, *fault])?;
+            let (mut disk, faulty) = with(run, &[*fault]);
+            disk.call_in_state(run, &faulty)?;
+            for earlier in &faults[..k] {
+                let (mut disk, faulty) = with(run, &[*earlier, *fault]);
+                disk.call(run, &faulty)?;
             }
         }
     }
     Ok(())
 }
 
-fn with_faults(run: &mut Run, some: &Disk, all: &Disk, call: &Call, faults: &[Fault]) -> Outcome {
-    let mut disk = if faults.contains(&AllSlotsUsed) { all.clone() } else { some.clone() };
+fn with_faults(disk: &Disk, call: &Call, faults: &[Fault], random: &mut Random) -> (Disk, Call) {
+    let mut disk = disk.clone();
     let mut call = call.clone();
     for fault in faults {
-        on_disk(&mut disk, *fault, &mut run.random);
-        on_call(&mut call, *fault, &mut disk, &mut run.random);
+        on_call(&mut call, *fault, &mut disk, random);
+    }
+    // Before the copies are made bad or different, since both get the name.
+    if faults.contains(&TakenName) {
+        take_name(&mut disk, &call);
+    }
+    for fault in faults {
+        on_disk(&mut disk, *fault, random);
     }
     // The lengths last, since the other faults know the whole disk.
     for fault in faults {
-        wrong_length(&mut disk, &mut call, *fault, &mut run.random);
+        wrong_length(&mut disk, &mut call, *fault, random);
     }
-    disk.call_in_state(run, &call)?;
-    Ok(())
+    (disk, call)
 }
 
 /// Slots 2, 3 and 5 of a disk of 33 usable blocks, of which they have 2 to 4, 11 to 16 and the last; slots 1 and 4 are
@@ -142,6 +158,14 @@ fn on_disk(disk: &mut Disk, fault: Fault, random: &mut Random) {
     }
 }
 
+/// Slot 5 carries the name of the call already.
+fn take_name(disk: &mut Disk, call: &Call) {
+    if let Call::Add { name, .. } | Call::Rename { name, .. } = call {
+        disk.set_name(4, name);
+        disk.seal_both();
+    }
+}
+
 /// The other one of the two.
 fn other(shape: Shape) -> Shape {
     SHAPES.into_iter().find(|other| *other != shape).expect("another shape")
@@ -164,7 +188,8 @@ fn on_call(call: &mut Call, fault: Fault, disk: &mut Disk, random: &mut Random) 
         (TakenUnique, Call::Add { unique, .. }) => {
             unique.copy_from_slice(&disk.entry(Side::Head, 1)[16..32]);
         }
-        (BadName, Call::Add { name, .. } | Call::Rename { name, .. }) => *name = sample::bad_name(random),
+        (BadName, Call::Add { name, .. } | Call::Rename { name, .. }) => *name = name::bad(random),
+        (TakenName, Call::Add { name, .. }) if *name == name::EMPTY => *name = name::filled(random),
         _ => {}
     }
 }

@@ -1,7 +1,8 @@
 //! Arguments, drawn so that each row and each border is met often.
 
-use super::call::{Call, GUID_LEN, NAME_UNITS};
+use super::call::{Call, GUID_LEN};
 use super::disk::{Disk, Side, SLOTS};
+use super::name;
 use testkit::disk::Shape;
 use testkit::random::Random;
 
@@ -75,38 +76,6 @@ pub fn any_guid(random: &mut Random) -> Vec<u8> {
     }
 }
 
-/// A name that is not refused; some of its units have a zero byte.
-pub fn good_name(random: &mut Random) -> Vec<u16> {
-    let length = random.pick(&[0, 1, 5, 35, NAME_UNITS]);
-    let mut name = vec![0; NAME_UNITS];
-    for unit in &mut name[..length] {
-        let any = random.number() as u16 | 1;
-        *unit = random.pick(&[0x41, 0x0100, 0xFF00, 0xD83D, 0xFFFF, 1, any]);
-    }
-    name
-}
-
-/// A nonzero unit after a zero one, the last unit among them.
-pub fn bad_name(random: &mut Random) -> Vec<u16> {
-    let zero = random.below(NAME_UNITS - 1);
-    let after = match random.below(2) {
-        0 => NAME_UNITS - 1,
-        _ => zero + 1 + random.below(NAME_UNITS - 1 - zero),
-    };
-    let mut name = vec![0; NAME_UNITS];
-    name[..zero].fill(0x42);
-    name[after] = random.pick(&[1, 0x0100, 0x8000, 0x43]);
-    name
-}
-
-pub fn any_name(random: &mut Random) -> Vec<u16> {
-    match random.below(8) {
-        0 => bad_name(random),
-        1 => random.bytes(NAME_UNITS).into_iter().map(u16::from).collect(),
-        _ => good_name(random),
-    }
-}
-
 pub const BAD_SLOTS: [u64; 8] = [0, 129, 130, 255, 256, 257, (1 << 32) + 1, u64::MAX];
 
 /// A used slot more often than others.
@@ -124,7 +93,7 @@ pub fn any_slot(disk: &mut Disk, random: &mut Random) -> u64 {
 }
 
 /// The partitions by the primary entries; at times the stale entries too, as if they were partitions.
-fn partitions(disk: &mut Disk, random: &mut Random) -> Vec<(usize, u64, u64)> {
+pub fn partitions(disk: &mut Disk, random: &mut Random) -> Vec<(usize, u64, u64)> {
     let stale = if random.below(4) == 0 { disk.stale(Side::Head) } else { Vec::new() };
     [disk.partitions(Side::Head), stale].concat()
 }
@@ -255,20 +224,20 @@ fn attributes(random: &mut Random) -> u64 {
     }
 }
 
-/// An add at any start that no row but for slot or room refuses.
+/// An add at any start that no row but for slot or room refuses, since hardly a slot has its name.
 pub fn good_add(size: u64, random: &mut Random) -> Call {
     aligned_add(size, 1, random)
 }
 
 /// The same at a multiple.
 pub fn aligned_add(size: u64, alignment: u64, random: &mut Random) -> Call {
-    let (kind, unique, name) = (sparse_guid(random), guid(random), good_name(random));
+    let (kind, unique, name) = (sparse_guid(random), guid(random), name::good(random));
     Call::Add { kind, unique, size, alignment, attributes: attributes(random), name }
 }
 
 /// An add at any start without attributes and name.
 pub fn bare_add(size: u64, kind: Vec<u8>, unique: Vec<u8>) -> Call {
-    Call::Add { kind, unique, size, alignment: 1, attributes: 0, name: vec![0; NAME_UNITS] }
+    Call::Add { kind, unique, size, alignment: 1, attributes: 0, name: name::EMPTY.to_vec() }
 }
 
 /// Any call on the disk but formatting; edits most often.
@@ -281,7 +250,7 @@ pub fn any_call(disk: &mut Disk, random: &mut Random) -> Call {
         2 => Call::Free,
         3 => Call::Repair,
         4..=5 => Call::Delete { slot },
-        6..=8 => Call::Rename { slot, name: any_name(random) },
+        6..=8 => Call::Rename { slot, name: name::any(disk, random) },
         9..=11 => Call::Resize { slot, size: other_size(disk, slot, random) },
         12..=15 => aligned_add(size, alignment, random),
         _ => Call::Add {
@@ -290,7 +259,7 @@ pub fn any_call(disk: &mut Disk, random: &mut Random) -> Call {
             size,
             alignment,
             attributes: attributes(random),
-            name: any_name(random),
+            name: name::any(disk, random),
         },
     }
 }

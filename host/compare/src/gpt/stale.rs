@@ -2,8 +2,8 @@
 
 use super::call::{Call, GUID_LEN};
 use super::disk::{Disk, Side, ENTRY_LEN, SIDES, SLOTS};
-use super::{rows, sample};
-use crate::run::{Cell, Outcome, Run};
+use super::{name, rows, sample};
+use crate::run::{Outcome, Run};
 use testkit::disk::{Shape, SHAPES};
 use testkit::random::Random;
 
@@ -65,22 +65,22 @@ fn entry(unique: &[u8], (first, last): (u64, u64), random: &mut Random) -> Vec<u
 
 /// Slot 2 can have 9 blocks and slot 3 can have 21, the longest run 15.
 fn in_both_copies(run: &mut Run, disk: &Disk, unique: &[u8]) -> Outcome {
-    let name = sample::good_name(&mut run.random);
+    let name = name::good(&mut run.random);
     let resize = |(slot, size)| Call::Resize { slot, size };
     let rename = |slot| Call::Rename { slot, name: name.clone() };
     let delete = |slot| Call::Delete { slot };
     for call in [Call::Read, Call::Table, Call::Free, Call::Repair, delete(2), rename(2)] {
-        meeting(run, disk, &call, BESIDE)?;
+        disk.meeting(run, &call, BESIDE)?;
     }
     for call in [(2, 9), (2, 10), (3, 21), (3, 22)].map(resize) {
-        meeting(run, disk, &call, BESIDE)?;
+        disk.meeting(run, &call, BESIDE)?;
     }
     for call in [delete(1), rename(1), resize((1, 1))] {
-        meeting(run, disk, &call, SLOT)?;
+        disk.meeting(run, &call, SLOT)?;
     }
     for size in [1, 2, 6, 15, 16] {
         let kind = sample::sparse_guid(&mut run.random);
-        meeting(run, disk, &sample::bare_add(size, kind, unique.to_vec()), SLOT)?;
+        disk.meeting(run, &sample::bare_add(size, kind, unique.to_vec()), SLOT)?;
     }
     Ok(())
 }
@@ -88,22 +88,12 @@ fn in_both_copies(run: &mut Run, disk: &Disk, unique: &[u8]) -> Outcome {
 /// What is repaired is read again.
 fn in_one_copy(run: &mut Run, disk: &Disk) -> Outcome {
     for call in [Call::Read, Call::Table, Call::Free, Call::Repair, Call::Delete { slot: 2 }] {
-        meeting(run, disk, &call, ONE_COPY)?;
+        disk.meeting(run, &call, ONE_COPY)?;
     }
     let mut disk = disk.clone();
     for call in [Call::Repair, Call::Read] {
         disk.call(run, &call)?;
     }
-    Ok(())
-}
-
-/// Makes the call on a copy of the disk, and counts its answer under what it met.
-fn meeting(run: &mut Run, disk: &Disk, call: &Call, what: &'static str) -> Outcome {
-    let cell = match disk.clone().call(run, call)?.number {
-        0 => Cell::On(what),
-        number => Cell::By(number, what),
-    };
-    run.reach(call.name(disk.block), cell);
     Ok(())
 }
 
@@ -117,10 +107,10 @@ fn all_slots_of(run: &mut Run, shape: Shape) -> Outcome {
     let all: Vec<usize> = (0..SLOTS).collect();
     for stale in [cleared(&used, &all), alike(&used)] {
         for call in [Call::Read, Call::Table, Call::Free, Call::Repair] {
-            meeting(run, &stale, &call, ALL)?;
+            stale.meeting(run, &call, ALL)?;
         }
         let whole = sample::good_add(shape.usable(stale.n), &mut run.random);
-        meeting(run, &stale, &whole, ALL)?;
+        stale.meeting(run, &whole, ALL)?;
         refill(run, stale, SLOTS)?;
     }
     for index in [0, 70, 127] {

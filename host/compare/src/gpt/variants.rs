@@ -1,4 +1,5 @@
 mod aligned;
+mod names;
 mod shape;
 mod unused;
 
@@ -9,7 +10,8 @@ pub const RULES_TO_BREAK: &[&str] = &[
     "Q1", "Q2", "Q3", "Q6", "R1", "R2", "R3", "R4", "R5", "R6", "R7", "R8", "R9", "R10", "R11", "R12", "R13",
     "R25", "R26", "R27", "R28", "R29", "R30", "D1", "D2", "D3", "D4", "D5", "D6", "D7", "D8", "D9", "D10",
     "D11", "D12", "D13", "D14", "D15", "D16", "D17", "D18", "D19", "D20", "D21", "D22", "D23", "D24", "E1",
-    "E2", "e1", "e2", "e4", "e5", "f1", "f2", "f3", "f4", "f5", "l1", "l2", "l3", "l7",
+    "E2", "a1", "a2", "a3", "a4", "e1", "e2", "e4", "e5", "f1", "f2", "f3", "f4", "f5", "l1", "l2", "l3",
+    "l7",
 ];
 
 pub fn all() -> Vec<Variant> {
@@ -22,6 +24,7 @@ pub fn all() -> Vec<Variant> {
         entries(),
         unused::variants(),
         aligned::variants(),
+        names::variants(),
         reading(),
         writing(),
         sums(),
@@ -82,6 +85,7 @@ const NUMBERS: &[(Row, &str, u32)] = &[
     (Row::ZeroType, "R11", 22),
     (Row::UniqueTaken, "R11", 21),
     (Row::BadName, "R12", 53),
+    (Row::NameTaken, "a4", 23),
     (Row::NoSlot, "R13", 25),
     (Row::NoRoom, "R13", 24),
 ];

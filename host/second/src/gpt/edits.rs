@@ -2,7 +2,7 @@ use super::copies::Disk;
 use super::entry::{self, Entry, NewPartition};
 use super::place::Geometry;
 use super::write::Buffers;
-use super::{aligned, answer, leave_buffers, room};
+use super::{aligned, answer, leave_buffers, names, room};
 use crate::bytes::{is_zero, part, put};
 use crate::refuse::first_refusal;
 use crate::rules::{Row, Rules, Slot, UsedIn};
@@ -22,6 +22,7 @@ pub fn gpt_add(
     let used = |rule| entry::used(rules, rule, disk.entries());
     let runs = |rule| room::runs(disk.geometry, &used(rule));
     let parts = |rule| aligned::parts(disk.geometry, rule, new.alignment, &runs(rule));
+    let index = free_slot(rules, &used(UsedIn::Slot));
     let refusal = first_refusal(rules, rules.gpt.add_order, |row| match row {
         Row::WrongLength => disk.holds(row) || new_lengths_wrong(rules, new),
         Row::ZeroSize => new.size < rules.gpt.size_min,
@@ -29,12 +30,13 @@ pub fn gpt_add(
         Row::ZeroType => is_zero(part(new.kind, 0, rules.gpt.zero_kind_len)),
         Row::UniqueTaken => unique_taken(rules, &used(UsedIn::UniqueTaken), new.unique),
         Row::BadName => entry::name_is_bad(rules, new.name),
+        Row::NameTaken => names::is_taken(rules, &used(UsedIn::NameInAdd), index, new.name),
         Row::NoSlot => free_slot(rules, &used(UsedIn::NoSlot)).is_none(),
         Row::NoRoom => room::none_fits(rules, &parts(UsedIn::NoRoom), new.size),
         _ => disk.holds(row),
     });
     let start = room::start(rules, &parts(UsedIn::Start), new.size);
-    let found = free_slot(rules, &used(UsedIn::Slot)).zip(start);
+    let found = index.zip(start);
     let added = found.map(|(index, start)| (index, entry::new_entry(rules, new, start, disk.entry(index))));
     finish(Buffers { head, tail, geometry: disk.geometry }, refusal, added);
     let told = found.map(|(index, start)| {
@@ -75,6 +77,10 @@ pub fn gpt_rename(
         Row::NoSuchSlot => no_such_slot(rules, slot),
         Row::UnusedSlot => target.is_none(),
         Row::BadName => entry::name_is_bad(rules, name),
+        Row::NameTaken => {
+            let used = entry::used(rules, UsedIn::NameInRename, disk.entries());
+            names::is_taken(rules, &used, target.as_ref().map(|entry| entry.index), name)
+        }
         _ => disk.holds(row),
     });
     let units = entry::stored_name(rules, renamed_units(rules, name));

@@ -1,3 +1,4 @@
+use super::names;
 use super::place::Geometry;
 use crate::bytes::{is_zero, number, part, put, stored};
 use crate::rules::{Rules, Unjudged, UsedIn, WholeIn};
@@ -19,6 +20,11 @@ impl Entry {
     /// D7, D21: whether a block of `first` to `last` lies in the partition.
     pub fn meets(&self, first: u64, last: u64) -> bool {
         self.first <= last && first <= self.last
+    }
+
+    /// The bytes of its name.
+    pub fn name(&self, rules: &Rules) -> &[u8] {
+        part(&self.bytes, rules.gpt.entry.name, 2 * rules.gpt.name_units)
     }
 }
 
@@ -110,6 +116,7 @@ pub fn are_good(geometry: Geometry, entries: &[u8]) -> bool {
             .iter()
             .all(|entry| range_good(geometry, entry) && !also_bad(geometry.rules, entry))
         && !any_two(&used(UsedIn::EqualUniques), equal)
+        && (gpt.names.doubles_good || !names::has_doubles(geometry.rules, &used(UsedIn::EqualUniques)))
         && !any_two(&used(UsedIn::SharedBlocks), meet)
 }
 
@@ -121,7 +128,7 @@ fn range_good(geometry: Geometry, entry: &Entry) -> bool {
     in_order && usable
 }
 
-fn any_two(entries: &[Entry], related: impl Fn(&Entry, &Entry) -> bool) -> bool {
+pub fn any_two(entries: &[Entry], related: impl Fn(&Entry, &Entry) -> bool) -> bool {
     (1..entries.len()).any(|k| entries[..k].iter().any(|entry| related(entry, &entries[k])))
 }
 
@@ -129,15 +136,14 @@ fn any_two(entries: &[Entry], related: impl Fn(&Entry, &Entry) -> bool) -> bool 
 fn also_bad(rules: &Rules, entry: &Entry) -> bool {
     let at = rules.gpt.entry;
     match rules.gpt.also_judged {
-        Some(Unjudged::Names) => name_is_bad(rules, &name(rules, entry)),
+        Some(Unjudged::Names) => name_is_bad(rules, &units(rules, entry.name(rules))),
         Some(Unjudged::Attributes) => !is_zero(part(&entry.bytes, at.attributes, NUMBER_LEN)),
         _ => false,
     }
 }
 
-fn name(rules: &Rules, entry: &Entry) -> Vec<u16> {
-    let bytes = part(&entry.bytes, rules.gpt.entry.name, 2 * rules.gpt.name_units);
-    bytes.chunks(2).map(|unit| number(rules.gpt.little_endian, unit) as u16).collect()
+fn units(rules: &Rules, name: &[u8]) -> Vec<u16> {
+    name.chunks(2).map(|unit| number(rules.gpt.little_endian, unit) as u16).collect()
 }
 
 /// R12: a nonzero unit after a zero one.

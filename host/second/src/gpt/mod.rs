@@ -7,6 +7,7 @@ mod edits;
 mod entry;
 mod header;
 mod ledger;
+mod names;
 mod place;
 mod reading;
 mod room;

@@ -1,7 +1,7 @@
 //! Where a new partition starts: at the lowest multiple of its alignment with enough free blocks from it on (rules e1, e4).
 //! The multiple is of the block's number on the disk, with either block size.
 
-use super::{Calls, New, DISK_GUID};
+use super::{unique, Calls, New, DISK_GUID};
 use crate::disk::{Disk, Shape, SHAPES};
 use crate::random::Random;
 
@@ -9,12 +9,8 @@ pub(super) const ALIGNMENTS: [u64; 3] = [1, 8, 2048];
 /// Numbers beside the alignments and between them, and some with one in their low 32 bits.
 const NO_ALIGNMENTS: [u64; 12] =
     [0, 2, 3, 7, 9, 16, 2047, 2049, (1 << 32) + 1, (1 << 32) + 8, (1 << 32) + 2048, u64::MAX];
-const LINUX: &str = "linux";
-const ZERO: &str = "00000000-0000-0000-0000-000000000000";
-
-fn unique(number: u64) -> String {
-    format!("00000000-0000-4000-8000-{number:012}")
-}
+pub(super) const LINUX: &str = "linux";
+pub(super) const ZERO: &str = "00000000-0000-0000-0000-000000000000";
 
 /// A partition that alignment or room alone can refuse.
 fn new(size: u64, alignment: u64, unique: &str) -> New<'_> {
@@ -23,10 +19,8 @@ fn new(size: u64, alignment: u64, unique: &str) -> New<'_> {
 
 /// Adds a partition with a unique GUID that none has; its first block.
 pub(super) fn first(calls: &Calls, disk: &mut Disk, size: u64, alignment: u64) -> Result<u64, u32> {
-    let held = calls.table(disk);
-    let is_held = |unique: &String| held.iter().any(|row| row.unique == *unique);
-    let next = (1..).map(unique).find(|unique| !is_held(unique)).expect("a number");
-    let slot = (calls.add)(disk, &new(size, alignment, &next))?;
+    let unique = calls.new_unique(disk);
+    let slot = (calls.add)(disk, &new(size, alignment, &unique))?;
     let row = calls.row_of(disk, slot);
     assert_eq!(row.last - row.first + 1, size);
     Ok(row.first)
@@ -152,7 +146,7 @@ pub fn another_alignment_is_refused_after_20(calls: &Calls) {
 
 /// The disk spoiled for each refusal that comes before 20: a block size that is none, a length, a number of blocks, and one
 /// header or both.
-fn refused_earlier(disk: &Disk) -> [(u32, Disk); 5] {
+pub(super) fn refused_earlier(disk: &Disk) -> [(u32, Disk); 5] {
     let shape = disk.shape();
     let spoiled = |spoil: &dyn Fn(&mut Disk)| {
         let mut other = disk.clone();

@@ -97,7 +97,7 @@ fn no_difference_of(calls: &Calls, tool: &Tool, shape: Shape, plans: &[Plan]) {
             scope.spawn(move || assert_eq!(compared(calls, tool, shape, *plan, seed, false), None));
         }
         // An add that every tool makes likewise, so that the changed byte is the one difference.
-        let likewise = |_: &Calls, _: &Disk, edit: &Edit| matches!(edit, Edit::Add(new) if new.attributes == 0 && new.name == "boot");
+        let likewise = |_: &Calls, _: &Disk, edit: &Edit| matches!(edit, Edit::Add(new) if new.attributes == 0 && new.name.starts_with("boot"));
         let (adds, one) = (Tool { likewise, ..*tool }, Plan { n: 5000, groups: 1, edits: 1 });
         scope.spawn(move || {
             assert_eq!(compared(calls, &adds, shape, one, 1, false), None);
@@ -199,6 +199,7 @@ fn two_partitions(calls: &Calls, shape: Shape, name: &str) -> Disk {
         calls.add_drawn(&mut disk, size, &mut random).expect("room");
     }
     calls.delete_used(&mut disk, 2);
+    calls.rename_used(&mut disk, 3, "behind");
     calls.rename_used(&mut disk, 1, name);
     disk
 }
@@ -272,12 +273,15 @@ pub fn sfdisk_starts_after_the_last_partition(calls: &Calls) {
 fn refused(calls: &Calls, disk: &Disk) -> Vec<(u32, Edit)> {
     let (one, three) = (calls.row_of(disk, 1), calls.row_of(disk, 3));
     let twin = Partition { slot: 2, first: one.last + 1, last: one.last + 2, attributes: 0, ..one.clone() };
+    let namesake = Partition { unique: calls.new_unique(disk), ..twin.clone() };
     let past_end = disk.n - disk.shape().first_usable + 1;
     vec![
         (12, Edit::Delete(129)),
         (13, Edit::Delete(2)),
         (13, Edit::Rename(2, "boot".into())),
         (22, Edit::Add(twin)),
+        (26, Edit::Add(namesake)),
+        (26, Edit::Rename(3, one.name.clone())),
         (25, Edit::Resize(Partition { last: three.first, ..one })),
         (25, Edit::Resize(Partition { last: past_end, ..three })),
     ]
@@ -316,18 +320,18 @@ fn refuses_likewise_on(calls: &Calls, disk: &Disk, by: fn(&Path, &Edit), unknown
 
 pub fn sgdisk_refuses_the_same(calls: &Calls) {
     if peer::present("sgdisk", "gdisk") {
-        refuses_likewise(calls, |image, edit| tool::sgdisk(image, std::slice::from_ref(edit)), &[22]);
+        refuses_likewise(calls, |image, edit| tool::sgdisk(image, std::slice::from_ref(edit)), &[22, 26]);
     }
 }
 
 pub fn sfdisk_refuses_the_same(calls: &Calls) {
     if peer::present("sfdisk", "fdisk") {
-        refuses_likewise(calls, tool::sfdisk, &[22]);
+        refuses_likewise(calls, tool::sfdisk, &[22, 26]);
     }
 }
 
 pub fn cgpt_refuses_the_same(calls: &Calls) {
     if peer::present("cgpt", "cgpt") {
-        refuses_likewise(calls, tool::cgpt, &[]);
+        refuses_likewise(calls, tool::cgpt, &[26]);
     }
 }

@@ -3,6 +3,8 @@
 mod aligned;
 mod aligned_peers;
 mod edits;
+mod names;
+mod names_peers;
 mod peers;
 mod samples;
 mod stale;
@@ -11,6 +13,8 @@ mod stale_peers;
 pub use aligned::*;
 pub use aligned_peers::*;
 pub use edits::*;
+pub use names::*;
+pub use names_peers::*;
 pub use peers::*;
 pub use samples::*;
 pub use stale::*;
@@ -74,7 +78,15 @@ macro_rules! disk_tests {
                 stale_bytes_are_compared_and_repaired,
                 stale_slots_are_places,
                 a_type_makes_an_entry_a_used_one,
+                a_name_is_given_once,
+                the_empty_name_repeats,
+                names_are_compared_whole,
+                units_behind_a_zero_are_compared,
+                names_of_stale_slots_are_free,
+                disks_with_a_name_twice_are_read_and_edited,
+                a_name_twice_is_refused_after_23,
                 fixtures_read_as_their_tool_said,
+                names_of_fixtures_are_given_once,
                 sgdisk_lists_the_same,
                 sfdisk_lists_the_same,
                 cgpt_lists_the_same,
@@ -94,6 +106,9 @@ macro_rules! disk_tests {
                 sgdisk_on_a_stale_slot,
                 sfdisk_on_a_stale_slot,
                 cgpt_on_a_stale_slot,
+                sgdisk_gives_a_name_twice,
+                sfdisk_gives_a_name_twice,
+                cgpt_gives_a_name_twice,
                 sgdisk_places_the_same,
                 sfdisk_places_the_same,
                 sfdisk_starts_at_1_mib_with_other_grains,
@@ -148,10 +163,26 @@ impl Calls {
         let kind = random.pick(&KINDS);
         let unique = guid_text(&random.bytes(16));
         let attributes = random.number() & random.pick(&[0, 0xFFFF_0000_0000_0005, u64::MAX]);
-        let name = random.pick(&NAMES);
-        let new = New { kind, unique: &unique, size, alignment, attributes, name };
+        let name = self.new_name(disk, None, random);
+        let new = New { kind, unique: &unique, size, alignment, attributes, name: &name };
         let slot = (self.add)(disk, &new).ok()?;
         Some(Edit::Add(self.row_of(disk, slot)))
+    }
+
+    /// A name of the list, with a number where another slot than `own` has it.
+    fn new_name(&self, disk: &Disk, own: Option<u64>, random: &mut Random) -> String {
+        let others = self.table(disk).into_iter().filter(|row| Some(row.slot) != own);
+        let held: Vec<String> = others.map(|row| row.name).collect();
+        let name = random.pick(&NAMES);
+        let numbered = (1..).map(|number| numbered(name, number));
+        let mut names = [name.to_string()].into_iter().chain(numbered);
+        names.find(|name| name.is_empty() || !held.contains(name)).expect("a number")
+    }
+
+    /// A unique GUID that no slot has.
+    fn new_unique(&self, disk: &Disk) -> String {
+        let held: Vec<String> = self.table(disk).into_iter().map(|row| row.unique).collect();
+        (1..).map(unique).find(|unique| !held.contains(unique)).expect("a number")
     }
 
     fn delete_used(&self, disk: &mut Disk, slot: u64) -> Edit {
@@ -195,7 +226,10 @@ impl Calls {
                 self.add_drawn_at(disk, size, alignment, random)
             }
             3 => Some(self.delete_used(disk, slot)),
-            4 => Some(self.rename_used(disk, slot, random.pick(&NAMES))),
+            4 => {
+                let name = self.new_name(disk, Some(slot), random);
+                Some(self.rename_used(disk, slot, &name))
+            }
             _ => self.resize_used(disk, slot, size),
         }
     }
@@ -205,6 +239,25 @@ impl Calls {
         disk.entry(1).into_iter().for_each(|entry| entry[at] ^= 1);
         disk.set_crcs(self.crc32);
     }
+
+    /// Gives a slot a name by its bytes, whoever carries it.
+    fn write_name(&self, disk: &mut Disk, slot: u64, name: &str) {
+        let mut bytes: Vec<u8> = name.encode_utf16().flat_map(u16::to_le_bytes).collect();
+        bytes.resize(72, 0);
+        disk.entry(slot).into_iter().for_each(|entry| entry[56..].copy_from_slice(&bytes));
+        disk.set_crcs(self.crc32);
+    }
+}
+
+/// A number at the end of a name, in the place of its last units where it has 36.
+fn numbered(name: &str, number: u32) -> String {
+    let number = format!(" {number}");
+    let kept: String = name.chars().take(36 - number.len()).collect();
+    kept + &number
+}
+
+fn unique(number: u64) -> String {
+    format!("00000000-0000-4000-8000-{number:012}")
 }
 
 /// The text of some GUID.

@@ -6,7 +6,8 @@ use crate::disk::{Disk, Shape, HEADER_LEN, SHAPES};
 /// An add that only room can refuse.
 fn add(calls: &Calls, disk: &mut Disk, size: u64, unique: u8) -> Result<u64, u32> {
     let unique = format!("00000000-0000-0000-0000-0000000000{unique:02}");
-    (calls.add)(disk, &New { kind: "linux", unique: &unique, size, alignment: 1, attributes: 0, name: "a" })
+    let new = New { kind: "linux", unique: &unique, size, alignment: 1, attributes: 0, name: &unique };
+    (calls.add)(disk, &new)
 }
 
 /// Slot, first and last block of each partition, counted from the first usable block.

@@ -85,7 +85,7 @@ pub fn edits_leave_stale_bytes(calls: &Calls) {
         for disk in [&mut stale, &mut deleted] {
             assert_eq!((calls.resize)(disk, 1, SIZES[0] + SIZES[1] + 1), Err(25));
             assert_eq!((calls.resize)(disk, 1, SIZES[0] + SIZES[1]), Ok(()));
-            assert_eq!((calls.rename)(disk, 3, "a"), Ok(()));
+            assert_eq!((calls.rename)(disk, 3, "renamed"), Ok(()));
             assert_eq!((calls.delete)(disk, 1), Ok(()));
         }
         assert!(stale.entry(STALE).iter().all(|entry| **entry == held));
@@ -147,7 +147,7 @@ pub fn stale_slots_are_places(calls: &Calls) {
             disk
         };
         let add = |disk: &mut Disk, size: u64, unique: &str| {
-            (calls.add)(disk, &New { kind: "linux", unique, size, alignment: 1, attributes: 0, name: "a" })
+            (calls.add)(disk, &New { kind: "linux", unique, size, alignment: 1, attributes: 0, name: unique })
         };
         let uniques = ["00000000-0000-0000-0000-000000000001", "00000000-0000-0000-0000-000000000002"];
         let mut empty = without(&(1..=128).collect::<Vec<_>>());

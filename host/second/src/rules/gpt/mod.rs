@@ -1,9 +1,11 @@
 mod alignment;
+mod names;
 mod operands;
 mod shape;
 mod unused;
 
 pub use alignment::*;
+pub use names::*;
 pub use operands::*;
 pub use shape::*;
 pub use unused::*;
@@ -29,10 +31,13 @@ pub struct LedgerRules {
     pub refusal_grants: u64,
     /// e4: room for an add is what is free from a multiple of its alignment on.
     pub room_by_multiples: bool,
+    /// a1, a2: no two used slots carry the same name, by so many bytes of it; the empty one may repeat.
+    pub names_differ_in: usize,
+    pub empty_names_repeat: bool,
 }
 
-/// The disk: Q1 to Q3, R25 to R30, D1 to D24, and of document 02 the sentences of requests l, f and e, l1 to l7, f1 to f5
-/// and e1 to e5.
+/// The disk: Q1 to Q3, R25 to R30, D1 to D24, and of document 02 the sentences of requests l, f, e and a, l1 to l7, f1 to
+/// f5, e1 to e5 and a1 to a4.
 #[derive(Clone, Copy, Debug)]
 pub struct GptRules {
     /// l3: of each block size.
@@ -47,7 +52,7 @@ pub struct GptRules {
     pub unique_len: usize,
     pub name_units: usize,
 
-    /// R25 to R30, each after l7; in an add e5.
+    /// R25 to R30, each after l7; in an add e5, in an add and a rename a4.
     pub format_order: &'static [Row],
     pub read_order: &'static [Row],
     pub table_order: &'static [Row],
@@ -74,6 +79,8 @@ pub struct GptRules {
     /// R12: so many units are judged, each as a whole, not by its low byte.
     pub name_judged_units: usize,
     pub name_unit_mask: u16,
+    /// a1 to a3.
+    pub names: NameRules,
     /// R13: what must be at least the size.
     pub room: Longest,
     /// R13, D15: the bits of the sum of a start and a size.
@@ -184,6 +191,7 @@ pub const GPT: GptRules = GptRules {
         Row::ZeroType,
         Row::UniqueTaken,
         Row::BadName,
+        Row::NameTaken,
         Row::NoSlot,
         Row::NoRoom,
     ],
@@ -205,6 +213,7 @@ pub const GPT: GptRules = GptRules {
         Row::NoSuchSlot,
         Row::UnusedSlot,
         Row::BadName,
+        Row::NameTaken,
     ],
     resize_order: &[
         Row::BlockSize,
@@ -228,6 +237,7 @@ pub const GPT: GptRules = GptRules {
     taken_unique_refused: true,
     name_judged_units: 36,
     name_unit_mask: 0xFFFF,
+    names: NAMES,
     room: Longest::Run,
     room_bits: u128::MAX,
 
@@ -309,5 +319,7 @@ pub const GPT: GptRules = GptRules {
         repair_grants: 0,
         refusal_grants: 0,
         room_by_multiples: true,
+        names_differ_in: 72,
+        empty_names_repeat: true,
     },
 };

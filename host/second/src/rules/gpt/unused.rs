@@ -16,6 +16,9 @@ pub enum UsedIn {
     Resize,
     /// R11.
     UniqueTaken,
+    /// a1, by the call.
+    NameInAdd,
+    NameInRename,
     /// R13.
     NoSlot,
     NoRoom,
