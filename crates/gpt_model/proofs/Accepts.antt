@@ -25,10 +25,11 @@ use Rattle.gpt_model.specs.declared.NewPartition.{NewPartition}
 use Rattle.gpt_model.specs.Calls.{Edit, resize, rename, edit, accepted, Outcome, badName, entryOf, carries, nameTaken, otherEntries}
 use Rattle.gpt_model.specs.Calls.{slotRows, addRows, fitsAt, tableRows, change, lengthsOf, openRows, rowsOf, step}
 use Rattle.gpt_model.specs.Stored.{unitBytes, EntryNamed}
-use Rattle.gpt_model.specs.Claims.{UsedSlot, NameOk, FitsAlone, GivenOk, NewOk}
+use Rattle.gpt_model.specs.Claims.{UsedSlot, NameOk, FitsAlone, GivenOk, NameFree, NewOk}
 use Rattle.gpt_model.proofs.Room.{not-in-none, room-get, room-make}
 use Rattle.gpt_model.proofs.Entries.{length-rangesOf, entryAt}
 use Rattle.gpt_model.proofs.Carried.{some-carry, some-named, other-named, free-iff}
+use Rattle.gpt_model.proofs.Attributes.{keeps-iff}
 use Rattle.gpt_model.proofs.Outcomes.{step-refused, step-accepted, edit-decides}
 
 -- where the rows before an edit's own do not hold, its own decide
@@ -187,7 +188,7 @@ module _ (es : List ℕ) (p : NewPartition) where
           f (suc (w .0)) (omega arith, omega arith, ap unused at ∙ w .2 .0) (ap uniqueOf at ∙ w .2 .1)
 
   -- the test of row 26
-  name-free : (nameTaken (entries es) (p .name) ≡ false) ↔ ((isZero (unitBytes (p .name)) ≡ true) ⊎ ((i : ℕ) → ¬ EntryNamed es i (p .name)))
+  pub name-free : (nameTaken (entries es) (p .name) ≡ false) ↔ NameFree es (p .name)
   name-free =
       let w = free-iff (entries es) (p .name) (some-named es (p .name)) in (
         λ e. ⊎-elim (λ z. inl z) (λ f. inr (λ i v. f (i, v))) (w .0 e),
@@ -224,6 +225,7 @@ module _ (es : List ℕ) (p : NewPartition) where
         lengths = l;
         given = given-rows .0 (v .0);
         single = name-free .0 (passes 26 behind (v .1));
+        kept = keeps-iff (p .rule) (p .attributes) .0 (passes 28 behind (v .1));
         slot =
             let f = findIx-get unused (entries es) [] (not-f _ (passes 24 behind (v .1))) in
             let h = f .0 in
@@ -235,5 +237,6 @@ module _ (es : List ℕ) (p : NewPartition) where
   new-make w =
       refusal-append given behind (given-rows .1 (w .given))
       ∙ pick-false _ 26 _ (name-free .1 (w .single))
+      ∙ pick-false _ 28 _ (keeps-iff (p .rule) (p .attributes) .1 (w .kept))
       ∙ pick-false _ 24 _ (ap not (let s = w .slot in let lo = s .1 in let hi = s .2 in
       any-make unused (entries es) [] (s .0 - 1) (omega (arith, length-chunks 128 128 es)) (s .3)))

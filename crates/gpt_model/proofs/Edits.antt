@@ -24,7 +24,7 @@ use Rattle.gpt_model.specs.Calls.{Edit, add, delete, resize, rename, car
 use Rattle.gpt_model.specs.Lists.{Ledger, bookEdit}
 use Rattle.gpt_model.proofs.Room.{Room, room-get, start-some}
 use Rattle.gpt_model.proofs.Fields.{length-new, new-type, new-unique, new-first, new-last, length-sized, sized-type, sized-unique, sized-first, sized-last, length-named}
-use Rattle.gpt_model.proofs.Entries.{same-sym, Alike, ok-alike, pair-alike, named-alike, range-unused, range-used, unused-type, typed-alike, unused-zeros, Used, ok-used, used-ok, unused-ok, ok-bounded, PairOk, getD-range, length-rangesOf, entryAt, good-at, good-pair, room-apart}
+use Rattle.gpt_model.proofs.Entries.{same-sym, Alike, ok-alike, pair-alike, behind-alike, range-unused, range-used, unused-type, typed-alike, unused-zeros, Used, ok-used, used-ok, unused-ok, ok-bounded, PairOk, getD-range, length-rangesOf, entryAt, good-at, good-pair, room-apart}
 
 nonzero : (x : ℕ) → eqb x 0 ≡ false → 0 < x
 nonzero x e = let w : x ≢ 0 = eqb-false x 0 e in omega arith
@@ -116,7 +116,7 @@ module _ (first last : ℕ) (small : last < 256 ^ 8) (es : List ℕ) (len : leng
       e′ = change first last es (rename k name) .entry
 
       alike : Alike e′ e
-      alike = named-alike e le′ (nameBytes name)
+      alike = behind-alike e (nameBytes name) 56 (omega arith)
 
   resizes : (k size : ℕ) → refusal (tableRows first last es (resize k size)) ≡ none → FitsEdit first last es (resize k size)
   resizes k size z = record {

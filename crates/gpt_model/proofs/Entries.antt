@@ -19,7 +19,7 @@ use Rattle.octets.proofs.Equal.{same-true, same-refl, zero-zeros}
 use Rattle.octets.proofs.Chunks.{length-chunks, chunks-put}
 use Rattle.gpt_model.specs.Table.{BlockRange, noBlocks, spans, rangeSize, bounded, apart, typeOf, uniqueOf, firstOf, lastOf, unused, rangeOf, entryOk, pairOk, entries, rangesOf, goodTable}
 use Rattle.gpt_model.specs.Ranges.{blockIn}
-use Rattle.gpt_model.proofs.Fields.{named-type, named-unique, named-first, named-last}
+use Rattle.gpt_model.proofs.Fields.{behind-type, behind-unique, behind-first, behind-last}
 use Rattle.gpt_model.proofs.Room.{Room, blockIn-make}
 use Rattle.gpt_model.proofs.Counts.{bounded-get, bounded-make}
 
@@ -189,7 +189,7 @@ free-apart first last f l (spans g m) k h w = go (bool-cases (ltb l g)) (bool-ca
         hit (yes z) = clash (blockIn-make f g m z y) (w f (le-refl f) h)
         hit (no z) = clash (blockIn-make g g m (le-refl g) (b .1)) (w g (omega arith) x)
 
--- ---- two entries that the rules can't tell apart, as an entry and the same with another name
+-- ---- two entries that the rules can't tell apart, as an entry and the same with other attributes or another name
 
 abbrev pub Alike : List ℕ → List ℕ → Type 0
 Alike e d = (unused e ≡ unused d) × (uniqueOf e ≡ uniqueOf d) × (rangeOf e ≡ rangeOf d)
@@ -208,10 +208,10 @@ range-alike e d u f l = go (bool-cases (unused d))
     go (inl q) = range-unused e (u ∙ q) ∙ sym (range-unused d q)
     go (inr q) = range-used e (u ∙ q) ∙ ap₂ spans f l ∙ sym (range-used d q)
 
-pub named-alike : (e : List ℕ) → length e ≡ 128 → (bytes : List ℕ) → Alike (put 56 bytes e) e
-named-alike e len bytes =
-    let u = typed-alike (put 56 bytes e) e (named-type e len bytes) in
-    (u, named-unique e len bytes, range-alike (put 56 bytes e) e u (named-first e len bytes) (named-last e len bytes))
+pub behind-alike : (e bytes : List ℕ) (at : ℕ) → 48 ≤ at → Alike (put at bytes e) e
+behind-alike e bytes at h =
+    let u = typed-alike (put at bytes e) e (behind-type e bytes at h) in
+    (u, behind-unique e bytes at h, range-alike (put at bytes e) e u (behind-first e bytes at h) (behind-last e bytes at h))
 
 -- ---- the table
 

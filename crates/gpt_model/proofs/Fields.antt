@@ -14,7 +14,7 @@ use Rattle.octets.proofs.Bools.{and-l, and-r}
 use Rattle.octets.proofs.Numbers.{length-le, unle-le}
 use Rattle.octets.proofs.Parts.{length-zeros}
 use Rattle.octets.proofs.Puts.{length-put, then, put-all, put-comm, part-put-below, part-put-above, part-put-same}
-use Rattle.gpt_model.specs.Table.{writeAll, typeOf, uniqueOf, firstOf, lastOf, partitionNameOf, nameBytes}
+use Rattle.gpt_model.specs.Table.{writeAll, typeOf, uniqueOf, firstOf, lastOf, attributesOf, partitionNameOf, nameBytes}
 use Rattle.gpt_model.specs.declared.NewPartition.{NewPartition}
 use Rattle.gpt_model.specs.Calls.{newFields, newEntry}
 
@@ -144,8 +144,25 @@ module _ (e : List ℕ) (len : length e ≡ 128) (l : ℕ) where
   pub sized-last : l < 256 ^ 8 → lastOf sized ≡ l
   sized-last h = ap unle (part-put-at (le 8 l) e 40 8 (length-le 8 l) (omega arith)) ∙ unle-le 8 l h
 
+  pub sized-attributes : attributesOf sized ≡ attributesOf e
+  sized-attributes = ap unle (part-put-below (le 8 l) e 48 8 40 (omega (arith, length-le 8 l)))
+
   pub sized-name : partitionNameOf sized ≡ partitionNameOf e
   sized-name = part-put-below (le 8 l) e 56 72 40 (omega (arith, length-le 8 l))
+
+-- bytes behind the last block
+module _ (e : List ℕ) (bytes : List ℕ) (at : ℕ) (behind : 48 ≤ at) where
+  pub behind-type : typeOf (put at bytes e) ≡ typeOf e
+  behind-type = part-put-above bytes e 0 16 at (omega arith)
+
+  pub behind-unique : uniqueOf (put at bytes e) ≡ uniqueOf e
+  behind-unique = part-put-above bytes e 16 16 at (omega arith)
+
+  pub behind-first : firstOf (put at bytes e) ≡ firstOf e
+  behind-first = ap unle (part-put-above bytes e 32 8 at (omega arith))
+
+  pub behind-last : lastOf (put at bytes e) ≡ lastOf e
+  behind-last = ap unle (part-put-above bytes e 40 8 at (omega arith))
 
 module _ (e : List ℕ) (len : length e ≡ 128) (bytes : List ℕ) where
   abbrev named : List ℕ
@@ -154,17 +171,8 @@ module _ (e : List ℕ) (len : length e ≡ 128) (bytes : List ℕ) where
   pub length-named : length named ≡ 128
   length-named = length-put 56 bytes e ∙ len
 
-  pub named-type : typeOf named ≡ typeOf e
-  named-type = part-put-above bytes e 0 16 56 (omega arith)
-
-  pub named-unique : uniqueOf named ≡ uniqueOf e
-  named-unique = part-put-above bytes e 16 16 56 (omega arith)
-
-  pub named-first : firstOf named ≡ firstOf e
-  named-first = ap unle (part-put-above bytes e 32 8 56 (omega arith))
-
-  pub named-last : lastOf named ≡ lastOf e
-  named-last = ap unle (part-put-above bytes e 40 8 56 (omega arith))
+  pub named-attributes : attributesOf named ≡ attributesOf e
+  named-attributes = ap unle (part-put-above bytes e 48 8 56 (omega arith))
 
   pub named-name : length bytes ≡ 72 → partitionNameOf named ≡ bytes
   named-name l = part-put-at bytes e 56 72 l (omega arith)

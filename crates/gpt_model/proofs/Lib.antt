@@ -8,6 +8,7 @@ pub mod Fields
 pub mod Entries
 pub mod StoredTable
 pub mod Carried
+pub mod Attributes
 pub mod Edits
 pub mod Copies
 pub mod States
@@ -18,6 +19,7 @@ pub mod Steps
 pub mod Demand3
 pub mod Unaligned
 pub mod Names
+pub mod Checks
 pub mod Sizes
 pub mod Touches
 pub mod SameSize

@@ -86,7 +86,8 @@ module _ (first last : ℕ) (es : List ℕ) (len : length es ≡ 16384) where
 
 pub oneByNameFrom : OneByNameFrom
 oneByNameFrom g wide n es r s names cs =
-    holds-after g wide n NamesDiffer (λ tb d len lens e f p. edited-differ (g .first) (lastUsable g n) tb len d lens e f p) cs r (starts-kept g n es r s)
+    holds-after g wide n NamesDiffer (λ d. Unit {0}) (λ tb d s len lens e f p. edited-differ (g .first) (lastUsable g n) tb len d lens e f p) cs (λ k d q. tt) r
+    (starts-kept g n es r s)
     (subst NamesDiffer (sym (s .table)) names)
 
 -- a table without entries has no names

@@ -14,7 +14,7 @@ use Rattle.octets.specs.Rows.{row, refusal}
 use Rattle.octets.proofs.Bools.{and-l, and-r, and-i, clash, not-f}
 use Rattle.octets.proofs.Rows.{rowsFrom, passes, pick-false, refusal-append, refusal-first, refusal-before, refusal-holds}
 use Rattle.gpt_model.specs.Disk.{Shape, lastUsable, inRange, primary, backup, lentBytes, guidIn, entriesIn, state, tableOf, withCopy}
-use Rattle.gpt_model.specs.Calls.{Edit, add, delete, resize, rename, Call, read, freeCounts, repair, edit, Answer, refused, accepted, Outcome, outcome, unlessRefused, tableRows, lengthsOf, commonRows, openRows, rowsOf, acceptedOutcome, step}
+use Rattle.gpt_model.specs.Calls.{Edit, add, delete, resize, rename, Call, read, freeCounts, repair, check, edit, Answer, refused, accepted, Outcome, outcome, unlessRefused, tableRows, lengthsOf, commonRows, openRows, rowsOf, acceptedOutcome, step}
 
 -- ---- the two outcomes: refused, and nothing is changed; or accepted
 
@@ -48,6 +48,7 @@ accepted-values : (g : Shape) (n : ℕ) (h t : List ℕ) (c : Call) → (values 
 accepted-values g n h t read = (_, refl)
 accepted-values g n h t freeCounts = (_, refl)
 accepted-values g n h t repair = (_, repair-answer g n h t)
+accepted-values g n h t (check rule) = (_, refl)
 accepted-values g n h t (edit d) = (_, refl)
 
 pub refused-row : (g : Shape) (n : ℕ) (h t : List ℕ) (c : Call) (k : ℕ) → step g n h t c .answer ≡ refused k → refusal (rowsOf g n h t c) ≡ some k
@@ -82,6 +83,7 @@ module _ (g : Shape) (n : ℕ) (h t : List ℕ) (one : state g n h t ≡ 1) wher
   none10 read = rw one
   none10 freeCounts = rw one
   none10 repair = rw one
+  none10 (check rule) = rw one
   none10 (edit (add p)) = rw one
   none10 (edit (delete k)) = rw one
   none10 (edit (resize k size)) = rw one
@@ -92,6 +94,7 @@ module _ (g : Shape) (n : ℕ) (h t : List ℕ) (one : state g n h t ≡ 1) wher
   none11 read = refl
   none11 freeCounts = refl
   none11 repair = refl
+  none11 (check rule) = refl
   none11 (edit (add p)) = rw one
   none11 (edit (delete k)) = rw one
   none11 (edit (resize k size)) = rw one

@@ -15,8 +15,8 @@ use Rattle.octets.proofs.Chunks.{length-chunk}
 use Rattle.gpt_model.specs.Table.{noBlocks, rangeOf, entryOk, rangesOf, goodTable}
 use Rattle.gpt_model.specs.Disk.{Shape, lastUsable, inRange, primary, backup, lentBytes, guidIn, tableOf, withTable}
 use Rattle.gpt_model.specs.Calls.{delete, read, accepted, Outcome, rowsOf, step}
-use Rattle.gpt_model.specs.Claims.{AnyNameReads}
-use Rattle.gpt_model.proofs.Entries.{PairOk, ok-alike, pair-alike, named-alike, getD-range, entryAt, good-at, good-pair, ranges-put, good-put}
+use Rattle.gpt_model.specs.Claims.{AnyBytesRead, AnyNameReads, AnyAttributesRead}
+use Rattle.gpt_model.proofs.Entries.{PairOk, ok-alike, pair-alike, behind-alike, getD-range, entryAt, good-at, good-pair, ranges-put, good-put}
 use Rattle.gpt_model.proofs.Copies.{length-entries}
 use Rattle.gpt_model.proofs.States.{Holds, one-primary, readable-good, edit-holds}
 use Rattle.gpt_model.proofs.Outcomes.{step-accepted, row1, row2, open-common, open-none, read-none, state-is}
@@ -83,14 +83,20 @@ module _ (g : Shape) (n : ℕ) (h t : List ℕ) (wide : 92 ≤ g .block) (i : �
         again : refusal (rowsOf g n h′ t′ read) ≡ none
         again = open-common g n h′ t′ (delete 0) (open-none g n h′ t′ (delete 0) (w .len-head) (w .len-tail) refl range (w .reads))
 
--- the entry rules do not look at names
-pub anyNameReads : AnyNameReads
-anyNameReads g n h t i name wide hi ln one =
+-- the entry rules do not look behind the last block
+any-bytes : (at width : ℕ) → 48 ≤ at → at + width ≤ 128 → AnyBytesRead at width
+any-bytes at width lo hi g n h t i bytes wide small len one =
     let es = tableOf g n h t in
     let d = entryAt es i in
-    let good = good-was g n h t wide i hi one in
-    let same = named-alike d (length-was g n h t wide i hi one) name in
-    let w = reads-again g n h t wide i hi one name 56 (omega arith)
-    (ok-alike (g .first) (lastUsable g n) (put 56 name d) d same (good-at (g .first) (lastUsable g n) es good i hi))
-    (λ j hj ne. pair-alike (put 56 name d) d (entryAt es j) same (good-pair (g .first) (lastUsable g n) es good i j hi hj (λ x. ne (sym x)))) in
+    let good = good-was g n h t wide i small one in
+    let same = behind-alike d bytes at lo in
+    let w = reads-again g n h t wide i small one bytes at (omega arith)
+    (ok-alike (g .first) (lastUsable g n) (put at bytes d) d same (good-at (g .first) (lastUsable g n) es good i small))
+    (λ j hj ne. pair-alike (put at bytes d) d (entryAt es j) same (good-pair (g .first) (lastUsable g n) es good i j small hj (λ x. ne (sym x)))) in
     (w .0, w .1, w .2 ∙ ap (set (rangesOf es) i) (same .2 ∙ sym (getD-range es i)) ∙ set-getD (rangesOf es) i noBlocks)
+
+pub anyNameReads : AnyNameReads
+anyNameReads = any-bytes 56 72 (omega arith) (omega arith)
+
+pub anyAttributesRead : AnyAttributesRead
+anyAttributesRead = any-bytes 48 8 (omega arith) (omega arith)

@@ -1,14 +1,14 @@
 -- Room: a run of free blocks as a fact, and the lowest aligned start that has it.
 use mathlib.Core.Path.{_≡_, refl, sym, ap, _∙_}
 use mathlib.Core.Logic.{_⊎_, inl, inr}
-use mathlib.Core.Bool.{Bool, true, false, not, false≢true}
+use mathlib.Core.Bool.{Bool, true, false, not, true≢false, false≢true}
 use mathlib.Core.List.{List}
 use mathlib.Core.Option.{none, some}
 use Prim.Native.Nat.{ℕ, zero, suc, _+_, _-_, _≤_, _<_}
 use native.Mathlib.Decide.{decLt, ℕ-discrete}
 use native.Mathlib.Omega.{arith}
 use borrow.Author.Tests.{leb-true, le-leb, eqb-true, eq-eqb}
-use Rattle.octets.proofs.Bools.{and-l, and-r, and-i, bool-cases, not-t, clash, some-none, option-cases}
+use Rattle.octets.proofs.Bools.{and-l, and-r, and-i, and-skip, bool-cases, not-t, clash, some-none, option-cases}
 use Rattle.gpt_model.specs.Table.{BlockRange, noBlocks, spans}
 use Rattle.gpt_model.specs.Ranges.{blockIn, inSome, inNone, MultipleOf, allFrom, roomAt, lowestFrom, alignedAt, lowestStart}
 use Rattle.gpt_model.proofs.Multiples.{multiple-mod, mod-multiple}
@@ -46,6 +46,20 @@ pub allFrom-make : (p : ℕ → Bool) (lo k : ℕ) → ((b : ℕ) → lo ≤ b �
 unfolding allFrom
 allFrom-make p lo zero f = refl
 allFrom-make p lo (suc k) f = and-i _ _ (f lo (omega arith) (omega arith)) (allFrom-make p (suc lo) k (λ b h g. f b (omega arith) (omega arith)))
+
+pub allFrom-fails : (p : ℕ → Bool) (lo k : ℕ) → allFrom p lo k ≡ false → (b : ℕ) × (lo ≤ b) × (b < lo + k) × (p b ≡ false)
+unfolding allFrom
+allFrom-fails p lo zero e = absurd (true≢false e)
+allFrom-fails p lo (suc k) e = go (bool-cases (p lo)) (allFrom-fails p (suc lo) k)
+  where
+    go : (p lo ≡ true) ⊎ (p lo ≡ false) → (allFrom p (suc lo) k ≡ false → (b : ℕ) × (suc lo ≤ b) × (b < suc lo + k) × (p b ≡ false))
+        → (b : ℕ) × (lo ≤ b) × (b < lo + suc k) × (p b ≡ false)
+    go (inl q) ih =
+        let w = ih (and-skip _ _ q e) in
+        let l = w .1 in
+        let h = w .2 in
+        (w .0, omega arith, omega arith, w .3)
+    go (inr q) ih = (lo, omega arith, omega arith, q)
 
 lowestFrom-yes : (p : ℕ → Bool) (lo k : ℕ) → p lo ≡ true → lowestFrom p lo (suc k) ≡ some lo
 unfolding lowestFrom

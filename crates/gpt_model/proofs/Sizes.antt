@@ -15,9 +15,10 @@ use Rattle.gpt_model.specs.Sizes.{shapeOf, onShape, stepBy, formatBy}
 use Rattle.gpt_model.specs.Lists.{Snapshot, afterAll, startAfter}
 use Rattle.gpt_model.specs.Claims.{Sound, Formats, AfterLists, AfterListsAt, AfterListsAt512, AfterListsAt4096, Demand3At512, Demand3At4096}
 use Rattle.gpt_model.specs.Claims.{NamesDifferIn, OneByNameAt512, OneByNameAt4096, ShapesBySize, OnItsShape, OtherSizeRefused, WholeBlocks}
-use Rattle.gpt_model.specs.Claims.{Numbers512, Numbers4096}
+use Rattle.gpt_model.specs.Claims.{NoneOffendsIn, BitsStayZeroAt512, BitsStayZeroAt4096, Numbers512, Numbers4096}
 use Rattle.gpt_model.proofs.Demand3.{demand3}
 use Rattle.gpt_model.proofs.Names.{oneByName}
+use Rattle.gpt_model.proofs.Checks.{bitsStayZero}
 
 pub shapesBySize : ShapesBySize
 unfolding shapeOf
@@ -80,15 +81,15 @@ in-range g n = (λ e. (leb-true _ _ (and-l _ _ e), leb-true _ _ (and-r _ _ e)), 
 
 -- ---- what holds after every list of calls, of the calls by the block size
 
-module _ (Holds : Shape → ℕ → Snapshot → Type 0) (after : AfterLists Holds) where
+module _ (Holds : List Call → Shape → ℕ → Snapshot → Type 0) (after : AfterLists Holds) where
   after-by : (size : ℕ) (g : Shape) → shapeOf size ≡ some g → (n : ℕ) (guid h t : List ℕ) → Formats g n guid h t → (cs : List Call)
-      → (formatBy size n guid h t .answer ≡ accepted []) × Holds g n (afterAll (stepBy size n) cs (startAfter (formatBy size n guid h t)))
+      → (formatBy size n guid h t .answer ≡ accepted []) × Holds cs g n (afterAll (stepBy size n) cs (startAfter (formatBy size n guid h t)))
   unfolding stepBy formatBy
   after-by size g e n guid h t f cs =
       subst
       (λ (s : Option Shape).
       (onShape s h t (λ g. format g n guid h t) .answer ≡ accepted [])
-      × Holds g n (afterAll (λ h t c. onShape s h t (λ g. step g n h t c)) cs (startAfter (onShape s h t (λ g. format g n guid h t)))))
+      × Holds cs g n (afterAll (λ h t c. onShape s h t (λ g. step g n h t c)) cs (startAfter (onShape s h t (λ g. format g n guid h t)))))
       (sym e) (after g n guid h t f cs)
 
   after-at : (size : ℕ) (g : Shape) → shapeOf size ≡ some g → headerBytes ≤ g .block
@@ -104,16 +105,22 @@ module _ (Holds : Shape → ℕ → Snapshot → Type 0) (after : AfterLists Hol
   at-4096 = after-at 4096 disk4096 (shapesBySize .1) (omega arith)
 
 pub demand3At512 : Demand3At512
-demand3At512 = at-512 Sound demand3
+demand3At512 = at-512 (λ cs. Sound) demand3
 
 pub demand3At4096 : Demand3At4096
-demand3At4096 = at-4096 Sound demand3
+demand3At4096 = at-4096 (λ cs. Sound) demand3
 
 pub oneByNameAt512 : OneByNameAt512
-oneByNameAt512 = at-512 NamesDifferIn oneByName
+oneByNameAt512 = at-512 (λ cs. NamesDifferIn) oneByName
 
 pub oneByNameAt4096 : OneByNameAt4096
-oneByNameAt4096 = at-4096 NamesDifferIn oneByName
+oneByNameAt4096 = at-4096 (λ cs. NamesDifferIn) oneByName
+
+pub bitsStayZeroAt512 : BitsStayZeroAt512
+bitsStayZeroAt512 = at-512 NoneOffendsIn bitsStayZero
+
+pub bitsStayZeroAt4096 : BitsStayZeroAt4096
+bitsStayZeroAt4096 = at-4096 NoneOffendsIn bitsStayZero
 
 -- ---- the numbers
 

@@ -1,5 +1,5 @@
 -- Stale bytes, which an unused entry holds behind its type GUID: nothing that is judged or answered goes by them, and an add leaves none.
-use mathlib.Core.Path.{_≡_, refl, sym, ap, subst, subst₂, _∙_}
+use mathlib.Core.Path.{_≡_, refl, sym, ap, ap₂, subst, subst₂, _∙_}
 use mathlib.Core.Logic.{_⊎_, inl, inr, ⊎-elim}
 use mathlib.Core.Bool.{Bool, true, false, not, cond}
 use mathlib.Core.List.{List, [], _∷_, _++_, map}
@@ -20,7 +20,9 @@ use Rattle.octets.proofs.Rows.{rowsFrom, pick-true, pick-false}
 use Rattle.octets.proofs.Chunks.{length-chunks}
 use Rattle.gpt_model.specs.Table.{uniqueOf, partitionNameOf, nameBytes, unused, noBlocks, rangeOf, entryOk, entries, rangesOf, goodTable}
 use Rattle.gpt_model.specs.Disk.{Shape, lastUsable, primary, backup, guidIn, state, tableOf, withTable}
-use Rattle.gpt_model.specs.Calls.{Edit, add, delete, resize, rename, Call, read, freeCounts, repair, edit, accepted, Outcome, unlessRefused}
+use Rattle.gpt_model.specs.Attributes.{usedOffends, firstOffending}
+use Rattle.gpt_model.specs.declared.Rule.{Rule}
+use Rattle.gpt_model.specs.Calls.{Edit, add, delete, resize, rename, Call, read, freeCounts, repair, check, edit, accepted, Outcome, unlessRefused}
 use Rattle.gpt_model.specs.Calls.{entryOf, carries, otherEntries, orZero, slotRows, lowestUnused, newEntry, startFor, tableRows, change, edited}
 use Rattle.gpt_model.specs.Calls.{lengthsOf, rowsOf, acceptedOutcome, step}
 use Rattle.gpt_model.specs.Stored.{EntryUsed, SameUsed}
@@ -59,6 +61,9 @@ module _ (es es′ : List ℕ) (s : SameUsed es es′) where
   any-by : (p : List ℕ → Bool) → ((e : List ℕ) → unused e ≡ true → p e ≡ p []) → any p (entries es) ≡ any p (entries es′)
   any-by p w = any-map p (entries es) ∙ ap (any (λ b. b)) (by-used p w) ∙ sym (any-map p (entries es′))
 
+  index-by : (p : List ℕ → Bool) → ((e : List ℕ) → unused e ≡ true → p e ≡ p []) → findIx p (entries es) ≡ findIx p (entries es′)
+  index-by p w = findIx-map p (entries es) ∙ ap (findIx (λ b. b)) (by-used p w) ∙ sym (findIx-map p (entries es′))
+
   as-nil : (e : List ℕ) → unused e ≡ true → unused e ≡ unused []
   as-nil e q = q ∙ sym unused-nil
 
@@ -82,7 +87,7 @@ module _ (es es′ : List ℕ) (s : SameUsed es es′) where
       ∙ sym (any-map p (otherEntries es′ k))
 
   same-lowest : lowestUnused es ≡ lowestUnused es′
-  same-lowest = findIx-map unused (entries es) ∙ ap (findIx (λ b. b)) (by-used unused as-nil) ∙ sym (findIx-map unused (entries es′))
+  same-lowest = index-by unused as-nil
 
   -- an entry without its stale bytes
   abbrev seen : List ℕ → List ℕ
@@ -92,6 +97,13 @@ module _ (es es′ : List ℕ) (s : SameUsed es es′) where
   same-used k u =
       let u′ = sym (entry-by unused as-nil k) ∙ u in
       sym (ap (λ (b : Bool). cond b [] (entryOf es k)) u) ∙ entry-by seen (λ e q. rw (q, unused-nil) refl) k ∙ ap (λ (b : Bool). cond b [] (entryOf es′ k)) u′
+
+  same-offending : (rule : Rule) → firstOffending rule es ≡ firstOffending rule es′
+  unfolding firstOffending
+  same-offending rule =
+      let none : (e : List ℕ) → unused e ≡ true → usedOffends rule e ≡ usedOffends rule [] =
+      λ e q. and-false-l _ _ (ap not q) ∙ sym (and-false-l _ _ (ap not unused-nil)) in
+      ap₂ (λ (b : Bool) (k : ℕ). cond b (suc k) 0) (any-by (usedOffends rule) none) (index-by (usedOffends rule) none)
 
   module _ (first last : ℕ) where
     same-refusal : (d : Edit) → refusal (tableRows first last es d) ≡ refusal (tableRows first last es′ d)
@@ -187,6 +199,7 @@ answersByUsed g n h t h′ t′ s reads reads′ used c = go c
         (repair-answer g n h t
         ∙ ap (λ (x : ℕ). accepted (x ∷ [])) (state-is g n h t s reads ∙ sym (state-is g n h′ t′ s reads′))
         ∙ sym (repair-answer g n h′ t′))
+    go (check rule) = same-answer g n h t h′ t′ (check rule) common (ap (λ (k : ℕ). accepted (k ∷ [])) (same-offending es es′ used rule))
     go (edit d) =
         same-answer g n h t h′ t′ (edit d)
         (edit-refusal g n h t s reads d

@@ -3,7 +3,7 @@ use mathlib.Core.Path.{_≡_, refl, sym, ap, subst, _∙_}
 use mathlib.Core.Bool.{true}
 use mathlib.Core.List.{List, [], _∷_, map}
 use mathlib.Core.Option.{Option, none, some}
-use Prim.Native.Nat.{ℕ, _+_, _≤_}
+use Prim.Native.Nat.{ℕ, suc, _+_, _≤_}
 use native.Mathlib.Omega.{arith}
 use lib.ListN.{length, getD, set, length-map, List·getD-map}
 use borrow.Author.Tests.{leb-true}
@@ -12,7 +12,7 @@ use Rattle.octets.proofs.Bools.{and-r}
 use Rattle.octets.proofs.Chunks.{length-putChunk}
 use Rattle.gpt_model.specs.Table.{noBlocks, rangeSize, rangeOf, rangesOf, goodTable}
 use Rattle.gpt_model.specs.Disk.{Shape, lastUsable, primary, backup, lentBytes, guidIn, state, tableOf, withTable}
-use Rattle.gpt_model.specs.Calls.{Edit, Call, read, freeCounts, repair, edit, refused, Outcome, outcome, tableRows, change, edited, lengthsOf, rowsOf, acceptedOutcome, step}
+use Rattle.gpt_model.specs.Calls.{Edit, Call, read, freeCounts, repair, check, edit, refused, Outcome, outcome, tableRows, change, edited, lengthsOf, rowsOf, acceptedOutcome, step}
 use Rattle.gpt_model.specs.Lists.{Ledger, bookEdit, book, Snapshot, afterOne, afterAll, answers, tableNext, applied, total}
 use Rattle.gpt_model.proofs.Counts.{total-set}
 use Rattle.gpt_model.proofs.Entries.{map-set, getD-range, length-rangesOf, entryAt, ranges-put, good-put}
@@ -115,6 +115,7 @@ module _ (g : Shape) (wide : 92 ≤ g .block) (n : ℕ) (r : Snapshot) (v : Kept
   after-accepted read e = (v, refl)
   after-accepted freeCounts e = (v, refl)
   after-accepted repair e = rw (v .reads) (v, refl)
+  after-accepted (check rule) e = (v, refl)
   after-accepted (edit d) e =
       let f = edit-fits g wide n (r .head) (r .tail) d e in
       let w = edit-held g wide n (r .head) (r .tail) d e in
@@ -124,6 +125,7 @@ module _ (g : Shape) (wide : 92 ≤ g .block) (n : ℕ) (r : Snapshot) (v : Kept
   after-refused read k = (v, refl)
   after-refused freeCounts k = (v, refl)
   after-refused repair k = (v, refl)
+  after-refused (check rule) k = (v, refl)
   after-refused (edit d) k = (v, refl)
 
   pub keeps : (c : Call) → After c (step g n (r .head) (r .tail) c)
@@ -144,36 +146,41 @@ keeps-all g wide n (c ∷ cs) r v =
     let k = keeps-all g wide n cs (afterOne (step g n) c r) (w .0) in
     (k .0, k .1 ∙ ap (λ (x : List ℕ). applied (g .first) (lastUsable g n) x cs (answers (step g n) cs (afterOne (step g n) c r))) (w .1))
 
--- what every edit that no row refuses keeps of the table, every list keeps
-module _ (g : Shape) (wide : 92 ≤ g .block) (n : ℕ) (P : List ℕ → Type 0)
-    (edits : (es : List ℕ) (d : Edit) → length es ≡ 16384 → lengthsOf d ≡ true → refusal (tableRows (g .first) (lastUsable g n) es d) ≡ none
+-- what every such edit that no row refuses keeps of the table, every list of such edits keeps
+module _ (g : Shape) (wide : 92 ≤ g .block) (n : ℕ) (P : List ℕ → Type 0) (Such : Edit → Type 0)
+    (edits : (es : List ℕ) (d : Edit) → Such d → length es ≡ 16384 → lengthsOf d ≡ true → refusal (tableRows (g .first) (lastUsable g n) es d) ≡ none
     → FitsEdit (g .first) (lastUsable g n) es d → P es → P (edited (g .first) (lastUsable g n) es d)) where
   module _ (r : Snapshot) (p : P (tableOf g n (r .head) (r .tail))) where
     abbrev Next : Call → Outcome → Type 0
     Next c o = P (tableNext (g .first) (lastUsable g n) (tableOf g n (r .head) (r .tail)) c (o .answer))
 
-    next-accepted : (c : Call) → refusal (rowsOf g n (r .head) (r .tail) c) ≡ none → Next c (acceptedOutcome g n (r .head) (r .tail) c)
-    next-accepted read e = p
-    next-accepted freeCounts e = p
-    next-accepted repair e = p
-    next-accepted (edit d) e =
-        edits (tableOf g n (r .head) (r .tail)) d (len-table g wide n (r .head) (r .tail) d e) (lens g wide n (r .head) (r .tail) d e .2)
+    next-accepted : (c : Call) → ((d : Edit) → c ≡ edit d → Such d) → refusal (rowsOf g n (r .head) (r .tail) c) ≡ none
+        → Next c (acceptedOutcome g n (r .head) (r .tail) c)
+    next-accepted read s e = p
+    next-accepted freeCounts s e = p
+    next-accepted repair s e = p
+    next-accepted (check rule) s e = p
+    next-accepted (edit d) s e =
+        edits (tableOf g n (r .head) (r .tail)) d (s d refl) (len-table g wide n (r .head) (r .tail) d e) (lens g wide n (r .head) (r .tail) d e .2)
         (edit-table g n (r .head) (r .tail) d e) (edit-fits g wide n (r .head) (r .tail) d e) p
 
     next-refused : (c : Call) (k : ℕ) → Next c (outcome (refused k) (r .head) (r .tail))
     next-refused read k = p
     next-refused freeCounts k = p
     next-refused repair k = p
+    next-refused (check rule) k = p
     next-refused (edit d) k = p
 
-    next-keeps : (c : Call) → Next c (step g n (r .head) (r .tail) c)
-    next-keeps c = go (refusal (rowsOf g n (r .head) (r .tail) c)) refl
+    next-keeps : (c : Call) → ((d : Edit) → c ≡ edit d → Such d) → Next c (step g n (r .head) (r .tail) c)
+    next-keeps c s = go (refusal (rowsOf g n (r .head) (r .tail) c)) refl
       where
         go : (q : Option ℕ) → refusal (rowsOf g n (r .head) (r .tail) c) ≡ q → Next c (step g n (r .head) (r .tail) c)
-        go none e = subst (Next c) (sym (step-accepted g n (r .head) (r .tail) c e)) (next-accepted c e)
+        go none e = subst (Next c) (sym (step-accepted g n (r .head) (r .tail) c e)) (next-accepted c s e)
         go (some k) e = subst (Next c) (sym (step-refused g n (r .head) (r .tail) c k e)) (next-refused c k)
 
-  pub holds-after : (cs : List Call) (r : Snapshot) → Kept g n r → P (tableOf g n (r .head) (r .tail))
-      → P (tableOf g n (afterAll (step g n) cs r .head) (afterAll (step g n) cs r .tail))
-  holds-after [] r v p = p
-  holds-after (c ∷ cs) r v p = let w = keeps g wide n r v c in holds-after cs (afterOne (step g n) c r) (w .0) (subst P (sym (w .1)) (next-keeps r p c))
+  pub holds-after : (cs : List Call) → ((k : ℕ) (d : Edit) → getD cs k read ≡ edit d → Such d) → (r : Snapshot) → Kept g n r
+      → P (tableOf g n (r .head) (r .tail)) → P (tableOf g n (afterAll (step g n) cs r .head) (afterAll (step g n) cs r .tail))
+  holds-after [] s r v p = p
+  holds-after (c ∷ cs) s r v p =
+      let w = keeps g wide n r v c in
+      holds-after cs (λ k. s (suc k)) (afterOne (step g n) c r) (w .0) (subst P (sym (w .1)) (next-keeps r p c (s 0)))

@@ -11,10 +11,10 @@ use Rattle.octets.proofs.Parts.{part-part}
 use Rattle.octets.proofs.Equal.{same-false, same-refl}
 use Rattle.octets.proofs.Tests.{any-get, any-make}
 use Rattle.octets.proofs.Chunks.{chunk-part}
-use Rattle.gpt_model.specs.Table.{typeOf, uniqueOf, firstOf, lastOf, partitionNameOf, unused, BlockRange, noBlocks, spans}
+use Rattle.gpt_model.specs.Table.{typeOf, uniqueOf, firstOf, lastOf, attributesOf, partitionNameOf, unused, BlockRange, noBlocks, spans}
 use Rattle.gpt_model.specs.Table.{rangeOf, apart, entryOk, rangesOf, goodTable}
 use Rattle.gpt_model.specs.Ranges.{blockIn}
-use Rattle.gpt_model.specs.Stored.{EntryUsed, entryType, entryUnique, entryFirst, entryLast, entryNameBytes, EntryHolds, TableRules}
+use Rattle.gpt_model.specs.Stored.{EntryUsed, entryType, entryUnique, entryFirst, entryLast, entryAttributes, entryNameBytes, EntryHolds, TableRules}
 use Rattle.gpt_model.specs.Claims.{InSomeByBytes}
 use Rattle.gpt_model.proofs.Room.{blockIn-make, blockIn-get, blockIn-none}
 use Rattle.gpt_model.proofs.Counts.{apart-get}
@@ -40,6 +40,9 @@ module _ (es : List ℕ) (i : ℕ) (h : i < 128) where
 
   last-is : lastOf (entryAt es i) ≡ entryLast es i
   last-is = ap unle (field-is 40 8 (omega arith))
+
+  pub attributes-is : attributesOf (entryAt es i) ≡ entryAttributes es i
+  attributes-is = ap unle (field-is 48 8 (omega arith))
 
   pub name-is : partitionNameOf (entryAt es i) ≡ entryNameBytes es i
   name-is = field-is 56 72 (omega arith)

@@ -13,12 +13,15 @@ use Rattle.gpt_model.specs.Table.{uniqueOf, firstOf, partitionNameOf, na
 use Rattle.gpt_model.specs.Disk.{Shape, lastUsable, inRange, primary, backup, lentBytes, guidIn, entriesIn, state, tableOf}
 use Rattle.gpt_model.specs.Disk.{withTable, withCopy, freshHead, freshTail}
 use Rattle.gpt_model.specs.declared.NewPartition.{NewPartition}
+use Rattle.gpt_model.specs.declared.Rule.{Rule}
 use Rattle.gpt_model.specs.Ranges.{roomAt, isAlignment, lowestStart, freeCount, longestFree}
+use Rattle.gpt_model.specs.Attributes.{offends, firstOffending}
 
 -- D15: Add is given type, unique GUID (16 stored bytes each), size in blocks, attributes and name (36 units). e1: a stated alignment, 1, 8 or 2,048 blocks
-abbrev pub newPartition : List ℕ → List ℕ → ℕ → ℕ → ℕ → List ℕ → NewPartition
-newPartition kind unique size alignment attributes name =
-    record { kind = kind; unique = unique; size = size; alignment = alignment; attributes = attributes; name = name }
+-- k2: The caller names the rule when adding
+abbrev pub newPartition : List ℕ → List ℕ → ℕ → ℕ → ℕ → Rule → List ℕ → NewPartition
+newPartition kind unique size alignment attributes rule name =
+    record { kind = kind; unique = unique; size = size; alignment = alignment; attributes = attributes; rule = rule; name = name }
 
 -- a slot is named by its number, from 1 on
 pub data Edit : Type 0 where
@@ -27,9 +30,10 @@ pub data Edit : Type 0 where
   resize : ℕ → ℕ → Edit
   rename : ℕ → List ℕ → Edit
 
--- every call but formatting
+-- every call but formatting. k2: The caller names the rule when adding and when checking a table
 pub data Call : Type 0 where
   read freeCounts repair : Call
+  check : Rule → Call
   edit : Edit → Call
 
 -- R1: A refusal returns its number alone. What else is answered is a list of values; reading answers the state, free counts two numbers.
@@ -92,7 +96,7 @@ abbrev pub slotRows : List ℕ → ℕ → List Row
 slotRows es k = row (not (leb 1 k and leb k slotCount)) 12 ∷ row (unused (entryOf es k)) 13 ∷ []
 
 -- R10: 20: size zero. R11: 21 / 22: type GUID zero / unique GUID zero or already in a used slot. R13: 24 / 25: no unused slot / no room
--- e5: 27 for any other alignment, after 20. a4: 26, after 23 and before 24
+-- e5: 27 for any other alignment, after 20. a4: 26, after 23 and before 24. k6: 28 in adding, after 26 and before 24
 abbrev pub addRows : List ℕ → NewPartition → List Row
 addRows es p =
     row (eqb (p .size) 0) 20
@@ -101,6 +105,7 @@ addRows es p =
     ∷ row (isZero (p .unique) or any (carries uniqueOf (p .unique)) (entries es)) 22
     ∷ row (badName (p .name)) 23
     ∷ row (nameTaken (entries es) (p .name)) 26
+    ∷ row (offends (p .rule) (p .attributes)) 28
     ∷ row (not (any unused (entries es))) 24
     ∷ []
 
@@ -133,6 +138,7 @@ module _ (first last : ℕ) (es : List ℕ) where
   startFor p = lowestStart (rangesOf es) first last (p .size) (p .alignment)
 
   -- R27: Add: 1, 2, 10, 11, 20, 21, 22, 23, 24, 25. e5: 27 for any other alignment, after 20. a4: 26, after 23 and before 24 (in rename, last).
+  -- k6: 28 in adding, after 26 and before 24.
   -- R28: Delete: 1, 2, 10, 11, 12, 13. R29: Rename the same, then 23. R30: Resize as delete, then 20, 25.
   abbrev pub tableRows : Edit → List Row
   tableRows (add p) = addRows es p ++ (row (isNone (startFor p)) 25 ∷ [])
@@ -173,7 +179,7 @@ module _ (g : Shape) (n : ℕ) (h t : List ℕ) where
   abbrev pub lentRows : Bool → List Row
   lentRows lengths = row (not (lengthsOk g h t and lengths)) 1 ∷ row (not (inRange g n)) 2 ∷ []
 
-  -- what every call but formatting is refused for first. R26: Read, repair, free counts: 1, 2, 10. R7: 10: neither GPT copy is good
+  -- what every call but formatting is refused for first. R26: Read, repair, free counts: 1, 2, 10. k6: the check has 1, 2, 10. R7: 10: neither GPT copy is good
   abbrev pub commonRows : Bool → List Row
   commonRows lengths = lentRows lengths ++ (row (eqb (state g n h t) 0) 10 ∷ [])
 
@@ -185,6 +191,7 @@ module _ (g : Shape) (n : ℕ) (h t : List ℕ) where
   rowsOf read = commonRows true
   rowsOf freeCounts = commonRows true
   rowsOf repair = commonRows true
+  rowsOf (check rule) = commonRows true
   rowsOf (edit d) = openRows (lengthsOf d) ++ tableRows (g .first) (lastUsable g n) (tableOf g n h t) d
 
   -- D24: Repair in state 1 changes nothing; otherwise it writes the other copy's 33 blocks from the good one (state 2: from the primary), header tail zero.
@@ -201,6 +208,7 @@ module _ (g : Shape) (n : ℕ) (h t : List ℕ) where
       let t′ = rangesOf (tableOf g n h t) in
       outcome (accepted (freeCount t′ (g .first) (lastUsable g n) ∷ longestFree t′ (g .first) (lastUsable g n) ∷ [])) h t
   acceptedOutcome repair = repaired (state g n h t)
+  acceptedOutcome (check rule) = outcome (accepted (firstOffending rule (tableOf g n h t) ∷ [])) h t
   -- D23: Each edit changes that entry and the two CRCs, in both copies, and no other byte.
   acceptedOutcome (edit d) =
       let es = edited (g .first) (lastUsable g n) (tableOf g n h t) d in

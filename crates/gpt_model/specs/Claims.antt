@@ -12,14 +12,17 @@ use Rattle.gpt_model.specs.Table.{entryBytes, uniqueOf, firstOf, lastOf,
 use Rattle.gpt_model.specs.Disk.{Shape, disk512, disk4096, lastUsable, usable, inRange, Side, primary, backup, entriesBlock, lentBytes}
 use Rattle.gpt_model.specs.Disk.{headerAt, entriesAt, headerBytes, guidIn, goodCopy, state, lent, tableOf, withTable}
 use Rattle.gpt_model.specs.Ranges.{blockIn, inSome, FreeFrom, AlignedFrom, taken}
+use Rattle.gpt_model.specs.Attributes.{offends}
 use Rattle.gpt_model.specs.declared.NewPartition.{NewPartition}
-use Rattle.gpt_model.specs.Calls.{Edit, add, delete, resize, rename, Call, read, freeCounts, repair, edit, refused, accepted, outcome}
+use Rattle.gpt_model.specs.declared.Rule.{Rule}
+use Rattle.gpt_model.specs.declared.Rule.the-variants.{Present, Earlier}
+use Rattle.gpt_model.specs.Calls.{Edit, add, delete, resize, rename, Call, read, freeCounts, repair, check, edit, refused, accepted, outcome}
 use Rattle.gpt_model.specs.Calls.{entryOf, addRows, change, edited, lengthsOf, openRows, rowsOf, step, format}
 use Rattle.gpt_model.specs.Unaligned.{addUnaligned}
 use Rattle.gpt_model.specs.Sizes.{shapeOf, stepBy, formatBy}
 use Rattle.gpt_model.specs.Lists.{Ledger, sizeWas, bookEdit, Snapshot, afterAll, answers, applied, startAfter, rangesIn, StartsAfresh}
 use Rattle.gpt_model.specs.Stored.{unitBytes, EntryNamed, NamesDiffer, SameUsed, EntryHolds, HeadGood, TailGood, SizesOk, ReadSays, FormatSays}
-use Rattle.gpt_model.specs.Stored.{Outside, EditSays, RepairSays}
+use Rattle.gpt_model.specs.Stored.{BreaksRule, NoneOffends, CheckSays, Outside, EditSays, RepairSays}
 
 -- ---- demand 3
 
@@ -53,36 +56,36 @@ Demand3From =
     (g : Shape) → headerBytes ≤ g .block → (n : ℕ) (es : List ℕ) (r : Snapshot) → StartsAfresh g n es r
     → (cs : List Call) → Sound g n (afterAll (step g n) cs r)
 
--- what holds after every list of calls, refused ones included, that follows a formatting; the formatting is accepted
-abbrev pub AfterLists : (Shape → ℕ → Snapshot → Type 0) → Type 0
+-- what holds of every list of calls, refused ones included, that follows a formatting, and of what stands after it; the formatting is accepted
+abbrev pub AfterLists : (List Call → Shape → ℕ → Snapshot → Type 0) → Type 0
 AfterLists Holds =
     (g : Shape) (n : ℕ) (guid h t : List ℕ) → Formats g n guid h t
-    → (cs : List Call) → (format g n guid h t .answer ≡ accepted []) × Holds g n (afterAll (step g n) cs (startAfter (format g n guid h t)))
+    → (cs : List Call) → (format g n guid h t .answer ≡ accepted []) × Holds cs g n (afterAll (step g n) cs (startAfter (format g n guid h t)))
 
 -- the same of the calls that name that block size, for a disk of that shape with N from least on and head and tail of those lengths
-abbrev pub AfterListsAt : ℕ → Shape → ℕ → ℕ → ℕ → (Shape → ℕ → Snapshot → Type 0) → Type 0
+abbrev pub AfterListsAt : ℕ → Shape → ℕ → ℕ → ℕ → (List Call → Shape → ℕ → Snapshot → Type 0) → Type 0
 AfterListsAt size g least head tail Holds =
     (n : ℕ) (guid h t : List ℕ) → least ≤ n → n ≤ 4294967296 → length guid ≡ 16 → isZero guid ≡ false → length h ≡ head → length t ≡ tail
     → (cs : List Call)
-    → (formatBy size n guid h t .answer ≡ accepted []) × Holds g n (afterAll (stepBy size n) cs (startAfter (formatBy size n guid h t)))
+    → (formatBy size n guid h t .answer ≡ accepted []) × Holds cs g n (afterAll (stepBy size n) cs (startAfter (formatBy size n guid h t)))
 
 -- Q2: N .. is 68 to 4,294,967,296. Q3: the head .. (17,408 bytes), and the tail .. (16,896 bytes).
-abbrev pub AfterListsAt512 : (Shape → ℕ → Snapshot → Type 0) → Type 0
+abbrev pub AfterListsAt512 : (List Call → Shape → ℕ → Snapshot → Type 0) → Type 0
 AfterListsAt512 Holds = AfterListsAt 512 disk512 68 17408 16896 Holds
 
 -- l1: the head is 6 blocks (24,576 bytes), the tail 5 (20,480); .. and N is 12 to 4,294,967,296.
-abbrev pub AfterListsAt4096 : (Shape → ℕ → Snapshot → Type 0) → Type 0
+abbrev pub AfterListsAt4096 : (List Call → Shape → ℕ → Snapshot → Type 0) → Type 0
 AfterListsAt4096 Holds = AfterListsAt 4096 disk4096 12 24576 20480 Holds
 
 -- D19: Demand 3 is one claim about the whole list, not one for each call.
 abbrev pub Demand3 : Type 0
-Demand3 = AfterLists Sound
+Demand3 = AfterLists (λ cs. Sound)
 
 abbrev pub Demand3At512 : Type 0
-Demand3At512 = AfterListsAt512 Sound
+Demand3At512 = AfterListsAt512 (λ cs. Sound)
 
 abbrev pub Demand3At4096 : Type 0
-Demand3At4096 = AfterListsAt4096 Sound
+Demand3At4096 = AfterListsAt4096 (λ cs. Sound)
 
 -- D22: a resize grants or gives back the difference from it: what it grants gives nothing back, and what it gives back grants nothing
 abbrev pub BooksDifference : Type 0
@@ -116,11 +119,16 @@ pub record GivenOk (es : List ℕ) (p : NewPartition) : Type 0 where
   pub own : (isZero (p .unique) ≡ false) × ((k : ℕ) → UsedSlot es k → uniqueOf (entryOf es k) ≢ p .unique)
   pub named : NameOk (p .name)
 
--- so is what the rows after them ask: the name is empty or no used entry carries it (26), and a slot is unused (24)
+-- (26) the name is empty or no used entry carries it
+abbrev pub NameFree : List ℕ → List ℕ → Type 0
+NameFree es name = (isZero (unitBytes name) ≡ true) ⊎ ((i : ℕ) → ¬ EntryNamed es i name)
+
+-- so is what the rows after them ask: 26, no bit is set that the rule wants zero (28), and a slot is unused (24)
 pub record NewOk (es : List ℕ) (p : NewPartition) : Type 0 where
   pub lengths : (length (p .kind) ≡ 16) × (length (p .unique) ≡ 16) × (length (p .name) ≡ 36)
   pub given : GivenOk es p
-  pub single : (isZero (unitBytes (p .name)) ≡ true) ⊎ ((i : ℕ) → ¬ EntryNamed es i (p .name))
+  pub single : NameFree es (p .name)
+  pub kept : ¬ BreaksRule (p .rule) (p .attributes)
   pub slot : (k : ℕ) × (1 ≤ k) × (k ≤ slotCount) × (unused (entryOf es k) ≡ true)
 
 -- an add is accepted when it comes next, with the table es
@@ -177,13 +185,13 @@ abbrev pub NamesDifferIn : Shape → ℕ → Snapshot → Type 0
 NamesDifferIn g n r = NamesDiffer (tableOf g n (r .head) (r .tail))
 
 abbrev pub OneByName : Type 0
-OneByName = AfterLists NamesDifferIn
+OneByName = AfterLists (λ cs. NamesDifferIn)
 
 abbrev pub OneByNameAt512 : Type 0
-OneByNameAt512 = AfterListsAt512 NamesDifferIn
+OneByNameAt512 = AfterListsAt512 (λ cs. NamesDifferIn)
 
 abbrev pub OneByNameAt4096 : Type 0
-OneByNameAt4096 = AfterListsAt4096 NamesDifferIn
+OneByNameAt4096 = AfterListsAt4096 (λ cs. NamesDifferIn)
 
 -- and from every start afresh with a table whose names differ
 abbrev pub OneByNameFrom : Type 0
@@ -205,16 +213,80 @@ TakenNameRefused =
     ↔ ((refusal (openRows g n h t (lengthsOf (rename k name))) ≡ none) × UsedSlot es k × NameOk name
     × (isZero (unitBytes name) ≡ false) × ((i : ℕ) × (suc i ≢ k) × EntryNamed es i name)))
 
--- a3: Disks that already hold doubles still read. Whatever 72 bytes another tool writes as the name of entry i alone, in both copies and with right CRCs, the
--- disk still reads as state 1, with that table, and each entry has the blocks that it had.
-abbrev pub AnyNameReads : Type 0
-AnyNameReads =
-    (g : Shape) (n : ℕ) (h t : List ℕ) (i : ℕ) (name : List ℕ) → headerBytes ≤ g .block → i < slotCount → length name ≡ 72
+-- Whatever bytes another tool writes into entry i alone, `width` of them from its byte `at` on, in both copies and with right CRCs, the disk still reads as
+-- state 1, with that table, and each entry has the blocks that it had.
+abbrev pub AnyBytesRead : ℕ → ℕ → Type 0
+AnyBytesRead at width =
+    (g : Shape) (n : ℕ) (h t : List ℕ) (i : ℕ) (bytes : List ℕ) → headerBytes ≤ g .block → i < slotCount → length bytes ≡ width
     → step g n h t read .answer ≡ accepted (1 ∷ [])
-    → let es = put (i * entryBytes + 56) name (tableOf g n h t) in
+    → let es = put (i * entryBytes + at) bytes (tableOf g n h t) in
     let h′ = withTable g n primary (guidIn g primary h) es h in
     let t′ = withTable g n backup (guidIn g backup t) es t in
     (step g n h′ t′ read .answer ≡ accepted (1 ∷ [])) × (tableOf g n h′ t′ ≡ es) × (rangesOf es ≡ rangesOf (tableOf g n h t))
+
+-- a3: Disks that already hold doubles still read, whatever an entry has as name
+abbrev pub AnyNameReads : Type 0
+AnyNameReads = AnyBytesRead 56 72
+
+-- ---- attribute bits
+
+-- an attribute value offends, by the definition, exactly when a bit that the rule wants zero is set
+abbrev pub OffendsByBits : Type 0
+OffendsByBits = (rule : Rule) (attributes : ℕ) → (offends rule attributes ≡ true) ↔ BreaksRule rule attributes
+
+abbrev pub CheckByBytes : Type 0
+CheckByBytes =
+    (g : Shape) (n : ℕ) (h t : List ℕ) (rule : Rule) → CheckSays rule h t (tableOf g n h t) (step g n h t read .answer) (step g n h t (check rule))
+
+-- k4: A table passing the earlier rule passes the present one. So does an entry
+abbrev pub EarlierPassesPresent : Type 0
+EarlierPassesPresent =
+    ((attributes : ℕ) → offends Earlier attributes ≡ false → offends Present attributes ≡ false)
+    × ((g : Shape) (n : ℕ) (h t : List ℕ)
+    → step g n h t (check Earlier) .answer ≡ accepted (0 ∷ []) → step g n h t (check Present) .answer ≡ accepted (0 ∷ []))
+
+-- k5: The string builder goes by the present rule. The attributes that it gives, none and bit 2, pass it
+abbrev pub StringAttributesPass : Type 0
+StringAttributesPass = (offends Present 0 ≡ false) × (offends Present 4 ≡ false)
+
+-- k6: 28 in adding, after 26 and before 24: exactly where no row before it holds and a bit is set that the rule wants zero
+abbrev pub OffendingRefused : Type 0
+OffendingRefused =
+    (g : Shape) (n : ℕ) (h t : List ℕ) (p : NewPartition)
+    → (step g n h t (edit (add p)) .answer ≡ refused 28)
+    ↔ ((refusal (openRows g n h t (lengthsOf (add p))) ≡ none) × GivenOk (tableOf g n h t) p × NameFree (tableOf g n h t) (p .name)
+    × BreaksRule (p .rule) (p .attributes))
+
+-- every add of the list names the earlier rule
+abbrev pub NameEarlier : List Call → Type 0
+NameEarlier cs = (k : ℕ) (p : NewPartition) → getD cs k read ≡ edit (add p) → p .rule ≡ Earlier
+
+-- On a disk that this library formatted, no used slot offends the present rule after any list of calls, and none the earlier one if every add named it.
+abbrev pub NoneOffendsIn : List Call → Shape → ℕ → Snapshot → Type 0
+NoneOffendsIn cs g n r =
+    let es = tableOf g n (r .head) (r .tail) in
+    NoneOffends Present es × (NameEarlier cs → NoneOffends Earlier es)
+
+abbrev pub BitsStayZero : Type 0
+BitsStayZero = AfterLists NoneOffendsIn
+
+abbrev pub BitsStayZeroAt512 : Type 0
+BitsStayZeroAt512 = AfterListsAt512 NoneOffendsIn
+
+abbrev pub BitsStayZeroAt4096 : Type 0
+BitsStayZeroAt4096 = AfterListsAt4096 NoneOffendsIn
+
+-- and from every start afresh with a table of which no used slot offends
+abbrev pub BitsStayZeroFrom : Type 0
+BitsStayZeroFrom =
+    (g : Shape) → headerBytes ≤ g .block → (n : ℕ) (es : List ℕ) (r : Snapshot) → StartsAfresh g n es r → (cs : List Call)
+    → let r′ = afterAll (step g n) cs r in
+    let es′ = tableOf g n (r′ .head) (r′ .tail) in
+    (NoneOffends Present es → NoneOffends Present es′) × (NoneOffends Earlier es → NameEarlier cs → NoneOffends Earlier es′)
+
+-- (k2) the rule is for adds and checks: a disk reads whatever an entry has as attributes
+abbrev pub AnyAttributesRead : Type 0
+AnyAttributesRead = AnyBytesRead 48 8
 
 -- ---- demand 1. R1: A refusal returns its number alone .. and changes no lent byte.
 

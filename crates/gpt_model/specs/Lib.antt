@@ -2,6 +2,7 @@
 pub mod Table
 pub mod Disk
 pub mod Ranges
+pub mod Attributes
 pub mod Calls
 pub mod Unaligned
 pub mod Sizes

@@ -5,7 +5,7 @@ use Prim.Native.Nat.{ℕ, _+_, _-_}
 use lib.ListN.{length, getD, set, replicate}
 use Rattle.gpt_model.specs.Table.{BlockRange, rangeSize, slotCount, rangesOf}
 use Rattle.gpt_model.specs.Disk.{Shape, primary, backup, lentBytes, state, tableOf}
-use Rattle.gpt_model.specs.Calls.{Edit, add, delete, resize, rename, Call, read, freeCounts, repair, edit, Answer, refused, accepted, Outcome}
+use Rattle.gpt_model.specs.Calls.{Edit, add, delete, resize, rename, Call, read, freeCounts, repair, check, edit, Answer, refused, accepted, Outcome}
 use Rattle.gpt_model.specs.Calls.{edited}
 
 -- ---- D22: The sums come from calls and replies alone
@@ -33,6 +33,7 @@ abbrev pub book : Ledger → Call → Answer → Ledger
 book l read a = l
 book l freeCounts a = l
 book l repair a = l
+book l (check rule) a = l
 book l (edit d) (refused k) = l
 book l (edit d) (accepted values) = bookEdit l d (getD values 0 0)
 
@@ -62,6 +63,7 @@ abbrev pub tableNext : ℕ → ℕ → List ℕ → Call → Answer → List ℕ
 tableNext first last es read a = es
 tableNext first last es freeCounts a = es
 tableNext first last es repair a = es
+tableNext first last es (check rule) a = es
 tableNext first last es (edit d) (refused k) = es
 tableNext first last es (edit d) (accepted values) = edited first last es d
 

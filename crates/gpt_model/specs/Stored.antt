@@ -4,7 +4,7 @@ use mathlib.Core.Path.{_≡_}
 use mathlib.Core.Logic.{_⊎_, _≢_, _↔_}
 use mathlib.Core.Bool.{true, false}
 use mathlib.Core.List.{List, [], _∷_, map}
-use Prim.Native.Nat.{ℕ, suc, _+_, _-_, _*_, _≤_, _<_}
+use Prim.Native.Nat.{ℕ, suc, _+_, _-_, _*_, _^_, _≤_, _<_}
 use lib.ListN.{length, getD}
 use Rattle.octets.specs.Ascii.{ascii}
 use Rattle.octets.specs.Bytes.{le, unle, part, put, zeros, isZero, flat}
@@ -13,6 +13,8 @@ use Rattle.gpt_model.specs.Table.{rangesOf}
 use Rattle.gpt_model.specs.Disk.{Shape}
 use Rattle.gpt_model.specs.Ranges.{AlignedFrom}
 use Rattle.gpt_model.specs.declared.NewPartition.{NewPartition}
+use Rattle.gpt_model.specs.declared.Rule.{Rule}
+use Rattle.gpt_model.specs.declared.Rule.the-variants.{Present, Earlier}
 use Rattle.gpt_model.specs.Calls.{Edit, add, delete, resize, rename, Answer, refused, accepted, Outcome}
 
 -- ---- a table: 128 entries of 128 bytes, counted from 0
@@ -29,6 +31,10 @@ entryFirst es i = unle (part (i * 128 + 32) 8 es)
 
 abbrev pub entryLast : List ℕ → ℕ → ℕ
 entryLast es i = unle (part (i * 128 + 40) 8 es)
+
+-- D5: attributes 48
+abbrev pub entryAttributes : List ℕ → ℕ → ℕ
+entryAttributes es i = unle (part (i * 128 + 48) 8 es)
 
 -- D5: name 56 as 36 16-bit units
 abbrev pub entryNameBytes : List ℕ → ℕ → List ℕ
@@ -54,6 +60,25 @@ EntryNamed es i units = (i < 128) × EntryUsed es i × (entryNameBytes es i ≡ 
 abbrev pub NamesDiffer : List ℕ → Type 0
 NamesDiffer es =
     (i j : ℕ) → i < 128 → j < 128 → i ≢ j → EntryUsed es i → EntryUsed es j → entryNameBytes es i ≡ entryNameBytes es j → isZero (entryNameBytes es i) ≡ true
+
+-- k1: Some firmware wants attribute bits 1 to 47 zero; today only 3 to 47 are. The rule wants bit b zero
+abbrev pub WantsZero : Rule → ℕ → Type 0
+WantsZero Present b = (3 ≤ b) × (b ≤ 47)
+WantsZero Earlier b = (1 ≤ b) × (b ≤ 47)
+
+-- bit b of the number x is set: x is an odd multiple of 2 ^ b, and a rest that is less
+abbrev pub BitSet : ℕ → ℕ → Type 0
+BitSet b x = (q : ℕ) × (r : ℕ) × (x ≡ (2 * q + 1) * 2 ^ b + r) × (r < 2 ^ b)
+
+-- some bit that the rule wants zero is set
+abbrev pub BreaksRule : Rule → ℕ → Type 0
+BreaksRule rule x = (b : ℕ) × WantsZero rule b × BitSet b x
+
+abbrev pub EntryOffends : Rule → List ℕ → ℕ → Type 0
+EntryOffends rule es i = (i < 128) × EntryUsed es i × BreaksRule rule (entryAttributes es i)
+
+abbrev pub NoneOffends : Rule → List ℕ → Type 0
+NoneOffends rule es = (i : ℕ) → ¬ EntryOffends rule es i
 
 -- D21: A block lies in a partition when it is one of first to last of a used entry
 abbrev pub EntryHolds : List ℕ → ℕ → ℕ → Type 0
@@ -128,6 +153,19 @@ pub record ReadSays (g : Shape) (n : ℕ) (h t : List ℕ) (a : Answer) (es : Li
   -- D11: the 16,384 entry bytes inside whichever of the two lent buffers was used
   pub inHead : a ≢ accepted (4 ∷ []) → es ≡ part (2 * g .block) 16384 h
   pub inTail : a ≡ accepted (4 ∷ []) → es ≡ part 0 16384 t
+
+-- ---- what the check answers
+
+-- by what reading answers, a, and the table es that it uses
+pub record CheckSays (rule : Rule) (h t es : List ℕ) (a : Answer) (o : Outcome) : Type 0 where
+  -- no byte changes
+  pub stays : (o .head ≡ h) × (o .tail ≡ t)
+  -- k6: the check has 1, 2, 10: it is refused exactly where reading is, with the same number
+  pub refuses : (k : ℕ) → (o .answer ≡ refused k) ↔ (a ≡ refused k)
+  -- k3: the check answers the first used slot that offends, or 0. Slot i + 1 is entry i
+  pub finds : (i : ℕ) → (o .answer ≡ accepted (suc i ∷ []))
+      ↔ (((s : ℕ) × (a ≡ accepted (s ∷ []))) × EntryOffends rule es i × ((j : ℕ) → j < i → ¬ EntryOffends rule es j))
+  pub passes : (o .answer ≡ accepted (0 ∷ [])) ↔ (((s : ℕ) × (a ≡ accepted (s ∷ []))) × NoneOffends rule es)
 
 -- ---- what formatting writes
 

@@ -27,6 +27,9 @@ firstOf e = field 32 8 e
 abbrev pub lastOf : List ℕ → ℕ
 lastOf e = field 40 8 e
 
+abbrev pub attributesOf : List ℕ → ℕ
+attributesOf e = field 48 8 e
+
 abbrev pub partitionNameOf : List ℕ → List ℕ
 partitionNameOf e = part 56 72 e
 

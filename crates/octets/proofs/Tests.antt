@@ -68,6 +68,16 @@ module _ {A : Type 0} where
       go (inl q) ih = rw (q, findIx) (zero-lt-suc _, q)
       go (inr q) ih = rw (q, findIx) (let r = ih (or-skip _ _ q e) in (suc-le-suc (r .0), r .1))
 
+  pub findIx-before : (p : A → Bool) (xs : List A) (d : A) (j : ℕ) → j < findIx p xs → p (getD xs j d) ≡ false
+  findIx-before p [] d j h = absurd (not-suc-le-zero h)
+  findIx-before p (x ∷ xs) d j h = go (bool-cases (p x)) j h (findIx-before p xs d)
+    where
+      go : (p x ≡ true) ⊎ (p x ≡ false) → (j : ℕ) → j < findIx p (x ∷ xs) → ((j : ℕ) → j < findIx p xs → p (getD xs j d) ≡ false)
+          → p (getD (x ∷ xs) j d) ≡ false
+      go (inl q) j h ih = absurd (not-suc-le-zero (rw (q, findIx) at h))
+      go (inr q) zero h ih = q
+      go (inr q) (suc j) h ih = ih j (le-of-suc-le-suc (rw (q, findIx) at h))
+
   -- ---- `all` of lists made from lists that pass
 
   pub all-append : (p : A → Bool) (xs ys : List A) → all p xs ≡ true → all p ys ≡ true → all p (xs ++ ys) ≡ true
