@@ -36,6 +36,7 @@ pub fn number(a: Refusal) -> u32
         Refusal::NoUniqueGuid => 22,
         Refusal::BadName => 23,
         Refusal::NameTaken => 26,
+        Refusal::AttributeBits => 28,
         Refusal::NoUnusedSlot => 24,
         Refusal::NoRoom => 25,
     }

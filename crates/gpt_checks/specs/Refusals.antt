@@ -2,9 +2,11 @@
 use Prim.Native.Nat.{ℕ}
 use Rattle.gpt_checks.specs.declared.Refusal.{Refusal}
 use Rattle.gpt_checks.specs.declared.Refusal.the-variants.{BlockSize, WrongLength, BlockCount, NoDiskGuid, NeitherGood, NotTheSame, NoSuchSlot}
-use Rattle.gpt_checks.specs.declared.Refusal.the-variants.{SlotUnused, NoSize, Alignment, NoType, NoUniqueGuid, BadName, NameTaken, NoUnusedSlot, NoRoom}
+use Rattle.gpt_checks.specs.declared.Refusal.the-variants.{SlotUnused, NoSize, Alignment, NoType, NoUniqueGuid, BadName, NameTaken}
+use Rattle.gpt_checks.specs.declared.Refusal.the-variants.{AttributeBits, NoUnusedSlot, NoRoom}
 
--- l7 (6 for another block size), then R4 to R13, in the order there, with e5 (27 for any other alignment, after 20) and a4 (26, after 23 and before 24)
+-- l7 (6 for another block size), then R4 to R13, in the order there, with e5 (27 for any other alignment, after 20), a4 (26, after 23 and before 24)
+-- and k6 (28 in adding, after 26 and before 24)
 abbrev pub numberOf : Refusal → ℕ
 numberOf BlockSize = 6
 numberOf WrongLength = 1
@@ -20,5 +22,6 @@ numberOf NoType = 21
 numberOf NoUniqueGuid = 22
 numberOf BadName = 23
 numberOf NameTaken = 26
+numberOf AttributeBits = 28
 numberOf NoUnusedSlot = 24
 numberOf NoRoom = 25

@@ -43,6 +43,7 @@ pub enum Refusal {
     NoUniqueGuid,
     BadName,
     NameTaken,
+    AttributeBits,
     NoUnusedSlot,
     NoRoom,
 }
@@ -245,7 +246,7 @@ fn other_alignment(alignment: u64) -> bool
     alignment != 2048
 }
 
-// 20, 27, 21, 22, 23, 26, 24.
+// 20, 27, 21, 22, 23, 26, 28, 24.
 fn new(table: &[u8], p: NewPartition) -> Check
     requires { ⌜ length (now table) ≡ tableBytes ⌝ }
     ensures { λ r. ⌜ stopOf r ≡ refusal (addRows (now (table .entry)) p) ⌝ }
@@ -256,6 +257,11 @@ fn new(table: &[u8], p: NewPartition) -> Check
     let c = row_after(c, taken(table, &p.unique), Refusal::NoUniqueGuid);
     let c = row_after(c, gpt_table::bad_name(&p.name), Refusal::BadName);
     let c = row_after(c, name_taken(table, SLOTS, &p.name), Refusal::NameTaken);
+    let c = row_after(
+        c,
+        gpt_attributes::offends(p.rule, p.attributes),
+        Refusal::AttributeBits,
+    );
     row_after(c, full(table), Refusal::NoUnusedSlot)
 }
 
@@ -281,6 +287,7 @@ fn place(table: &[u8], n: u64, shape: Shape, p: NewPartition) -> Start
 }
 
 // R27: Add: 1, 2, 10, 11, 20, 21, 22, 23, 24, 25. e5: 27 for any other alignment, after 20. a4: 26, after 23 and before 24.
+// k6: 28 in adding, after 26 and before 24
 pub fn add(head: &[u8], tail: &[u8], n: u64, shape: Shape, p: NewPartition) -> Start
     requires { ⌜ Legal shape ⌝ }
     ensures { λ r. ⌜ (stopBy r ≡ refusal (rowsOf shape n (now (head .entry)) (now (tail .entry)) (edit (addCall p))))

@@ -40,15 +40,27 @@ name-taken-requires c κs = search needs
 row-after-requires-6 : tie.Need-row-after-requires-6
 row-after-requires-6 c κs = search needs
 
+offends-requires : tie.Need-offends-requires
+offends-requires c κs = search needs
+
 full-requires : tie.Need-full-requires
-full-requires c κs = search needs
+full-requires c κs =
+    let at23 = c .before .before .before .before .before .before .before in
+    let at22 = at23 .before .before .before .before .before in
+    let at21 = at22 .before .before .before .before .before in
+    let at27 = at21 .before .before .before .before .before in
+    at27 .before .before .before .before .pre
 
 row-after-requires-7 : tie.Need-row-after-requires-7
 row-after-requires-7 c κs = search needs
 
+row-after-requires-8 : tie.Need-row-after-requires-8
+row-after-requires-8 c κs = search needs
+
 returns : tie.Need-returns
 returns c =
-    let at26 = c .before .before in
+    let at28 = c .before .before in
+    let at26 = at28 .before .before in
     let at23 = at26 .before .before .before .before .before in
     let at22 = at23 .before .before .before .before .before in
     let at21 = at22 .before .before .before .before .before in
@@ -61,7 +73,8 @@ returns c =
     let r22 = at22 .row-after4 .ensures ∙ row-is 22 r21 (at22 .before .taken .ensures) in
     let r23 = at23 .row-after5 .ensures ∙ row-is 23 r22 (at23 .before .bad-name .ensures) in
     let r26 = at26 .row-after6 .ensures ∙ row-is 26 r23 (new-name-is (now (a .table)) (a .t2 .name) _ (at26 .before .name-taken .ensures)) in
-    let r24 = c .row-after7 .ensures ∙ row-is 24 r26 (c .before .full .ensures) in
+    let r28 = at28 .row-after7 .ensures ∙ row-is 28 r26 (at28 .before .offends .ensures) in
+    let r24 = c .row-after8 .ensures ∙ row-is 24 r28 (c .before .full .ensures) in
     r24 ∙ in-order [] (addRows (now (a .table)) (a .t2))
 
 pub new-spec : {M : Type 1} → statement M
@@ -79,6 +92,8 @@ new-spec =
     row-after-requires-5
     name-taken-requires
     row-after-requires-6
-    full-requires
+    offends-requires
     row-after-requires-7
+    full-requires
+    row-after-requires-8
     returns)
