@@ -1,5 +1,5 @@
--- Reading, and what follows from the state that it answers: repair, the part that is handed back, free counts.
-use mathlib.Core.Path.{_≡_, refl, sym, ap, ap₂, _∙_}
+-- Reading, and what follows from the state that it answers: repair, the part that is handed back, free counts, the check.
+use mathlib.Core.Path.{_≡_, refl, sym, ap, ap₂, subst, _∙_}
 use mathlib.Core.Logic.{_≢_, _⊎_, inl, inr}
 use mathlib.Core.Bool.{Bool, true, false, cond}
 use mathlib.Core.List.{List, [], _∷_}
@@ -14,8 +14,10 @@ use Rattle.octets.specs.Rows.{Row, refusal}
 use Rattle.octets.proofs.Rows.{rowsFrom, pick-true, pick-false, refusal-append, refusal-first, refusal-before}
 use Rattle.gpt_model.specs.Ranges.{freeCount, longestFree}
 use Rattle.gpt_model.specs.Table.{rangesOf}
-use Rattle.gpt_model.specs.Disk.{Shape, lastUsable, Side, primary, backup, lentBytes, entriesIn, usedSide, state, tableOf, freshHead, freshTail}
-use Rattle.gpt_model.specs.Calls.{Answer, refused, accepted, Outcome, outcome, read, freeCounts, repair, lengthsOk, lentRows, commonRows, repaired, step, formatRows, format}
+use Rattle.gpt_model.specs.Disk.{Shape, lastUsable, Side, primary, backup, lentBytes, entriesIn, usedSide, state, lent, tableOf, freshHead, freshTail}
+use Rattle.gpt_model.specs.Attributes.{firstOffending}
+use Rattle.gpt_model.specs.declared.Rule.{Rule}
+use Rattle.gpt_model.specs.Calls.{Answer, refused, accepted, Outcome, outcome, read, freeCounts, repair, check, lengthsOk, lentRows, commonRows, repaired, step, formatRows, format}
 use Rattle.gpt_model.proofs.Outcomes.{step-refused, step-accepted, refused-row}
 use Rattle.gpt_model.proofs.Demand3.{format-accepted}
 use Rattle.gpt_model.proofs.States.{table-four, table-primary}
@@ -27,6 +29,8 @@ use Rattle.gpt_checks.proofs.Judged.{Lent, lent-facts}
 use Rattle.gpt_checks.specs.Refusals.{numberOf}
 use Rattle.gpt_checks.specs.declared.Refusal.{Refusal}
 use Rattle.gpt_calls.specs.Answers.{readingOf, Handed, handed, nothing, entriesOf, entriesOn, handedIf, handedOn}
+use Rattle.gpt_calls.specs.Invariants.{Uses}
+use Rattle.gpt_calls.specs.declared.UsedCopy.{UsedCopy}
 use Rattle.gpt_calls.specs.declared.Reading.{Reading}
 use Rattle.gpt_calls.specs.declared.Reading.the-variants.{Refused}
 use Rattle.gpt_calls.specs.declared.Reading.the-variants as reading
@@ -52,6 +56,9 @@ module _ (g : Shape) (n : ℕ) (h t : List ℕ) where
     found-state f =
         ap (λ (k : ℕ). outcome (accepted (k ∷ [])) h t) state-is
         ∙ sym (step-accepted g n h t read (refusal-append (lentRows g n h t true) from10 e ∙ pick-false _ 10 _ (ne-eqb _ _ (λ z. f (state-is ∙ z)))))
+
+  pub common-lent : refusal (commonRows g n h t true) ≡ none → Lent g n h t
+  common-lent e = lent-facts g n h t (refusal-before (lentRows g n h t true) from10 e .0)
 
   -- ---- and back: what an answer of reading says of the rows and the state
 
@@ -81,15 +88,15 @@ module _ (g : Shape) (n : ℕ) (h t : List ℕ) (r x : Reading) (e : outcome (re
   pub refused-repair : (q : Refusal) → x ≡ Refused q → outcome (refused (numberOf q)) h t ≡ step g n h t repair
   refused-repair q p = sym (step-refused g n h t repair (numberOf q) (refused-rows q p))
 
-  pub refused-counts : (q : Refusal) → x ≡ Refused q → outcome (refused (numberOf q)) h t ≡ step g n h t freeCounts
-  refused-counts q p = sym (step-refused g n h t freeCounts (numberOf q) (refused-rows q p))
-
   module _ (s : ℕ) (v : readingOf x ≡ accepted (s ∷ [])) where
     both : (refusal (commonRows g n h t true) ≡ none) × (state g n h t ≡ s)
     both = answer-found g n h t s (sym (ap (λ (y : Answer). outcome y h t) v) ∙ this)
 
     pub found-lent : Lent g n h t
-    found-lent = lent-facts g n h t (refusal-before (lentRows g n h t true) (from10 g n h t) (both .0) .0)
+    found-lent = common-lent g n h t (both .0)
+
+    pub found-used : (side : Side) → usedSide s ≡ side → (refusal (commonRows g n h t true) ≡ none) × (usedSide (state g n h t) ≡ side)
+    found-used side q = (both .0, ap usedSide (both .1) ∙ q)
 
     pub repaired-is : repaired g n h t s ≡ step g n h t repair
     repaired-is = sym (step-accepted g n h t repair (both .0) ∙ ap (repaired g n h t) (both .1))
@@ -105,11 +112,31 @@ module _ (g : Shape) (n : ℕ) (h t : List ℕ) (r x : Reading) (e : outcome (re
     handed-is bs p hp tp a b =
         ap₂ handed a (b ∙ sym (ap (λ (k : ℕ). entriesPlace g (usedSide k) hp tp) (both .1))) ∙ sym (ap (handedIf g h t hp tp n) (both .0))
 
-    pub counts-are : (tb : List ℕ) (a : Answer) → tb ≡ tableOf g n h t → a ≡ accepted (freeCount (rangesOf tb) (g .first) (lastUsable g n) ∷ longestFree (rangesOf tb) (g .first) (lastUsable g n) ∷ [])
+-- ---- the copy that a reading uses
+
+module _ (g : Shape) (n : ℕ) (h t : List ℕ) (r x : UsedCopy) (u : Uses g n h t r) (is : r ≡ x) where
+  -- the copy that it is
+  pub uses : Uses g n h t x
+  uses = subst (Uses g n h t) is u
+
+module _ (g : Shape) (n : ℕ) (h t : List ℕ) (side : Side) (u : (refusal (commonRows g n h t true) ≡ none) × (usedSide (state g n h t) ≡ side)) where
+  table-used : entriesIn g side (lent side h t) ≡ tableOf g n h t
+  unfolding tableOf
+  table-used = ap (λ (s : Side). entriesIn g s (lent s h t)) (sym (u .1))
+
+  module _ (tb : List ℕ) (table : tb ≡ entriesIn g side (lent side h t)) where
+    pub counts-are : (a : Answer)
+        → a ≡ accepted (freeCount (rangesOf tb) (g .first) (lastUsable g n) ∷ longestFree (rangesOf tb) (g .first) (lastUsable g n) ∷ [])
         → outcome a h t ≡ step g n h t freeCounts
-    counts-are tb a p q =
-        ap (λ (y : Answer). outcome y h t) (q ∙ ap (λ (es : List ℕ). accepted (freeCount (rangesOf es) (g .first) (lastUsable g n) ∷ longestFree (rangesOf es) (g .first) (lastUsable g n) ∷ [])) p)
-        ∙ sym (step-accepted g n h t freeCounts (both .0))
+    counts-are a q =
+        ap (λ (y : Answer). outcome y h t) (q
+        ∙ ap (λ (es : List ℕ). accepted (freeCount (rangesOf es) (g .first) (lastUsable g n) ∷ longestFree (rangesOf es) (g .first) (lastUsable g n) ∷ []))
+        (table ∙ table-used))
+        ∙ sym (step-accepted g n h t freeCounts (u .0))
+
+    pub first-is : (rule : Rule) (k : ℕ) → k ≡ firstOffending rule tb → outcome (accepted (k ∷ [])) h t ≡ step g n h t (check rule)
+    first-is rule k q =
+        ap (λ (x : ℕ). outcome (accepted (x ∷ [])) h t) (q ∙ ap (firstOffending rule) (table ∙ table-used)) ∙ sym (step-accepted g n h t (check rule) (u .0))
 
 -- a refused part is empty and lies at the head's start
 pub handed-nothing : (g : Shape) (n : ℕ) (h t bs : List ℕ) (p hp tp : ℕ × ℕ) (k : ℕ) → refusal (commonRows g n h t true) ≡ some k → bs ≡ [] → p ≡ behind 0 hp

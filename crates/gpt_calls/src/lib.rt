@@ -7,6 +7,7 @@ use gpt_checks::Start;
 use gpt_copies::State;
 use gpt_model::Block;
 use gpt_model::NewPartition;
+use gpt_model::Rule;
 use gpt_model::Shape;
 use gpt_places::Side;
 ghost use mathlib.Core.Path.{_≡_};
@@ -16,10 +17,11 @@ ghost use lib.ListN.{length};
 ghost use Rattle.gpt_model.specs.Ranges.{freeCount, longestFree};
 ghost use Rattle.gpt_model.specs.Table.{tableBytes, rangesOf};
 ghost use Rattle.gpt_model.specs.Disk.{lastUsable, mostBlocks};
-ghost use Rattle.gpt_model.specs.Calls.{accepted, outcome, step, format as formatOn, read as readCall, freeCounts, repair as repairCall, edit};
+ghost use Rattle.gpt_model.specs.Calls.{accepted, outcome, step, format as formatOn, read as readCall, freeCounts, repair as repairCall, check as checkCall, edit};
 ghost use Rattle.gpt_model.specs.Calls.{add as addCall, delete as deleteCall, resize as resizeCall, rename as renameCall};
 ghost use Rattle.gpt_places.specs.Invariants.{Legal, Fits};
-ghost use Rattle.gpt_calls.specs.Answers.{doneOf, readingOf, addedOf, countedOf, handed, entriesOn};
+ghost use Rattle.gpt_calls.specs.Answers.{doneOf, readingOf, addedOf, countedOf, checkedOf, handed, entriesOn};
+ghost use Rattle.gpt_calls.specs.Invariants.{Uses};
 
 pub enum Done {
     Accepted,
@@ -42,6 +44,19 @@ pub enum Added {
 
 pub enum Counted {
     Free { blocks: u64, longest: u64 },
+    Refused(Refusal),
+}
+
+// The first used slot that offends; 0 where none does.
+pub enum Checked {
+    Slot(u64),
+    Refused(Refusal),
+}
+
+// The copy that a reading uses.
+enum UsedCopy {
+    Primary,
+    Backup,
     Refused(Refusal),
 }
 
@@ -188,6 +203,19 @@ pub fn entries<'a>(head: &'a [u8], tail: &'a [u8], shape: Shape, found: Reading)
     }
 }
 
+fn used_copy(head: &[u8], tail: &[u8], n: u64, shape: Shape) -> UsedCopy
+    requires { ⌜ Legal shape ⌝ }
+    ensures { λ r. ⌜ Uses shape n (now (head .entry)) (now (tail .entry)) r ⌝ }
+{
+    match read(head, tail, n, shape) {
+        Reading::Same => UsedCopy::Primary,
+        Reading::Different => UsedCopy::Primary,
+        Reading::PrimaryOnly => UsedCopy::Primary,
+        Reading::BackupOnly => UsedCopy::Backup,
+        Reading::Refused(r) => UsedCopy::Refused(r),
+    }
+}
+
 fn count_in(table: &[u8], n: u64, shape: Shape) -> Counted
     requires { ⌜ (length (now table) ≡ tableBytes) × Fits shape n × (n ≤ mostBlocks) ⌝ }
     ensures { λ r. ⌜ countedOf r ≡ accepted (freeCount (rangesOf (now (table .entry))) (shape .first) (lastUsable shape n)
@@ -209,23 +237,27 @@ pub fn free_counts(head: &[u8], tail: &[u8], n: u64, shape: Shape) -> Counted
     requires { ⌜ Legal shape ⌝ }
     ensures { λ r. ⌜ outcome (countedOf r) (now (head .entry)) (now (tail .entry)) ≡ step shape n (now (head .entry)) (now (tail .entry)) freeCounts ⌝ }
 {
-    match read(head, tail, n, shape) {
-        Reading::Same => count_in(gpt_places::entries_in(head, Side::Primary, shape), n, shape),
-        Reading::Different => count_in(
+    match used_copy(head, tail, n, shape) {
+        UsedCopy::Primary => count_in(gpt_places::entries_in(head, Side::Primary, shape), n, shape),
+        UsedCopy::Backup => count_in(gpt_places::entries_in(tail, Side::Backup, shape), n, shape),
+        UsedCopy::Refused(r) => Counted::Refused(r),
+    }
+}
+
+// The first used slot whose attributes offend the rule, by the copy that reading uses.
+pub fn check(head: &[u8], tail: &[u8], n: u64, shape: Shape, rule: Rule) -> Checked
+    requires { ⌜ Legal shape ⌝ }
+    ensures { λ r. ⌜ outcome (checkedOf r) (now (head .entry)) (now (tail .entry)) ≡ step shape n (now (head .entry)) (now (tail .entry)) (checkCall rule) ⌝ }
+{
+    match used_copy(head, tail, n, shape) {
+        UsedCopy::Primary => Checked::Slot(gpt_attributes::first_offending(
             gpt_places::entries_in(head, Side::Primary, shape),
-            n,
-            shape,
-        ),
-        Reading::PrimaryOnly => count_in(
-            gpt_places::entries_in(head, Side::Primary, shape),
-            n,
-            shape,
-        ),
-        Reading::BackupOnly => count_in(
+            rule,
+        )),
+        UsedCopy::Backup => Checked::Slot(gpt_attributes::first_offending(
             gpt_places::entries_in(tail, Side::Backup, shape),
-            n,
-            shape,
-        ),
-        Reading::Refused(r) => Counted::Refused(r),
+            rule,
+        )),
+        UsedCopy::Refused(r) => Checked::Refused(r),
     }
 }
