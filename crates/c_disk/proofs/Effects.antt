@@ -13,7 +13,8 @@ use Rattle.gpt_calls.specs.declared.Done.{Done}
 use Rattle.gpt_calls.specs.declared.Done.the-variants as done
 use Rattle.gpt_calls.specs.declared.Reading.{Reading}
 use Rattle.gpt_checks.specs.declared.Refusal.the-variants.{BlockSize, WrongLength, BlockCount, NoDiskGuid, NeitherGood, NotTheSame, NoSuchSlot}
-use Rattle.gpt_checks.specs.declared.Refusal.the-variants.{SlotUnused, NoSize, Alignment, NoType, NoUniqueGuid, BadName, NameTaken, NoUnusedSlot, NoRoom}
+use Rattle.gpt_checks.specs.declared.Refusal.the-variants.{SlotUnused, NoSize, Alignment, NoType, NoUniqueGuid, BadName, NameTaken}
+use Rattle.gpt_checks.specs.declared.Refusal.the-variants.{AttributeBits, NoUnusedSlot, NoRoom}
 use Rattle.c_disk.specs.Effects.{GptEffect, resultOf, valuesOf, gptEffect, tablePlace, withTablePlace, tablePlaceBy}
 use Rattle.c_disk.specs.Claims.{NoRefusalIsZero}
 
@@ -71,5 +72,6 @@ no-refusal-is-zero NoType e = omega arith
 no-refusal-is-zero NoUniqueGuid e = omega arith
 no-refusal-is-zero BadName e = omega arith
 no-refusal-is-zero NameTaken e = omega arith
+no-refusal-is-zero AttributeBits e = omega arith
 no-refusal-is-zero NoUnusedSlot e = omega arith
 no-refusal-is-zero NoRoom e = omega arith

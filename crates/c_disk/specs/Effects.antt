@@ -1,11 +1,18 @@
 -- What C gets of a GPT call: the result, head and tail afterwards, and the number answers afterwards. Definitions only.
 use mathlib.Core.List.{List, [], _∷_}
 use mathlib.Core.Option.{Option, none, some}
-use Prim.Native.Nat.{ℕ}
+use Prim.Native.Nat.{ℕ, zero, suc}
 use lib.ListN.{getD}
 use Rattle.gpt_model.specs.Disk.{Shape, Side, primary, backup, usedSide, entriesAt}
 use Rattle.gpt_model.specs.Calls.{Answer, refused, accepted, Outcome, outcome, read, step}
 use Rattle.gpt_model.specs.Sizes.{shapeOf, onShape}
+use Rattle.gpt_model.specs.declared.Rule.{Rule}
+use Rattle.gpt_model.specs.declared.Rule.the-variants.{Present, Earlier}
+
+-- k2: The caller names the rule. For C by a number: 0 is the present rule, every other number the earlier, stricter one
+abbrev pub ruleNumbered : ℕ → Rule
+ruleNumbered zero = Present
+ruleNumbered (suc k) = Earlier
 
 -- R1: A refusal returns its number alone. Accepted is 0
 abbrev pub resultOf : Answer → ℕ

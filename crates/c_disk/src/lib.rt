@@ -1,9 +1,11 @@
 // The GPT calls for C. Each contract is one equation with `formatBy` or `stepBy` of gpt_model, for the result, both buffers and the number answers afterwards.
 use gpt_calls::Added;
+use gpt_calls::Checked;
 use gpt_calls::Counted;
 use gpt_calls::Done;
 use gpt_calls::Reading;
 use gpt_model::NewPartition;
+use gpt_model::Rule;
 use gpt_model::Shape;
 use gpt_places::BlockSize;
 use gpt_places::Side;
@@ -11,11 +13,11 @@ ghost use mathlib.Core.Path.{_≡_};
 ghost use mathlib.Core.List.{[], _∷_};
 ghost use lib.ListN.{length};
 ghost use Rattle.gpt_model.specs.Sizes.{shapeOf, stepBy, formatBy};
-ghost use Rattle.gpt_model.specs.Calls.{read as readCall, freeCounts, repair as repairCall, edit, delete as deleteCall};
+ghost use Rattle.gpt_model.specs.Calls.{read as readCall, freeCounts, repair as repairCall, check as checkCall, edit, delete as deleteCall};
 ghost use Rattle.gpt_model.specs.Calls.{resize as resizeCall, rename as renameCall, add as addCall, newPartition};
 ghost use Rattle.gpt_places.specs.Invariants.{Legal};
-ghost use Rattle.gpt_calls.specs.Answers.{doneOf, readingOf, countedOf, addedOf};
-ghost use Rattle.c_disk.specs.Effects.{resultOf, valuesOf, gptEffect, tablePlace, tablePlaceBy, lengthNumber};
+ghost use Rattle.gpt_calls.specs.Answers.{doneOf, readingOf, countedOf, addedOf, checkedOf};
+ghost use Rattle.c_disk.specs.Effects.{ruleNumbered, resultOf, valuesOf, gptEffect, tablePlace, tablePlaceBy, lengthNumber};
 
 fn done(a: Done) -> u32
     ensures { λ r. ⌜ r ≡ resultOf (doneOf a) ⌝ }
@@ -79,6 +81,28 @@ fn added(a: Added, slot: &mut u64, first: &mut u64) -> u32
         }
         Added::Refused(k) => gpt::number(k),
     }
+}
+
+fn checked(a: Checked, slot: &mut u64) -> u32
+    ensures { λ r. ⌜ (r ≡ resultOf (checkedOf a)) × ((now (slot .exit) ∷ []) ≡ valuesOf (now (slot .entry) ∷ []) (checkedOf a)) ⌝ }
+{
+    match a {
+        Checked::Slot(s) => {
+            *slot = s;
+            0
+        }
+        Checked::Refused(k) => gpt::number(k),
+    }
+}
+
+// The rule of a number.
+fn rule_of(rule: u64) -> Rule
+    ensures { λ r. ⌜ r ≡ ruleNumbered rule ⌝ }
+{
+    if rule == 0 {
+        return Rule::Present;
+    }
+    Rule::Earlier
 }
 
 fn place(a: Reading, shape: Shape, in_tail: &mut u64, offset: &mut u64) -> u32
@@ -262,6 +286,7 @@ pub extern "C" fn usi_gpt_add(
     size: u64,
     alignment: u64,
     attributes: u64,
+    rule: u64,
     name: &[u16],
     slot: &mut u64,
     first: &mut u64,
@@ -269,7 +294,7 @@ pub extern "C" fn usi_gpt_add(
     ensures { λ r. ⌜ record { result = r; head = now (head .exit); tail = now (tail .exit); values = now (slot .exit) ∷ now (first .exit) ∷ [] }
         ≡ gptEffect (now (slot .entry) ∷ now (first .entry) ∷ [])
         (stepBy block n (now (head .entry)) (now (tail .entry))
-        (edit (addCall (newPartition (now (kind .entry)) (now (unique .entry)) size alignment attributes (now (name .entry)))))) ⌝ }
+        (edit (addCall (newPartition (now (kind .entry)) (now (unique .entry)) size alignment attributes (ruleNumbered rule) (now (name .entry)))))) ⌝ }
 {
     if kind.len() != 16 {
         return wrong_length(block);
@@ -286,6 +311,7 @@ pub extern "C" fn usi_gpt_add(
         size,
         alignment,
         attributes,
+        rule: rule_of(rule),
         name: name_of(name),
     };
     added(gpt::add(head, tail, n, block, p), slot, first)
@@ -307,4 +333,19 @@ pub extern "C" fn usi_gpt_table(
         BlockSize::Known(shape) => place(gpt::read(head, tail, n, block), shape, in_tail, offset),
         BlockSize::Other => 6,
     }
+}
+
+#[no_mangle]
+pub extern "C" fn usi_gpt_check(
+    head: &[u8],
+    tail: &[u8],
+    n: u64,
+    block: u64,
+    rule: u64,
+    slot: &mut u64,
+) -> u32
+    ensures { λ r. ⌜ record { result = r; head = now (head .entry); tail = now (tail .entry); values = now (slot .exit) ∷ [] }
+        ≡ gptEffect (now (slot .entry) ∷ []) (stepBy block n (now (head .entry)) (now (tail .entry)) (checkCall (ruleNumbered rule))) ⌝ }
+{
+    checked(gpt::check(head, tail, n, block, rule_of(rule)), slot)
 }

@@ -244,7 +244,7 @@ pub fn free_counts(head: &[u8], tail: &[u8], n: u64, shape: Shape) -> Counted
     }
 }
 
-// The first used slot whose attributes offend the rule, by the copy that reading uses.
+// k3: the check answers the first used slot that offends, or 0. By the copy that reading uses
 pub fn check(head: &[u8], tail: &[u8], n: u64, shape: Shape, rule: Rule) -> Checked
     requires { ⌜ Legal shape ⌝ }
     ensures { λ r. ⌜ outcome (checkedOf r) (now (head .entry)) (now (tail .entry)) ≡ step shape n (now (head .entry)) (now (tail .entry)) (checkCall rule) ⌝ }
