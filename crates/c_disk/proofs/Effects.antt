@@ -1,13 +1,15 @@
 -- Laws of what C gets of a GPT call.
 use mathlib.Core.Path.{_≡_, refl, sym, ap, ap₂, _∙_}
+use mathlib.Core.Logic.{_≢_}
 use mathlib.Core.List.{List, []}
 use mathlib.Core.Option.{Option, none, some}
-use Prim.Native.Nat.{ℕ}
+use Prim.Native.Nat.{ℕ, zero, suc}
 use native.Mathlib.Omega.{arith}
 use Rattle.gpt_model.specs.Disk.{Shape}
 use Rattle.gpt_model.specs.Calls.{Answer, refused, accepted, Outcome, outcome, read, step}
 use Rattle.gpt_model.specs.Sizes.{shapeOf, onShape, stepBy}
 use Rattle.gpt_model.proofs.Sizes.{onItsShape}
+use Rattle.gpt_model.specs.declared.Rule.the-variants.{Earlier}
 use Rattle.gpt_calls.specs.Answers.{doneOf, readingOf}
 use Rattle.gpt_calls.specs.declared.Done.{Done}
 use Rattle.gpt_calls.specs.declared.Done.the-variants as done
@@ -15,7 +17,7 @@ use Rattle.gpt_calls.specs.declared.Reading.{Reading}
 use Rattle.gpt_checks.specs.declared.Refusal.the-variants.{BlockSize, WrongLength, BlockCount, NoDiskGuid, NeitherGood, NotTheSame, NoSuchSlot}
 use Rattle.gpt_checks.specs.declared.Refusal.the-variants.{SlotUnused, NoSize, Alignment, NoType, NoUniqueGuid, BadName, NameTaken}
 use Rattle.gpt_checks.specs.declared.Refusal.the-variants.{AttributeBits, NoUnusedSlot, NoRoom}
-use Rattle.c_disk.specs.Effects.{GptEffect, resultOf, valuesOf, gptEffect, tablePlace, withTablePlace, tablePlaceBy}
+use Rattle.c_disk.specs.Effects.{ruleNumbered, GptEffect, resultOf, valuesOf, gptEffect, tablePlace, withTablePlace, tablePlaceBy}
 use Rattle.c_disk.specs.Claims.{NoRefusalIsZero}
 
 -- an answer a given by its number and values, with the buffers that the call left
@@ -39,6 +41,11 @@ gpt-refused a k r old e q = (q ∙ ap resultOf (sym e), ap (valuesOf old) (sym e
 -- an accepted answer a, by its values
 pub gpt-accepted : (a : Answer) (old vs : List ℕ) → a ≡ accepted vs → (0 ≡ resultOf a) × (vs ≡ valuesOf old a)
 gpt-accepted a old vs e = (ap resultOf (sym e), ap (valuesOf old) (sym e))
+
+-- every number but 0 names the earlier rule
+pub rule-other : (k : ℕ) → k ≢ 0 → Earlier ≡ ruleNumbered k
+rule-other zero n = absurd (n refl)
+rule-other (suc k) n = refl
 
 -- where the entries begin, by a reading
 abbrev pub placeBy : Shape → Reading → Answer

@@ -3,6 +3,7 @@ use crate::ledger::SumChange;
 use gpt_calls::Added;
 use gpt_calls::Done;
 use gpt_model::NewPartition;
+use gpt_model::Rule;
 use sample_lines::BLOCK;
 
 pub fn format(head: &mut [u8], tail: &mut [u8], n: u64) -> SumChange {
@@ -39,6 +40,7 @@ pub fn add(head: &mut [u8], tail: &mut [u8], n: u64, k: u8, size: u64) -> SumCha
         size,
         alignment: 1,
         attributes: 0,
+        rule: Rule::Present,
         name: name(64 + k as u16),
     };
     let answer = gpt::add(head, tail, n, BLOCK, p);

@@ -19,7 +19,7 @@ use Rattle.octets.proofs.Rows.{pick-true, pick-false}
 use Rattle.gpt_model.specs.Table.{BlockRange, noBlocks, spans, unused, rangeOf, rangesOf}
 use Rattle.gpt_model.specs.Disk.{Shape, disk512, lastUsable, inRange, Side, primary, backup, block0, headerFields, headerIn, headerCrc, header, tableOf}
 use Rattle.gpt_model.specs.Ranges.{blockIn, allFrom, roomAt, lowestFrom, lowestStart, countFrom, taken, freeCount}
-use Rattle.gpt_model.specs.Calls.{Edit, Call, read, freeCounts, repair, edit, Answer, refused, accepted, Outcome, tableRows, change, lengthsOf, lengthsOk, rowsOf, step, format}
+use Rattle.gpt_model.specs.Calls.{Edit, Call, read, freeCounts, repair, check, edit, Answer, refused, accepted, Outcome, tableRows, change, lengthsOf, lengthsOk, rowsOf, step, format}
 use Rattle.gpt_model.specs.Lists.{Ledger, book, Snapshot, afterOne, afterAll, answers, tableNext, applied, startAfter, rangesIn}
 use Rattle.gpt_model.specs.Claims.{Formats}
 use Rattle.gpt_model.proofs.Fields.{length-writeAll, behind}
@@ -114,6 +114,7 @@ sample1 guid h t lg lh lt = (
     calls read l = rows true _ refl
     calls freeCounts l = rows true _ refl
     calls repair l = rows true _ refl
+    calls (check rule) l = rows true _ refl
     calls (edit d) l = rows (lengthsOf d) _ l
 
 answers2 : answersT 34 34 (zeros 16384) edits2 ≡ accepted (1 ∷ 34 ∷ []) ∷ refused 25 ∷ []

@@ -11,8 +11,9 @@ use Rattle.octets.specs.Bytes.{field, zeros}
 use Rattle.gpt_model.specs.Table.{spans}
 use Rattle.gpt_model.specs.Disk.{disk512, lastUsable, primary, backup, headerIn, headerBlock, entriesBlock, lentBytes}
 use Rattle.gpt_model.specs.Ranges.{taken, freeCount}
-use Rattle.gpt_model.specs.Calls.{Edit, add, newPartition, delete, resize, Call, read, freeCounts, repair, edit, Answer, refused, accepted}
+use Rattle.gpt_model.specs.Calls.{Edit, add, newPartition, delete, resize, Call, read, freeCounts, repair, check, edit, Answer, refused, accepted}
 use Rattle.gpt_model.specs.Calls.{lengthsOf, step, format}
+use Rattle.gpt_model.specs.declared.Rule.the-variants.{Present}
 use Rattle.gpt_model.specs.Lists.{Snapshot, afterAll, answers, startAfter, rangesIn}
 use Rattle.gpt_model.specs.Claims.{Formats}
 use Rattle.guid.specs.Calls.{readTypeOf}
@@ -30,15 +31,16 @@ After n ds P =
     (guid h t : List ℕ) → Formats disk512 n guid h t
     → let r = startAfter (format disk512 n guid h t) in P (answers (step disk512 n) (map edit ds) r) (afterAll (step disk512 n) (map edit ds) r)
 
--- add, with some type, unique GUID and name, at any start
+-- add, with some type, unique GUID and name, at any start, no attributes
 abbrev pub adding : ℕ → ℕ → Edit
-adding id size = add (newPartition (replicate 16 7) (replicate 16 id) size 1 0 (replicate 36 0))
+adding id size = add (newPartition (replicate 16 7) (replicate 16 id) size 1 0 Present (replicate 36 0))
 
 -- a call's own lent buffers have their lengths
 abbrev pub lengthsIn : Call → Bool
 lengthsIn read = true
 lengthsIn freeCounts = true
 lengthsIn repair = true
+lengthsIn (check rule) = true
 lengthsIn (edit d) = lengthsOf d
 
 -- S1: (1*) N 67: 2.

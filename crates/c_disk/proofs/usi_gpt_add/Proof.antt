@@ -28,6 +28,9 @@ guid-of-requires c κs = search needs
 guid-of-requires-2 : tie.Need-guid-of-requires-2
 guid-of-requires-2 c κs = search needs
 
+rule-of-requires : tie.Need-rule-of-requires
+rule-of-requires c κs = search needs
+
 name-of-requires : tie.Need-name-of-requires
 name-of-requires c κs = search needs
 
@@ -45,11 +48,12 @@ same-length-2 c = search needs
 
 returns-4 : tie.Need-returns-4
 returns-4 c =
-    let c4 = c .before .before .before .before in
-    let c8 = c4 .before .before .before .before in
-    let c12 = c8 .before .before .before .before in
+    let made = c .before .before .before .before .before .before .before in
+    let name = made .before .before .before in
+    let rule = name .before in
+    let unique = rule .before in
     gpt-tells _ _ _ _ _ _ _
-    (add-on _ _ _ _ _ _ (rw (c12 .guid-of .ensures, c8 .before .before .before .guid-of2 .ensures, c8 .before .before .name-of .ensures)) (c4 .before .before .before .add .ensures))
+    (add-on _ _ _ _ _ _ (rw (unique .before .guid-of .ensures, unique .guid-of2 .ensures, rule .rule-of .ensures, name .name-of .ensures)) (made .add .ensures))
     (c .added .ensures .0) (c .added .ensures .1)
 
 pub usi-gpt-add-spec : {M : Type 1} → statement M
@@ -64,6 +68,7 @@ usi-gpt-add-spec =
     returns-3
     guid-of-requires
     guid-of-requires-2
+    rule-of-requires
     name-of-requires
     add-requires
     added-requires
