@@ -19,6 +19,7 @@ use Rattle.octets.proofs.Rows.{pick-true, pick-false}
 use Rattle.gpt_model.specs.Table.{BlockRange, noBlocks, spans, unused, rangeOf, rangesOf}
 use Rattle.gpt_model.specs.Disk.{Shape, disk512, lastUsable, inRange, Side, primary, backup, block0, headerFields, headerIn, headerCrc, header, tableOf}
 use Rattle.gpt_model.specs.Ranges.{blockIn, allFrom, roomAt, lowestFrom, lowestStart, countFrom, taken, freeCount}
+use Rattle.gpt_model.specs.Attributes.{offends}
 use Rattle.gpt_model.specs.Calls.{Edit, Call, read, freeCounts, repair, check, edit, Answer, refused, accepted, Outcome, tableRows, change, lengthsOf, lengthsOk, rowsOf, step, format}
 use Rattle.gpt_model.specs.Lists.{Ledger, book, Snapshot, afterOne, afterAll, answers, tableNext, applied, startAfter, rangesIn}
 use Rattle.gpt_model.specs.Claims.{Formats}
@@ -118,7 +119,7 @@ sample1 guid h t lg lh lt = (
     calls (edit d) l = rows (lengthsOf d) _ l
 
 answers2 : answersT 34 34 (zeros 16384) edits2 ≡ accepted (1 ∷ 34 ∷ []) ∷ refused 25 ∷ []
-unfolding zeros put putChunk chunks rangeOf unused part le unle same lowestStart roomAt lowestFrom allFrom blockIn pickRow _or_ _and_
+unfolding zeros put putChunk chunks rangeOf unused part le unle same lowestStart roomAt lowestFrom allFrom blockIn pickRow offends _or_ _and_
 answers2 = refl
 
 slots2 : rangesOf (applied 34 34 (zeros 16384) (map edit edits2) (accepted (1 ∷ 34 ∷ []) ∷ refused 25 ∷ [])) ≡ spans 34 34 ∷ replicate 127 noBlocks
@@ -178,7 +179,7 @@ abbrev replies5 : List Answer
 replies5 = replies4 ++ (refused 25 ∷ accepted [] ∷ [])
 
 answersAre : (answersT 34 66 (zeros 16384) (take 2 edits4) ≡ replies2) × (answersT 34 66 (zeros 16384) edits4 ≡ replies4) × (answersT 34 66 (zeros 16384) edits5 ≡ replies5)
-unfolding zeros put putChunk chunks rangeOf unused part le unle same lowestStart roomAt lowestFrom allFrom blockIn pickRow _or_ _and_
+unfolding zeros put putChunk chunks rangeOf unused part le unle same lowestStart roomAt lowestFrom allFrom blockIn pickRow offends _or_ _and_
 answersAre = (refl, refl, refl)
 
 lengthsAre : (all lengthsOf (take 2 edits4) ≡ true) × (all lengthsOf edits4 ≡ true) × (all lengthsOf edits5 ≡ true)
