@@ -1,8 +1,8 @@
 // The GPT calls for C. Each contract is one equation with `formatBy` or `stepBy` of gpt_model, for the result, both buffers and the number answers afterwards.
 use gpt_calls::Added;
-use gpt_calls::Checked;
 use gpt_calls::Counted;
 use gpt_calls::Done;
+use gpt_calls::Offending;
 use gpt_calls::Reading;
 use gpt_model::NewPartition;
 use gpt_model::Rule;
@@ -16,7 +16,7 @@ ghost use Rattle.gpt_model.specs.Sizes.{shapeOf, stepBy, formatBy};
 ghost use Rattle.gpt_model.specs.Calls.{read as readCall, freeCounts, repair as repairCall, check as checkCall, edit, delete as deleteCall};
 ghost use Rattle.gpt_model.specs.Calls.{resize as resizeCall, rename as renameCall, add as addCall, newPartition};
 ghost use Rattle.gpt_places.specs.Invariants.{Legal};
-ghost use Rattle.gpt_calls.specs.Answers.{doneOf, readingOf, countedOf, addedOf, checkedOf};
+ghost use Rattle.gpt_calls.specs.Answers.{doneOf, readingOf, countedOf, addedOf, offendingOf};
 ghost use Rattle.c_disk.specs.Effects.{ruleNumbered, resultOf, valuesOf, gptEffect, tablePlace, tablePlaceBy, lengthNumber};
 
 fn done(a: Done) -> u32
@@ -83,15 +83,15 @@ fn added(a: Added, slot: &mut u64, first: &mut u64) -> u32
     }
 }
 
-fn checked(a: Checked, slot: &mut u64) -> u32
-    ensures { λ r. ⌜ (r ≡ resultOf (checkedOf a)) × ((now (slot .exit) ∷ []) ≡ valuesOf (now (slot .entry) ∷ []) (checkedOf a)) ⌝ }
+fn offending(a: Offending, slot: &mut u64) -> u32
+    ensures { λ r. ⌜ (r ≡ resultOf (offendingOf a)) × ((now (slot .exit) ∷ []) ≡ valuesOf (now (slot .entry) ∷ []) (offendingOf a)) ⌝ }
 {
     match a {
-        Checked::Slot(s) => {
+        Offending::Slot(s) => {
             *slot = s;
             0
         }
-        Checked::Refused(k) => gpt::number(k),
+        Offending::Refused(k) => gpt::number(k),
     }
 }
 
@@ -347,5 +347,5 @@ pub extern "C" fn usi_gpt_check(
     ensures { λ r. ⌜ record { result = r; head = now (head .entry); tail = now (tail .entry); values = now (slot .exit) ∷ [] }
         ≡ gptEffect (now (slot .entry) ∷ []) (stepBy block n (now (head .entry)) (now (tail .entry)) (checkCall (ruleNumbered rule))) ⌝ }
 {
-    checked(gpt::check(head, tail, n, block, rule_of(rule)), slot)
+    offending(gpt::check(head, tail, n, block, rule_of(rule)), slot)
 }

@@ -3,9 +3,9 @@
 // Every call takes any buffers and any numbers; its contract is one equation with `formatBy` or `stepBy` of gpt_model, for its answer and both buffers.
 // A call asks for the shape of its block size first, then gpt_calls on a disk of that shape.
 use gpt_calls::Added;
-use gpt_calls::Checked;
 use gpt_calls::Counted;
 use gpt_calls::Done;
+use gpt_calls::Offending;
 use gpt_calls::Reading;
 use gpt_checks::Refusal;
 use gpt_model::NewPartition;
@@ -16,7 +16,7 @@ ghost use Rattle.gpt_model.specs.Calls.{outcome, read as readCall, freeCounts, 
 ghost use Rattle.gpt_model.specs.Calls.{add as addCall, delete as deleteCall, resize as resizeCall, rename as renameCall};
 ghost use Rattle.gpt_model.specs.Sizes.{stepBy, formatBy};
 ghost use Rattle.gpt_checks.specs.Refusals.{numberOf};
-ghost use Rattle.gpt_calls.specs.Answers.{doneOf, readingOf, addedOf, countedOf, checkedOf, handed};
+ghost use Rattle.gpt_calls.specs.Answers.{doneOf, readingOf, addedOf, countedOf, offendingOf, handed};
 ghost use Rattle.gpt.specs.Parts.{entriesBy, handedPart};
 
 // The number of a refusal.
@@ -158,12 +158,12 @@ pub fn free_counts(head: &[u8], tail: &[u8], n: u64, block: u64) -> Counted
 }
 
 // k3: the check answers the first used slot that offends, or 0. By the copy that reading uses
-pub fn check(head: &[u8], tail: &[u8], n: u64, block: u64, rule: Rule) -> Checked
-    ensures { λ r. ⌜ outcome (checkedOf r) (now (head .entry)) (now (tail .entry))
+pub fn check(head: &[u8], tail: &[u8], n: u64, block: u64, rule: Rule) -> Offending
+    ensures { λ r. ⌜ outcome (offendingOf r) (now (head .entry)) (now (tail .entry))
         ≡ stepBy block n (now (head .entry)) (now (tail .entry)) (checkCall rule) ⌝ }
 {
     match gpt_places::shape_of(block) {
         BlockSize::Known(shape) => gpt_calls::check(head, tail, n, shape, rule),
-        BlockSize::Other => Checked::Refused(Refusal::BlockSize),
+        BlockSize::Other => Offending::Refused(Refusal::BlockSize),
     }
 }

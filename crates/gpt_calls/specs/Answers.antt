@@ -16,8 +16,8 @@ use Rattle.gpt_calls.specs.declared.Added.{Added}
 use Rattle.gpt_calls.specs.declared.Added.the-variants as adding
 use Rattle.gpt_calls.specs.declared.Counted.{Counted}
 use Rattle.gpt_calls.specs.declared.Counted.the-variants as counting
-use Rattle.gpt_calls.specs.declared.Checked.{Checked}
-use Rattle.gpt_calls.specs.declared.Checked.the-variants as checking
+use Rattle.gpt_calls.specs.declared.Offending.{Offending}
+use Rattle.gpt_calls.specs.declared.Offending.the-variants as offending
 
 -- R3: other writers only that they accepted
 abbrev pub doneOf : Done → Answer
@@ -44,9 +44,9 @@ countedOf (counting.Free blocks longest) = accepted (blocks ∷ longest ∷ [])
 countedOf (counting.Refused r) = refused (numberOf r)
 
 -- k3: the check answers the first used slot that offends, or 0
-abbrev pub checkedOf : Checked → Answer
-checkedOf (checking.Slot slot) = accepted (slot ∷ [])
-checkedOf (checking.Refused r) = refused (numberOf r)
+abbrev pub offendingOf : Offending → Answer
+offendingOf (offending.Slot slot) = accepted (slot ∷ [])
+offendingOf (offending.Refused r) = refused (numberOf r)
 
 -- (W9) the part of head or tail that reading hands back: its bytes, and where it begins
 pub record Handed : Type 0 where

@@ -20,7 +20,7 @@ ghost use Rattle.gpt_model.specs.Disk.{lastUsable, mostBlocks};
 ghost use Rattle.gpt_model.specs.Calls.{accepted, outcome, step, format as formatOn, read as readCall, freeCounts, repair as repairCall, check as checkCall, edit};
 ghost use Rattle.gpt_model.specs.Calls.{add as addCall, delete as deleteCall, resize as resizeCall, rename as renameCall};
 ghost use Rattle.gpt_places.specs.Invariants.{Legal, Fits};
-ghost use Rattle.gpt_calls.specs.Answers.{doneOf, readingOf, addedOf, countedOf, checkedOf, handed, entriesOn};
+ghost use Rattle.gpt_calls.specs.Answers.{doneOf, readingOf, addedOf, countedOf, offendingOf, handed, entriesOn};
 ghost use Rattle.gpt_calls.specs.Invariants.{Uses};
 
 pub enum Done {
@@ -48,7 +48,7 @@ pub enum Counted {
 }
 
 // The first used slot that offends; 0 where none does.
-pub enum Checked {
+pub enum Offending {
     Slot(u64),
     Refused(Refusal),
 }
@@ -245,19 +245,19 @@ pub fn free_counts(head: &[u8], tail: &[u8], n: u64, shape: Shape) -> Counted
 }
 
 // k3: the check answers the first used slot that offends, or 0. By the copy that reading uses
-pub fn check(head: &[u8], tail: &[u8], n: u64, shape: Shape, rule: Rule) -> Checked
+pub fn check(head: &[u8], tail: &[u8], n: u64, shape: Shape, rule: Rule) -> Offending
     requires { ⌜ Legal shape ⌝ }
-    ensures { λ r. ⌜ outcome (checkedOf r) (now (head .entry)) (now (tail .entry)) ≡ step shape n (now (head .entry)) (now (tail .entry)) (checkCall rule) ⌝ }
+    ensures { λ r. ⌜ outcome (offendingOf r) (now (head .entry)) (now (tail .entry)) ≡ step shape n (now (head .entry)) (now (tail .entry)) (checkCall rule) ⌝ }
 {
     match used_copy(head, tail, n, shape) {
-        UsedCopy::Primary => Checked::Slot(gpt_attributes::first_offending(
+        UsedCopy::Primary => Offending::Slot(gpt_attributes::first_offending(
             gpt_places::entries_in(head, Side::Primary, shape),
             rule,
         )),
-        UsedCopy::Backup => Checked::Slot(gpt_attributes::first_offending(
+        UsedCopy::Backup => Offending::Slot(gpt_attributes::first_offending(
             gpt_places::entries_in(tail, Side::Backup, shape),
             rule,
         )),
-        UsedCopy::Refused(r) => Checked::Refused(r),
+        UsedCopy::Refused(r) => Offending::Refused(r),
     }
 }

@@ -358,7 +358,8 @@ ClearedReads =
 abbrev pub GoodByUsed : Type 0
 GoodByUsed = (first last : ℕ) (es es′ : List ℕ) → SameUsed es es′ → goodTable first last es ≡ goodTable first last es′
 
--- and what every call answers on two disks that read as the same state goes by them alone: refusals, slot and first block of an add, free counts
+-- and what every call answers on two disks that read as the same state goes by them alone: refusals, slot and first block of an add, free counts, the slot
+-- that the check finds
 abbrev pub AnswersByUsed : Type 0
 AnswersByUsed =
     (g : Shape) (n : ℕ) (h t h′ t′ : List ℕ) (s : ℕ) → step g n h t read .answer ≡ accepted (s ∷ []) → step g n h′ t′ read .answer ≡ accepted (s ∷ [])

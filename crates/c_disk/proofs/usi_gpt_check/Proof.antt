@@ -14,8 +14,8 @@ rule-of-requires c κs = search needs
 check-requires : tie.Need-check-requires
 check-requires c κs = search needs
 
-checked-requires : tie.Need-checked-requires
-checked-requires c κs = search needs
+offending-requires : tie.Need-offending-requires
+offending-requires c κs = search needs
 
 returns : tie.Need-returns
 returns c =
@@ -23,7 +23,7 @@ returns c =
     let a = o .before .before .before .before .args in
     gpt-tells _ _ _ _ _ _ _
     (o .check .ensures ∙ ap (λ (rule : Rule). stepBy (a .block) (a .n) (now (a .head)) (now (a .tail)) (check rule)) (o .before .rule-of .ensures))
-    (c .checked .ensures .0) (c .checked .ensures .1)
+    (c .offending .ensures .0) (c .offending .ensures .1)
 
 pub usi-gpt-check-spec : {M : Type 1} → statement M
-usi-gpt-check-spec = tie.close (tie.spec rule-of-requires check-requires checked-requires returns)
+usi-gpt-check-spec = tie.close (tie.spec rule-of-requires check-requires offending-requires returns)
