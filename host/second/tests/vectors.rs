@@ -27,7 +27,8 @@ fn call(Lent { head, tail }: &mut Lent, call: &Call) -> (u32, String) {
             let (kind, unique, name) = (&call.bytes("kind"), &call.bytes("unique"), &call.units("name"));
             let [size, alignment, attributes] =
                 ["size", "alignment", "attributes"].map(|key| call.number(key));
-            let new = NewPartition { kind, unique, size, alignment, attributes, rule: call.rule(), name };
+            let rule = call.rule();
+            let new = NewPartition { kind, unique, size, alignment, attributes, rule, name };
             (second::gpt_add(&RULES, head, tail, n, block, &new, &mut a, &mut b), format!("{a} {b}"))
         }
         "delete" => (second::gpt_delete(&RULES, head, tail, n, block, call.number("slot")), String::new()),
