@@ -3,7 +3,7 @@
 use testkit::disk::Disk;
 use testkit::disk_calls::{Calls, New};
 use testkit::listing;
-use usigrambal::{Guid, Name, NewPartition, Partition, Refused};
+use usigrambal::{AttributeRule, Guid, Name, NewPartition, Partition, Refused};
 
 const CALLS: Calls = Calls {
     crc32: usigrambal::crc32,
@@ -44,6 +44,7 @@ fn add(disk: &mut Disk, new: &New) -> Result<u64, u32> {
     let kind = Guid::parse_type(new.kind).expect("a type");
     let unique = new.unique.parse().expect("a GUID");
     let New { size, alignment, attributes, .. } = *new;
-    let new = NewPartition { kind, unique, size, alignment, attributes, name: name(new.name) };
+    let rule = AttributeRule::Present;
+    let new = NewPartition { kind, unique, size, alignment, attributes, rule, name: name(new.name) };
     Ok(on(disk, |disk| disk.add(&new))?.slot)
 }
