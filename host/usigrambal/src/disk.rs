@@ -309,7 +309,10 @@ mod tests {
         disk.format(Guid([1; 16])).unwrap();
         assert_eq!(disk.add(&new_partition(10, 1)), Ok(Placed { slot: 1, first: start }));
         assert_eq!(disk.add(&new_partition(5, 2)), Ok(Placed { slot: 2, first: start + 10 }));
+        let check = |disk: &Disk| AttributeRule::ALL.map(|rule| disk.check(rule).unwrap());
+        assert_eq!(check(&disk), [None, Some(1)]);
         disk.delete(1).unwrap();
+        assert_eq!(check(&disk), [None, Some(2)]);
         assert_eq!(disk.add(&new_partition(11, 1)), Ok(Placed { slot: 1, first: start + 15 }));
         assert_eq!(disk.add(&new_partition(10, 3)), Ok(Placed { slot: 3, first: start }));
         assert_eq!(disk.free(), Ok(Free { blocks: 7, longest_run: 7 }));

@@ -185,6 +185,19 @@ mod tests {
         assert_eq!(unused, "13: the slot is unused: slot 3");
     }
 
+    /// Rule k6.
+    #[test]
+    fn attribute_bits_are_told_with_the_rule() {
+        let told =
+            |attributes, rule| refused(Refusal::AttributeBits, &[Detail::Attributes(attributes, rule)]);
+        let words = "28: an attribute bit is set that the rule wants zero";
+        let both = format!("{words}: bits 1 (no-block-io) and 2 (legacy-boot) under the earlier rule");
+        assert_eq!(told(7, AttributeRule::Earlier), both);
+        assert_eq!(told(15, AttributeRule::Present), format!("{words}: bit 3 under the present rule"));
+        let all = format!("{words}: bits 3 to 47 under the present rule");
+        assert_eq!(told(u64::MAX, AttributeRule::Present), all);
+    }
+
     /// Rule e4: the longest run may be longer than the size that has no room at a multiple.
     #[test]
     fn room_is_told_with_the_alignment() {
