@@ -3,7 +3,7 @@
 use super::call::Call;
 use super::disk::{Disk, SIDES, SLOTS};
 use super::{bits, name, rows, sample};
-use crate::run::{Cell, Outcome, Run};
+use crate::run::{Cell, Difference, Outcome, Run};
 use testkit::disk::{Shape, SHAPES};
 
 /// What a call meets.
@@ -46,6 +46,21 @@ pub fn answered(slot: u64) -> Cell {
         128 => SLOT_128,
         _ => BETWEEN,
     })
+}
+
+/// k4: a check by each rule; a table that passes the earlier one passes the present one.
+pub fn by_both(run: &mut Run, disk: &Disk) -> Outcome {
+    let rules = run.rules.gpt.ledger.passes;
+    let mut passed = [false; 2];
+    for (passed, rule) in passed.iter_mut().zip(rules) {
+        *passed = disk.clone().call(run, &Call::Check { rule })?.values[0] == 0;
+    }
+    match passed {
+        [true, false] => {
+            Err(Difference::new(format!("gpt, a table passes rule {} and not {}", rules[0], rules[1])))
+        }
+        _ => Ok(()),
+    }
 }
 
 /// The disk with these attributes, by index.
@@ -187,10 +202,7 @@ fn all_slots(run: &mut Run, shape: Shape) -> Outcome {
     let by_rule = [(0, 1), (2, SLOTS - 1)].map(|(a, b)| vec![(a, 2), (b, 8)]);
     let nowhere = [vec![]];
     for offenders in one.into_iter().chain(two).chain(by_rule).chain(nowhere) {
-        let disk = with(&disk, &offenders);
-        for rule in [bits::PRESENT, bits::EARLIER[0]] {
-            disk.clone().call(run, &Call::Check { rule })?;
-        }
+        by_both(run, &with(&disk, &offenders))?;
     }
     Ok(())
 }

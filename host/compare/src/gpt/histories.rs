@@ -2,7 +2,7 @@
 
 use super::call::Call;
 use super::disk::{Disk, Reply, Side, NAME_AT, SIDES, SLOTS};
-use super::{bits, damage, name, sample};
+use super::{attributes, bits, damage, name, sample};
 use crate::run::{Difference, Outcome, Run};
 use second::rules::{Bits, LedgerRules};
 use second::Ledger;
@@ -125,16 +125,14 @@ pub fn ledger(run: &mut Run) -> Outcome {
         let mut disk = Disk::random(shape, n, &mut run.random);
         let mut ledger = Ledger::new(run.rules);
         format(run, &mut disk, &mut ledger)?;
-        // Of some lists every add names the earlier rule.
-        let earlier = run.random.below(2) == 0;
-        let mut named = Named::default();
+        let mut named = Named { earlier_alone: run.random.below(2) == 0, present: false };
         for _ in 0..LEDGER_CALLS {
             match run.random.below(30) {
                 0 => {
                     format(run, &mut disk, &mut ledger)?;
-                    named = Named::default();
+                    named.present = false;
                 }
-                _ => one_call(run, &mut disk, &mut ledger, &mut named, earlier)?,
+                _ => one_call(run, &mut disk, &mut ledger, &mut named)?,
             }
             claims(run, &mut disk, &ledger)?;
             zero_bits(run, &mut disk, &named)?;
@@ -150,21 +148,17 @@ fn format(run: &mut Run, disk: &mut Disk, ledger: &mut Ledger) -> Outcome {
     Ok(())
 }
 
-/// The rules that the accepted adds since formatting named.
-#[derive(Default)]
+/// The rules that the adds of a list name.
 struct Named {
+    /// The earlier one alone.
+    earlier_alone: bool,
+    /// Since formatting an accepted add named the present one.
     present: bool,
 }
 
-fn one_call(
-    run: &mut Run,
-    disk: &mut Disk,
-    ledger: &mut Ledger,
-    named: &mut Named,
-    earlier: bool,
-) -> Outcome {
+fn one_call(run: &mut Run, disk: &mut Disk, ledger: &mut Ledger, named: &mut Named) -> Outcome {
     let mut call = sample::any_call(disk, &mut run.random);
-    if let (Call::Add { rule, attributes, .. }, true) = (&mut call, earlier) {
+    if let (Call::Add { rule, attributes, .. }, true) = (&mut call, named.earlier_alone) {
         *rule = run.random.pick(&bits::EARLIER);
         *attributes = bits::given(*rule, &mut run.random);
     }
@@ -230,10 +224,9 @@ fn names_differ(run: &Run, disk: &mut Disk, side: Side) -> Outcome {
     claim(differ, || format!("the names are {names:02X?}"))
 }
 
-/// k1, k2, k4: of the attributes that the used entries of a copy hold, bit by bit; and what a check says of the table.
+/// k1, k2: of the attributes that the used entries of a copy hold, bit by bit.
 fn zero_bits(run: &mut Run, disk: &mut Disk, named: &Named) -> Outcome {
-    let LedgerRules { zero_after_any, zero_after_earlier, after_earlier_alone, passes, .. } =
-        run.rules.gpt.ledger;
+    let LedgerRules { zero_after_any, zero_after_earlier, after_earlier_alone, .. } = run.rules.gpt.ledger;
     let by_earlier = !(named.present && after_earlier_alone);
     for side in SIDES {
         for (index, ..) in disk.partitions(side) {
@@ -243,11 +236,7 @@ fn zero_bits(run: &mut Run, disk: &mut Disk, named: &Named) -> Outcome {
             claim(hold, || format!("slot {} has attributes {attributes:X}", index + 1))?;
         }
     }
-    let mut passed = [false; 2];
-    for (passed, rule) in passed.iter_mut().zip(passes) {
-        *passed = disk.call(run, &Call::Check { rule })?.values[0] == 0;
-    }
-    claim(!passed[0] || passed[1], || format!("the table passes rule {} and not {}", passes[0], passes[1]))
+    attributes::by_both(run, disk)
 }
 
 fn claim(holds: bool, what: impl Fn() -> String) -> Outcome {
