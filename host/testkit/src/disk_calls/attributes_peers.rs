@@ -113,7 +113,7 @@ pub fn sgdisk_edits_offending_partitions_likewise(calls: &Calls) {
         assert_eq!(ours.difference(&theirs), None, "{shape:?}");
         assert_eq!(checked(calls, &theirs), [Ok(2); 2]);
         // What an add refuses, the tool does.
-        let refused = Partition { slot: 1, last: 40, first: 40, ..calls.row_of(&disk, 3) };
+        let refused = Partition { slot: 1, first: 100, last: 100, ..calls.row_of(&disk, 3) };
         let added = after(&theirs, |image| {
             tool::sgdisk(
                 image,
