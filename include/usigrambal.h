@@ -192,7 +192,7 @@ static inline const char *usi_rule_words(uint64_t rule)
 #define USI_DISK_GUID_IN_HEAD(block) ((block) + 56)
 #define USI_DISK_GUID_IN_TAIL 16440
 
-/* The rules of attribute bits, and the bits that each wants zero: the present one bits 3 to 47, the earlier one bits 1 to 47, which is every other number.
+/* The rules of attribute bits: the present one wants bits 3 to 47 zero, the earlier one bits 1 to 47; every number but 0 is the earlier one.
  * Bits 0 and 48 to 63 are free under both. attributes & USI_ZERO_BITS(rule) are the bits that offend. */
 #define USI_RULE_PRESENT 0
 #define USI_RULE_EARLIER 1
@@ -301,9 +301,9 @@ uint32_t usi_gpt_table(const uint8_t *head, size_t head_len, const uint8_t *tail
 uint32_t usi_gpt_free(const uint8_t *head, size_t head_len, const uint8_t *tail, size_t tail_len, uint64_t n, uint64_t block, uint64_t *free,
                       uint64_t *longest);
 
-/* Answers the first used slot whose attributes have a bit set that the rule wants zero, 0 where none has; a table that passes the earlier rule passes
- * the present one. rule is USI_RULE_PRESENT; every other number is USI_RULE_EARLIER. An unused entry never offends, whatever it holds.
- * Refusals in order: 6, 1, 2, 10. */
+/* Answers the first used slot whose attributes have a bit set that the rule wants zero, 0 where none has, in the copy that usi_gpt_table answers.
+ * rule is USI_RULE_PRESENT or USI_RULE_EARLIER; every other number is the earlier one too. A table that passes the earlier rule passes the present one.
+ * An unused entry never offends, whatever it holds. Refusals in order: 6, 1, 2, 10. */
 uint32_t usi_gpt_check(const uint8_t *head, size_t head_len, const uint8_t *tail, size_t tail_len, uint64_t n, uint64_t block, uint64_t rule,
                        uint64_t *slot);
 

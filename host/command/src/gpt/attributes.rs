@@ -44,7 +44,7 @@ pub fn rule(given: &Given) -> Result<AttributeRule, Failure> {
     })
 }
 
-/// The bits that are set as `--attributes` takes them, where any are.
+/// The bits that are set, where any are: as `--attributes` takes them, if none of them is 3 to 47.
 pub fn listed(attributes: u64) -> Option<String> {
     let names = names(attributes);
     (!names.is_empty()).then(|| names.join(","))
