@@ -1,6 +1,6 @@
 # make run        prove and build what the main job needs, and run it
 # make archive    prove the C interface and write the archive that a C or Rust program links, target/staticlib/libusigrambal.a
-# make shared     the same as a shared library, target/sharedlib/libusigrambal.so.2
+# make shared     the same as a shared library, target/sharedlib/libusigrambal.so.3
 # make install    the command with man pages and completion, the C header, archive and shared library, to PREFIX (default: /usr/local), below DESTDIR if given
 # make uninstall  remove from PREFIX what install wrote there
 # make test       the gate: format, every proof, every test
@@ -14,7 +14,7 @@ SECONDS_PER_CALL = 30
 BENCH =
 C_CRATES = c_text c_disk c_flash c_layout
 ARCHIVE = target/staticlib/libusigrambal.a
-SONAME = libusigrambal.so.2
+SONAME = libusigrambal.so.3
 SHARED = target/sharedlib/$(SONAME)
 COMMAND = target/command/release/usigrambal
 PAGES = target/pages

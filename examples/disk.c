@@ -1,5 +1,6 @@
-/* Formats a disk in memory, adds a partition at a multiple of 2048 blocks, and is refused a second one of the same name and one that has no
- * room: with blocks of 512 bytes, and with blocks of 4096. Then it names a block size that is refused. Prints each answer. */
+/* Formats a disk in memory, adds a partition at a multiple of 2048 blocks with attribute bit 2, and is refused a second one of the same name, one
+ * with bit 3 and one that has no room; then asks which partition offends each rule of attribute bits: with blocks of 512 bytes, and with blocks of
+ * 4096. Then it names a block size that is refused. Prints each answer. */
 #include "usigrambal.h"
 
 #include <inttypes.h>
@@ -16,11 +17,17 @@ static uint32_t format(void) {
     return usi_gpt_format(head, USI_HEAD_LEN(block), tail, USI_TAIL_LEN(block), N, block, disk, sizeof disk);
 }
 
-static uint32_t add(const uint8_t *unique, const uint16_t *name, uint64_t size, uint64_t *slot, uint64_t *first) {
+static uint32_t add(const uint8_t *unique, const uint16_t *name, uint64_t size, uint64_t attributes, uint64_t *slot, uint64_t *first) {
     uint8_t kind[USI_GUID_LEN];
     usi_type_read((const uint8_t *)"linux", 5, kind, sizeof kind);
     return usi_gpt_add(head, USI_HEAD_LEN(block), tail, USI_TAIL_LEN(block), N, block, kind, sizeof kind, unique, USI_GUID_LEN, size, ALIGNMENT,
-                       0, name, USI_NAME_UNITS, slot, first);
+                       attributes, USI_RULE_PRESENT, name, USI_NAME_UNITS, slot, first);
+}
+
+static void check(const char *called, uint64_t rule) {
+    uint64_t slot = 0;
+    printf("check %s %" PRIu32, called, usi_gpt_check(head, USI_HEAD_LEN(block), tail, USI_TAIL_LEN(block), N, block, rule, &slot));
+    printf(" slot %" PRIu64 "\n", slot);
 }
 
 static void fill(void) {
@@ -28,10 +35,13 @@ static void fill(void) {
     static const uint16_t data[USI_NAME_UNITS] = {'d', 'a', 't', 'a'}, logs[USI_NAME_UNITS] = {'l', 'o', 'g', 's'};
     uint64_t slot = 0, first = 0, free_blocks = 0, longest = 0;
     printf("format %" PRIu32 "\n", format());
-    printf("add %" PRIu32, add(one, data, 2048, &slot, &first));
+    printf("add %" PRIu32, add(one, data, 2048, 4, &slot, &first));
     printf(" slot %" PRIu64 " first %" PRIu64 "\n", slot, first);
-    printf("add %" PRIu32 "\n", add(two, data, 2048, &slot, &first));
-    printf("add %" PRIu32 "\n", add(two, logs, N, &slot, &first));
+    printf("add %" PRIu32 "\n", add(two, data, 2048, 0, &slot, &first));
+    printf("add %" PRIu32 "\n", add(two, logs, 2048, 8, &slot, &first));
+    printf("add %" PRIu32 "\n", add(two, logs, N, 0, &slot, &first));
+    check("present", USI_RULE_PRESENT);
+    check("earlier", USI_RULE_EARLIER);
     printf("free %" PRIu32, usi_gpt_free(head, USI_HEAD_LEN(block), tail, USI_TAIL_LEN(block), N, block, &free_blocks, &longest));
     printf(" %" PRIu64 " %" PRIu64 "\n", free_blocks, longest);
 }

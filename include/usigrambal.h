@@ -22,9 +22,9 @@ extern "C" {
 #endif
 
 #define USI_VERSION_MAJOR 0
-#define USI_VERSION_MINOR 4
+#define USI_VERSION_MINOR 5
 #define USI_VERSION_PATCH 0
-#define USI_VERSION "0.4.0"
+#define USI_VERSION "0.5.0"
 
 /* What a call returns. */
 enum usi_answer {
@@ -45,6 +45,7 @@ enum usi_answer {
     USI_NO_ROOM = 25,
     USI_PARTITION_NAME_TAKEN = 26,
     USI_ALIGNMENT = 27,
+    USI_ATTRIBUTE_BITS = 28,
     USI_NOT_A_GUID = 30,
     USI_IMAGE_LENGTH = 40,
     USI_NO_SIGNATURE = 41,
@@ -87,6 +88,7 @@ static inline const char *usi_words(uint32_t number)
     case USI_NO_ROOM: return "no room";
     case USI_PARTITION_NAME_TAKEN: return "the name is already in another used slot";
     case USI_ALIGNMENT: return "the alignment is not 1, 8 or 2048 blocks";
+    case USI_ATTRIBUTE_BITS: return "an attribute bit is set that the rule wants zero";
     case USI_NOT_A_GUID: return "not a GUID text";
     case USI_IMAGE_LENGTH: return "the image length is outside its range";
     case USI_NO_SIGNATURE: return "the signature of a map stands nowhere";
@@ -189,6 +191,12 @@ static inline const char *usi_rule_words(uint64_t rule)
 /* Where the disk GUID of the copy in use stands: in the head or in the tail, as usi_gpt_table says. */
 #define USI_DISK_GUID_IN_HEAD(block) ((block) + 56)
 #define USI_DISK_GUID_IN_TAIL 16440
+
+/* The rules of attribute bits: the present one wants bits 3 to 47 zero, the earlier one bits 1 to 47; every number but 0 is the earlier one.
+ * Bits 0 and 48 to 63 are free under both. attributes & USI_ZERO_BITS(rule) are the bits that offend. */
+#define USI_RULE_PRESENT 0
+#define USI_RULE_EARLIER 1
+#define USI_ZERO_BITS(rule) ((rule) == USI_RULE_PRESENT ? UINT64_C(0x0000FFFFFFFFFFF8) : UINT64_C(0x0000FFFFFFFFFFFE))
 
 /* The states of the two copies. */
 #define USI_STATE_SAME 1
@@ -293,16 +301,22 @@ uint32_t usi_gpt_table(const uint8_t *head, size_t head_len, const uint8_t *tail
 uint32_t usi_gpt_free(const uint8_t *head, size_t head_len, const uint8_t *tail, size_t tail_len, uint64_t n, uint64_t block, uint64_t *free,
                       uint64_t *longest);
 
+/* Answers the first used slot whose attributes have a bit set that the rule wants zero, 0 where none has, in the copy that usi_gpt_table answers.
+ * rule is USI_RULE_PRESENT or USI_RULE_EARLIER; every other number is the earlier one too. A table that passes the earlier rule passes the present one.
+ * An unused entry never offends, whatever it holds. Refusals in order: 6, 1, 2, 10. */
+uint32_t usi_gpt_check(const uint8_t *head, size_t head_len, const uint8_t *tail, size_t tail_len, uint64_t n, uint64_t block, uint64_t rule,
+                       uint64_t *slot);
+
 /* Adds a partition of size blocks in the lowest unused slot, at the lowest block that is a multiple of alignment (1, 8 or 2048) and has size free
  * blocks from it on; answers slot and first block. The multiple is of the block's number on the disk, whatever the first usable block is.
- * All 128 bytes of the slot are written, whatever it held.
+ * All 128 bytes of the slot are written, whatever it held. rule is as in usi_gpt_check.
  * Refusals in order: 6, 1, 2, 10, 11; 20 size is 0; 27 alignment is not 1, 8 or 2048; 21 the type is all zero;
  * 22 the unique GUID is all zero or already in a used slot; 23 the name has a unit other than zero after a zero one;
- * 26 the name is not empty and another used slot has the same 72 bytes; 24 no unused slot;
+ * 26 the name is not empty and another used slot has the same 72 bytes; 28 attributes have a bit set that the rule wants zero; 24 no unused slot;
  * 25 no room: no multiple of alignment has size free blocks from it on. */
 uint32_t usi_gpt_add(uint8_t *head, size_t head_len, uint8_t *tail, size_t tail_len, uint64_t n, uint64_t block, const uint8_t *kind, size_t kind_len,
-                     const uint8_t *unique, size_t unique_len, uint64_t size, uint64_t alignment, uint64_t attributes, const uint16_t *name,
-                     size_t name_units, uint64_t *slot, uint64_t *first);
+                     const uint8_t *unique, size_t unique_len, uint64_t size, uint64_t alignment, uint64_t attributes, uint64_t rule,
+                     const uint16_t *name, size_t name_units, uint64_t *slot, uint64_t *first);
 
 /* Zeroes a slot. Refusals in order: 6, 1, 2, 10, 11; 12 slot is not 1 to 128; 13 the slot is unused, even if it holds other bytes than zeros. */
 uint32_t usi_gpt_delete(uint8_t *head, size_t head_len, uint8_t *tail, size_t tail_len, uint64_t n, uint64_t block, uint64_t slot);

@@ -1,4 +1,4 @@
-"""Usigrambal from Python: flash layouts (FMD), flash maps (FMAP) and GPT disks, by the shared library libusigrambal.so.2.
+"""Usigrambal from Python: flash layouts (FMD), flash maps (FMAP) and GPT disks, by the shared library libusigrambal.so.3.
 
 Standard library alone. Buffers go in as bytes (or bytearray), numbers as int. A call that changes a buffer answers the changed
 one as new bytes and leaves its argument alone. A refused call raises Refused, which has the number and its words.
@@ -18,7 +18,7 @@ import ctypes
 import enum
 import os
 
-__version__ = "0.4.0"
+__version__ = "0.5.0"
 
 BLOCK_SIZES = (512, 4096)
 ENTRIES_LEN = 16384
@@ -30,6 +30,8 @@ AREA_LEN = 42
 IMAGE_NAME_LEN = 32
 RECORDS_LEN = 5376
 PRESERVE = 8
+RULE_PRESENT = 0
+RULE_EARLIER = 1
 
 
 class _Worded(enum.IntEnum):
@@ -61,6 +63,7 @@ class Refusal(_Worded):
     NO_ROOM = 25, "no room"
     PARTITION_NAME_TAKEN = 26, "the name is already in another used slot"
     ALIGNMENT = 27, "the alignment is not 1, 8 or 2048 blocks"
+    ATTRIBUTE_BITS = 28, "an attribute bit is set that the rule wants zero"
     NOT_A_GUID = 30, "not a GUID text"
     IMAGE_LENGTH = 40, "the image length is outside its range"
     NO_SIGNATURE = 41, "the signature of a map stands nowhere"
@@ -124,7 +127,7 @@ class State(enum.IntEnum):
 def _library():
     """The shared library, with the types of its calls."""
     here = os.path.dirname(os.path.abspath(__file__))
-    name = "libusigrambal.so.2"
+    name = "libusigrambal.so.3"
     named = os.environ.get("USIGRAMBAL_LIBRARY")
     places = [os.path.join(here, *parts, name) for parts in ((), ("..", "..", "lib"), ("..", "target", "sharedlib"))]
     path = named or next((place for place in places if os.path.exists(place)), name)
@@ -136,10 +139,9 @@ def _library():
     return library
 
 
-# A buffer is a pointer and a length, "units" one of 16-bit units; "number" is a number, "answer" a pointer to one.
+# A buffer is a pointer and a length, in bytes or of a name in 16-bit units; "number" is a number, "answer" a pointer to one.
 _KINDS = {
     "buffer": (ctypes.c_void_p, ctypes.c_size_t),
-    "units": (ctypes.c_void_p, ctypes.c_size_t),
     "number": (ctypes.c_uint64,),
     "answer": (ctypes.POINTER(ctypes.c_uint64),),
 }
@@ -160,10 +162,11 @@ _CALLS = {
     "usi_gpt_read": _DISK + ("answer",),
     "usi_gpt_table": _DISK + ("answer", "answer"),
     "usi_gpt_free": _DISK + ("answer", "answer"),
-    "usi_gpt_add": _DISK + ("buffer", "buffer", "number", "number", "number", "units", "answer", "answer"),
+    "usi_gpt_check": _DISK + ("number", "answer"),
+    "usi_gpt_add": _DISK + ("buffer", "buffer", "number", "number", "number", "number", "buffer", "answer", "answer"),
     "usi_gpt_delete": _DISK + ("number",),
     "usi_gpt_resize": _DISK + ("number", "number"),
-    "usi_gpt_rename": _DISK + ("number", "units"),
+    "usi_gpt_rename": _DISK + ("number", "buffer"),
     "usi_gpt_repair": _DISK + ("answer",),
     "usi_fmd_read": ("buffer", "buffer", "answer", "answer", "answer"),
     "usi_fmd_records": ("buffer", "buffer", "answer"),
@@ -199,7 +202,7 @@ def _call(name, *arguments):
     """Calls the library; the answer of every call but usi_crc32 is 0 or the number of its refusal."""
     passed = []
     for kind, argument in zip(_CALLS[name], arguments):
-        if kind in ("buffer", "units"):
+        if kind == "buffer":
             passed += [argument, len(argument)]
         else:
             passed.append(_number(argument) if kind == "number" else ctypes.byref(argument))
@@ -213,8 +216,11 @@ def _accepted(name, *arguments):
         raise Refused(answer)
 
 
-def _answers(count):
-    return [ctypes.c_uint64() for _ in range(count)]
+def _numbers(count, name, *arguments):
+    """So many numbers that a call answers, behind its other arguments."""
+    answers = [ctypes.c_uint64() for _ in range(count)]
+    _accepted(name, *arguments, *answers)
+    return tuple(answer.value for answer in answers)
 
 
 def crc32(data):
@@ -225,14 +231,14 @@ def crc32(data):
 def guid_read(text):
     """The 16 stored bytes of a GUID text. Refused: 30."""
     guid = _copy(bytes(GUID_LEN))
-    _accepted("usi_guid_read", _copy(text.encode() if isinstance(text, str) else text), guid)
+    _accepted("usi_guid_read", _text(text), guid)
     return bytes(guid)
 
 
 def type_read(text):
     """The same for a partition type, which may also be system, msft, data, linux or swap. Refused: 30."""
     guid = _copy(bytes(GUID_LEN))
-    _accepted("usi_type_read", _copy(text.encode() if isinstance(text, str) else text), guid)
+    _accepted("usi_type_read", _text(text), guid)
     return bytes(guid)
 
 
@@ -245,16 +251,12 @@ def guid_write(guid):
 
 def fmap_find(image):
     """The position of the lowest good map of an image. Refused: 40, 41, 42."""
-    (position,) = _answers(1)
-    _accepted("usi_fmap_find", _copy(image), position)
-    return position.value
+    return _numbers(1, "usi_fmap_find", _copy(image))[0]
 
 
 def fmap_fault(image, position):
     """The first Rule that a map at a position breaks, Rule.NONE where a good map stands there. Refused: 40."""
-    (rule,) = _answers(1)
-    _accepted("usi_fmap_fault", _copy(image), position, rule)
-    return Rule(rule.value)
+    return Rule(*_numbers(1, "usi_fmap_fault", _copy(image), position))
 
 
 def fmap_area(image, k):
@@ -266,9 +268,7 @@ def fmap_area(image, k):
 
 def fmap_named(image, name):
     """The number of the area with a name, counted from 0. Refused: 40, 41, 42, 255."""
-    (k,) = _answers(1)
-    _accepted("usi_fmap_named", _copy(image), _copy(name.encode() if isinstance(name, str) else name), k)
-    return k.value
+    return _numbers(1, "usi_fmap_named", _copy(image), _text(name))[0]
 
 
 def fmap_carry(old, new):
@@ -301,16 +301,13 @@ def gpt_format(head, tail, n, block, guid):
 
 def gpt_read(head, tail, n, block):
     """The State of the two copies. Refused: 6, 1, 2, 10."""
-    (state,) = _answers(1)
-    _accepted("usi_gpt_read", _copy(head), _copy(tail), n, block, state)
-    return State(state.value)
+    return State(*_numbers(1, "usi_gpt_read", _copy(head), _copy(tail), n, block))
 
 
 def gpt_table(head, tail, n, block):
     """Whether the entries in use stand in the tail, and at which byte of it or of the head. Refused: 6, 1, 2, 10."""
-    in_tail, offset = _answers(2)
-    _accepted("usi_gpt_table", _copy(head), _copy(tail), n, block, in_tail, offset)
-    return in_tail.value != 0, offset.value
+    in_tail, offset = _numbers(2, "usi_gpt_table", _copy(head), _copy(tail), n, block)
+    return in_tail != 0, offset
 
 
 def gpt_entries(head, tail, n, block):
@@ -321,18 +318,21 @@ def gpt_entries(head, tail, n, block):
 
 def gpt_free(head, tail, n, block):
     """How many usable blocks are in no partition, and the longest run of them. Refused: 6, 1, 2, 10."""
-    free, longest = _answers(2)
-    _accepted("usi_gpt_free", _copy(head), _copy(tail), n, block, free, longest)
-    return free.value, longest.value
+    return _numbers(2, "usi_gpt_free", _copy(head), _copy(tail), n, block)
 
 
-def gpt_add(head, tail, n, block, kind, unique, size, attributes=0, name="", *, alignment=2048):
-    """Head and tail with a new partition of `size` blocks, then its slot and its first block: the lowest multiple of `alignment`
-    (1, 8 or 2048 blocks) with room. The name is a text or a list of 36 units. Refused: 6, 1, 2, 10, 11, 20, 27, 21 to 23, 26, 24, 25."""
-    slot, first = _answers(2)
-    more = (_copy(kind), _copy(unique), size, alignment, attributes, _name(name), slot, first)
-    head, tail = _edited("usi_gpt_add", head, tail, n, block, *more)
-    return head, tail, slot.value, first.value
+def gpt_check(head, tail, n, block, rule=RULE_PRESENT):
+    """The first used slot whose attributes have a bit set that the rule wants zero, 0 where none has: bits 3 to 47 by RULE_PRESENT,
+    bits 1 to 47 by RULE_EARLIER and by every other number. Refused: 6, 1, 2, 10."""
+    return _numbers(1, "usi_gpt_check", _copy(head), _copy(tail), n, block, rule)[0]
+
+
+def gpt_add(head, tail, n, block, kind, unique, size, attributes=0, name="", *, alignment=2048, rule=RULE_PRESENT):
+    """Head and tail with a new partition of `size` blocks, then its slot and its first block: the lowest multiple of `alignment` (1, 8 or
+    2048 blocks) with room. The name is a text or a list of 36 units; the rule is as in gpt_check.
+    Refused: 6, 1, 2, 10, 11, 20, 27, 21 to 23, 26, 28, 24, 25."""
+    more = (_copy(kind), _copy(unique), size, alignment, attributes, rule, _name(name))
+    return _edited("usi_gpt_add", head, tail, n, block, *more, answers=2)
 
 
 def gpt_delete(head, tail, n, block, slot):
@@ -352,32 +352,30 @@ def gpt_rename(head, tail, n, block, slot, name):
 
 def gpt_repair(head, tail, n, block):
     """Head and tail with both copies good and the same, then the State that was found. Refused: 6, 1, 2, 10."""
-    (state,) = _answers(1)
-    head, tail = _edited("usi_gpt_repair", head, tail, n, block, state)
-    return head, tail, State(state.value)
+    head, tail, state = _edited("usi_gpt_repair", head, tail, n, block, answers=1)
+    return head, tail, State(state)
 
 
-def _edited(call, head, tail, *more):
+def _edited(call, head, tail, *more, answers=0):
+    """Head and tail as the call leaves them, then so many numbers that it answers."""
     head, tail = _copy(head), _copy(tail)
-    _accepted(call, head, tail, *more)
-    return bytes(head), bytes(tail)
+    numbers = _numbers(answers, call, head, tail, *more)
+    return (bytes(head), bytes(tail), *numbers)
 
 
 def fmd_read(text):
     """What a layout text says of its image: name (bytes), size, address or 0, number of sections. Refused: 50 to 59."""
     name = _copy(bytes(IMAGE_NAME_LEN))
-    size, address, count = _answers(3)
-    _accepted("usi_fmd_read", _text(text), name, size, address, count)
-    return bytes(name).rstrip(b"\0"), size.value, address.value, count.value
+    numbers = _numbers(3, "usi_fmd_read", _text(text), name)
+    return (bytes(name).rstrip(b"\0"), *numbers)
 
 
 def fmd_records(text):
     """The sections of a layout text in its order: position in the image, size, name (bytes), flags. Refused: 50 to 59."""
     records = _copy(bytes(RECORDS_LEN))
-    (count,) = _answers(1)
-    _accepted("usi_fmd_records", _text(text), records, count)
+    (count,) = _numbers(1, "usi_fmd_records", _text(text), records)
     stored = bytes(records)
-    return [_record(stored[at : at + AREA_LEN]) for at in range(0, AREA_LEN * count.value, AREA_LEN)]
+    return [_record(stored[at : at + AREA_LEN]) for at in range(0, AREA_LEN * count, AREA_LEN)]
 
 
 def fmd_write(text, image):

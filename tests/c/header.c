@@ -1,6 +1,6 @@
 /* Holds the constants of the header to what the calls do: each length is the one that is not refused, each field stands where a call wrote it;
- * every disk call to its first refusal, a block size that is none; adds to the alignment of their start, adds and renames to a name of their own;
- * and entries to what makes them unused, their type alone. */
+ * every disk call to its first refusal, a block size that is none; adds to the alignment of their start, adds and renames to a name of their own,
+ * adds and the check to the bits that a rule wants zero; and entries to what makes them unused, their type alone. */
 #include "usigrambal.h"
 
 #include <stdio.h>
@@ -46,7 +46,7 @@ static uint32_t format(size_t head_len, size_t tail_len, uint64_t n, size_t guid
 
 static uint32_t add(size_t guid_len, size_t units) {
     uint64_t slot, first;
-    return usi_gpt_add(HEAD, TAIL, N, block, two, guid_len, one, guid_len, 1, 1, 5, name, units, &slot, &first);
+    return usi_gpt_add(HEAD, TAIL, N, block, two, guid_len, one, guid_len, 1, 1, 5, USI_RULE_PRESENT, name, units, &slot, &first);
 }
 
 static uint64_t state(void) {
@@ -130,7 +130,8 @@ static void unused(void) {
 
 static uint32_t add_aligned(uint64_t n, const uint8_t *kind, uint64_t size, uint64_t alignment, uint64_t *first) {
     uint64_t slot;
-    return usi_gpt_add(HEAD, TAIL, n, block, kind, USI_GUID_LEN, one, USI_GUID_LEN, size, alignment, 0, name, USI_NAME_UNITS, &slot, first);
+    return usi_gpt_add(HEAD, TAIL, n, block, kind, USI_GUID_LEN, one, USI_GUID_LEN, size, alignment, 0, USI_RULE_EARLIER, name,
+                       USI_NAME_UNITS, &slot, first);
 }
 
 /* The lowest multiple of each alignment, and numbers that are none: refused after a size of 0 and before a type of zeros. */
@@ -156,7 +157,8 @@ static void alignments(void) {
 
 static uint32_t add_named(const uint8_t *unique, const uint16_t *called, uint64_t size) {
     uint64_t slot, first;
-    return usi_gpt_add(HEAD, TAIL, 100, block, two, USI_GUID_LEN, unique, USI_GUID_LEN, size, 1, 0, called, USI_NAME_UNITS, &slot, &first);
+    return usi_gpt_add(HEAD, TAIL, 100, block, two, USI_GUID_LEN, unique, USI_GUID_LEN, size, 1, 0, USI_RULE_EARLIER, called, USI_NAME_UNITS, &slot,
+                       &first);
 }
 
 static uint32_t rename_to(uint64_t slot, const uint16_t *called) {
@@ -199,6 +201,42 @@ static void names(void) {
     HOLDS(rename_to(3, name) == USI_ACCEPTED);
 }
 
+static uint32_t add_with(const uint8_t *unique, uint64_t set, uint64_t rule, uint64_t size) {
+    uint64_t slot, first;
+    return usi_gpt_add(HEAD, TAIL, 100, block, two, USI_GUID_LEN, unique, USI_GUID_LEN, size, 1, set, rule, name, USI_NAME_UNITS, &slot, &first);
+}
+
+static uint64_t offends(uint64_t rule) {
+    uint64_t slot = USI_SLOTS + 1;
+    HOLDS(usi_gpt_check(HEAD, TAIL, 100, block, rule, &slot) == USI_ACCEPTED);
+    return slot;
+}
+
+/* Each bit alone under each rule, in an add, after a name that is taken and before no room, and in the check. */
+static void attributes(void) {
+    static const uint64_t rules[] = {USI_RULE_PRESENT, USI_RULE_EARLIER, 2, UINT64_C(1) << 32, UINT64_MAX};
+    static const uint8_t zeros[USI_GUID_LEN] = {0};
+    HOLDS(USI_ZERO_BITS(USI_RULE_PRESENT) == UINT64_C(0xFFFFFFFFFFF8) && USI_ZERO_BITS(USI_RULE_EARLIER) == UINT64_C(0xFFFFFFFFFFFE));
+    for (size_t k = 0; k < sizeof rules / sizeof *rules; k++) {
+        const uint64_t rule = rules[k];
+        for (int bit = 0; bit < 64; bit++) {
+            const uint64_t set = UINT64_C(1) << bit;
+            const int zero = (set & USI_ZERO_BITS(rule)) != 0;
+            uint8_t stored[8];
+            HOLDS(format(USI_HEAD_LEN(block), USI_TAIL_LEN(block), 100, USI_GUID_LEN) == USI_ACCEPTED && offends(rule) == 0);
+            HOLDS(add_with(one, set, rule, 1000) == (uint32_t)(zero ? USI_ATTRIBUTE_BITS : USI_NO_ROOM));
+            HOLDS(add_with(one, set, rule, 1) == (uint32_t)(zero ? USI_ATTRIBUTE_BITS : USI_ACCEPTED) && offends(rule) == 0);
+            HOLDS(!zero || add_with(one, 0, rule, 1) == USI_ACCEPTED);
+            HOLDS(add_with(two, set, rule, 1) == USI_PARTITION_NAME_TAKEN);
+            for (int byte = 0; byte < 8; byte++) stored[byte] = (uint8_t)(set >> 8 * byte);
+            poke(1, USI_ENTRY_ATTRIBUTES, stored, sizeof stored);
+            HOLDS(offends(rule) == (uint64_t)zero);
+            poke(1, USI_ENTRY_TYPE, zeros, USI_GUID_LEN);
+            HOLDS(offends(rule) == 0);
+        }
+    }
+}
+
 /* Each disk call, on the disk that is there, with the block size in hand. */
 static void refused_for_its_block(size_t head_len, size_t tail_len, uint64_t n, size_t guid_len, size_t units) {
     uint64_t a = 77, b = 78;
@@ -206,8 +244,9 @@ static void refused_for_its_block(size_t head_len, size_t tail_len, uint64_t n, 
     HOLDS(usi_gpt_read(head, head_len, tail, tail_len, n, block, &a) == USI_BLOCK_SIZE);
     HOLDS(usi_gpt_table(head, head_len, tail, tail_len, n, block, &a, &b) == USI_BLOCK_SIZE);
     HOLDS(usi_gpt_free(head, head_len, tail, tail_len, n, block, &a, &b) == USI_BLOCK_SIZE);
-    HOLDS(usi_gpt_add(head, head_len, tail, tail_len, n, block, two, guid_len, one, USI_GUID_LEN, 1, 1, 0, name, units, &a, &b) == USI_BLOCK_SIZE);
-    HOLDS(usi_gpt_add(head, head_len, tail, tail_len, n, block, two, USI_GUID_LEN, one, guid_len, 1, 1, 0, name, units, &a, &b) == USI_BLOCK_SIZE);
+    HOLDS(usi_gpt_check(head, head_len, tail, tail_len, n, block, USI_RULE_PRESENT, &a) == USI_BLOCK_SIZE);
+    HOLDS(usi_gpt_add(head, head_len, tail, tail_len, n, block, two, guid_len, one, USI_GUID_LEN, 1, 1, 0, 0, name, units, &a, &b) == USI_BLOCK_SIZE);
+    HOLDS(usi_gpt_add(head, head_len, tail, tail_len, n, block, two, USI_GUID_LEN, one, guid_len, 1, 1, 0, 0, name, units, &a, &b) == USI_BLOCK_SIZE);
     HOLDS(usi_gpt_delete(head, head_len, tail, tail_len, n, block, 1) == USI_BLOCK_SIZE);
     HOLDS(usi_gpt_resize(head, head_len, tail, tail_len, n, block, 1, 1) == USI_BLOCK_SIZE);
     HOLDS(usi_gpt_rename(head, head_len, tail, tail_len, n, block, 1, name, units) == USI_BLOCK_SIZE);
@@ -308,6 +347,7 @@ int main(void) {
         unused();
         alignments();
         names();
+        attributes();
         block_sizes();
     }
     guid();
@@ -316,6 +356,6 @@ int main(void) {
     sprintf(version, "%d.%d.%d", USI_VERSION_MAJOR, USI_VERSION_MINOR, USI_VERSION_PATCH);
     HOLDS(strcmp(version, USI_VERSION) == 0);
     HOLDS(strcmp(usi_words(USI_NO_ROOM), "no room") == 0 && strcmp(usi_words(99), usi_words(100)) == 0);
-    printf("%d claims about the header's constants, block sizes, alignments, names and unused entries hold\n", held);
+    printf("%d claims about the header's constants, block sizes, alignments, names, attributes and unused entries hold\n", held);
     return 0;
 }

@@ -64,7 +64,8 @@ class Names(unittest.TestCase):
         self.assertEqual(words, {name: one.words for name, one in named})
 
     def test_constants(self):
-        for name in ["ENTRIES_LEN", "ENTRY_LEN", "GUID_LEN", "GUID_TEXT_LEN", "NAME_UNITS", "AREA_LEN", "IMAGE_NAME_LEN", "RECORDS_LEN"]:
+        names = ["ENTRIES_LEN", "ENTRY_LEN", "GUID_LEN", "GUID_TEXT_LEN", "NAME_UNITS", "AREA_LEN", "IMAGE_NAME_LEN", "RECORDS_LEN"]
+        for name in names + ["RULE_PRESENT", "RULE_EARLIER"]:
             self.assertIn(f"#define USI_{name} {getattr(usi, name)}\n", HEADER)
         self.assertIn(f"#define USI_FLAG_PRESERVE {usi.PRESERVE}\n", HEADER)
         self.assertIn(f'#define USI_VERSION "{usi.__version__}"\n', HEADER)
@@ -179,7 +180,7 @@ class Samples(unittest.TestCase):
     def every_disk_call_refuses(self, number, head, tail, n, block, guid=TWO, name=""):
         disk = head, tail, n, block
         self.refused(number, usi.gpt_format, *disk, guid)
-        for call in (usi.gpt_read, usi.gpt_table, usi.gpt_entries, usi.gpt_free, usi.gpt_repair):
+        for call in (usi.gpt_read, usi.gpt_table, usi.gpt_entries, usi.gpt_free, usi.gpt_check, usi.gpt_repair):
             self.refused(number, call, *disk)
         self.refused(number, usi.gpt_add, *disk, guid, ONE, 1, 0, name)
         self.refused(number, usi.gpt_add, *disk, ONE, guid, 1, 0, name)
@@ -270,6 +271,31 @@ class Samples(unittest.TestCase):
             unused = poked(*double, block, 3, 0, bytes(16))
             self.assertEqual(usi.gpt_rename(*unused, *size, 1, "scratch"), unused)
 
+    def test_attributes(self):
+        """A bit that the rule wants zero is 28, after 26 and before 25; the check answers the first used slot that has one, or 0."""
+        for block in usi.BLOCK_SIZES:
+            size = 100, block
+            *empty, slot, _ = usi.gpt_add(*formatted(*size), *size, TWO, ONE, 1, name="a", alignment=1, rule=usi.RULE_EARLIER)
+            new = *empty, *size, TWO, TWO
+            self.assertEqual((slot, usi.gpt_check(*empty, *size), usi.gpt_check(*empty, *size, usi.RULE_EARLIER)), (1, 0, 0))
+            for bit in range(64):
+                present, earlier = 3 <= bit < 48, 1 <= bit < 48
+                for rule, offends in [(usi.RULE_PRESENT, present), (usi.RULE_EARLIER, earlier), (1 << 32, earlier), ((1 << 64) - 1, earlier)]:
+                    if offends:
+                        self.refused(28, usi.gpt_add, *new, 1, attributes=1 << bit, alignment=1, rule=rule)
+                        self.refused(28, usi.gpt_add, *new, 1000, attributes=1 << bit, alignment=1, rule=rule)
+                        self.refused(26, usi.gpt_add, *new, 1, attributes=1 << bit, name="a", alignment=1, rule=rule)
+                    else:
+                        *added, slot, _ = usi.gpt_add(*new, 1, attributes=1 << bit, alignment=1, rule=rule)
+                        self.assertEqual((slot, usi.gpt_check(*added, *size, rule=rule)), (2, 0))
+                        self.refused(25, usi.gpt_add, *new, 1000, attributes=1 << bit, alignment=1, rule=rule)
+                    # By no call: the same bit in a slot that is there, and then in one without a type.
+                    foreign = poked(*empty, block, 1, 48, (1 << bit).to_bytes(8, "little"))
+                    self.assertEqual(usi.gpt_check(*foreign, *size, rule), int(offends))
+                    self.assertEqual(usi.gpt_check(*poked(*foreign, block, 1, 0, bytes(16)), *size, rule), 0)
+            self.refused(28, usi.gpt_add, *new, 1, 8, alignment=1)
+            self.refused(10, usi.gpt_check, bytes(len(empty[0])), bytes(len(empty[1])), *size)
+
     def test_stale_bytes(self):
         """A zero type GUID alone makes a slot unused, and an add writes all of it."""
         for block in usi.BLOCK_SIZES:
@@ -301,7 +327,8 @@ class Samples(unittest.TestCase):
                 ("usi_gpt_format", head, tail, 2 * least - 1, block, guid),
                 ("usi_gpt_format", head, tail, 100, block + 1, guid),
                 ("usi_gpt_read", head, tail, 100, block, answer),
-                ("usi_gpt_add", head, tail, 100, block, guid, guid, 1, 8, 0, usi._name("n"), answer, other),
+                ("usi_gpt_check", head, tail, 100, block, 0, answer),
+                ("usi_gpt_add", head, tail, 100, block, guid, guid, 1, 8, 0, 1, usi._name("n"), answer, other),
                 ("usi_gpt_repair", head, tail, 100, block, answer),
             ]
         for name, *arguments in calls:

@@ -143,7 +143,7 @@ impl Disk {
 
     fn add_named(&mut self, partition: u8, size: u64, alignment: u64, name: &[u16]) -> u32 {
         let (kind, unique) = (&KIND, &[partition; 16]);
-        let new = raw::NewPartition { kind, unique, size, alignment, attributes: 0, name };
+        let new = raw::NewPartition { kind, unique, size, alignment, attributes: 0, rule: 0, name };
         raw::gpt_add(&mut self.head, &mut self.tail, N, self.block.bytes(), &new, &mut 0, &mut 0)
     }
 
@@ -157,6 +157,14 @@ impl Disk {
         let (mut free, mut longest) = (0, 0);
         assert_eq!(raw::gpt_free(&self.head, &self.tail, N, self.block.bytes(), &mut free, &mut longest), 0);
         free + longest
+    }
+
+    /// By the present rule, which no partition offends, so that all are looked at.
+    pub fn check(&self) -> u64 {
+        let mut slot = 0;
+        assert_eq!(raw::gpt_check(&self.head, &self.tail, N, self.block.bytes(), 0, &mut slot), 0);
+        assert_eq!(slot, 0);
+        slot
     }
 
     /// Adds a partition to a copy of the disk; the copy's time counts too.

@@ -10,7 +10,7 @@ use std::ffi::{c_char, c_int, CString};
 use std::fs::{File, OpenOptions};
 use std::os::unix::fs::FileExt;
 use std::path::Path;
-use usigrambal::{BlockSize, Guid, Name, NewPartition};
+use usigrambal::{AttributeRule, BlockSize, Guid, Name, NewPartition};
 
 const BLOCK: BlockSize = BlockSize::Bytes512;
 
@@ -128,6 +128,7 @@ fn add(path: &Path) -> usize {
         size: 2,
         alignment: 1,
         attributes: 0,
+        rule: AttributeRule::Present,
         name: Name(disk::name(NEW)),
     };
     changed(path, |disk| {

@@ -1,5 +1,6 @@
 //! The rows of the disk calls in memory, in units of a CRC-32, with blocks of 4096 bytes beside blocks of 512, an add at a
-//! multiple of 2048 blocks beside one at any block, and an add with a name beside one without.
+//! multiple of 2048 blocks beside one at any block, an add with a name beside one without, and the check of attributes
+//! beside reading.
 
 use crate::disk::{name, Disk, NEW, NO_NAME};
 use crate::peers;
@@ -17,6 +18,8 @@ const ALIGNED_MOST: f64 = 1.3;
 const ALIGNMENT: u64 = 2048;
 /// The time of an add with a name, in units of that without, which is held to no other partition's.
 const NAMED_MOST: f64 = 1.1;
+/// The time of a check of attributes, in units of that of reading, which it begins with.
+const CHECK_MOST: f64 = 1.1;
 
 /// A gap behind each partition: 128 partitions, in the slots' order and against it; and 127 with room for one more behind the last gap.
 pub struct Disks {
@@ -52,6 +55,7 @@ pub fn rows<'a>(t: &mut Table<'a>, disks: &'a Disks) {
     large_rows(t, disks);
     aligned_row(t, &disks.room);
     named_row(t, &disks.room);
+    check_row(t, &disks.full);
 }
 
 fn unit_rows<'a>(t: &mut Table<'a>, disks: &'a Disks) {
@@ -101,6 +105,11 @@ fn aligned_row<'a>(t: &mut Table<'a>, room: &'a Disk) {
 fn named_row<'a>(t: &mut Table<'a>, room: &'a Disk) {
     let label = Label::new("gpt add with a name, in memory", "itself without").size("127 partitions");
     t.row(label.at_most_units(NAMED_MOST), adds(room, 1), adds_named(room, 1, NO_NAME));
+}
+
+fn check_row<'a>(t: &mut Table<'a>, full: &'a Disk) {
+    let label = Label::new("gpt check, in memory", "gpt read").size("128 partitions");
+    t.row(label.at_most_units(CHECK_MOST), calls(|| full.check()), reads(full));
 }
 
 fn reads(disk: &Disk) -> Timed<'_> {

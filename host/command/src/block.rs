@@ -63,6 +63,14 @@ fn of_device(path: &Path, bytes: u64, asked: Option<BlockSize>) -> Result<BlockS
     }
 }
 
+/// A line where the block size was found by reading.
+pub fn note(block: BlockSize, by: By) -> String {
+    match by {
+        By::Table => format!("note: read with --block {block}, as it does not read with {}\n", block.other()),
+        _ => String::new(),
+    }
+}
+
 /// How a disk is given other blocks than its own, for this command and for others.
 pub fn as_device(path: &Path, size: BlockSize) -> String {
     let path = quoted(path);

@@ -1,6 +1,7 @@
 //! The completion for bash.
 
 use crate::verbs::{self, Verb, GROUPS};
+use usigrambal::attributes::BIT_NAMES;
 use usigrambal::Guid;
 
 /// GROUPS, VERBS and OPTIONS stand for what the table of verbs says. Where the function offers nothing of its own, bash
@@ -53,6 +54,7 @@ fn options_of(verb: &Verb) -> String {
         let offered = match value {
             "FILE" => "return".to_string(),
             "TYPE" => format!("words='{}'", Guid::SHORT_NAMES.join(" ")),
+            "BITS" => format!("words='{}'", BIT_NAMES.map(|(_, name)| name).join(" ")),
             listed if listed.contains('|') => format!("words='{}'", listed.replace('|', " ")),
             _ => "words=''".to_string(),
         };

@@ -16,7 +16,7 @@ fn a_file_is_read_with_what_reads() {
     let folder = Folder::new();
     let image = disk_of_4096(&folder, "disk.img", 44);
     let small = disk(&folder, "small.img", 100);
-    for verb in ["show", "free", "verify"] {
+    for verb in ["show", "free", "check", "verify"] {
         let named = at_4096(verb, &image, &[]).done();
         let found = run!["gpt", verb, image].done();
         assert!(
@@ -74,7 +74,7 @@ fn the_hint_names_the_block_size_that_reads() {
         refused(&long, words, &["--block", "512"], &reads(4096));
         refused(&short, words, &["--block", "4096"], &reads(512));
     }
-    for verb in ["show", "free", "verify"] {
+    for verb in ["show", "free", "check", "verify"] {
         refused(&long, &[verb], &["--block", "512"], &reads(4096));
         refused(&short, &[verb], &["--block", "4096"], &reads(512));
     }
@@ -89,7 +89,7 @@ fn a_table_that_is_not_good_with_either() {
     spoil(&image, 4096 + 60);
     spoil(&image, 43 * 4096 + 60);
     let why = "is not good (both copies: the header's CRC is wrong)";
-    for verb in ["show", "free", "verify", "repair"] {
+    for verb in ["show", "free", "check", "verify", "repair"] {
         let refused = run!["gpt", verb, image];
         assert_eq!(refused.hint(), format!("a GPT for blocks of 4096 bytes is there, and {why}"));
         refused.refused(10);
@@ -112,7 +112,9 @@ fn other_block_sizes() {
     let folder = Folder::new();
     let missing = folder.path("missing.img");
     let hint = "--block is 512 or 4096, the bytes of a block";
-    for verb in [&["show"][..], &["free"], &["verify"], &["format"], &["repair"], &["delete", "1"]] {
+    for verb in
+        [&["show"][..], &["free"], &["check"], &["verify"], &["format"], &["repair"], &["delete", "1"]]
+    {
         for (block, words) in [("1024", "1024 bytes"), ("0", "0 bytes"), ("0x2000", "8192 bytes")] {
             let mut command = common::command();
             command.args(["gpt", verb[0]]).arg(&missing).args(&verb[1..]).args(["--block", block]);

@@ -60,9 +60,9 @@ table:         both copies are good and the same
 usable blocks: 34 to 129
 free:          48 blocks (24 KiB), longest run 48 blocks (24 KiB)
 
-Number  First  Last  Blocks    Size  Type                                  Unique GUID                           Attributes  Name
-     1     34    57      24  12 KiB  system                                {unique}  0x0         boot
-     2     58    81      24  12 KiB  {foreign}  {GUID}  0x5
+Number  First  Last  Blocks    Size  Type                                  Unique GUID                           Attributes            Name
+     1     34    57      24  12 KiB  system                                {unique}  -                     boot
+     2     58    81      24  12 KiB  {foreign}  {GUID}  required,legacy-boot
 
   Free  First  Last  Blocks    Size
            82   129      48  24 KiB
@@ -192,7 +192,7 @@ fn wrong_words_are_told_in_a_sentence() {
     run!["gpt", "add", image, "--size", "1.5M"].usage("\"1.5M\" is no size");
     run!["gpt", "add", image, "--size", "1000B"].usage("no whole number of blocks");
     run!["gpt", "add", image, "--size", "18446744073709551616"].usage("too large");
-    run!["gpt", "add", image, "--size", "1", "--attributes", "x"].usage("\"x\" is no number");
+    run!["gpt", "add", image, "--size", "1", "--attributes", "x"].usage("\"x\" is no attribute");
     run!["gpt", "delete", image, "one"]
         .usage("no partition has the number, the name or the unique GUID \"one\"");
     run!["gpt", "delete", image].usage("PARTITION is missing");

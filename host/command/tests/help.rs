@@ -9,7 +9,7 @@ use std::process::Command;
 const VERBS: [(&str, &[&str]); 3] = [
     ("fmd", &["list", "write"]),
     ("fmap", &["show", "diff", "carry", "extract"]),
-    ("gpt", &["show", "free", "format", "add", "delete", "resize", "rename", "repair", "verify"]),
+    ("gpt", &["show", "free", "format", "add", "delete", "resize", "rename", "repair", "check", "verify"]),
 ];
 
 fn examples(help: &str) -> Vec<String> {
@@ -112,4 +112,27 @@ fn the_alignment_is_an_option_of_add() {
     assert_eq!(offered(&Folder::new(), "usigrambal gpt add disk.img --align"), "1 8 2048\n");
     let page = run!["--page", "usigrambal-gpt.1"].done();
     assert_eq!(page.matches("\\fB\\-\\-align\\fP \\fI1|8|2048\\fP").count(), 1);
+}
+
+/// Of `gpt add` and `gpt check`; both values are offered behind it, and the names of bits behind --attributes.
+#[test]
+fn the_rule_is_an_option_of_add_and_check() {
+    let folder = Folder::new();
+    let (_, verbs) = VERBS[2];
+    for verb in verbs {
+        let help = run!["gpt", verb, "--help"].done();
+        let has = ["add", "check"].contains(verb);
+        assert_eq!(help.contains("[--rule present|earlier]"), has, "{help}");
+        if has {
+            let line =
+                help.lines().find(|line| line.starts_with("  --rule present|earlier ")).expect("a line");
+            assert!(line.ends_with("present 3 to 47, earlier 1 to 47; present if not given"), "{line}");
+            let words = format!("usigrambal gpt {verb} disk.img --rule");
+            assert_eq!(offered(&folder, &words), "present earlier\n");
+        }
+    }
+    let bits = offered(&folder, "usigrambal gpt add disk.img --attributes");
+    assert_eq!(bits, "required no-block-io legacy-boot\n");
+    let page = run!["--page", "usigrambal-gpt.1"].done();
+    assert_eq!(page.matches("\\fB\\-\\-rule\\fP \\fIpresent|earlier\\fP").count(), 2);
 }

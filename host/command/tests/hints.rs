@@ -92,13 +92,13 @@ fn tables_that_cannot_be_edited() {
     spoil(&image, 512);
     let hint =
         format!("both copies: no GPT signature; usigrambal gpt format {path} --dry-run tells what is there");
-    for verb in ["show", "free", "verify", "repair"] {
+    for verb in ["show", "free", "check", "verify", "repair"] {
         refused(&["gpt", verb, path], 10, "neither GPT copy is good", &hint);
     }
     let small = folder.sparse("small.img", 67 * 512);
     let path = small.to_str().expect("UTF-8");
     let hint = "a disk has 68 to 4294967296 blocks of 512 bytes (34 KiB to 2 TiB)";
-    for verb in ["show", "free", "verify", "repair", "format"] {
+    for verb in ["show", "free", "check", "verify", "repair", "format"] {
         refused(&["gpt", verb, path], 2, "the number of blocks is outside its range: 67 blocks", hint);
     }
 }

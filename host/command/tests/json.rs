@@ -127,10 +127,13 @@ fn disks(printed: &mut Printed, folder: &Folder) {
     call("gpt format disk.img");
     call("gpt format disk.img");
     call("gpt add disk.img --size 1 --align 1 --name a");
-    call("gpt add disk.img --size 1 --align 1 --type FE3A2A5D-4F32-41A7-B725-ACCC3285A309");
+    call("gpt add disk.img --size 1 --align 1 --type FE3A2A5D-4F32-41A7-B725-ACCC3285A309 --attributes required");
     call("gpt add disk.img --size 1T");
     call("gpt add disk.img --size 1 --align 3");
+    call("gpt add disk.img --size 1 --attributes legacy-boot --rule earlier");
     call("gpt add disk.img --size x");
+    call("gpt check disk.img --rule earlier");
+    call("gpt check disk.img --rule x");
     call("gpt show missing.img");
     call("gpt verify missing.img");
     call("gpt verify");
@@ -166,11 +169,12 @@ fn disks(printed: &mut Printed, folder: &Folder) {
     call("gpt verify stale.img");
     folder.sparse("shared.img", 100 * 512);
     call("gpt format shared.img");
-    (0..4).for_each(|_| call("gpt add shared.img --size 1 --align 1"));
+    (0..4).for_each(|_| call("gpt add shared.img --size 1 --align 1 --attributes legacy-boot"));
     common::set_name(&folder.path("shared.img"), 512, [1, 2], "scratch");
     common::set_name(&folder.path("shared.img"), 512, [3, 4], "scratch\0z");
     call("gpt show shared.img");
     call("gpt verify shared.img");
+    call("gpt check shared.img --rule earlier");
     call("gpt add shared.img --size 1 --align 1 --name scratch");
 }
 

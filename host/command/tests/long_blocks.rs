@@ -144,7 +144,7 @@ fn how_long_a_disk_is() {
     let free = at_4096("free", &small, &["--json"]).json();
     assert_eq!((free.number("free_blocks"), free.list("free_runs")[0].number("first")), (1, 6));
     let smaller = folder.sparse("smaller.img", 11 * 4096);
-    for verb in ["format", "show", "free", "verify", "repair"] {
+    for verb in ["format", "show", "free", "check", "verify", "repair"] {
         let refused = at_4096(verb, &smaller, &[]);
         assert_eq!(refused.hint(), "a disk has 12 to 4294967296 blocks of 4096 bytes (48 KiB to 16 TiB)");
         let words = refused.refused(2);

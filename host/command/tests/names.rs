@@ -2,50 +2,24 @@
 
 mod common;
 
-use common::{clear_types, disk, disk_of_4096, refused, set_name, Ended, Folder};
+use common::image::{both, Image};
+use common::{clear_types, disk, refused, set_name, Folder};
 use std::ffi::OsStr;
 use std::fs;
-use std::path::{Path, PathBuf};
+use std::path::Path;
 use testkit::json::{self, Json};
 use testkit::peer;
 
 const TAKEN: &str = "the name is already in another used slot";
 const GUID: &str = "01234567-89AB-4CDE-8F01-23456789ABCD";
 
-/// A disk image of 33 usable blocks, and its block size.
-struct Image {
-    path: PathBuf,
-    block: u64,
-}
-
-fn both(folder: &Folder) -> [Image; 2] {
-    [
-        Image { path: disk(folder, "short.img", 100), block: 512 },
-        Image { path: disk_of_4096(folder, "long.img", 44), block: 4096 },
-    ]
-}
-
 impl Image {
-    fn text(&self) -> &str {
-        self.path.to_str().expect("UTF-8")
-    }
-
     /// As it stands in an advised command.
     fn operand(&self) -> String {
         match self.block {
             512 => self.text().to_string(),
             block => format!("{} --block {block}", self.text()),
         }
-    }
-
-    /// `gpt VERB DISK`, more words, and the block size.
-    fn words<'a>(&'a self, verb: &'a str, more: &[&'a str]) -> Vec<&'a str> {
-        let block = if self.block == 512 { "512" } else { "4096" };
-        [&["gpt", verb, self.text()], more, &["--block", block]].concat()
-    }
-
-    fn call(&self, verb: &str, more: &[&str]) -> Ended {
-        common::run(&self.words(verb, more).into_iter().map(OsStr::new).collect::<Vec<_>>())
     }
 
     fn add(&self, name: &str) {
@@ -58,10 +32,6 @@ impl Image {
             self.call("add", &["--size", "1", "--align", "1"]).done();
             set_name(&self.path, self.block, [slot], name);
         }
-    }
-
-    fn bytes(&self) -> Vec<u8> {
-        fs::read(&self.path).expect("an image")
     }
 
     /// Refused with 26 for this name, and with this hint; a dry run too, and no byte changes.

@@ -239,7 +239,7 @@ fn the_order_of_writes() {
     assert_eq!(written(&["gpt", "repair", text]), head);
     common::spoil(&path, 999 * 512);
     assert_eq!(written(&["gpt", "repair", text]), tail);
-    for words in [&["repair"][..], &["show"], &["verify"], &["free"], &["delete", "7"]] {
+    for words in [&["repair"][..], &["show"], &["verify"], &["check"], &["free"], &["delete", "7"]] {
         let (verb, rest) = words.split_first().expect("a verb");
         assert_eq!(written(&[&["gpt", verb, text], rest].concat()), "", "{words:?}");
     }

@@ -44,6 +44,7 @@ fn every_call_runs_with_a_stack_of_128_kib() {
         "usigrambal gpt delete disk.img p7",
         "usigrambal gpt resize disk.img 8 2",
         "usigrambal gpt rename disk.img 9 nine",
+        "usigrambal gpt check disk.img --rule earlier",
         "usigrambal gpt verify disk.img",
         "printf x | dd of=disk.img bs=1 seek=512 conv=notrunc status=none; usigrambal gpt repair disk.img",
         "truncate -s 64M long.img; usigrambal gpt format long.img --block 4096",
@@ -67,5 +68,6 @@ fn every_call_runs_with_a_stack_of_128_kib() {
         Some(1)
     );
     assert_eq!(small(&folder, "usigrambal gpt add disk.img --size 1T").status, Some(1));
+    assert_eq!(small(&folder, "usigrambal gpt add disk.img --size 1 --attributes 0xFFFF").status, Some(1));
     assert_eq!(small(&folder, "usigrambal gpt format disk.img").status, Some(4));
 }

@@ -133,21 +133,33 @@ pub fn usi_gpt_free(rules: &Rules, input: &mut Input) -> Outcome {
     )
 }
 
+pub fn usi_gpt_check(rules: &Rules, input: &mut Input) -> Outcome {
+    let (lengths, rule) = (lengths(input), input.rule());
+    let (n, block) = (lengths.n, lengths.block);
+    both(
+        script(&lengths, &[], input),
+        |[head, tail], [slot]| raw::gpt_check(head, tail, n, block, rule, slot),
+        |[head, tail], [slot]| second::gpt_check(rules, head, tail, n, block, rule, slot),
+    )
+}
+
 pub fn usi_gpt_add(rules: &Rules, input: &mut Input) -> Outcome {
     let lengths = lengths(input);
     let (n, block) = (lengths.n, lengths.block);
     let (kind, unique) = (input.guid(), input.guid());
     let (size, alignment) = (input.number(n), input.alignment());
-    let (attributes, name) = (input.number(0), input.name());
+    let (attributes, rule, name) = (input.attributes(), input.rule(), input.name());
     let [head, tail] = script(&lengths, &name, input);
     both(
         [head, tail, kind, unique, name],
         |[head, tail, kind, unique, name], [slot, first]| {
-            let new = raw::NewPartition { kind, unique, size, alignment, attributes, name: in_place(name) };
+            let name = in_place(name);
+            let new = raw::NewPartition { kind, unique, size, alignment, attributes, rule, name };
             raw::gpt_add(head, tail, n, block, &new, slot, first)
         },
         |[head, tail, kind, unique, name], [slot, first]| {
-            let new = NewPartition { kind, unique, size, alignment, attributes, name: &units(name) };
+            let name = &units(name);
+            let new = NewPartition { kind, unique, size, alignment, attributes, rule, name };
             second::gpt_add(rules, head, tail, n, block, &new, slot, first)
         },
     )

@@ -1,12 +1,25 @@
 //! The first inputs of each target, from the fixtures.
 
 use crate::disk::{
-    ALL_SLOTS, ANY_BLOCK_SIZE, CLEAR_TYPE, FLIP, MANY, NAME, OF_CALL, OTHER_BLOCK_SIZE, PLACE,
+    ALL_SLOTS, ANY_BLOCK_SIZE, ATTRIBUTES, CLEAR_TYPE, FLIP, MANY, NAME, OF_CALL, OTHER_BLOCK_SIZE, PLACE,
 };
-use crate::input::{alignment, number};
+use crate::input::{alignment, attributes, number, rule};
 use crate::{disk, flash};
 use testkit::disk::{Shape, SHAPES};
 use testkit::fixture;
+
+/// Numbers of rules about attributes: the present one, then others, which all are the earlier one.
+const RULES: [u64; 5] = [0, 1, 2, 1 << 32, u64::MAX];
+
+/// Bits at the edges of what a rule wants zero, and all.
+const BITS: [u64; 9] = [1, 2, 4, 8, 1 << 47, 1 << 48, 1 << 63, 0xFFFF_0000_0000_0007, u64::MAX];
+
+/// Arguments of an add with each of these attributes by each rule.
+fn judged() -> Vec<Vec<u8>> {
+    let new =
+        |bits, number| [vec![0, 0x61, 0, 0x62, 1, 0], attributes(bits), rule(number), vec![0; 5]].concat();
+    BITS.iter().flat_map(|bits| RULES.map(|number| new(*bits, number))).collect()
+}
 
 /// Arguments of a call that come after a disk's lengths, before its script.
 fn disk_arguments(call: &str) -> Vec<Vec<u8>> {
@@ -18,7 +31,7 @@ fn disk_arguments(call: &str) -> Vec<Vec<u8>> {
         "usi_gpt_format" => vec![guid(0x61), guid(0), vec![0xF8, 0x61]],
         "usi_gpt_add" => {
             let new = |size: u8, at: u64, name: Vec<u8>| {
-                [guid(0x61), guid(0x62), vec![size], alignment(at), vec![0], name].concat()
+                [guid(0x61), guid(0x62), vec![size], alignment(at), attributes(0), rule(1), name].concat()
             };
             let names = [
                 (1, name(4, 0, 0)),
@@ -35,6 +48,7 @@ fn disk_arguments(call: &str) -> Vec<Vec<u8>> {
             let aligned = places.into_iter().chain(refused).map(|(size, at)| new(size, at, name(4, 0, 0)));
             names.map(|(size, name)| new(size, 1, name)).into_iter().chain(aligned).collect()
         }
+        "usi_gpt_check" => RULES.map(rule).to_vec(),
         "usi_gpt_delete" => vec![vec![1], vec![2], vec![0], vec![129]],
         "usi_gpt_resize" => vec![vec![1, 1], vec![1, 200], vec![2, 0], vec![7, 20]],
         "usi_gpt_rename" => {
@@ -66,13 +80,20 @@ fn disks(call: &str) -> Vec<Vec<u8>> {
             inputs.push([&[100, tag, 0, 0], &arguments[..], &[0]].concat());
         }
     }
+    if call == "usi_gpt_add" {
+        // On an empty disk, and on one with partitions in all slots.
+        for (arguments, tag) in judged().iter().flat_map(|arguments| [(arguments, 0), (arguments, 1)]) {
+            inputs.push([&[100, tag, 0, 0], &arguments[..], &[0]].concat());
+            inputs.push([&[230, tag, 0, 0], &arguments[..], &[0, MANY, 128, 2]].concat());
+        }
+    }
     inputs
 }
 
 /// An empty disk of 33 usable blocks, one with a partition of each size to 3 by steps of a script, one of 2,100 blocks, the
 /// same with the blocks from 2048 on free, the largest with its last usable block free, one of 230 blocks with partitions in
-/// all slots, those with stale entries, those with the call's name or with a name twice, and three that are refused for
-/// lengths or number of blocks.
+/// all slots, those with stale entries, those with the call's name or with a name twice, those with attributes, and three
+/// that are refused for lengths or number of blocks.
 fn by_scripts(tag: u8, shape: Shape, arguments: &[u8]) -> Vec<Vec<u8>> {
     let (least, first) = (shape.least_blocks(), shape.first_usable);
     let input = |n: u64, lengths: [u8; 2], script: &[u8]| {
@@ -92,7 +113,7 @@ fn by_scripts(tag: u8, shape: Shape, arguments: &[u8]) -> Vec<Vec<u8>> {
         input(least - 1, [0, 0xFF], &[]),
         input(least - 1, [0, 0], &[]),
     ];
-    let steps = stale(shape).into_iter().chain(named(shape));
+    let steps = stale(shape).into_iter().chain(named(shape)).chain(offending(shape));
     inputs.extend(steps.map(|steps| input(n, [0, 0], &[&partitions[..], &steps].concat())));
     inputs
 }
@@ -129,6 +150,16 @@ fn named(shape: Shape) -> Vec<Vec<u8>> {
     let stale = [same(6), vec![CLEAR_TYPE, 6, 0]].concat();
     let twice = [name(1, OF_CALL, 0, 0x7F), name(6, 1, 0, 0)].concat();
     one.chain([both, last, stale, twice]).collect()
+}
+
+/// What gives attributes to slot 1, or to slots 2 and 7 and another one in front of them, to slot 7 of one copy, to a stale
+/// slot, to the last one.
+fn offending(shape: Shape) -> Vec<Vec<u8>> {
+    let set = |slot: u8, sides: u8, bits| [vec![ATTRIBUTES, slot, sides], attributes(bits)].concat();
+    let two = [set(0, 0, 2), set(1, 0, 1 << 47), set(6, 0, 8)].concat();
+    let stale = [set(0, 0, u64::MAX), vec![CLEAR_TYPE, 0, 0], set(6, 0, 4)].concat();
+    let last = [place(127, shape.first_usable + 20, 1, 4), set(127, 0, 8)].concat();
+    vec![set(0, 0, 8), set(0, 0, 1 << 48), two, set(6, 1, 8), set(6, 2, 8), stale, last]
 }
 
 /// Images of 220 bytes by steps of a script, with areas FMAP, A and B, the latter two preserved; then B elsewhere, of another size, none.

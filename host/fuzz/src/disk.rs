@@ -7,7 +7,8 @@ use usigrambal::crc32;
 use usigrambal::raw::gpt_format;
 
 const ENTRY_LEN: usize = 128;
-/// Where the name of an entry begins, and its bytes.
+/// Where the attributes and the name of an entry begin, and the bytes of a name.
+const ATTRIBUTES_AT: usize = 48;
 const NAME_AT: usize = 56;
 const NAME_LEN: usize = 72;
 
@@ -28,6 +29,7 @@ pub const MANY: u8 = 6;
 pub const CLEAR_TYPE: u8 = 8;
 pub const FLIP: u8 = 9;
 pub const NAME: u8 = 10;
+pub const ATTRIBUTES: u8 = 11;
 
 /// The slot that stands for all of them where types are cleared, and for the call where a name is taken from it.
 pub const ALL_SLOTS: u8 = 128;
@@ -122,7 +124,7 @@ pub fn script(lengths: &Lengths, name: &[u8], input: &mut Input) -> [Vec<u8>; 2]
 }
 
 fn step(disk: &mut Disk, name: &[u8], input: &mut Input) {
-    match input.byte() % 11 {
+    match input.byte() % 12 {
         PUT => {
             let (which, at, len) =
                 (Side::of(input.byte()), input.number(0) as usize, usize::from(input.byte()));
@@ -141,6 +143,7 @@ fn step(disk: &mut Disk, name: &[u8], input: &mut Input) {
         7 => copy_entry(disk, input),
         CLEAR_TYPE => clear_type(disk, input),
         NAME => name_entry(disk, name, input),
+        ATTRIBUTES => attribute_entry(disk, input),
         _ => {
             let (which, at, bit) = (Side::of(input.byte()), input.number(0) as usize, input.byte() % 8);
             if let Some(byte) = side(disk, which).get_mut(at) {
@@ -194,6 +197,13 @@ fn name_entry(disk: &mut Disk, call: &[u8], input: &mut Input) {
     let (at, change) = (usize::from(input.byte()) % NAME_LEN, input.byte());
     name[at] ^= change;
     sides_of(sides).iter().for_each(|which| put_in_entry(disk, *which, slot, NAME_AT, &name));
+}
+
+/// The attributes of an entry, in both copies or in one.
+fn attribute_entry(disk: &mut Disk, input: &mut Input) {
+    let (slot, sides) = (usize::from(input.byte() & 127), input.byte());
+    let bits = input.attributes().to_le_bytes();
+    sides_of(sides).iter().for_each(|which| put_in_entry(disk, *which, slot, ATTRIBUTES_AT, &bits));
 }
 
 /// The first bytes of an entry, or all.

@@ -17,6 +17,15 @@ const ABOVE_32_BITS: u8 = 0xE6;
 const ALIGNMENTS: [u64; 3] = [1, 8, 2048];
 const ANY_ALIGNMENT: u8 = 0xC0;
 
+/// The two rules about attributes, chosen likewise.
+const ANY_RULE: u8 = 0xC0;
+
+/// Attributes: below this byte one bit alone, below the next the bit of a second byte too, then these, then eight bytes.
+const TWO_BITS: u8 = 64;
+const SOME_BITS: u8 = 128;
+const BITS: [u64; 4] = [0, u64::MAX, 0xFFFF_0000_0000_0001, 0xFFFF_0000_0000_0007];
+const ANY_BITS: u8 = 0xC0;
+
 impl<'a> Input<'a> {
     pub fn new(rest: &'a [u8]) -> Input<'a> {
         Input { rest }
@@ -73,6 +82,23 @@ impl<'a> Input<'a> {
         }
     }
 
+    /// The number of a rule about attributes: mostly 0 or 1, else any.
+    pub fn rule(&mut self) -> u64 {
+        match self.byte() {
+            byte @ ..ANY_RULE => u64::from(byte % 2),
+            _ => self.number(0),
+        }
+    }
+
+    pub fn attributes(&mut self) -> u64 {
+        match self.byte() {
+            bit @ ..TWO_BITS => 1 << bit,
+            bit @ ..SOME_BITS => 1 << (bit - TWO_BITS) | 1 << (self.byte() % TWO_BITS),
+            byte @ ..ANY_BITS => BITS[usize::from(byte) % BITS.len()],
+            _ => self.stored(8),
+        }
+    }
+
     /// A length: mostly the right one, else one near it, or 0.
     pub fn length(&mut self, right: usize) -> usize {
         match self.byte() {
@@ -118,6 +144,19 @@ pub fn alignment(value: u64) -> Vec<u8> {
         Some(place) => vec![place as u8],
         None => [vec![ANY_ALIGNMENT], number(value)].concat(),
     }
+}
+
+/// The bytes that [`Input::rule`] reads as this number.
+pub fn rule(value: u64) -> Vec<u8> {
+    match value {
+        0 | 1 => vec![value as u8],
+        _ => [vec![ANY_RULE], number(value)].concat(),
+    }
+}
+
+/// The bytes that [`Input::attributes`] reads as this number.
+pub fn attributes(value: u64) -> Vec<u8> {
+    [&[ANY_BITS], &value.to_le_bytes()[..]].concat()
 }
 
 /// The bytes that [`Input::number`] reads as this number.

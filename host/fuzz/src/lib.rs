@@ -64,6 +64,7 @@ targets! {
     fuzz_usi_gpt_read usi_gpt_read
     fuzz_usi_gpt_table usi_gpt_table
     fuzz_usi_gpt_free usi_gpt_free
+    fuzz_usi_gpt_check usi_gpt_check
     fuzz_usi_gpt_add usi_gpt_add
     fuzz_usi_gpt_delete usi_gpt_delete
     fuzz_usi_gpt_resize usi_gpt_resize

@@ -2,7 +2,10 @@
 
 use fuzz::corpus::corpus;
 use fuzz::{Target, TARGETS};
-use second::rules::{AlignmentSlip, CarrySlip, NameSlip, Row, Span, UsedIn, Which, WholeIn};
+use second::rules::{
+    AddJudges, AlignmentSlip, BitRules, CarrySlip, Checked, NameSlip, Offender, Row, Span, Unjudged, UsedIn,
+    Which, WholeIn,
+};
 use second::{Rules, RULES};
 
 /// A call, and what makes an implementation of it wrong.
@@ -60,6 +63,7 @@ fn each_target_shows_a_wrong_answer() {
         ("usi_gpt_read", |r| r.gpt.states = [2, 1, 3, 4]),
         ("usi_gpt_table", |r| r.gpt.table_of = Some(Which::Primary)),
         ("usi_gpt_free", |r| r.gpt.free_of = Some(Which::Backup)),
+        ("usi_gpt_check", |r| r.gpt.attributes.first_slot = 0),
         ("usi_gpt_add", |r| r.gpt.add_answers_first = false),
         ("usi_gpt_delete", |r| r.gpt.delete_zeroes = 16),
         ("usi_gpt_resize", |r| r.gpt.resize_last_less = 0),
@@ -163,6 +167,59 @@ fn the_targets_of_adding_and_renaming_show_wrong_names() {
     ];
     for (number, (call, change)) in of_one.iter().enumerate() {
         assert!(shows(target(call), &changed(change)), "{call}: {number}");
+    }
+}
+
+/// Adds and checks are given bits at the edges of both rules, by several numbers of each.
+#[test]
+fn the_targets_of_adding_and_checking_show_wrong_attribute_bits() {
+    let wrong: &[fn(&mut BitRules)] = &[
+        |bits| bits.present.first = 2,
+        |bits| bits.present.first = 4,
+        |bits| bits.present.last = 46,
+        |bits| bits.present.last = 48,
+        |bits| bits.earlier.first = 0,
+        |bits| bits.earlier.first = 2,
+        |bits| bits.earlier.first = 3,
+        |bits| bits.earlier.last = 46,
+        |bits| bits.earlier.last = 48,
+        |bits| (bits.present, bits.earlier) = (bits.earlier, bits.present),
+        |bits| bits.named_present = &[0, 2],
+        |bits| bits.named_present = &[0, u64::MAX],
+        |bits| bits.named_bits = 0xFFFF_FFFF,
+        |bits| bits.offending = 2,
+        |bits| bits.from_highest = true,
+    ];
+    for (number, change) in wrong.iter().enumerate() {
+        let add = changed(|r| change(&mut r.gpt.attributes.in_add));
+        assert!(shows(target("usi_gpt_add"), &add), "usi_gpt_add: {number}");
+        let check = changed(|r| change(&mut r.gpt.attributes.in_check));
+        assert!(shows(target("usi_gpt_check"), &check), "usi_gpt_check: {number}");
+    }
+    let of_one: &[Wrong] = &[
+        ("usi_gpt_add", |r| r.refusals.renumber(Row::AttributeBits, 99)),
+        ("usi_gpt_add", |r| r.gpt.attributes.add_judges = AddJudges::TableToo),
+        ("usi_gpt_add", |r| r.gpt.attributes.add_judges = AddJudges::SlotToo),
+        ("usi_gpt_check", |r| r.gpt.unused.stale_used_in = Some(UsedIn::Check)),
+        ("usi_gpt_check", |r| r.gpt.attributes.answers = Offender::Last),
+        ("usi_gpt_check", |r| r.gpt.attributes.answers = Offender::Count),
+        ("usi_gpt_check", |r| r.gpt.attributes.checked = Checked::Backup),
+        ("usi_gpt_check", |r| r.gpt.attributes.checked = Checked::Either),
+        ("usi_gpt_check", |r| r.gpt.attributes.slots.len = 127),
+        ("usi_gpt_check", |r| r.gpt.attributes.slots.at = 1),
+        ("usi_gpt_check", |r| r.gpt.attributes.none_answers = None),
+    ];
+    for (number, (call, change)) in of_one.iter().enumerate() {
+        assert!(shows(target(call), &changed(change)), "{call}: {number}");
+    }
+}
+
+/// Each disk target but formatting is given disks with attributes that no add takes.
+#[test]
+fn each_disk_target_shows_that_any_attributes_are_read() {
+    let rules = changed(|r| r.gpt.also_judged = Some(Unjudged::AttributeBits));
+    for target in on_tables() {
+        assert!(shows(target, &rules), "{}", target.call);
     }
 }
 

@@ -3,7 +3,7 @@
 use second::{NewPartition, RULES};
 use testkit::answered;
 use testkit::disk::Disk;
-use testkit::disk_calls::{Calls, New};
+use testkit::disk_calls::{Calls, New, Rule};
 use testkit::listing::Partition;
 
 const ENTRIES_LEN: usize = 16_384;
@@ -23,6 +23,10 @@ const CALLS: Calls = Calls {
         let (mut free, mut longest) = (0, 0);
         let number = second::gpt_free(&RULES, head, tail, *n, *block, &mut free, &mut longest);
         answered(number, (free, longest))
+    },
+    check: |Disk { head, tail, n, block }, rule| {
+        let mut slot = u64::MAX;
+        answered(second::gpt_check(&RULES, head, tail, *n, *block, number(rule), &mut slot), slot)
     },
     add,
     delete: |Disk { head, tail, n, block }, slot| {
@@ -86,10 +90,17 @@ fn units(name: &str) -> Vec<u16> {
     units
 }
 
+fn number(rule: Rule) -> u64 {
+    match rule {
+        Rule::Present => 0,
+        Rule::Earlier => 1,
+    }
+}
+
 fn add(Disk { head, tail, n, block }: &mut Disk, new: &New) -> Result<u64, u32> {
-    let New { kind, unique, size, alignment, attributes, name } = *new;
-    let (kind, unique, name) = (&stored(kind), &stored(unique), &units(name));
-    let new = NewPartition { kind, unique, size, alignment, attributes, name };
+    let New { kind, unique, size, alignment, attributes, rule, name } = *new;
+    let (kind, unique, rule, name) = (&stored(kind), &stored(unique), number(rule), &units(name));
+    let new = NewPartition { kind, unique, size, alignment, attributes, rule, name };
     let mut slot = 0;
     answered(second::gpt_add(&RULES, head, tail, *n, *block, &new, &mut slot, &mut 0), slot)
 }

@@ -6,7 +6,7 @@ use std::path::PathBuf;
 use std::{env, fs};
 
 /// The newest file that is valid for the calls as they are now.
-const FILE: &str = "disk-4-a.txt";
+const FILE: &str = "disk-5-k.txt";
 
 /// Names the folder of these files; else it is `../shared/vectors`, seen from the repository's root.
 const FOLDER: &str = "USIGRAMBAL_VECTORS";
@@ -35,6 +35,15 @@ impl<'a> Call<'a> {
 
     pub fn bytes(&self, key: &str) -> Vec<u8> {
         hex(self.argument(key))
+    }
+
+    /// The number of the rule that attributes are judged by.
+    pub fn rule(&self) -> u64 {
+        match self.argument("attribute_rule") {
+            "present" => 0,
+            "earlier" => 1,
+            other => panic!("no rule {other}"),
+        }
     }
 
     /// Units of 16 bits.

@@ -2,7 +2,7 @@ use crate::block::{BlockSize, ENTRIES_LEN, ENTRY_LEN, GUID_IN_TAIL};
 use crate::raw;
 use crate::refusal::accepted;
 use crate::refused::{Detail, Refused};
-use crate::{Guid, Name};
+use crate::{AttributeRule, Guid, Name};
 
 /// A disk of `n` blocks, by its first and its last blocks: `head` and `tail` have the lengths that the
 /// block size decides, else every call is refused with 1. The caller reads and writes these blocks; the
@@ -62,6 +62,8 @@ pub struct NewPartition {
     /// In blocks, one of `ALIGNMENTS`: the partition starts at a block whose number is a multiple of it.
     pub alignment: u64,
     pub attributes: u64,
+    /// Which of the attributes' bits must be zero.
+    pub rule: AttributeRule,
     pub name: Name,
 }
 
@@ -190,6 +192,15 @@ impl Disk<'_> {
         Ok(Free { blocks, longest_run })
     }
 
+    /// The first partition whose attributes have a bit set that the rule wants zero, by its slot (rules k2, k3).
+    pub fn check(&self, rule: AttributeRule) -> Result<Option<u64>, Refused> {
+        let mut slot = 0;
+        let answer =
+            raw::gpt_check(self.head, self.tail, self.n, self.block.bytes(), rule.number(), &mut slot);
+        self.accepted(answer, &[])?;
+        Ok((slot != 0).then_some(slot))
+    }
+
     /// Adds a partition in the lowest unused slot, from the lowest multiple of its alignment that leaves it room.
     pub fn add(&mut self, new: &NewPartition) -> Result<Placed, Refused> {
         let lent = raw::NewPartition {
@@ -198,6 +209,7 @@ impl Disk<'_> {
             size: new.size,
             alignment: new.alignment,
             attributes: new.attributes,
+            rule: new.rule.number(),
             name: &new.name.0,
         };
         let (mut slot, mut first) = (0, 0);
@@ -207,6 +219,7 @@ impl Disk<'_> {
             Detail::NewSize(new.size, new.alignment),
             Detail::Alignment(new.alignment),
             Detail::Name(new.name),
+            Detail::Attributes(new.attributes, new.rule),
         ];
         self.accepted(answer, &details)?;
         Ok(Placed { slot, first })
@@ -280,7 +293,7 @@ mod tests {
     fn new_partition(size: u64, unique: u8) -> NewPartition {
         let name = Name::new(&format!("Größe {unique}")).unwrap();
         let (kind, unique) = (Guid([7; 16]), Guid([unique; 16]));
-        NewPartition { kind, unique, size, alignment: 1, attributes: 5, name }
+        NewPartition { kind, unique, size, alignment: 1, attributes: 5, rule: AttributeRule::Present, name }
     }
 
     fn words<T: std::fmt::Debug>(result: Result<T, Refused>) -> String {
@@ -296,7 +309,10 @@ mod tests {
         disk.format(Guid([1; 16])).unwrap();
         assert_eq!(disk.add(&new_partition(10, 1)), Ok(Placed { slot: 1, first: start }));
         assert_eq!(disk.add(&new_partition(5, 2)), Ok(Placed { slot: 2, first: start + 10 }));
+        let check = |disk: &Disk| AttributeRule::ALL.map(|rule| disk.check(rule).unwrap());
+        assert_eq!(check(&disk), [None, Some(1)]);
         disk.delete(1).unwrap();
+        assert_eq!(check(&disk), [None, Some(2)]);
         assert_eq!(disk.add(&new_partition(11, 1)), Ok(Placed { slot: 1, first: start + 15 }));
         assert_eq!(disk.add(&new_partition(10, 3)), Ok(Placed { slot: 3, first: start }));
         assert_eq!(disk.free(), Ok(Free { blocks: 7, longest_run: 7 }));

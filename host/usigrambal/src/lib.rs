@@ -1,6 +1,7 @@
 //! Safe Rust over the C interface of Usigrambal. `raw` has the calls with their numbers; the rest
 //! gives them Rust's types and errors.
 
+pub mod attributes;
 mod block;
 mod disk;
 pub mod flash;
@@ -12,6 +13,7 @@ mod refusal;
 mod refused;
 mod rule;
 
+pub use attributes::AttributeRule;
 pub use block::BlockSize;
 pub use disk::{Disk, Free, NewPartition, Partition, Placed, Run, SharedName, State, ALIGNMENTS};
 pub use guid::Guid;

@@ -57,6 +57,7 @@ refusals! {
     25 NoRoom "no room"
     26 PartitionNameTaken "the name is already in another used slot"
     27 Alignment "the alignment is not 1, 8 or 2048 blocks"
+    28 AttributeBits "an attribute bit is set that the rule wants zero"
     30 NotAGuid "not a GUID text"
     40 ImageLength "the image length is outside its range"
     41 NoSignature "the signature of a map stands nowhere"

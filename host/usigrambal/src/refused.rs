@@ -1,6 +1,7 @@
 //! A refused call: the refusal, and the argument that it is about.
 
-use crate::{Name, Refusal};
+use crate::attributes::bits_text;
+use crate::{AttributeRule, Name, Refusal};
 use std::error::Error;
 use std::fmt;
 
@@ -37,6 +38,8 @@ pub(crate) enum Detail {
     SlotSize(u64, u64),
     /// The name that a partition is to have.
     Name(Name),
+    /// The attributes that a partition is to have, and the rule that they offend.
+    Attributes(u64, AttributeRule),
     /// An image of so many bytes, where the layout text states so many.
     Stated(usize, u64),
     /// The name of an area to be carried, and zeros.
@@ -87,6 +90,7 @@ impl Detail {
             Detail::NewSize(..) | Detail::SlotSize(..) => refusal == Refusal::NoRoom,
             Detail::Alignment(_) => refusal == Refusal::Alignment,
             Detail::Name(_) => refusal == Refusal::PartitionNameTaken,
+            Detail::Attributes(..) => refusal == Refusal::AttributeBits,
             Detail::Stated(..) => refusal == Refusal::WrongLength,
             Detail::Area(_) => matches!(refusal, Refusal::AreaMissing | Refusal::AreaOtherSize),
         }
@@ -110,6 +114,9 @@ impl fmt::Display for Detail {
                 write!(f, "slot {slot} cannot have {size} block{}", s(*size))
             }
             Detail::Name(name) => write!(f, "\"{name}\""),
+            Detail::Attributes(attributes, rule) => {
+                write!(f, "{} under the {rule} rule", bits_text(&rule.offending(*attributes)))
+            }
             Detail::Stated(len, stated) => {
                 f.write_str("the image has ")?;
                 bytes(f, *len, IMAGE_MAX)?;
@@ -176,6 +183,19 @@ mod tests {
         assert_eq!(taken, "26: the name is already in another used slot: \"scratch\\n\"");
         let unused = refused(Refusal::SlotUnused, &[Detail::Slot(3), Detail::Name(name)]);
         assert_eq!(unused, "13: the slot is unused: slot 3");
+    }
+
+    /// Rule k6.
+    #[test]
+    fn attribute_bits_are_told_with_the_rule() {
+        let told =
+            |attributes, rule| refused(Refusal::AttributeBits, &[Detail::Attributes(attributes, rule)]);
+        let words = "28: an attribute bit is set that the rule wants zero";
+        let both = format!("{words}: bits 1 (no-block-io) and 2 (legacy-boot) under the earlier rule");
+        assert_eq!(told(7, AttributeRule::Earlier), both);
+        assert_eq!(told(15, AttributeRule::Present), format!("{words}: bit 3 under the present rule"));
+        let all = format!("{words}: bits 3 to 47 under the present rule");
+        assert_eq!(told(u64::MAX, AttributeRule::Present), all);
     }
 
     /// Rule e4: the longest run may be longer than the size that has no room at a multiple.

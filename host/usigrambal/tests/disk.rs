@@ -1,9 +1,9 @@
 //! The disk calls of the library, by the wrapper.
 
 use testkit::disk::Disk;
-use testkit::disk_calls::{Calls, New};
+use testkit::disk_calls::{Calls, New, Rule};
 use testkit::listing;
-use usigrambal::{Guid, Name, NewPartition, Partition, Refused};
+use usigrambal::{AttributeRule, Guid, Name, NewPartition, Partition, Refused};
 
 const CALLS: Calls = Calls {
     crc32: usigrambal::crc32,
@@ -14,6 +14,7 @@ const CALLS: Calls = Calls {
         Ok(partitions.into_iter().map(row).collect())
     },
     free: |disk| on(&mut disk.clone(), |disk| disk.free()).map(|free| (free.blocks, free.longest_run)),
+    check: |disk, rule| on(&mut disk.clone(), |disk| disk.check(named(rule))).map(Option::unwrap_or_default),
     add,
     delete: |disk, slot| on(disk, |disk| disk.delete(slot)),
     rename: |disk, slot, text| on(disk, |disk| disk.rename(slot, &name(text))),
@@ -40,10 +41,18 @@ fn name(text: &str) -> Name {
     Name::new(text).expect("a name")
 }
 
+fn named(rule: Rule) -> AttributeRule {
+    match rule {
+        Rule::Present => AttributeRule::Present,
+        Rule::Earlier => AttributeRule::Earlier,
+    }
+}
+
 fn add(disk: &mut Disk, new: &New) -> Result<u64, u32> {
     let kind = Guid::parse_type(new.kind).expect("a type");
     let unique = new.unique.parse().expect("a GUID");
     let New { size, alignment, attributes, .. } = *new;
-    let new = NewPartition { kind, unique, size, alignment, attributes, name: name(new.name) };
+    let (rule, name) = (named(new.rule), name(new.name));
+    let new = NewPartition { kind, unique, size, alignment, attributes, rule, name };
     Ok(on(disk, |disk| disk.add(&new))?.slot)
 }

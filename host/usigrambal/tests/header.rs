@@ -1,7 +1,7 @@
-//! include/usigrambal.h and the wrapper say the same: names, numbers and words of the refusals, and the version.
+//! include/usigrambal.h and the wrapper say the same: names, numbers and words of the refusals, rules, and the version.
 
 use usigrambal::flash::Rule;
-use usigrambal::Refusal;
+use usigrambal::{AttributeRule, Refusal};
 
 const HEADER: &str = include_str!("../../../include/usigrambal.h");
 
@@ -53,6 +53,20 @@ fn rules_of_a_map_are_the_same() {
     let of = |rule: &Rule| format!("case {}: return \"{}\";", name(rule), rule.words());
     let expected: Vec<String> = Rule::ALL.iter().map(of).collect();
     assert_eq!(between("case USI_RULE_NONE: return \"a good map\";", "default:"), expected);
+}
+
+#[test]
+fn rules_of_attribute_bits_are_the_same() {
+    let mask = |rule: AttributeRule| rule.zero_bits().fold(0_u64, |mask, bit| mask | 1 << bit);
+    let of = |rule: AttributeRule| {
+        format!("#define {} {}", c_name_of("USI_RULE", &format!("{rule:?}")), rule.number())
+    };
+    let [present, earlier] = AttributeRule::ALL.map(|rule| format!("UINT64_C({:#018X})", mask(rule)));
+    let chosen = format!("{present} : {earlier})").replace("0X", "0x");
+    let expected = AttributeRule::ALL.map(of);
+    let lines = between("are the bits that offend. */", "/* The states");
+    assert_eq!(lines[..2], expected);
+    assert_eq!(lines[2], format!("#define USI_ZERO_BITS(rule) ((rule) == USI_RULE_PRESENT ? {chosen}"));
 }
 
 #[test]

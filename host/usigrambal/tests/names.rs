@@ -1,7 +1,7 @@
 //! Names that more than one partition has, and calls that would give one to another partition (rules a1 to a3).
 
 use testkit::disk::{Disk as Stored, Shape, SHAPES};
-use usigrambal::{crc32, Disk, Guid, Name, NewPartition, Placed, State};
+use usigrambal::{crc32, AttributeRule, Disk, Guid, Name, NewPartition, Placed, State};
 
 /// Where the name stands in an entry.
 const NAME: usize = 56;
@@ -13,7 +13,8 @@ fn lent(stored: &mut Stored) -> Disk<'_> {
 
 fn new(unique: u8, text: &str) -> NewPartition {
     let (kind, unique, name) = (Guid([0xB7; 16]), Guid([unique; 16]), Name::new(text).expect("a name"));
-    NewPartition { kind, unique, size: 1, alignment: 1, attributes: 0, name }
+    let rule = AttributeRule::Earlier;
+    NewPartition { kind, unique, size: 1, alignment: 1, attributes: 0, rule, name }
 }
 
 /// A disk with partitions of these names, whoever else has them.

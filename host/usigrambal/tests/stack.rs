@@ -34,13 +34,23 @@ fn disk_calls(shape: Shape) {
     for unique in 1..=128_u8 {
         let alignment = ALIGNMENTS[usize::from(unique) % ALIGNMENTS.len()];
         let (kind, unique, name) = (&[9; 16], &[unique; 16], &[u16::from(unique); 36]);
-        let new = NewPartition { kind, unique, size: 3, alignment, attributes: 0, name };
+        let new = NewPartition {
+            kind,
+            unique,
+            size: 3,
+            alignment,
+            attributes: 0,
+            rule: u64::from(unique[0]),
+            name,
+        };
         assert_eq!(raw::gpt_add(&mut head, &mut tail, n, block, &new, &mut a, &mut b), 0);
     }
     assert_eq!(raw::gpt_resize(&mut head, &mut tail, n, block, 64, 2), 0);
     assert_eq!(raw::gpt_rename(&mut head, &mut tail, n, block, 64, &[200; 36]), 0);
     assert_eq!(raw::gpt_delete(&mut head, &mut tail, n, block, 64), 0);
     assert_eq!(raw::gpt_free(&head, &tail, n, block, &mut a, &mut b), 0);
+    assert_eq!(raw::gpt_check(&head, &tail, n, block, 1, &mut a), 0);
+    assert_eq!(a, 0);
     assert_eq!(raw::gpt_table(&head, &tail, n, block, &mut a, &mut b), 0);
     assert_eq!(raw::gpt_read(&head, &tail, n, block, &mut a), 0);
     assert_eq!(a, 1);

@@ -1,7 +1,7 @@
 //! Which entries are partitions, and which unused ones still hold bytes.
 
 use testkit::disk::{Disk as Stored, Shape, SHAPES};
-use usigrambal::{crc32, Disk, Guid, Name, NewPartition, State};
+use usigrambal::{crc32, AttributeRule, Disk, Guid, Name, NewPartition, State};
 
 fn lent(stored: &mut Stored) -> Disk<'_> {
     let block = stored.block.try_into().expect("a block size");
@@ -15,7 +15,8 @@ fn filled(shape: Shape, count: u8) -> Stored {
     disk.format(Guid([1; 16])).expect("a table");
     for unique in 1..=count {
         let (kind, unique, name) = (Guid([0xB7; 16]), Guid([unique; 16]), Name([u16::from(unique); 36]));
-        let new = NewPartition { kind, unique, size: 1, alignment: 1, attributes: u64::MAX, name };
+        let (attributes, rule) = (0xFFFF_0000_0000_0007, AttributeRule::Present);
+        let new = NewPartition { kind, unique, size: 1, alignment: 1, attributes, rule, name };
         disk.add(&new).expect("room");
     }
     stored

@@ -2,7 +2,7 @@
 
 use super::hints::{advised, no_guid, of_add, of_rename, of_resize, of_slot, slot};
 use super::words::{copies, described, in_words};
-use super::{otherwise, random_guid};
+use super::{attributes, otherwise, random_guid};
 use crate::arguments::Given;
 use crate::block::{self, operand};
 use crate::disk::{self, Edited, Ends, Mode};
@@ -24,18 +24,20 @@ pub fn add(given: &Given) -> Result<Report, Failure> {
     let size = Size::parse(given.text("--size")?.unwrap_or_default())?;
     let alignment = alignment(given)?;
     let unique = guid(given)?;
-    let attributes = given.text("--attributes")?.map_or(Ok(0), sizes::number)?;
+    let (attributes, rule) = (attributes::asked(given)?, attributes::rule(given)?);
     let name = name(given.text("--name")?.unwrap_or_default())?;
     let call = |disk: &mut Disk| {
         let size = size.blocks(disk.block)?;
-        let new = NewPartition { kind, unique, size, alignment, attributes, name };
+        let new = NewPartition { kind, unique, size, alignment, attributes, rule, name };
         let placed = disk.add(&new).map_err(|refused| of_add(refused, path, disk, &new))?;
         partition(disk, placed.slot)
     };
     edited(given, mode, call, |added, how| {
-        let text = format!("{} {}\n", how.word("added", "would add"), in_words(added, how.block));
+        let set = attributes::listed(added.attributes).map(|bits| format!("; attributes {bits}"));
+        let told = in_words(added, how.block) + &set.unwrap_or_default();
+        let text = format!("{} {told}\n", how.word("added", "would add"));
         let mut json = described(added, how.block);
-        json.push(("alignment", alignment.into()));
+        json.extend([("alignment", alignment.into()), ("rule", rule.name().into())]);
         (text, json)
     })
 }

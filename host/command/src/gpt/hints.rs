@@ -1,7 +1,7 @@
 //! What would help against a refusal of a call on a disk.
 
 use super::words::{copies, numbers};
-use super::{names, why};
+use super::{attributes, names, why};
 use crate::block::{is_file, operand};
 use crate::failure::Failure;
 use crate::show::printable;
@@ -87,6 +87,7 @@ pub fn of_add(refused: Refused, path: &Path, disk: &Disk, new: &NewPartition) ->
         Refusal::NoRoom => with_less_alignment(disk, new).or_else(|| free_blocks(disk)),
         Refusal::BadUniqueGuid => disk.partitions().ok().map(|held| another_guid(&held, new.unique)),
         Refusal::PartitionNameTaken => names::of_add(path, disk, &new.name),
+        Refusal::AttributeBits => Some(attributes::of_add(new)),
         _ => None,
     };
     advised(refused, path, disk).hint_if(hint)

@@ -4,7 +4,7 @@ use super::hints::advised;
 use super::words::{copies, described, drawing, partition_table, run_table, runs_json, stale};
 use super::{names, otherwise};
 use crate::arguments::Given;
-use crate::block::{self, as_device, is_file, operand, By};
+use crate::block::{self, as_device, is_file, note, operand};
 use crate::disk::Ends;
 use crate::failure::Failure;
 use crate::json::Json;
@@ -78,14 +78,6 @@ fn shown_disk(given: &Given, ends: &mut Ends, width: usize) -> Result<(State, Re
     };
     text += &format!("\n{}\n{drawing}\n", run_table(&runs, block));
     Ok((state, Report::new(text, Vec::new()).warn(unprotected)))
-}
-
-/// A line where the block size was found by reading.
-fn note(block: BlockSize, by: By) -> String {
-    match by {
-        By::Table => format!("note: read with --block {block}, as it does not read with {}\n", block.other()),
-        _ => String::new(),
-    }
 }
 
 pub fn free(given: &Given) -> Result<Report, Failure> {

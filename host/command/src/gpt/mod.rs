@@ -1,5 +1,7 @@
 //! The verbs on a disk.
 
+mod attributes;
+mod check;
 mod edits;
 mod format;
 mod found;
@@ -11,6 +13,7 @@ mod probe;
 mod why;
 mod words;
 
+pub use check::check;
 pub use edits::{add, delete, rename, repair, resize};
 pub use format::format;
 pub use look::{free, show, verify};

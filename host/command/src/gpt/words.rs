@@ -1,5 +1,6 @@
 //! Partitions, free runs and states, in words, in tables and in JSON.
 
+use super::attributes;
 use crate::json::Json;
 use crate::show::{bar, Item, Side, Table};
 use crate::sizes::{human, of_blocks};
@@ -63,6 +64,7 @@ pub fn described(partition: &Partition, block: BlockSize) -> Vec<(&'static str, 
         ("type_name", partition.kind.short_name().into()),
         ("guid", partition.unique.to_string().into()),
         ("attributes", format!("{:#x}", partition.attributes).into()),
+        ("attribute_names", attributes::names(partition.attributes).into_iter().collect()),
     ]);
     fields.extend(name_fields(partition.name));
     fields
@@ -113,7 +115,7 @@ pub fn partition_table(partitions: &[Partition], block: BlockSize) -> String {
             human(blocks * block.bytes()),
             kind(partition.kind),
             partition.unique.to_string(),
-            format!("{:#x}", partition.attributes),
+            attributes::listed(partition.attributes).unwrap_or_else(|| "-".to_string()),
             partition.name.to_string(),
         ]);
     }

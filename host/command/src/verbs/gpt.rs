@@ -1,11 +1,17 @@
 //! The verbs on disks.
 
-use super::{flag, value, Verb, BLOCK, BLOCK_WRITTEN, DRY, EDIT, FORCE, JSON};
+use super::{flag, value, Choice, Verb, BLOCK, BLOCK_WRITTEN, DRY, EDIT, FORCE, JSON};
 use crate::gpt;
 use crate::json::Json;
 
 /// What a disk is that could not be judged.
 static UNVERIFIED: [(&str, Json); 2] = [("verified", Json::Bool(false)), ("state", Json::Null)];
+
+const RULE: Choice = value(
+    "--rule",
+    "present|earlier",
+    "attribute bits that must be zero: present 3 to 47, earlier 1 to 47; present if not given",
+);
 
 pub static VERBS: &[Verb] = &[
     Verb {
@@ -15,7 +21,7 @@ pub static VERBS: &[Verb] = &[
         options: &[value("--width", "N", "columns of the drawing, 64 if not given"), BLOCK, JSON],
         required: 0,
         about: "Show the partitions of a disk, the state of its two table copies, its free runs, \
-                which unused slots still hold bytes of deleted partitions, which partitions have one name, \
+                which unused slots still hold bytes of deleted partitions, which partitions have one name, their attributes by name, \
                 and its blocks drawn to scale: a partition as its number and =, free blocks as dots.",
         examples: &[
             "usigrambal gpt show disk.img",
@@ -70,7 +76,7 @@ pub static VERBS: &[Verb] = &[
             value(
                 "--align",
                 "1|8|2048",
-                "its start is a multiple of so many blocks; 2048 if not given (1 MiB; 8 MiB of 4096-byte ones)",
+                "starts at a multiple of so many blocks; 2048 if not given (1 MiB; 8 MiB of 4096-byte ones)",
             ),
             value("--type", "TYPE", "its type, a GUID or system, msft, data, linux, swap; linux if not given"),
             value("--guid", "GUID", "its unique GUID; a random one if not given"),
@@ -79,7 +85,12 @@ pub static VERBS: &[Verb] = &[
                 "NAME",
                 "its name, at most 36 UTF-16 units, which no other partition has; none if not given",
             ),
-            value("--attributes", "NUMBER", "its 64 attribute bits; 0 if not given"),
+            value(
+                "--attributes",
+                "BITS",
+                "its attribute bits, as legacy-boot,60 or one number for all 64; none if not given",
+            ),
+            RULE,
             BLOCK_WRITTEN,
             DRY,
             FORCE,
@@ -89,10 +100,14 @@ pub static VERBS: &[Verb] = &[
         about: "Add a partition in the lowest unused slot, at the lowest block with room for it whose number is a multiple of --align; \
                 tells slot, first and last block. \
                 A slot whose type GUID is zero is unused; what else it holds is overwritten. \
-                A name that another partition has is refused; any number of partitions may have none.",
+                A name that another partition has is refused; any number of partitions may have none. \
+                BITS are a list, parted by commas, of required, no-block-io, legacy-boot (bits 0 to 2) and numbers from 48 to 63, \
+                or else one number for all 64 bits. \
+                A bit that the rule wants zero is refused; some firmware wants the earlier rule.",
         examples: &[
             "usigrambal gpt add disk.img --size 10M --name boot --type system",
-            "usigrambal gpt add disk.img --size 2048 --attributes 0x4",
+            "usigrambal gpt add disk.img --size 2048 --attributes legacy-boot,60",
+            "usigrambal gpt add disk.img --size 2048 --attributes required --rule earlier",
             "usigrambal gpt add disk.img --size 64K --name keys --align 8",
         ],
         always: &[],
@@ -142,6 +157,19 @@ pub static VERBS: &[Verb] = &[
         examples: &["usigrambal gpt repair disk.img --dry-run", "usigrambal gpt repair disk.img"],
         always: &[],
         run: gpt::repair,
+    },
+    Verb {
+        group: "gpt",
+        name: "check",
+        operands: &["DISK..."],
+        options: &[RULE, BLOCK, JSON],
+        required: 0,
+        about: "Check the attributes of all partitions by a rule: list those that have a bit set which it wants zero, with the bits. \
+                Exit status 0 if none has, 1 where one has. What passes the earlier rule, which some firmware wants, passes the present one. \
+                Bytes in unused slots do not count. The copies of the table are for gpt verify.",
+        examples: &["usigrambal gpt check disk.img", "usigrambal gpt check disk.img /dev/sdb --rule earlier --json"],
+        always: &[],
+        run: gpt::check,
     },
     Verb {
         group: "gpt",

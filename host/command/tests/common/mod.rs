@@ -1,6 +1,8 @@
 //! The built command on real files, as a person runs it.
 #![allow(dead_code)]
 
+pub mod image;
+
 use std::ffi::OsStr;
 use std::fs;
 use std::io::Write;

@@ -13,14 +13,35 @@ pub const NAME_UNITS: usize = 36;
 /// A call with its arguments, but for the disk.
 #[derive(Clone)]
 pub enum Call {
-    Format { guid: Vec<u8> },
+    Format {
+        guid: Vec<u8>,
+    },
     Read,
     Table,
     Free,
-    Add { kind: Vec<u8>, unique: Vec<u8>, size: u64, alignment: u64, attributes: u64, name: Vec<u16> },
-    Delete { slot: u64 },
-    Resize { slot: u64, size: u64 },
-    Rename { slot: u64, name: Vec<u16> },
+    Check {
+        rule: u64,
+    },
+    Add {
+        kind: Vec<u8>,
+        unique: Vec<u8>,
+        size: u64,
+        alignment: u64,
+        attributes: u64,
+        rule: u64,
+        name: Vec<u16>,
+    },
+    Delete {
+        slot: u64,
+    },
+    Resize {
+        slot: u64,
+        size: u64,
+    },
+    Rename {
+        slot: u64,
+        name: Vec<u16>,
+    },
     Repair,
 }
 
@@ -66,6 +87,7 @@ impl Call {
             Call::Read => ["gpt_read", "gpt_read at 4096"],
             Call::Table => ["gpt_table", "gpt_table at 4096"],
             Call::Free => ["gpt_free", "gpt_free at 4096"],
+            Call::Check { .. } => ["gpt_check", "gpt_check at 4096"],
             Call::Add { .. } => ["gpt_add", "gpt_add at 4096"],
             Call::Delete { .. } => ["gpt_delete", "gpt_delete at 4096"],
             Call::Resize { .. } => ["gpt_resize", "gpt_resize at 4096"],
@@ -126,9 +148,10 @@ impl Call {
             Call::Read => raw::gpt_read(head, tail, n, block, a),
             Call::Table => raw::gpt_table(head, tail, n, block, a, b),
             Call::Free => raw::gpt_free(head, tail, n, block, a, b),
-            &Call::Add { size, alignment, attributes, .. } => {
+            Call::Check { rule } => raw::gpt_check(head, tail, n, block, *rule, a),
+            &Call::Add { size, alignment, attributes, rule, .. } => {
                 let (kind, unique, name) = (one.bytes(), two.bytes(), units.units());
-                let new = raw::NewPartition { kind, unique, size, alignment, attributes, name };
+                let new = raw::NewPartition { kind, unique, size, alignment, attributes, rule, name };
                 raw::gpt_add(head, tail, n, block, &new, a, b)
             }
             Call::Delete { slot } => raw::gpt_delete(head, tail, n, block, *slot),
@@ -147,9 +170,10 @@ impl Call {
             Call::Read => second::gpt_read(rules, head, tail, n, block, a),
             Call::Table => second::gpt_table(rules, head, tail, n, block, a, b),
             Call::Free => second::gpt_free(rules, head, tail, n, block, a, b),
-            &Call::Add { size, alignment, attributes, .. } => {
+            Call::Check { rule } => second::gpt_check(rules, head, tail, n, block, *rule, a),
+            &Call::Add { size, alignment, attributes, rule, .. } => {
                 let (kind, unique, name) = (one.bytes(), two.bytes(), units.units());
-                let new = second::NewPartition { kind, unique, size, alignment, attributes, name };
+                let new = second::NewPartition { kind, unique, size, alignment, attributes, rule, name };
                 second::gpt_add(rules, head, tail, n, block, &new, a, b)
             }
             Call::Delete { slot } => second::gpt_delete(rules, head, tail, n, block, *slot),
@@ -166,9 +190,10 @@ impl fmt::Display for Call {
     fn fmt(&self, f: &mut fmt::Formatter<'_>) -> fmt::Result {
         match self {
             Call::Format { guid } => write!(f, "guid {guid:02X?}"),
-            Call::Add { kind, unique, size, alignment, attributes, name } => {
+            Call::Check { rule } => write!(f, "rule {rule}"),
+            Call::Add { kind, unique, size, alignment, attributes, rule, name } => {
                 write!(f, "type {kind:02X?}, unique {unique:02X?}, size {size}, alignment {alignment}, ")?;
-                write!(f, "attributes {attributes:X}, name {name:X?}")
+                write!(f, "attributes {attributes:X}, rule {rule}, name {name:X?}")
             }
             Call::Delete { slot } => write!(f, "slot {slot}"),
             Call::Resize { slot, size } => write!(f, "slot {slot}, size {size}"),

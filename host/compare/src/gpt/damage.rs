@@ -1,5 +1,6 @@
 //! Damage to a disk: single bytes, whole fields, CRCs made right again.
 
+use super::bits;
 use super::call::GUID_LEN;
 use super::disk::{Disk, Side, ENTRY_LEN, NAME_AT, SIDES, SLOTS};
 use testkit::random::Random;
@@ -140,7 +141,7 @@ fn change_entry(entry: &mut [u8], another: &[u8], usable: (u64, u64), random: &m
         10 => set(32, last.wrapping_add(1)),
         11 => set(32, u64::MAX),
         12 => set(40, u64::MAX),
-        13 => entry[48..56].copy_from_slice(&random.bytes(8)),
+        13 => set(48, bits::any(random)),
         14 => entry[NAME_AT..].copy_from_slice(&random.bytes(ENTRY_LEN - NAME_AT)),
         15 => entry.copy_from_slice(another),
         16 => entry[NAME_AT..].copy_from_slice(&another[NAME_AT..]),

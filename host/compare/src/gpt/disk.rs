@@ -1,5 +1,5 @@
 use super::call::{Call, GUID_LEN};
-use super::name;
+use super::{attributes, bits, name};
 use crate::number::Answers;
 use crate::run::{Buffer, Cell, Difference, Lent, Outcome, Run};
 use second::RULES;
@@ -8,7 +8,8 @@ use testkit::random::Random;
 
 pub const SLOTS: usize = 128;
 pub const ENTRY_LEN: usize = 128;
-/// Where the name of an entry begins.
+/// Where the attributes and the name of an entry begin.
+const ATTRIBUTES_AT: usize = 48;
 pub const NAME_AT: usize = 56;
 
 /// Which copy; where its header block and its entries begin in its buffer.
@@ -91,6 +92,9 @@ impl Disk {
         let answers = (Answers(library, ours.answers.clone()), Answers(second, theirs.answers.clone()));
         let arguments = || format!("N {}, blocks of {} bytes, {call}", self.n, self.block);
         run.compare(call.name(self.block), arguments, answers, &buffers)?;
+        if let (Call::Check { .. }, 0) = (call, library) {
+            run.reach(call.name(self.block), attributes::answered(values[0]));
+        }
         (self.head, self.tail) = (ours.head, ours.tail);
         Ok(Reply { number: library, values })
     }
@@ -185,9 +189,12 @@ impl Disk {
         entry[40..48].copy_from_slice(&last.to_le_bytes());
         let kind = random.below(4);
         if kind < 2 {
-            entry[48..].fill(0);
+            entry[ATTRIBUTES_AT..].fill(0);
         }
         SIDES.into_iter().for_each(|side| self.entry(side, index).copy_from_slice(&entry));
+        if kind > 0 {
+            self.set_attributes(&SIDES, index, bits::any(random));
+        }
         match kind {
             1 => self.set_name(index, &name::good(random)),
             2 => self.set_name(index, &name::bad(random)),
@@ -204,6 +211,19 @@ impl Disk {
     pub fn set_name(&mut self, index: usize, name: &[u16]) {
         let bytes: Vec<u8> = name.iter().flat_map(|unit| unit.to_le_bytes()).collect();
         SIDES.into_iter().for_each(|side| self.entry(side, index)[NAME_AT..].copy_from_slice(&bytes));
+    }
+
+    pub fn attributes(&mut self, side: Side, index: usize) -> u64 {
+        let bytes = &self.entry(side, index)[ATTRIBUTES_AT..NAME_AT];
+        u64::from_le_bytes(bytes.try_into().expect("8 bytes"))
+    }
+
+    /// Gives an entry attributes in each of the copies, whose CRCs are then still those of before.
+    pub fn set_attributes(&mut self, sides: &[Side], index: usize, attributes: u64) {
+        let bytes = attributes.to_le_bytes();
+        sides.iter().for_each(|side| {
+            self.entry(*side, index)[ATTRIBUTES_AT..NAME_AT].copy_from_slice(&bytes);
+        });
     }
 
     /// Makes an entry unused in each of the copies, whose CRCs are then still those of before.

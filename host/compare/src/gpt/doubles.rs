@@ -2,7 +2,7 @@
 
 use super::call::{Call, NAME_UNITS};
 use super::disk::{Disk, Side, SIDES, SLOTS};
-use super::{name, rows, sample};
+use super::{bits, name, rows, sample};
 use crate::run::{Outcome, Run};
 use testkit::disk::{Shape, SHAPES};
 
@@ -43,7 +43,8 @@ fn with(disk: &Disk, names: &[(usize, &[u16])]) -> Disk {
 
 fn add(run: &mut Run, name: &[u16]) -> Call {
     let (kind, unique) = (sample::sparse_guid(&mut run.random), sample::guid(&mut run.random));
-    Call::Add { kind, unique, size: 1, alignment: 1, attributes: 0, name: name.to_vec() }
+    let (rule, name) = (bits::rule(&mut run.random), name.to_vec());
+    Call::Add { kind, unique, size: 1, alignment: 1, attributes: 0, rule, name }
 }
 
 fn rename(index: usize, name: &[u16]) -> Call {
@@ -141,7 +142,8 @@ fn twice(run: &mut Run, disk: &Disk) -> Outcome {
     let [name, other] = [name::filled(&mut run.random), name::filled(&mut run.random)];
     let disk = with(disk, &[(1, &name), (4, &name)]);
     let edits = [Call::Delete { slot: 2 }, Call::Resize { slot: 2, size: 4 }, Call::Delete { slot: 3 }];
-    for call in [Call::Read, Call::Table, Call::Free, Call::Repair].into_iter().chain(edits) {
+    let looks = [Call::Read, Call::Table, Call::Free, Call::Check { rule: 0 }, Call::Repair];
+    for call in looks.into_iter().chain(edits) {
         disk.meeting(run, &call, TWICE)?;
     }
     for name in [&name, &other] {

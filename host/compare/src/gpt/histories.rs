@@ -2,9 +2,9 @@
 
 use super::call::Call;
 use super::disk::{Disk, Reply, Side, NAME_AT, SIDES, SLOTS};
-use super::{damage, name, sample};
+use super::{attributes, bits, damage, name, sample};
 use crate::run::{Difference, Outcome, Run};
-use second::rules::LedgerRules;
+use second::rules::{Bits, LedgerRules};
 use second::Ledger;
 use testkit::disk::{Shape, SHAPES};
 use testkit::random::Random;
@@ -63,8 +63,8 @@ fn next_call(disk: &mut Disk, read: Reply, random: &mut Random) -> Call {
     }
 }
 
-/// A disk of any size with partitions in random slots; on some disks a few of them carry one name, and of some a few
-/// slots or all are stale.
+/// A disk of any size with partitions in random slots; on some disks a few of them carry one name, of some a few slots or
+/// all are stale, and of some a few have any attributes, the others such as an add takes.
 fn crowded(run: &mut Run) -> Disk {
     let shape = run.random.pick(&SHAPES);
     let n = match run.random.below(5) {
@@ -88,6 +88,7 @@ fn crowded(run: &mut Run) -> Disk {
         next = last + 1;
     }
     let (alike, stale) = (run.random.pick(&[0, 0, 1]), run.random.pick(&[0, 0, 1, 4]));
+    let (passing, rule) = (run.random.pick(&[0, 15, 16]), bits::rule(&mut run.random));
     let name = name::filled(&mut run.random);
     for (index, ..) in disk.partitions(Side::Head) {
         if run.random.below(4) < alike {
@@ -95,6 +96,10 @@ fn crowded(run: &mut Run) -> Disk {
         }
         if run.random.below(4) < stale {
             disk.clear_type(&SIDES, index);
+        }
+        if run.random.below(16) < passing {
+            let attributes = bits::passing(rule, &mut run.random);
+            disk.set_attributes(&SIDES, index, attributes);
         }
     }
     disk.seal_both();
@@ -107,9 +112,9 @@ fn near_multiple(shape: Shape, random: &mut Random) -> u64 {
     multiple + shape.first_usable + random.pick(&[0, 1, 7, 60]) - random.pick(&[0, 1, 2])
 }
 
-/// D19 to D22, e4, a1: calls after an accepted formatting; what they granted and gave back is what the entries hold, no
-/// block lies in two partitions, no two of them carry one name, and room is refused exactly where no multiple has enough
-/// free blocks from it on.
+/// D19 to D22, e4, a1, k1 to k4: calls after an accepted formatting; what they granted and gave back is what the entries
+/// hold, no block lies in two partitions, no two of them carry one name, room is refused exactly where no multiple has enough
+/// free blocks from it on, no partition offends the present rule, and none the earlier one where every add named it.
 pub fn ledger(run: &mut Run) -> Outcome {
     for _ in 0..LEDGER_HISTORIES {
         let shape = run.random.pick(&SHAPES);
@@ -120,12 +125,17 @@ pub fn ledger(run: &mut Run) -> Outcome {
         let mut disk = Disk::random(shape, n, &mut run.random);
         let mut ledger = Ledger::new(run.rules);
         format(run, &mut disk, &mut ledger)?;
+        let mut named = Named { earlier_alone: run.random.below(2) == 0, present: false };
         for _ in 0..LEDGER_CALLS {
             match run.random.below(30) {
-                0 => format(run, &mut disk, &mut ledger)?,
-                _ => one_call(run, &mut disk, &mut ledger)?,
+                0 => {
+                    format(run, &mut disk, &mut ledger)?;
+                    named.present = false;
+                }
+                _ => one_call(run, &mut disk, &mut ledger, &mut named)?,
             }
             claims(run, &mut disk, &ledger)?;
+            zero_bits(run, &mut disk, &named)?;
         }
     }
     Ok(())
@@ -138,17 +148,32 @@ fn format(run: &mut Run, disk: &mut Disk, ledger: &mut Ledger) -> Outcome {
     Ok(())
 }
 
-fn one_call(run: &mut Run, disk: &mut Disk, ledger: &mut Ledger) -> Outcome {
-    let call = sample::any_call(disk, &mut run.random);
+/// The rules that the adds of a list name.
+struct Named {
+    /// The earlier one alone.
+    earlier_alone: bool,
+    /// Since formatting an accepted add named the present one.
+    present: bool,
+}
+
+fn one_call(run: &mut Run, disk: &mut Disk, ledger: &mut Ledger, named: &mut Named) -> Outcome {
+    let mut call = sample::any_call(disk, &mut run.random);
+    if let (Call::Add { rule, attributes, .. }, true) = (&mut call, named.earlier_alone) {
+        *rule = run.random.pick(&bits::EARLIER);
+        *attributes = bits::given(*rule, &mut run.random);
+    }
     let mut before = disk.clone();
     let reply = disk.call(run, &call)?;
     match (&call, reply.number) {
-        (Call::Add { size, .. }, 0) => ledger.added(reply.values[0], *size),
+        (Call::Add { size, rule, .. }, 0) => {
+            ledger.added(reply.values[0], *size);
+            named.present |= *rule == bits::PRESENT;
+        }
         (Call::Delete { slot }, 0) => ledger.deleted(*slot),
         (Call::Resize { slot, size }, 0) => ledger.resized(*slot, *size),
         (Call::Rename { .. }, 0) => ledger.renamed(),
         (Call::Repair, 0) => ledger.repaired(),
-        (Call::Read | Call::Table | Call::Free, 0) => {}
+        (Call::Read | Call::Table | Call::Free | Call::Check { .. }, 0) => {}
         _ => ledger.refused(),
     }
     let (Call::Add { size, alignment, .. }, 0 | 25) = (call, reply.number) else { return Ok(()) };
@@ -197,6 +222,21 @@ fn names_differ(run: &Run, disk: &mut Disk, side: Side) -> Outcome {
     names.sort();
     let differ = names.windows(2).all(|two| two[0][..names_differ_in] != two[1][..names_differ_in]);
     claim(differ, || format!("the names are {names:02X?}"))
+}
+
+/// k1, k2: of the attributes that the used entries of a copy hold, bit by bit.
+fn zero_bits(run: &mut Run, disk: &mut Disk, named: &Named) -> Outcome {
+    let LedgerRules { zero_after_any, zero_after_earlier, after_earlier_alone, .. } = run.rules.gpt.ledger;
+    let by_earlier = !(named.present && after_earlier_alone);
+    for side in SIDES {
+        for (index, ..) in disk.partitions(side) {
+            let attributes = disk.attributes(side, index);
+            let are_zero = |Bits { first, last }: Bits| (first..=last).all(|bit| attributes >> bit & 1 == 0);
+            let hold = are_zero(zero_after_any) && (!by_earlier || are_zero(zero_after_earlier));
+            claim(hold, || format!("slot {} has attributes {attributes:X}", index + 1))?;
+        }
+    }
+    attributes::by_both(run, disk)
 }
 
 fn claim(holds: bool, what: impl Fn() -> String) -> Outcome {

@@ -1,4 +1,6 @@
 mod aligned;
+mod attributes;
+mod bits;
 mod bytes;
 mod call;
 mod damage;
@@ -22,6 +24,7 @@ pub const TOPIC: Topic = Topic {
         ("gpt: each alignment", aligned::each_alignment),
         ("gpt: each row, and each two together", rows::each_two),
         ("gpt: names of other slots", doubles::each_name),
+        ("gpt: attribute bits", attributes::each_rule),
         ("gpt: gaps at multiples", aligned::gaps),
         ("gpt: ranges of an entry", bytes::ranges),
         ("gpt: N outside its range", rows::each_block_count),
@@ -39,23 +42,31 @@ pub const TOPIC: Topic = Topic {
     ],
     cells: &[
         ("gpt_format", &[BLOCK, LENT, &[By(1, "guid"), Answer(3)]]),
-        ("gpt_read", &[BLOCK, LENT, READ, STALE, TWICE]),
-        ("gpt_table", &[BLOCK, LENT, READ, STALE, TWICE]),
-        ("gpt_free", &[BLOCK, LENT, READ, STALE, TWICE]),
-        ("gpt_add", &[BLOCK, LENT, READ, NOT_SAME, NEW, SIZE, ALIGNED, NAME, GIVEN, TWICE, STALE_ADD]),
-        ("gpt_delete", &[BLOCK, LENT, READ, NOT_SAME, SLOT, STALE_SLOT, TWICE]),
-        ("gpt_rename", &[BLOCK, LENT, READ, NOT_SAME, SLOT, NAME, GIVEN, OWN, TWICE, STALE_SLOT]),
-        ("gpt_resize", &[BLOCK, LENT, READ, NOT_SAME, SLOT, SIZE, STALE_SLOT, TWICE]),
-        ("gpt_repair", &[BLOCK, LENT, READ, STALE, TWICE]),
+        ("gpt_read", &[BLOCK, LENT, READ, STALE, OTHERS]),
+        ("gpt_table", &[BLOCK, LENT, READ, STALE, OTHERS]),
+        ("gpt_free", &[BLOCK, LENT, READ, STALE, OTHERS]),
+        ("gpt_check", &[BLOCK, LENT, READ, STALE, OTHERS, BITS, CHECKED]),
+        (
+            "gpt_add",
+            &[BLOCK, LENT, READ, NOT_SAME, NEW, SIZE, ALIGNED, NAME, GIVEN, BITS, ADDED, OTHERS, STALE_ADD],
+        ),
+        ("gpt_delete", &[BLOCK, LENT, READ, NOT_SAME, SLOT, STALE_SLOT, OTHERS]),
+        ("gpt_rename", &[BLOCK, LENT, READ, NOT_SAME, SLOT, NAME, GIVEN, OWN, OTHERS, STALE_SLOT]),
+        ("gpt_resize", &[BLOCK, LENT, READ, NOT_SAME, SLOT, SIZE, STALE_SLOT, OTHERS]),
+        ("gpt_repair", &[BLOCK, LENT, READ, STALE, OTHERS]),
         ("gpt_format at 4096", &[LENT, &[By(1, "guid"), Answer(3)]]),
-        ("gpt_read at 4096", &[LENT, READ, STALE, TWICE]),
-        ("gpt_table at 4096", &[LENT, READ, STALE, TWICE]),
-        ("gpt_free at 4096", &[LENT, READ, STALE, TWICE]),
-        ("gpt_add at 4096", &[LENT, READ, NOT_SAME, NEW, SIZE, ALIGNED, NAME, GIVEN, TWICE, STALE_ADD]),
-        ("gpt_delete at 4096", &[LENT, READ, NOT_SAME, SLOT, STALE_SLOT, TWICE]),
-        ("gpt_rename at 4096", &[LENT, READ, NOT_SAME, SLOT, NAME, GIVEN, OWN, TWICE, STALE_SLOT]),
-        ("gpt_resize at 4096", &[LENT, READ, NOT_SAME, SLOT, SIZE, STALE_SLOT, TWICE]),
-        ("gpt_repair at 4096", &[LENT, READ, STALE, TWICE]),
+        ("gpt_read at 4096", &[LENT, READ, STALE, OTHERS]),
+        ("gpt_table at 4096", &[LENT, READ, STALE, OTHERS]),
+        ("gpt_free at 4096", &[LENT, READ, STALE, OTHERS]),
+        ("gpt_check at 4096", &[LENT, READ, STALE, OTHERS, BITS, CHECKED]),
+        (
+            "gpt_add at 4096",
+            &[LENT, READ, NOT_SAME, NEW, SIZE, ALIGNED, NAME, GIVEN, BITS, ADDED, OTHERS, STALE_ADD],
+        ),
+        ("gpt_delete at 4096", &[LENT, READ, NOT_SAME, SLOT, STALE_SLOT, OTHERS]),
+        ("gpt_rename at 4096", &[LENT, READ, NOT_SAME, SLOT, NAME, GIVEN, OWN, OTHERS, STALE_SLOT]),
+        ("gpt_resize at 4096", &[LENT, READ, NOT_SAME, SLOT, SIZE, STALE_SLOT, OTHERS]),
+        ("gpt_repair at 4096", &[LENT, READ, STALE, OTHERS]),
     ],
     at_least: ("gpt_", 40_000),
     variants: variants::all,
@@ -81,7 +92,18 @@ const GIVEN: &[Cell] = &[
     On(doubles::OF_STALE),
 ];
 const OWN: &[Cell] = &[On(doubles::OWN)];
-const TWICE: &[Cell] = &[On(doubles::TWICE)];
+/// What other tools leave: a name twice, attributes that no add takes.
+const OTHERS: &[Cell] = &[On(doubles::TWICE), On(attributes::OFFENDING)];
+const BITS: &[Cell] = &[On(attributes::FREE), On(attributes::EARLIER_ALONE), On(attributes::STALE)];
+const ADDED: &[Cell] = &[Answer(28), By(28, attributes::EARLIER_ALONE), By(28, attributes::BOTH_RULES)];
+const CHECKED: &[Cell] = &[
+    On(attributes::BOTH_RULES),
+    On(attributes::ONE_COPY),
+    On(attributes::NONE),
+    On(attributes::SLOT_1),
+    On(attributes::SLOT_128),
+    On(attributes::BETWEEN),
+];
 const STALE: &[Cell] = &[On(stale::BESIDE), On(stale::ONE_COPY), On(stale::ALL)];
 const STALE_ADD: &[Cell] = &[On(stale::SLOT), On(stale::ALL)];
 const STALE_SLOT: &[Cell] = &[By(13, stale::SLOT), On(stale::BESIDE)];

@@ -2,7 +2,7 @@
 
 use super::call::{Call, GUID_LEN, NAME_UNITS};
 use super::disk::{Disk, Side, SIDES, SLOTS};
-use super::{name, sample};
+use super::{bits, name, sample};
 use crate::run::{Lent, Outcome, Run};
 use testkit::disk::{Shape, SHAPES};
 use testkit::random::Random;
@@ -30,6 +30,7 @@ enum Fault {
     TakenUnique,
     BadName,
     TakenName,
+    OffendingBits,
     AllSlotsUsed,
     NoRoom,
 }
@@ -53,12 +54,14 @@ fn calls(random: &mut Random) -> Vec<(Call, Vec<Fault>)> {
     let new = [Length("type"), Length("unique"), Length("name")];
     let judged = [ZeroSize, BadAlignment, ZeroType, ZeroUnique, TakenUnique];
     let named = [BadName, TakenName];
-    let placed = [AllSlotsUsed, NoRoom];
+    let placed = [OffendingBits, AllSlotsUsed, NoRoom];
+    let rule = bits::rule(random);
     vec![
         (Call::Format { guid: sample::guid(random) }, format),
         (Call::Read, reading.clone()),
         (Call::Table, reading.clone()),
         (Call::Free, reading.clone()),
+        (Call::Check { rule }, reading.clone()),
         (Call::Repair, reading.clone()),
         (sample::good_add(3, random), [&new, &reading[..], &judged, &named, &placed].concat()),
         (Call::Delete { slot }, editing.clone()),
@@ -187,6 +190,9 @@ fn on_call(call: &mut Call, fault: Fault, disk: &mut Disk, random: &mut Random) 
         (ZeroUnique, Call::Add { unique, .. }) => unique.fill(0),
         (TakenUnique, Call::Add { unique, .. }) => {
             unique.copy_from_slice(&disk.entry(Side::Head, 1)[16..32]);
+        }
+        (OffendingBits, Call::Add { attributes, rule, .. }) => {
+            *attributes = bits::offending(*rule, random);
         }
         (BadName, Call::Add { name, .. } | Call::Rename { name, .. }) => *name = name::bad(random),
         (TakenName, Call::Add { name, .. }) if *name == name::EMPTY => *name = name::filled(random),

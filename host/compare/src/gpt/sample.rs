@@ -2,7 +2,7 @@
 
 use super::call::{Call, GUID_LEN};
 use super::disk::{Disk, Side, SLOTS};
-use super::name;
+use super::{bits, name};
 use testkit::disk::Shape;
 use testkit::random::Random;
 
@@ -215,15 +215,6 @@ pub fn unique(disk: &mut Disk, random: &mut Random) -> Vec<u8> {
     guid
 }
 
-/// None, or any.
-fn attributes(random: &mut Random) -> u64 {
-    if random.below(3) == 0 {
-        0
-    } else {
-        random.number()
-    }
-}
-
 /// An add at any start that no row but for slot or room refuses, since hardly a slot has its name.
 pub fn good_add(size: u64, random: &mut Random) -> Call {
     aligned_add(size, 1, random)
@@ -232,23 +223,27 @@ pub fn good_add(size: u64, random: &mut Random) -> Call {
 /// The same at a multiple.
 pub fn aligned_add(size: u64, alignment: u64, random: &mut Random) -> Call {
     let (kind, unique, name) = (sparse_guid(random), guid(random), name::good(random));
-    Call::Add { kind, unique, size, alignment, attributes: attributes(random), name }
+    let rule = bits::rule(random);
+    Call::Add { kind, unique, size, alignment, attributes: bits::passing(rule, random), rule, name }
 }
 
 /// An add at any start without attributes and name.
 pub fn bare_add(size: u64, kind: Vec<u8>, unique: Vec<u8>) -> Call {
-    Call::Add { kind, unique, size, alignment: 1, attributes: 0, name: name::EMPTY.to_vec() }
+    let (rule, name) = (bits::EARLIER[0], name::EMPTY.to_vec());
+    Call::Add { kind, unique, size, alignment: 1, attributes: 0, rule, name }
 }
 
 /// Any call on the disk but formatting; edits most often.
 pub fn any_call(disk: &mut Disk, random: &mut Random) -> Call {
     let slot = any_slot(disk, random);
     let (size, alignment) = new_place(disk, random);
-    match random.below(20) {
+    let rule = bits::rule(random);
+    match random.below(21) {
         0 => Call::Read,
         1 => Call::Table,
         2 => Call::Free,
         3 => Call::Repair,
+        20 => Call::Check { rule },
         4..=5 => Call::Delete { slot },
         6..=8 => Call::Rename { slot, name: name::any(disk, random) },
         9..=11 => Call::Resize { slot, size: other_size(disk, slot, random) },
@@ -258,7 +253,8 @@ pub fn any_call(disk: &mut Disk, random: &mut Random) -> Call {
             unique: unique(disk, random),
             size,
             alignment,
-            attributes: attributes(random),
+            attributes: bits::given(rule, random),
+            rule,
             name: name::any(disk, random),
         },
     }

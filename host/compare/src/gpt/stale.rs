@@ -13,6 +13,9 @@ pub const SLOT: &str = "stale slot";
 pub const ONE_COPY: &str = "slot stale in one copy";
 pub const ALL: &str = "all slots stale";
 
+/// By the stricter rule.
+const CHECK: Call = Call::Check { rule: 1 };
+
 /// Each call on a disk with one stale slot, the lowest unused one, in both copies or in one.
 pub fn each_call(run: &mut Run) -> Outcome {
     SHAPES.into_iter().try_for_each(|shape| each_call_of(run, shape))
@@ -69,7 +72,8 @@ fn in_both_copies(run: &mut Run, disk: &Disk, unique: &[u8]) -> Outcome {
     let resize = |(slot, size)| Call::Resize { slot, size };
     let rename = |slot| Call::Rename { slot, name: name.clone() };
     let delete = |slot| Call::Delete { slot };
-    for call in [Call::Read, Call::Table, Call::Free, Call::Repair, delete(2), rename(2)] {
+    let looks = [Call::Read, Call::Table, Call::Free, CHECK, Call::Repair];
+    for call in looks.into_iter().chain([delete(2), rename(2)]) {
         disk.meeting(run, &call, BESIDE)?;
     }
     for call in [(2, 9), (2, 10), (3, 21), (3, 22)].map(resize) {
@@ -87,7 +91,7 @@ fn in_both_copies(run: &mut Run, disk: &Disk, unique: &[u8]) -> Outcome {
 
 /// What is repaired is read again.
 fn in_one_copy(run: &mut Run, disk: &Disk) -> Outcome {
-    for call in [Call::Read, Call::Table, Call::Free, Call::Repair, Call::Delete { slot: 2 }] {
+    for call in [Call::Read, Call::Table, Call::Free, CHECK, Call::Repair, Call::Delete { slot: 2 }] {
         disk.meeting(run, &call, ONE_COPY)?;
     }
     let mut disk = disk.clone();
@@ -106,7 +110,7 @@ fn all_slots_of(run: &mut Run, shape: Shape) -> Outcome {
     let used = rows::all_slots_used(run, shape);
     let all: Vec<usize> = (0..SLOTS).collect();
     for stale in [cleared(&used, &all), alike(&used)] {
-        for call in [Call::Read, Call::Table, Call::Free, Call::Repair] {
+        for call in [Call::Read, Call::Table, Call::Free, CHECK, Call::Repair] {
             stale.meeting(run, &call, ALL)?;
         }
         let whole = sample::good_add(shape.usable(stale.n), &mut run.random);

@@ -1,4 +1,5 @@
 mod aligned;
+mod attributes;
 mod names;
 mod shape;
 mod unused;
@@ -10,8 +11,8 @@ pub const RULES_TO_BREAK: &[&str] = &[
     "Q1", "Q2", "Q3", "Q6", "R1", "R2", "R3", "R4", "R5", "R6", "R7", "R8", "R9", "R10", "R11", "R12", "R13",
     "R25", "R26", "R27", "R28", "R29", "R30", "D1", "D2", "D3", "D4", "D5", "D6", "D7", "D8", "D9", "D10",
     "D11", "D12", "D13", "D14", "D15", "D16", "D17", "D18", "D19", "D20", "D21", "D22", "D23", "D24", "E1",
-    "E2", "a1", "a2", "a3", "a4", "e1", "e2", "e4", "e5", "f1", "f2", "f3", "f4", "f5", "l1", "l2", "l3",
-    "l7",
+    "E2", "a1", "a2", "a3", "a4", "e1", "e2", "e4", "e5", "f1", "f2", "f3", "f4", "f5", "k1", "k2", "k3",
+    "k4", "k6", "l1", "l2", "l3", "l7",
 ];
 
 pub fn all() -> Vec<Variant> {
@@ -25,6 +26,7 @@ pub fn all() -> Vec<Variant> {
         unused::variants(),
         aligned::variants(),
         names::variants(),
+        attributes::variants(),
         reading(),
         writing(),
         sums(),
@@ -86,6 +88,7 @@ const NUMBERS: &[(Row, &str, u32)] = &[
     (Row::UniqueTaken, "R11", 21),
     (Row::BadName, "R12", 53),
     (Row::NameTaken, "a4", 23),
+    (Row::AttributeBits, "k6", 26),
     (Row::NoSlot, "R13", 25),
     (Row::NoRoom, "R13", 24),
 ];
@@ -95,6 +98,7 @@ const ORDERS: &[Order] = &[
     ("read", "R26", |r| &mut r.gpt.read_order, None),
     ("table", "R26", |r| &mut r.gpt.table_order, None),
     ("free", "R26", |r| &mut r.gpt.free_order, None),
+    ("check", "k6", |r| &mut r.gpt.check_order, None),
     ("repair", "R26", |r| &mut r.gpt.repair_order, None),
     ("add", "R27", |r| &mut r.gpt.add_order, None),
     ("delete", "R28", |r| &mut r.gpt.delete_order, None),
@@ -162,8 +166,14 @@ fn entries() -> Vec<Variant> {
 }
 
 fn reading() -> Vec<Variant> {
-    let unjudged =
-        [Unjudged::Names, Unjudged::Attributes, Unjudged::DiskGuid, Unjudged::Block0, Unjudged::HeaderTail];
+    let unjudged = [
+        Unjudged::Names,
+        Unjudged::Attributes,
+        Unjudged::AttributeBits,
+        Unjudged::DiskGuid,
+        Unjudged::Block0,
+        Unjudged::HeaderTail,
+    ];
     let mut variants: Vec<Variant> = unjudged
         .into_iter()
         .map(|also| variant(format!("{also:?}-judged"), "D9", |r| r.gpt.also_judged = Some(also)))

@@ -2,7 +2,7 @@ use super::copies::Disk;
 use super::entry::{self, Entry, NewPartition};
 use super::place::Geometry;
 use super::write::Buffers;
-use super::{aligned, answer, leave_buffers, names, room};
+use super::{aligned, answer, attributes, leave_buffers, names, room};
 use crate::bytes::{is_zero, part, put};
 use crate::refuse::first_refusal;
 use crate::rules::{Row, Rules, Slot, UsedIn};
@@ -31,6 +31,10 @@ pub fn gpt_add(
         Row::UniqueTaken => unique_taken(rules, &used(UsedIn::UniqueTaken), new.unique),
         Row::BadName => entry::name_is_bad(rules, new.name),
         Row::NameTaken => names::is_taken(rules, &used(UsedIn::NameInAdd), index, new.name),
+        Row::AttributeBits => {
+            let before = index.map_or(&[][..], |index| disk.entry(index));
+            attributes::new_offends(rules, new, &used(UsedIn::Check), before)
+        }
         Row::NoSlot => free_slot(rules, &used(UsedIn::NoSlot)).is_none(),
         Row::NoRoom => room::none_fits(rules, &parts(UsedIn::NoRoom), new.size),
         _ => disk.holds(row),
@@ -53,6 +57,7 @@ pub fn gpt_delete(rules: &Rules, head: &mut [u8], tail: &mut [u8], n: u64, block
     let refusal = first_refusal(rules, rules.gpt.delete_order, |row| match row {
         Row::NoSuchSlot => no_such_slot(rules, slot),
         Row::UnusedSlot => target.is_none(),
+        Row::AttributeBits => target_offends(rules, &target),
         _ => disk.holds(row),
     });
     let zeros = vec![0; rules.gpt.delete_zeroes];
@@ -76,6 +81,7 @@ pub fn gpt_rename(
         Row::WrongLength => disk.holds(row) || name.len() != rules.gpt.name_units,
         Row::NoSuchSlot => no_such_slot(rules, slot),
         Row::UnusedSlot => target.is_none(),
+        Row::AttributeBits => target_offends(rules, &target),
         Row::BadName => entry::name_is_bad(rules, name),
         Row::NameTaken => {
             let used = entry::used(rules, UsedIn::NameInRename, disk.entries());
@@ -104,6 +110,7 @@ pub fn gpt_resize(
     let refusal = first_refusal(rules, rules.gpt.resize_order, |row| match row {
         Row::NoSuchSlot => no_such_slot(rules, slot),
         Row::UnusedSlot => target.is_none(),
+        Row::AttributeBits => target_offends(rules, &target),
         Row::ZeroSize => size < rules.gpt.size_min,
         Row::NoRoom => target.as_ref().is_some_and(|entry| no_room(disk.geometry, &used, entry, size)),
         _ => disk.holds(row),
@@ -160,6 +167,11 @@ fn no_such_slot(rules: &Rules, slot: u64) -> bool {
 fn target(rules: &Rules, call: UsedIn, disk: &Disk, slot: u64) -> Option<Entry> {
     let index = slot.checked_sub(rules.gpt.slot_base)?;
     entry::used(rules, call, disk.entries()).into_iter().find(|entry| entry.index as u64 == index)
+}
+
+/// By a slip the row stands in the order of another edit than adding.
+fn target_offends(rules: &Rules, target: &Option<Entry>) -> bool {
+    target.as_ref().is_some_and(|entry| attributes::entry_offends(rules, &entry.bytes))
 }
 
 fn renamed_units<'a>(rules: &Rules, name: &'a [u16]) -> &'a [u16] {

@@ -1,5 +1,5 @@
-use super::names;
 use super::place::Geometry;
+use super::{attributes, names};
 use crate::bytes::{is_zero, number, part, put, stored};
 use crate::rules::{Rules, Unjudged, UsedIn, WholeIn};
 use std::borrow::Cow;
@@ -76,7 +76,8 @@ pub fn stored_name(rules: &Rules, units: &[u16]) -> Vec<u8> {
     units.iter().flat_map(|unit| stored(rules.gpt.little_endian, u64::from(*unit), 2)).collect()
 }
 
-/// What the caller gives for a new partition: type, unique GUID, size and alignment in blocks, attributes, name.
+/// What the caller gives for a new partition: type, unique GUID, size and alignment in blocks, attributes with the number of
+/// the rule that they are judged by, name.
 #[derive(Clone, Copy, Debug)]
 pub struct NewPartition<'a> {
     pub kind: &'a [u8],
@@ -84,6 +85,7 @@ pub struct NewPartition<'a> {
     pub size: u64,
     pub alignment: u64,
     pub attributes: u64,
+    pub rule: u64,
     pub name: &'a [u16],
 }
 
@@ -138,6 +140,7 @@ fn also_bad(rules: &Rules, entry: &Entry) -> bool {
     match rules.gpt.also_judged {
         Some(Unjudged::Names) => name_is_bad(rules, &units(rules, entry.name(rules))),
         Some(Unjudged::Attributes) => !is_zero(part(&entry.bytes, at.attributes, NUMBER_LEN)),
+        Some(Unjudged::AttributeBits) => attributes::entry_offends(rules, &entry.bytes),
         _ => false,
     }
 }

@@ -2,6 +2,7 @@
 //! number answers left alone on refusal.
 
 mod aligned;
+mod attributes;
 mod copies;
 mod edits;
 mod entry;
@@ -17,7 +18,7 @@ mod write;
 pub use edits::{gpt_add, gpt_delete, gpt_rename, gpt_resize};
 pub use entry::NewPartition;
 pub use ledger::Ledger;
-pub use reading::{gpt_free, gpt_read, gpt_table};
+pub use reading::{gpt_check, gpt_free, gpt_read, gpt_table};
 pub use whole::{gpt_format, gpt_repair};
 
 use crate::refuse::{first_refusal, leave, leave_answer};

@@ -1,6 +1,7 @@
 use super::copies::Disk;
-use super::{answer, disk_refusal, entry, place, room};
-use crate::rules::{Rules, UsedIn};
+use super::{answer, attributes, disk_refusal, entry, place, room};
+use crate::refuse::first_refusal;
+use crate::rules::{Row, Rules, UsedIn};
 
 /// D10: the state of the two copies.
 pub fn gpt_read(rules: &Rules, head: &[u8], tail: &[u8], n: u64, block: u64, state: &mut u64) -> u32 {
@@ -44,4 +45,24 @@ pub fn gpt_free(
     let runs = room::runs(disk.geometry, &entry::used(rules, UsedIn::FreeCounts, entries));
     let found = [room::total(&runs), room::longest(rules.gpt.longest, &runs)];
     answer(rules, disk_refusal(rules, rules.gpt.free_order, &disk), Some(found), [free, longest])
+}
+
+/// k3: the first used slot that offends the rule, or 0.
+pub fn gpt_check(
+    rules: &Rules,
+    head: &[u8],
+    tail: &[u8],
+    n: u64,
+    block: u64,
+    rule: u64,
+    slot: &mut u64,
+) -> u32 {
+    let disk = Disk::of(rules, head, tail, n, block);
+    let offenders = attributes::offenders(&disk, rule);
+    let refusal = first_refusal(rules, rules.gpt.check_order, |row| match row {
+        // By a slip: an offender is an answer and no refusal.
+        Row::AttributeBits => !offenders.is_empty(),
+        _ => disk.holds(row),
+    });
+    answer(rules, refusal, attributes::answer(rules, &offenders).map(|slot| [slot]), [slot])
 }

@@ -15,6 +15,7 @@ pub enum Row {
     UniqueTaken,
     BadName,
     NameTaken,
+    AttributeBits,
     NoSlot,
     NoRoom,
     NotGuidText,
@@ -49,8 +50,8 @@ pub enum Row {
 /// What a refusal returns and leaves.
 #[derive(Clone, Copy, Debug)]
 pub struct RefusalRules {
-    /// R4 to R24, l7, e5, a4; 255 for the answer that no area is there.
-    pub numbers: [(Row, u32); 39],
+    /// R4 to R24, l7, e5, a4, k6; 255 for the answer that no area is there.
+    pub numbers: [(Row, u32); 40],
     /// R1: how many bytes of an output buffer a refusal zeroes.
     pub zeroes: usize,
     /// R1, "its number alone": a refusal sets the other answers to zero.
@@ -80,6 +81,7 @@ pub const REFUSALS: RefusalRules = RefusalRules {
         (Row::UniqueTaken, 22),
         (Row::BadName, 23),
         (Row::NameTaken, 26),
+        (Row::AttributeBits, 28),
         (Row::NoSlot, 24),
         (Row::NoRoom, 25),
         (Row::NotGuidText, 30),

@@ -1,7 +1,7 @@
 //! Where a new partition starts: at the lowest multiple of its alignment with enough free blocks from it on (rules e1, e4).
 //! The multiple is of the block's number on the disk, with either block size.
 
-use super::{unique, Calls, New, DISK_GUID};
+use super::{unique, Calls, New, Rule, DISK_GUID};
 use crate::disk::{Disk, Shape, SHAPES};
 use crate::random::Random;
 
@@ -14,7 +14,7 @@ pub(super) const ZERO: &str = "00000000-0000-0000-0000-000000000000";
 
 /// A partition that alignment or room alone can refuse.
 fn new(size: u64, alignment: u64, unique: &str) -> New<'_> {
-    New { kind: LINUX, unique, size, alignment, attributes: 0, name: "" }
+    New { kind: LINUX, unique, size, alignment, attributes: 0, rule: Rule::Earlier, name: "" }
 }
 
 /// Adds a partition with a unique GUID that none has; its first block.

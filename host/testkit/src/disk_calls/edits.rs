@@ -1,7 +1,7 @@
 //! The same edits by the implementation and by other tools, on the same disk, give the same bytes of head and tail, or
 //! at least the same partitions.
 
-use super::{largest, shapes, Calls, New, DISK_GUID};
+use super::{largest, shapes, Calls, New, Rule, DISK_GUID};
 use crate::disk::{Disk, Shape, HEADER_LEN};
 use crate::edit::{self as tool, Edit};
 use crate::listing::Partition;
@@ -9,8 +9,7 @@ use crate::peer;
 use crate::random::Random;
 use std::path::Path;
 
-/// The attributes that sfdisk and cgpt can set.
-const SFDISK_BITS: u64 = 0xFFFF_0000_0000_0007;
+/// The attributes that cgpt can set; sfdisk can set all that an add takes.
 pub(super) const CGPT_BITS: u64 = 0xFFFF_0000_0000_0005;
 
 /// A tool, and which edits it makes as the rules say.
@@ -130,7 +129,7 @@ pub fn sfdisk_makes_the_same_bytes(calls: &Calls) {
     let tool = Tool {
         by: |image, edits| edits.iter().for_each(|edit| tool::sfdisk(image, edit)),
         keeps: usize::MAX,
-        likewise: |_, _, edit| !matches!(edit, Edit::Add(new) if new.attributes & !SFDISK_BITS != 0),
+        likewise: |_, _, _| true,
         difference: of_bytes,
     };
     no_difference(calls, &tool, |shape| singly(shape, 8));
@@ -274,6 +273,7 @@ fn refused(calls: &Calls, disk: &Disk) -> Vec<(u32, Edit)> {
     let (one, three) = (calls.row_of(disk, 1), calls.row_of(disk, 3));
     let twin = Partition { slot: 2, first: one.last + 1, last: one.last + 2, attributes: 0, ..one.clone() };
     let namesake = Partition { unique: calls.new_unique(disk), ..twin.clone() };
+    let offending = Partition { attributes: 1 << 3, name: "offends".into(), ..namesake.clone() };
     let past_end = disk.n - disk.shape().first_usable + 1;
     vec![
         (12, Edit::Delete(129)),
@@ -282,6 +282,7 @@ fn refused(calls: &Calls, disk: &Disk) -> Vec<(u32, Edit)> {
         (22, Edit::Add(twin)),
         (26, Edit::Add(namesake)),
         (26, Edit::Rename(3, one.name.clone())),
+        (28, Edit::Add(offending)),
         (25, Edit::Resize(Partition { last: three.first, ..one })),
         (25, Edit::Resize(Partition { last: past_end, ..three })),
     ]
@@ -292,8 +293,8 @@ fn number(calls: &Calls, disk: &Disk, edit: &Edit) -> u32 {
     let mut disk = disk.clone();
     let answer = match edit {
         Edit::Add(Partition { first, last, kind, unique, attributes, name, .. }) => {
-            let (size, alignment, attributes) = (last - first + 1, 1, *attributes);
-            (calls.add)(&mut disk, &New { kind, unique, size, alignment, attributes, name }).map(drop)
+            let (size, alignment, attributes, rule) = (last - first + 1, 1, *attributes, Rule::Present);
+            (calls.add)(&mut disk, &New { kind, unique, size, alignment, attributes, rule, name }).map(drop)
         }
         Edit::Delete(slot) => (calls.delete)(&mut disk, *slot),
         Edit::Rename(slot, name) => (calls.rename)(&mut disk, *slot, name),
@@ -320,7 +321,7 @@ fn refuses_likewise_on(calls: &Calls, disk: &Disk, by: fn(&Path, &Edit), unknown
 
 pub fn sgdisk_refuses_the_same(calls: &Calls) {
     if peer::present("sgdisk", "gdisk") {
-        refuses_likewise(calls, |image, edit| tool::sgdisk(image, std::slice::from_ref(edit)), &[22, 26]);
+        refuses_likewise(calls, |image, edit| tool::sgdisk(image, std::slice::from_ref(edit)), &[22, 26, 28]);
     }
 }
 
@@ -330,8 +331,9 @@ pub fn sfdisk_refuses_the_same(calls: &Calls) {
     }
 }
 
+/// It can't be told bit 3, and adds without it.
 pub fn cgpt_refuses_the_same(calls: &Calls) {
     if peer::present("cgpt", "cgpt") {
-        refuses_likewise(calls, tool::cgpt, &[26]);
+        refuses_likewise(calls, tool::cgpt, &[26, 28]);
     }
 }

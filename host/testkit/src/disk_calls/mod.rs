@@ -2,6 +2,8 @@
 
 mod aligned;
 mod aligned_peers;
+mod attributes;
+mod attributes_peers;
 mod edits;
 mod names;
 mod names_peers;
@@ -12,6 +14,8 @@ mod stale_peers;
 
 pub use aligned::*;
 pub use aligned_peers::*;
+pub use attributes::*;
+pub use attributes_peers::*;
 pub use edits::*;
 pub use names::*;
 pub use names_peers::*;
@@ -35,6 +39,8 @@ pub struct Calls {
     /// The used entries.
     pub rows: fn(&Disk) -> Result<Vec<Partition>, u32>,
     pub free: fn(&Disk) -> Result<Free, u32>,
+    /// Answers the first used slot that offends, or 0.
+    pub check: fn(&Disk, Rule) -> Result<u64, u32>,
     /// Answers the slot.
     pub add: fn(&mut Disk, &New) -> Result<u64, u32>,
     pub delete: fn(&mut Disk, u64) -> Result<(), u32>,
@@ -52,7 +58,25 @@ pub struct New<'a> {
     pub size: u64,
     pub alignment: u64,
     pub attributes: u64,
+    pub rule: Rule,
     pub name: &'a str,
+}
+
+/// The rule that attributes are judged by (k2).
+#[derive(Clone, Copy, Debug, PartialEq, Eq)]
+pub enum Rule {
+    Present,
+    Earlier,
+}
+
+impl Rule {
+    /// The bits that it wants zero (k1): 3 to 47, or 1 to 47.
+    fn zero(self) -> u64 {
+        match self {
+            Rule::Present => 0x0000_FFFF_FFFF_FFF8,
+            Rule::Earlier => 0x0000_FFFF_FFFF_FFFE,
+        }
+    }
 }
 
 /// The tests of an implementation's disk calls.
@@ -85,8 +109,17 @@ macro_rules! disk_tests {
                 names_of_stale_slots_are_free,
                 disks_with_a_name_twice_are_read_and_edited,
                 a_name_twice_is_refused_after_23,
+                a_rule_wants_bits_zero,
+                attribute_bits_are_refused_after_26,
+                a_check_answers_the_first_offender,
+                stale_bytes_offend_no_rule,
+                a_check_goes_by_the_copy_that_reading_uses,
+                no_other_call_looks_at_attributes,
+                what_passes_the_earlier_rule_passes_the_present_one,
+                adds_leave_no_offender,
                 fixtures_read_as_their_tool_said,
                 names_of_fixtures_are_given_once,
+                attributes_of_fixtures_are_checked,
                 sgdisk_lists_the_same,
                 sfdisk_lists_the_same,
                 cgpt_lists_the_same,
@@ -109,6 +142,10 @@ macro_rules! disk_tests {
                 sgdisk_gives_a_name_twice,
                 sfdisk_gives_a_name_twice,
                 cgpt_gives_a_name_twice,
+                sgdisk_sets_bits_that_a_check_sees,
+                sfdisk_sets_bits_that_a_check_sees,
+                cgpt_sets_bits_that_a_check_sees,
+                sgdisk_edits_offending_partitions_likewise,
                 sgdisk_places_the_same,
                 sfdisk_places_the_same,
                 sfdisk_starts_at_1_mib_with_other_grains,
@@ -162,9 +199,15 @@ impl Calls {
     fn add_drawn_at(&self, disk: &mut Disk, size: u64, alignment: u64, random: &mut Random) -> Option<Edit> {
         let kind = random.pick(&KINDS);
         let unique = guid_text(&random.bytes(16));
+        let rule = random.pick(&[Rule::Present, Rule::Earlier]);
         let attributes = random.number() & random.pick(&[0, 0xFFFF_0000_0000_0005, u64::MAX]);
         let name = self.new_name(disk, None, random);
-        let new = New { kind, unique: &unique, size, alignment, attributes, name: &name };
+        let mut new = New { kind, unique: &unique, size, alignment, attributes, rule, name: &name };
+        if attributes & rule.zero() != 0 {
+            let refused = (self.add)(&mut disk.clone(), &new);
+            assert!(matches!(refused, Err(11 | 28)), "{attributes:X} by {rule:?}: {refused:?}");
+            new.attributes &= !rule.zero();
+        }
         let slot = (self.add)(disk, &new).ok()?;
         Some(Edit::Add(self.row_of(disk, slot)))
     }

@@ -2,7 +2,7 @@
 //! repeat, and a disk that has a name twice is read and edited as any other.
 
 use super::aligned::{refused_earlier, LINUX, ZERO};
-use super::{unique, Calls, New, DISK_GUID, NAMES};
+use super::{unique, Calls, New, Rule, DISK_GUID, NAMES};
 use crate::disk::{Disk, Shape, SHAPES};
 
 pub(super) const NAME: &str = "scratch";
@@ -19,7 +19,7 @@ pub(super) fn add(calls: &Calls, disk: &mut Disk, name: &str) -> Result<u64, u32
 
 /// A partition that its name or room alone can refuse.
 fn new<'a>(unique: &'a str, name: &'a str) -> New<'a> {
-    New { kind: LINUX, unique, size: 1, alignment: 1, attributes: 0, name }
+    New { kind: LINUX, unique, size: 1, alignment: 1, attributes: 0, rule: Rule::Earlier, name }
 }
 
 /// A partition of each name.

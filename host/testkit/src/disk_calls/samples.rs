@@ -1,12 +1,13 @@
 //! The samples of the rules, and their like on disks with blocks of 4096 bytes.
 
-use super::{Calls, New, DISK_GUID};
+use super::{Calls, New, Rule, DISK_GUID};
 use crate::disk::{Disk, Shape, HEADER_LEN, SHAPES};
 
 /// An add that only room can refuse.
 fn add(calls: &Calls, disk: &mut Disk, size: u64, unique: u8) -> Result<u64, u32> {
     let unique = format!("00000000-0000-0000-0000-0000000000{unique:02}");
-    let new = New { kind: "linux", unique: &unique, size, alignment: 1, attributes: 0, name: &unique };
+    let (unique, name, rule) = (&unique[..], &unique[..], Rule::Present);
+    let new = New { kind: "linux", unique, size, alignment: 1, attributes: 0, rule, name };
     (calls.add)(disk, &new)
 }
 

@@ -1,7 +1,7 @@
 //! Stale bytes: what an unused entry still holds. The entry rules ignore them, the comparison of copies does not, and
 //! adding overwrites them all.
 
-use super::{Calls, New, DISK_GUID};
+use super::{Calls, New, Rule, DISK_GUID};
 use crate::disk::{Disk, Shape, ENTRY_LEN, SHAPES};
 use crate::random::Random;
 
@@ -101,7 +101,8 @@ pub fn an_add_overwrites_stale_bytes(calls: &Calls) {
         let own = calls.row_of(&three(calls, shape), STALE).unique;
         for bytes in kinds_of_bytes(calls, shape) {
             let (mut stale, mut deleted) = (with_stale(calls, shape, &bytes), two(calls, shape));
-            let new = New { kind: "swap", unique: &own, size: 1, alignment: 1, attributes: 0, name: "" };
+            let (kind, unique, rule) = ("swap", &own[..], Rule::Earlier);
+            let new = New { kind, unique, size: 1, alignment: 1, attributes: 0, rule, name: "" };
             assert_eq!([&mut stale, &mut deleted].map(|disk| (calls.add)(disk, &new)), [Ok(STALE); 2]);
             assert_eq!(stale.difference(&deleted), None);
         }
@@ -147,7 +148,8 @@ pub fn stale_slots_are_places(calls: &Calls) {
             disk
         };
         let add = |disk: &mut Disk, size: u64, unique: &str| {
-            (calls.add)(disk, &New { kind: "linux", unique, size, alignment: 1, attributes: 0, name: unique })
+            let (kind, rule, name) = ("linux", Rule::Earlier, unique);
+            (calls.add)(disk, &New { kind, unique, size, alignment: 1, attributes: 0, rule, name })
         };
         let uniques = ["00000000-0000-0000-0000-000000000001", "00000000-0000-0000-0000-000000000002"];
         let mut empty = without(&(1..=128).collect::<Vec<_>>());

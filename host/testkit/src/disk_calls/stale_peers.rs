@@ -2,7 +2,7 @@
 
 use super::edits::{after, units, CGPT_BITS};
 use super::stale::{cleared, SIZES, STALE};
-use super::{shapes, Calls, New};
+use super::{shapes, Calls, New, Rule};
 use crate::disk::{Disk, Shape};
 use crate::edit::{self as tool, Edit};
 use crate::listing::{self, Partition};
@@ -18,7 +18,7 @@ const ZERO: &str = "00000000-0000-0000-0000-000000000000";
 fn added(calls: &Calls, stale: &Disk, size: u64, name: &str) -> (Partition, Disk) {
     let mut disk = stale.clone();
     let unique = "01234567-89AB-4CDE-8F01-23456789ABCD";
-    let new = New { kind: "linux", unique, size, alignment: 1, attributes: 1, name };
+    let new = New { kind: "linux", unique, size, alignment: 1, attributes: 1, rule: Rule::Earlier, name };
     assert_eq!((calls.add)(&mut disk, &new), Ok(STALE));
     (calls.row_of(&disk, STALE), disk)
 }

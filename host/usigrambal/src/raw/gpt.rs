@@ -41,6 +41,16 @@ mod c {
             free: *mut u64,
             longest: *mut u64,
         ) -> u32;
+        pub fn usi_gpt_check(
+            head: *const u8,
+            head_len: usize,
+            tail: *const u8,
+            tail_len: usize,
+            n: u64,
+            block: u64,
+            rule: u64,
+            slot: *mut u64,
+        ) -> u32;
         pub fn usi_gpt_add(
             head: *mut u8,
             head_len: usize,
@@ -55,6 +65,7 @@ mod c {
             size: u64,
             alignment: u64,
             attributes: u64,
+            rule: u64,
             name: *const u16,
             name_units: usize,
             slot: *mut u64,
@@ -103,7 +114,7 @@ mod c {
 }
 
 /// What `gpt_add` is given for a new partition: type and unique GUID as stored, size and
-/// alignment in blocks.
+/// alignment in blocks; rule 0 is the present one, every other number the earlier one.
 #[derive(Clone, Copy, Debug)]
 pub struct NewPartition<'a> {
     pub kind: &'a [u8],
@@ -111,6 +122,7 @@ pub struct NewPartition<'a> {
     pub size: u64,
     pub alignment: u64,
     pub attributes: u64,
+    pub rule: u64,
     pub name: &'a [u16],
 }
 
@@ -137,6 +149,10 @@ pub fn gpt_free(head: &[u8], tail: &[u8], n: u64, block: u64, free: &mut u64, lo
     unsafe { c::usi_gpt_free(head.as_ptr(), head.len(), tail.as_ptr(), tail.len(), n, block, free, longest) }
 }
 
+pub fn gpt_check(head: &[u8], tail: &[u8], n: u64, block: u64, rule: u64, slot: &mut u64) -> u32 {
+    unsafe { c::usi_gpt_check(head.as_ptr(), head.len(), tail.as_ptr(), tail.len(), n, block, rule, slot) }
+}
+
 pub fn gpt_add(
     head: &mut [u8],
     tail: &mut [u8],
@@ -161,6 +177,7 @@ pub fn gpt_add(
             new.size,
             new.alignment,
             new.attributes,
+            new.rule,
             new.name.as_ptr(),
             new.name.len(),
             slot,

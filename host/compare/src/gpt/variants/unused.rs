@@ -4,7 +4,7 @@ use crate::topic::{variant, Variant};
 use second::rules::{Span, UsedIn, WholeIn};
 
 /// Each rule about used entries, and the sentence that it breaks by taking a stale entry for one.
-const USED_IN: [(UsedIn, &str); 16] = [
+const USED_IN: [(UsedIn, &str); 17] = [
     (UsedIn::ZeroUnique, "f2"),
     (UsedIn::Range, "f2"),
     (UsedIn::EqualUniques, "f2"),
@@ -16,6 +16,7 @@ const USED_IN: [(UsedIn, &str); 16] = [
     (UsedIn::UniqueTaken, "f1"),
     (UsedIn::NameInAdd, "a1"),
     (UsedIn::NameInRename, "a1"),
+    (UsedIn::Check, "k3"),
     (UsedIn::NoSlot, "f1"),
     (UsedIn::NoRoom, "f1"),
     (UsedIn::Slot, "f1"),

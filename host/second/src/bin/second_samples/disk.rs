@@ -100,9 +100,8 @@ impl Disk {
         self.adds += 1;
         let mut name = [0; 36];
         name[0] = u16::from(b'A' + self.adds - 1);
-        let unique = [self.adds; 16];
-        let new =
-            NewPartition { kind: &KIND, unique: &unique, size, alignment: 1, attributes: 0, name: &name };
+        let (kind, unique, name) = (&KIND, &[self.adds; 16], &name);
+        let new = NewPartition { kind, unique, size, alignment: 1, attributes: 0, rule: 0, name };
         let (mut slot, mut first) = (0, 0);
         let (head, tail) = (&mut self.head, &mut self.tail);
         let number = second::gpt_add(&RULES, head, tail, self.n, BLOCK, &new, &mut slot, &mut first);

@@ -1,10 +1,12 @@
 mod alignment;
+mod attributes;
 mod names;
 mod operands;
 mod shape;
 mod unused;
 
 pub use alignment::*;
+pub use attributes::*;
 pub use names::*;
 pub use operands::*;
 pub use shape::*;
@@ -34,10 +36,17 @@ pub struct LedgerRules {
     /// a1, a2: no two used slots carry the same name, by so many bytes of it; the empty one may repeat.
     pub names_differ_in: usize,
     pub empty_names_repeat: bool,
+    /// k1, k2: after a list of calls no used slot has one of the first bits, and none of the others if every add that was
+    /// accepted named the earlier rule.
+    pub zero_after_any: Bits,
+    pub zero_after_earlier: Bits,
+    pub after_earlier_alone: bool,
+    /// k4: a table that passes the rule of the first number passes that of the second.
+    pub passes: [u64; 2],
 }
 
-/// The disk: Q1 to Q3, R25 to R30, D1 to D24, and of document 02 the sentences of requests l, f, e and a, l1 to l7, f1 to
-/// f5, e1 to e5 and a1 to a4.
+/// The disk: Q1 to Q3, R25 to R30, D1 to D24, and of document 02 the sentences of requests l, f, e, a and k, l1 to l7, f1
+/// to f5, e1 to e5, a1 to a4, k1 to k4 and k6.
 #[derive(Clone, Copy, Debug)]
 pub struct GptRules {
     /// l3: of each block size.
@@ -52,11 +61,12 @@ pub struct GptRules {
     pub unique_len: usize,
     pub name_units: usize,
 
-    /// R25 to R30, each after l7; in an add e5, in an add and a rename a4.
+    /// R25 to R30, each after l7; in an add e5, in an add and a rename a4, in an add and of a check k6.
     pub format_order: &'static [Row],
     pub read_order: &'static [Row],
     pub table_order: &'static [Row],
     pub free_order: &'static [Row],
+    pub check_order: &'static [Row],
     pub repair_order: &'static [Row],
     pub add_order: &'static [Row],
     pub delete_order: &'static [Row],
@@ -131,6 +141,8 @@ pub struct GptRules {
     pub start: Start,
     /// e1 to e5.
     pub alignment: AlignmentRules,
+    /// k1 to k3.
+    pub attributes: AttributeRules,
     /// D16, f5.
     pub delete_zeroes: usize,
     /// D17: units written, and whether a zero one ends them.
@@ -179,6 +191,7 @@ pub const GPT: GptRules = GptRules {
     read_order: &[Row::BlockSize, Row::WrongLength, Row::BadBlockCount, Row::NoGoodCopy],
     table_order: &[Row::BlockSize, Row::WrongLength, Row::BadBlockCount, Row::NoGoodCopy],
     free_order: &[Row::BlockSize, Row::WrongLength, Row::BadBlockCount, Row::NoGoodCopy],
+    check_order: &[Row::BlockSize, Row::WrongLength, Row::BadBlockCount, Row::NoGoodCopy],
     repair_order: &[Row::BlockSize, Row::WrongLength, Row::BadBlockCount, Row::NoGoodCopy],
     add_order: &[
         Row::BlockSize,
@@ -192,6 +205,7 @@ pub const GPT: GptRules = GptRules {
         Row::UniqueTaken,
         Row::BadName,
         Row::NameTaken,
+        Row::AttributeBits,
         Row::NoSlot,
         Row::NoRoom,
     ],
@@ -293,6 +307,7 @@ pub const GPT: GptRules = GptRules {
     slot: Slot::LowestUnused,
     start: Start::Lowest,
     alignment: ALIGNMENT,
+    attributes: ATTRIBUTES,
     delete_zeroes: 128,
     rename_units: 36,
     rename_stops_at_zero: false,
@@ -321,5 +336,9 @@ pub const GPT: GptRules = GptRules {
         room_by_multiples: true,
         names_differ_in: 72,
         empty_names_repeat: true,
+        zero_after_any: Bits { first: 3, last: 47 },
+        zero_after_earlier: Bits { first: 1, last: 47 },
+        after_earlier_alone: true,
+        passes: [1, 0],
     },
 };

@@ -71,6 +71,8 @@ pub struct EntryFields {
 pub enum Unjudged {
     Names,
     Attributes,
+    /// Those that offend the present rule.
+    AttributeBits,
     DiskGuid,
     Block0,
     HeaderTail,

@@ -19,6 +19,8 @@ pub enum UsedIn {
     /// a1, by the call.
     NameInAdd,
     NameInRename,
+    /// k3.
+    Check,
     /// R13.
     NoSlot,
     NoRoom,
