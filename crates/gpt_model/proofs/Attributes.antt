@@ -1,5 +1,5 @@
 -- Attribute bits: which numbers offend a rule, bit by bit and by one division, which is what code asks, and which used entry is the first to offend.
-use mathlib.Core.Path.{_≡_, refl, sym, ap, subst, _∙_}
+use mathlib.Core.Path.{_≡_, sym, ap, subst, _∙_}
 use mathlib.Core.Logic.{_⊎_, inl, inr, ⊎-elim, _≢_, _↔_}
 use mathlib.Core.Bool.{Bool, true, false, not, cond}
 use mathlib.Core.List.{List, []}
@@ -8,14 +8,14 @@ use native.Mathlib.Nat.{mod-one, mod-lt, pow-suc, div-add-mod', div-div-eq-div-m
 use native.Mathlib.Decide.{ℕ-discrete, decLt}
 use native.Mathlib.Omega.{arith}
 use lib.Dec.{eqb, lit<}
-use lib.ListN.{length, getD}
+use lib.ListN.{length}
 use lib.Arith.{mod-mul}
 use borrow.Author.Tests.{eqb-true, eqb-false, eq-eqb, ne-eqb}
 use Rattle.octets.specs.Tests.{_and_, any, findIx}
 use Rattle.octets.proofs.Bools.{and-l, and-r, and-i, and-false-l, and-t, bool-cases, not-t, clash}
 use Rattle.octets.proofs.Tests.{any-none, findIx-get, findIx-before}
 use Rattle.octets.proofs.Chunks.{length-chunks}
-use Rattle.gpt_model.specs.Table.{attributesOf, unused, entries}
+use Rattle.gpt_model.specs.Table.{entries}
 use Rattle.gpt_model.specs.Ranges.{allFrom}
 use Rattle.gpt_model.specs.Attributes.{bitOf, lowestBit, offends, usedOffends, firstOffending}
 use Rattle.gpt_model.specs.declared.Rule.{Rule}

@@ -2,7 +2,7 @@
 use mathlib.Core.Path.{_≡_, refl, sym, ap, subst, _∙_}
 use mathlib.Core.Logic.{_⊎_, inl, inr, ⊎-elim, _↔_}
 use mathlib.Core.Bool.{true, false, not}
-use mathlib.Core.List.{List, [], _∷_}
+use mathlib.Core.List.{List, [], _∷_, _++_}
 use mathlib.Core.Option.{none, some}
 use Prim.Native.Nat.{ℕ, suc, _-_, _%_, _^_, _<_}
 use native.Mathlib.Nat.{mod-lt}
@@ -16,20 +16,20 @@ use Rattle.octets.proofs.Bools.{and-false-l, and-false-r, bool-cases, option-ca
 use Rattle.octets.proofs.Numbers.{unle-le, le-mod}
 use Rattle.octets.proofs.Chunks.{length-chunk}
 use Rattle.octets.proofs.Rows.{rowsBefore, rowsFrom, passes, pick-false, refusal-append, refusal-before, refused-by}
-use Rattle.gpt_model.specs.Table.{attributesOf, unused, typeOf}
+use Rattle.gpt_model.specs.Table.{attributesOf, typeOf}
 use Rattle.gpt_model.specs.Disk.{Shape, lastUsable, tableOf}
 use Rattle.gpt_model.specs.Attributes.{offends, usedOffends, firstOffending}
 use Rattle.gpt_model.specs.declared.NewPartition.{NewPartition}
 use Rattle.gpt_model.specs.declared.Rule.{Rule}
 use Rattle.gpt_model.specs.declared.Rule.the-variants.{Present, Earlier}
-use Rattle.gpt_model.specs.Calls.{Edit, add, delete, resize, rename, Call, read, check, edit, Answer, refused, accepted, Outcome, outcome}
-use Rattle.gpt_model.specs.Calls.{entryOf, orZero, newEntry, startFor, tableRows, change, edited, lengthsOf, openRows, rowsOf, step, format}
+use Rattle.gpt_model.specs.Calls.{Edit, add, delete, resize, rename, Call, read, check, edit, refused, accepted, Outcome}
+use Rattle.gpt_model.specs.Calls.{entryOf, orZero, newEntry, addRows, startFor, tableRows, change, edited, lengthsOf, openRows, rowsOf, step, format}
 use Rattle.gpt_model.specs.Lists.{afterAll, startAfter}
-use Rattle.gpt_model.specs.Stored.{BreaksRule, EntryOffends, NoneOffends}
+use Rattle.gpt_model.specs.Stored.{NoneOffends}
 use Rattle.gpt_model.specs.Claims.{GivenOk, NameFree, CheckByBytes, EarlierPassesPresent, OffendingRefused, NameEarlier, BitsStayZero, BitsStayZeroFrom}
 use Rattle.gpt_model.proofs.Fields.{new-attributes, sized-type, sized-attributes, behind-type, named-attributes}
 use Rattle.gpt_model.proofs.Entries.{typed-alike, unused-zeros, empty-unused, entryAt, each-put}
-use Rattle.gpt_model.proofs.Attributes.{offendsByBits, keeps-iff, earlier-breaks, earlier-keeps, offends-low, offends-is, keeps-is, first-none, first-some}
+use Rattle.gpt_model.proofs.Attributes.{offendsByBits, earlier-breaks, earlier-keeps, offends-low, offends-is, keeps-is, first-none, first-some}
 use Rattle.gpt_model.proofs.Edits.{FitsEdit}
 use Rattle.gpt_model.proofs.Outcomes.{step-refused, step-accepted, refused-row, accepted-none, read-none}
 use Rattle.gpt_model.proofs.Accepts.{name-free, given, given-rows}
@@ -93,33 +93,40 @@ earlierPassesPresent = (
 
 -- ---- row 28 is the first to hold
 
+module _ (g : Shape) (n : ℕ) (h t : List ℕ) (p : NewPartition) where
+  abbrev tab : List ℕ
+  tab = tableOf g n h t
+
+  abbrev opens : List Row
+  opens = openRows g n h t (lengthsOf (add p))
+
+  -- an add's own rows before 28: those before 26, and 26
+  abbrev own : List Row
+  own = rowsBefore 28 (addRows tab p)
+
+  abbrev named : List Row
+  named = rowsFrom 26 own
+
+  add-first : (refusal (rowsOf g n h t (edit (add p))) ≡ some 28) ↔ ((refusal (opens ++ own) ≡ none) × (offends (p .rule) (p .attributes) ≡ true))
+  unfolding _or_
+  add-first = refused-by 28 (rowsOf g n h t (edit (add p))) refl
+
+  own-rows : (refusal own ≡ none) ↔ (GivenOk tab p × NameFree tab (p .name))
+  own-rows = (
+    λ e. let v = refusal-before (given tab p) named e in (given-rows tab p .0 (v .0), name-free tab p .0 (passes 26 named (v .1))),
+    λ w. refusal-append (given tab p) named (given-rows tab p .1 (w .0)) ∙ pick-false _ 26 _ (name-free tab p .1 (w .1)),
+  )
+
 pub offendingRefused : OffendingRefused
-unfolding _or_
 offendingRefused g n h t p = (
-  λ a. let v = by-row .0 (refused-row g n h t (edit (add p)) 28 a) in
-      let w = refusal-before opens (rowsBefore 28 (rowsFrom 20 rows)) (v .0) in
-      let u = refusal-before (given tab p) (rowsFrom 26 (rowsBefore 28 (rowsFrom 20 rows))) (w .1) in
-      (w .0, given-rows tab p .0 (u .0), name-free tab p .0 (passes 26 (rowsFrom 26 (rowsBefore 28 (rowsFrom 20 rows))) (u .1)), offendsByBits _ _ .0 (v .1)),
-  λ w. ap (λ (o : Outcome). o .answer) (step-refused g n h t (edit (add p)) 28 (by-row .1 (
-    refusal-append opens (rowsBefore 28 (rowsFrom 20 rows)) (w .0)
-        ∙ refusal-append (given tab p) (rowsFrom 26 (rowsBefore 28 (rowsFrom 20 rows))) (given-rows tab p .1 (w .1))
-        ∙ pick-false _ 26 _ (name-free tab p .1 (w .2)),
-    offendsByBits _ _ .1 (w .3),
-  ))),
+  λ a. let v = add-first g n h t p .0 (refused-row g n h t (edit (add p)) 28 a) in
+      let w = refusal-before (opens g n h t p) (own g n h t p) (v .0) in
+      let u = own-rows g n h t p .0 (w .1) in
+      (w .0, u .0, u .1, offendsByBits _ _ .0 (v .1)),
+  λ w. ap (λ (o : Outcome). o .answer) (step-refused g n h t (edit (add p)) 28
+      (add-first g n h t p .1
+      (refusal-append (opens g n h t p) (own g n h t p) (w .0) ∙ own-rows g n h t p .1 (w .1, w .2), offendsByBits _ _ .1 (w .3)))),
 )
-  where
-    tab : List ℕ
-    tab = tableOf g n h t
-
-    opens : List Row
-    opens = openRows g n h t (lengthsOf (add p))
-
-    rows : List Row
-    rows = rowsOf g n h t (edit (add p))
-
-    by-row : (refusal (rowsOf g n h t (edit (add p))) ≡ some 28)
-        ↔ ((refusal (rowsBefore 28 (rowsOf g n h t (edit (add p)))) ≡ none) × (offends (p .rule) (p .attributes) ≡ true))
-    by-row = refused-by 28 (rowsOf g n h t (edit (add p))) refl
 
 -- ---- what every edit keeps
 
