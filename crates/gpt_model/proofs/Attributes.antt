@@ -147,7 +147,11 @@ module _ (rule : Rule) (es : List ℕ) where
   abbrev First : ℕ → Type 0
   First i = EntryOffends rule es i × ((j : ℕ) → j < i → ¬ EntryOffends rule es j)
 
-  pub first-cases : ((firstOffending rule es ≡ 0) × NoneOffends rule es) ⊎ ((i : ℕ) × (firstOffending rule es ≡ suc i) × First i)
+  -- none offends, or one is the first
+  abbrev Cases : Type 0
+  Cases = ((firstOffending rule es ≡ 0) × NoneOffends rule es) ⊎ ((i : ℕ) × (firstOffending rule es ≡ suc i) × First i)
+
+  pub first-cases : Cases
   unfolding firstOffending
   first-cases = go (bool-cases (any (usedOffends rule) (entries es)))
     where
@@ -155,7 +159,7 @@ module _ (rule : Rule) (es : List ℕ) where
       long = length-chunks 128 128 es
 
       go : (any (usedOffends rule) (entries es) ≡ true) ⊎ (any (usedOffends rule) (entries es) ≡ false)
-          → ((firstOffending rule es ≡ 0) × NoneOffends rule es) ⊎ ((i : ℕ) × (firstOffending rule es ≡ suc i) × First i)
+          → Cases
       go (inl q) =
           let i : ℕ = findIx (usedOffends rule) (entries es) in
           let f = findIx-get (usedOffends rule) (entries es) [] q in
@@ -176,13 +180,11 @@ module _ (rule : Rule) (es : List ℕ) where
   pub first-some : (i : ℕ) → (firstOffending rule es ≡ suc i) ↔ First i
   first-some i = (to first-cases, from first-cases)
     where
-      to : ((firstOffending rule es ≡ 0) × NoneOffends rule es) ⊎ ((j : ℕ) × (firstOffending rule es ≡ suc j) × First j)
-          → firstOffending rule es ≡ suc i → First i
+      to : Cases → firstOffending rule es ≡ suc i → First i
       to (inl w) e = let z = w .0 in absurd (omega arith)
       to (inr w) e = let z = w .1 in let same : w .0 ≡ i = omega arith in subst First same (w .2)
 
-      from : ((firstOffending rule es ≡ 0) × NoneOffends rule es) ⊎ ((j : ℕ) × (firstOffending rule es ≡ suc j) × First j)
-          → First i → firstOffending rule es ≡ suc i
+      from : Cases → First i → firstOffending rule es ≡ suc i
       from (inl w) f = absurd (w .1 i (f .0))
       from (inr w) f = go (decLt (w .0) i) (decLt i (w .0))
         where
