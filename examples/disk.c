@@ -21,7 +21,7 @@ static uint32_t add(const uint8_t *unique, const uint16_t *name, uint64_t size, 
     uint8_t kind[USI_GUID_LEN];
     usi_type_read((const uint8_t *)"linux", 5, kind, sizeof kind);
     return usi_gpt_add(head, USI_HEAD_LEN(block), tail, USI_TAIL_LEN(block), N, block, kind, sizeof kind, unique, USI_GUID_LEN, size, ALIGNMENT,
-                       attributes, USI_RULE_PRESENT, name, USI_NAME_UNITS, slot, first);
+                       attributes, USI_PRESENT_RULE, name, USI_NAME_UNITS, slot, first);
 }
 
 static void check(const char *called, uint64_t rule) {
@@ -40,8 +40,8 @@ static void fill(void) {
     printf("add %" PRIu32 "\n", add(two, data, 2048, 0, &slot, &first));
     printf("add %" PRIu32 "\n", add(two, logs, 2048, 8, &slot, &first));
     printf("add %" PRIu32 "\n", add(two, logs, N, 0, &slot, &first));
-    check("present", USI_RULE_PRESENT);
-    check("earlier", USI_RULE_EARLIER);
+    check("present", USI_PRESENT_RULE);
+    check("earlier", USI_EARLIER_RULE);
     printf("free %" PRIu32, usi_gpt_free(head, USI_HEAD_LEN(block), tail, USI_TAIL_LEN(block), N, block, &free_blocks, &longest));
     printf(" %" PRIu64 " %" PRIu64 "\n", free_blocks, longest);
 }

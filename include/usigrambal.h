@@ -194,9 +194,9 @@ static inline const char *usi_rule_words(uint64_t rule)
 
 /* The rules of attribute bits: the present one wants bits 3 to 47 zero, the earlier one bits 1 to 47; every number but 0 is the earlier one.
  * Bits 0 and 48 to 63 are free under both. attributes & USI_ZERO_BITS(rule) are the bits that offend. */
-#define USI_RULE_PRESENT 0
-#define USI_RULE_EARLIER 1
-#define USI_ZERO_BITS(rule) ((rule) == USI_RULE_PRESENT ? UINT64_C(0x0000FFFFFFFFFFF8) : UINT64_C(0x0000FFFFFFFFFFFE))
+#define USI_PRESENT_RULE 0
+#define USI_EARLIER_RULE 1
+#define USI_ZERO_BITS(rule) ((rule) == USI_PRESENT_RULE ? UINT64_C(0x0000FFFFFFFFFFF8) : UINT64_C(0x0000FFFFFFFFFFFE))
 
 /* The states of the two copies. */
 #define USI_STATE_SAME 1
@@ -302,7 +302,7 @@ uint32_t usi_gpt_free(const uint8_t *head, size_t head_len, const uint8_t *tail,
                       uint64_t *longest);
 
 /* Answers the first used slot whose attributes have a bit set that the rule wants zero, 0 where none has, in the copy that usi_gpt_table answers.
- * rule is USI_RULE_PRESENT or USI_RULE_EARLIER; every other number is the earlier one too. A table that passes the earlier rule passes the present one.
+ * rule is USI_PRESENT_RULE or USI_EARLIER_RULE; every other number is the earlier one too. A table that passes the earlier rule passes the present one.
  * An unused entry never offends, whatever it holds. Refusals in order: 6, 1, 2, 10. */
 uint32_t usi_gpt_check(const uint8_t *head, size_t head_len, const uint8_t *tail, size_t tail_len, uint64_t n, uint64_t block, uint64_t rule,
                        uint64_t *slot);

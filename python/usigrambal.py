@@ -30,8 +30,8 @@ AREA_LEN = 42
 IMAGE_NAME_LEN = 32
 RECORDS_LEN = 5376
 PRESERVE = 8
-RULE_PRESENT = 0
-RULE_EARLIER = 1
+PRESENT_RULE = 0
+EARLIER_RULE = 1
 
 
 class _Worded(enum.IntEnum):
@@ -321,13 +321,13 @@ def gpt_free(head, tail, n, block):
     return _numbers(2, "usi_gpt_free", _copy(head), _copy(tail), n, block)
 
 
-def gpt_check(head, tail, n, block, rule=RULE_PRESENT):
-    """The first used slot whose attributes have a bit set that the rule wants zero, 0 where none has: bits 3 to 47 by RULE_PRESENT,
-    bits 1 to 47 by RULE_EARLIER and by every other number. Refused: 6, 1, 2, 10."""
+def gpt_check(head, tail, n, block, rule=PRESENT_RULE):
+    """The first used slot whose attributes have a bit set that the rule wants zero, 0 where none has: bits 3 to 47 by PRESENT_RULE,
+    bits 1 to 47 by EARLIER_RULE and by every other number. Refused: 6, 1, 2, 10."""
     return _numbers(1, "usi_gpt_check", _copy(head), _copy(tail), n, block, rule)[0]
 
 
-def gpt_add(head, tail, n, block, kind, unique, size, attributes=0, name="", *, alignment=2048, rule=RULE_PRESENT):
+def gpt_add(head, tail, n, block, kind, unique, size, attributes=0, name="", *, alignment=2048, rule=PRESENT_RULE):
     """Head and tail with a new partition of `size` blocks, then its slot and its first block: the lowest multiple of `alignment` (1, 8 or
     2048 blocks) with room. The name is a text or a list of 36 units; the rule is as in gpt_check.
     Refused: 6, 1, 2, 10, 11, 20, 27, 21 to 23, 26, 28, 24, 25."""

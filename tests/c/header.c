@@ -46,7 +46,7 @@ static uint32_t format(size_t head_len, size_t tail_len, uint64_t n, size_t guid
 
 static uint32_t add(size_t guid_len, size_t units) {
     uint64_t slot, first;
-    return usi_gpt_add(HEAD, TAIL, N, block, two, guid_len, one, guid_len, 1, 1, 5, USI_RULE_PRESENT, name, units, &slot, &first);
+    return usi_gpt_add(HEAD, TAIL, N, block, two, guid_len, one, guid_len, 1, 1, 5, USI_PRESENT_RULE, name, units, &slot, &first);
 }
 
 static uint64_t state(void) {
@@ -130,7 +130,7 @@ static void unused(void) {
 
 static uint32_t add_aligned(uint64_t n, const uint8_t *kind, uint64_t size, uint64_t alignment, uint64_t *first) {
     uint64_t slot;
-    return usi_gpt_add(HEAD, TAIL, n, block, kind, USI_GUID_LEN, one, USI_GUID_LEN, size, alignment, 0, USI_RULE_EARLIER, name,
+    return usi_gpt_add(HEAD, TAIL, n, block, kind, USI_GUID_LEN, one, USI_GUID_LEN, size, alignment, 0, USI_EARLIER_RULE, name,
                        USI_NAME_UNITS, &slot, first);
 }
 
@@ -157,7 +157,7 @@ static void alignments(void) {
 
 static uint32_t add_named(const uint8_t *unique, const uint16_t *called, uint64_t size) {
     uint64_t slot, first;
-    return usi_gpt_add(HEAD, TAIL, 100, block, two, USI_GUID_LEN, unique, USI_GUID_LEN, size, 1, 0, USI_RULE_EARLIER, called, USI_NAME_UNITS, &slot,
+    return usi_gpt_add(HEAD, TAIL, 100, block, two, USI_GUID_LEN, unique, USI_GUID_LEN, size, 1, 0, USI_EARLIER_RULE, called, USI_NAME_UNITS, &slot,
                        &first);
 }
 
@@ -214,9 +214,9 @@ static uint64_t offends(uint64_t rule) {
 
 /* Each bit alone under each rule, in an add, after a name that is taken and before no room, and in the check. */
 static void attributes(void) {
-    static const uint64_t rules[] = {USI_RULE_PRESENT, USI_RULE_EARLIER, 2, UINT64_C(1) << 32, UINT64_MAX};
+    static const uint64_t rules[] = {USI_PRESENT_RULE, USI_EARLIER_RULE, 2, UINT64_C(1) << 32, UINT64_MAX};
     static const uint8_t zeros[USI_GUID_LEN] = {0};
-    HOLDS(USI_ZERO_BITS(USI_RULE_PRESENT) == UINT64_C(0xFFFFFFFFFFF8) && USI_ZERO_BITS(USI_RULE_EARLIER) == UINT64_C(0xFFFFFFFFFFFE));
+    HOLDS(USI_ZERO_BITS(USI_PRESENT_RULE) == UINT64_C(0xFFFFFFFFFFF8) && USI_ZERO_BITS(USI_EARLIER_RULE) == UINT64_C(0xFFFFFFFFFFFE));
     for (size_t k = 0; k < sizeof rules / sizeof *rules; k++) {
         const uint64_t rule = rules[k];
         for (int bit = 0; bit < 64; bit++) {
@@ -244,7 +244,7 @@ static void refused_for_its_block(size_t head_len, size_t tail_len, uint64_t n, 
     HOLDS(usi_gpt_read(head, head_len, tail, tail_len, n, block, &a) == USI_BLOCK_SIZE);
     HOLDS(usi_gpt_table(head, head_len, tail, tail_len, n, block, &a, &b) == USI_BLOCK_SIZE);
     HOLDS(usi_gpt_free(head, head_len, tail, tail_len, n, block, &a, &b) == USI_BLOCK_SIZE);
-    HOLDS(usi_gpt_check(head, head_len, tail, tail_len, n, block, USI_RULE_PRESENT, &a) == USI_BLOCK_SIZE);
+    HOLDS(usi_gpt_check(head, head_len, tail, tail_len, n, block, USI_PRESENT_RULE, &a) == USI_BLOCK_SIZE);
     HOLDS(usi_gpt_add(head, head_len, tail, tail_len, n, block, two, guid_len, one, USI_GUID_LEN, 1, 1, 0, 0, name, units, &a, &b) == USI_BLOCK_SIZE);
     HOLDS(usi_gpt_add(head, head_len, tail, tail_len, n, block, two, USI_GUID_LEN, one, guid_len, 1, 1, 0, 0, name, units, &a, &b) == USI_BLOCK_SIZE);
     HOLDS(usi_gpt_delete(head, head_len, tail, tail_len, n, block, 1) == USI_BLOCK_SIZE);

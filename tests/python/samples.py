@@ -65,7 +65,7 @@ class Names(unittest.TestCase):
 
     def test_constants(self):
         names = ["ENTRIES_LEN", "ENTRY_LEN", "GUID_LEN", "GUID_TEXT_LEN", "NAME_UNITS", "AREA_LEN", "IMAGE_NAME_LEN", "RECORDS_LEN"]
-        for name in names + ["RULE_PRESENT", "RULE_EARLIER"]:
+        for name in names + ["PRESENT_RULE", "EARLIER_RULE"]:
             self.assertIn(f"#define USI_{name} {getattr(usi, name)}\n", HEADER)
         self.assertIn(f"#define USI_FLAG_PRESERVE {usi.PRESERVE}\n", HEADER)
         self.assertIn(f'#define USI_VERSION "{usi.__version__}"\n', HEADER)
@@ -275,12 +275,12 @@ class Samples(unittest.TestCase):
         """A bit that the rule wants zero is 28, after 26 and before 25; the check answers the first used slot that has one, or 0."""
         for block in usi.BLOCK_SIZES:
             size = 100, block
-            *empty, slot, _ = usi.gpt_add(*formatted(*size), *size, TWO, ONE, 1, name="a", alignment=1, rule=usi.RULE_EARLIER)
+            *empty, slot, _ = usi.gpt_add(*formatted(*size), *size, TWO, ONE, 1, name="a", alignment=1, rule=usi.EARLIER_RULE)
             new = *empty, *size, TWO, TWO
-            self.assertEqual((slot, usi.gpt_check(*empty, *size), usi.gpt_check(*empty, *size, usi.RULE_EARLIER)), (1, 0, 0))
+            self.assertEqual((slot, usi.gpt_check(*empty, *size), usi.gpt_check(*empty, *size, usi.EARLIER_RULE)), (1, 0, 0))
             for bit in range(64):
                 present, earlier = 3 <= bit < 48, 1 <= bit < 48
-                for rule, offends in [(usi.RULE_PRESENT, present), (usi.RULE_EARLIER, earlier), (1 << 32, earlier), ((1 << 64) - 1, earlier)]:
+                for rule, offends in [(usi.PRESENT_RULE, present), (usi.EARLIER_RULE, earlier), (1 << 32, earlier), ((1 << 64) - 1, earlier)]:
                     if offends:
                         self.refused(28, usi.gpt_add, *new, 1, attributes=1 << bit, alignment=1, rule=rule)
                         self.refused(28, usi.gpt_add, *new, 1000, attributes=1 << bit, alignment=1, rule=rule)

@@ -86,9 +86,11 @@ pub fn bit_name(bit: u32) -> Option<&'static str> {
     BIT_NAMES.iter().find(|(named, _)| *named == bit).map(|(_, name)| *name)
 }
 
-/// A bit's name, or its number where it has none.
+/// A bit's name; one of `TYPE_BITS` by its number. Any other begins with `bit-`, so that it is not taken for a number of all
+/// 64 bits.
 pub fn bit_text(bit: u32) -> String {
-    bit_name(bit).map_or_else(|| bit.to_string(), str::to_string)
+    let numbered = || if TYPE_BITS.contains(&bit) { bit.to_string() } else { format!("bit-{bit}") };
+    bit_name(bit).map_or_else(numbered, str::to_string)
 }
 
 /// The bit with that name, or one of `TYPE_BITS` by its number.
@@ -159,12 +161,12 @@ mod tests {
     #[test]
     fn bits_by_name() {
         let told: Vec<String> = bits(0x8001_0000_0000_000F).into_iter().map(bit_text).collect();
-        assert_eq!(told, ["required", "no-block-io", "legacy-boot", "3", "48", "63"]);
+        assert_eq!(told, ["required", "no-block-io", "legacy-boot", "bit-3", "48", "63"]);
         assert_eq!(bits(0), []);
         for (bit, name) in [(0, "required"), (1, "no-block-io"), (2, "legacy-boot"), (48, "48"), (63, "63")] {
             assert_eq!((bit_named(name), bit_text(bit)), (Some(bit), name.to_string()));
         }
-        for text in ["", "0", "1", "2", "3", "47", "64", "+48", "0x30", "48 ", "Required", "99999999999"] {
+        for text in ["", "0", "2", "bit-3", "47", "64", "+48", "0x30", "48 ", "Required", "99999999999"] {
             assert_eq!(bit_named(text), None, "{text}");
         }
     }

@@ -59,14 +59,14 @@ fn rules_of_a_map_are_the_same() {
 fn rules_of_attribute_bits_are_the_same() {
     let mask = |rule: AttributeRule| rule.zero_bits().fold(0_u64, |mask, bit| mask | 1 << bit);
     let of = |rule: AttributeRule| {
-        format!("#define {} {}", c_name_of("USI_RULE", &format!("{rule:?}")), rule.number())
+        format!("#define {} {}", c_name_of("USI", &format!("{rule:?}Rule")), rule.number())
     };
     let [present, earlier] = AttributeRule::ALL.map(|rule| format!("UINT64_C({:#018X})", mask(rule)));
     let chosen = format!("{present} : {earlier})").replace("0X", "0x");
     let expected = AttributeRule::ALL.map(of);
     let lines = between("are the bits that offend. */", "/* The states");
     assert_eq!(lines[..2], expected);
-    assert_eq!(lines[2], format!("#define USI_ZERO_BITS(rule) ((rule) == USI_RULE_PRESENT ? {chosen}"));
+    assert_eq!(lines[2], format!("#define USI_ZERO_BITS(rule) ((rule) == USI_PRESENT_RULE ? {chosen}"));
 }
 
 #[test]

@@ -113,6 +113,7 @@ mod tests {
             ("", ""),
             ("x", "x"),
             ("boot", "boot"),
+            ("bit-4", "bit-4"),
             ("Required", "Required"),
             ("-1", "-1"),
             ("required,", ""),
@@ -140,7 +141,7 @@ mod tests {
         for attributes in [1, 6, 7, 1 << 48, 1 << 63 | 5, 0xFFFF << 48] {
             assert_eq!(parsed(&listed(attributes).unwrap()), Ok(attributes));
         }
-        assert_eq!(listed(1 << 60 | 0x15).as_deref(), Some("required,legacy-boot,4,60"));
+        assert_eq!(listed(1 << 60 | 0x15).as_deref(), Some("required,legacy-boot,bit-4,60"));
     }
 
     /// The hint names what a list may have.
