@@ -159,7 +159,7 @@ fn offending(shape: Shape) -> Vec<Vec<u8>> {
     let two = [set(0, 0, 2), set(1, 0, 1 << 47), set(6, 0, 8)].concat();
     let stale = [set(0, 0, u64::MAX), vec![CLEAR_TYPE, 0, 0], set(6, 0, 4)].concat();
     let last = [place(127, shape.first_usable + 20, 1, 4), set(127, 0, 8)].concat();
-    vec![set(0, 0, 8), set(0, 0, 1 << 48), two, set(6, 1, 8), set(6, 2, 8), stale, last]
+    vec![set(0, 0, 8), set(0, 0, 1 << 48), two, set(6, 1, 8), set(6, 2, 1 << 47), stale, last]
 }
 
 /// Images of 220 bytes by steps of a script, with areas FMAP, A and B, the latter two preserved; then B elsewhere, of another size, none.

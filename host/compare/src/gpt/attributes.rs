@@ -27,9 +27,8 @@ const BIT_47: u64 = 1 << 47;
 pub fn each_rule(run: &mut Run) -> Outcome {
     for shape in SHAPES {
         let disk = with(&rows::some_slots_used(run, shape), &USED.map(|index| (index, 0)));
-        each_bit(run, &disk)?;
-        each_two_edges(run, &disk)?;
         each_number(run, &disk)?;
+        each_bit(run, &disk)?;
         stale(run, &disk)?;
         one_copy(run, &disk)?;
         offending(run, &disk)?;
@@ -77,11 +76,14 @@ fn add(run: &mut Run, attributes: u64, rule: u64) -> Call {
     Call::Add { kind, unique, size: 1, alignment: 1, attributes, rule, name }
 }
 
-/// An add of these attributes, and a check of a table that has them in slot 3.
-fn judge(run: &mut Run, disk: &Disk, attributes: u64, rule: u64, what: &'static str) -> Outcome {
+/// A check of a table that has these attributes in slot 3.
+fn check(run: &mut Run, disk: &Disk, attributes: u64, rule: u64) -> Outcome {
+    with(disk, &[(2, attributes)]).meeting(run, &Call::Check { rule }, kind_of(attributes))
+}
+
+fn give(run: &mut Run, disk: &Disk, attributes: u64, rule: u64) -> Outcome {
     let new = add(run, attributes, rule);
-    disk.meeting(run, &new, what)?;
-    with(disk, &[(2, attributes)]).meeting(run, &Call::Check { rule }, what)
+    disk.meeting(run, &new, kind_of(attributes))
 }
 
 fn kind_of(attributes: u64) -> &'static str {
@@ -93,26 +95,20 @@ fn kind_of(attributes: u64) -> &'static str {
     }
 }
 
-/// Each of the 64 bits alone.
+/// Each of the 64 bits alone, and each two at edges; no bit, all bits, and all that a rule leaves free or wants zero. An add
+/// for the even ones and a check for the odd ones, at 4096 bytes the other way round.
 fn each_bit(run: &mut Run, disk: &Disk) -> Outcome {
-    for bit in 0..64 {
-        for rule in [bits::PRESENT, run.random.pick(&bits::EARLIER)] {
-            judge(run, disk, 1 << bit, rule, kind_of(1 << bit))?;
-        }
-    }
-    Ok(())
-}
-
-/// Each two bits at edges; no bit, all bits, and all that a rule leaves free or wants zero.
-fn each_two_edges(run: &mut Run, disk: &Disk) -> Outcome {
+    let alone = (0..64).map(|bit| 1 << bit);
     let two = bits::EDGES.iter().flat_map(|one| bits::EDGES.map(|other| 1 << one | 1 << other));
     let whole = [bits::PRESENT, bits::EARLIER[0]].map(bits::free).into_iter().flat_map(|free| [free, !free]);
-    let mut all: Vec<u64> = two.chain(whole).chain([0, u64::MAX]).collect();
+    let mut all: Vec<u64> = alone.chain(two).chain(whole).chain([0, u64::MAX]).collect();
     all.sort();
     all.dedup();
-    for attributes in all {
+    for (place, attributes) in all.into_iter().enumerate() {
+        let adds = (place % 2 == 0) == (disk.block == 512);
         for rule in [bits::PRESENT, run.random.pick(&bits::EARLIER)] {
-            judge(run, disk, attributes, rule, kind_of(attributes))?;
+            let judge = if adds { give } else { check };
+            judge(run, disk, attributes, rule)?;
         }
     }
     Ok(())
@@ -122,7 +118,8 @@ fn each_two_edges(run: &mut Run, disk: &Disk) -> Outcome {
 fn each_number(run: &mut Run, disk: &Disk) -> Outcome {
     for rule in bits::EARLIER.into_iter().chain([bits::PRESENT, 3, 256, 0xFFFF_FFFF]) {
         for attributes in [0, 2, 4, 8, 1 << 48] {
-            judge(run, disk, attributes, rule, kind_of(attributes))?;
+            give(run, disk, attributes, rule)?;
+            check(run, disk, attributes, rule)?;
         }
     }
     Ok(())
@@ -190,7 +187,7 @@ fn offending(run: &mut Run, disk: &Disk) -> Outcome {
     Ok(())
 }
 
-/// One slot of 128 offends, or two, or one by the earlier rule and a later one by both.
+/// One slot of 128 offends, or two, or one by the earlier rule and a later one by both, or one by the earlier rule alone.
 fn all_slots(run: &mut Run, shape: Shape) -> Outcome {
     let mut disk = rows::all_slots_used(run, shape);
     for index in 0..SLOTS {
@@ -200,8 +197,8 @@ fn all_slots(run: &mut Run, shape: Shape) -> Outcome {
     let one = [0, 1, 77, SLOTS - 2, SLOTS - 1].map(|index| vec![(index, BIT_47)]);
     let two = [(0, SLOTS - 1), (1, 2), (77, SLOTS - 1)].map(|(a, b)| vec![(a, 8), (b, BIT_47)]);
     let by_rule = [(0, 1), (2, SLOTS - 1)].map(|(a, b)| vec![(a, 2), (b, 8)]);
-    let nowhere = [vec![]];
-    for offenders in one.into_iter().chain(two).chain(by_rule).chain(nowhere) {
+    let others = [vec![(77, 4)], vec![]];
+    for offenders in one.into_iter().chain(two).chain(by_rule).chain(others) {
         by_both(run, &with(&disk, &offenders))?;
     }
     Ok(())

@@ -137,6 +137,7 @@ pub fn ledger(run: &mut Run) -> Outcome {
             claims(run, &mut disk, &ledger)?;
             zero_bits(run, &mut disk, &named)?;
         }
+        attributes::by_both(run, &disk)?;
     }
     Ok(())
 }
@@ -225,7 +226,7 @@ fn names_differ(run: &Run, disk: &mut Disk, side: Side) -> Outcome {
 }
 
 /// k1, k2: of the attributes that the used entries of a copy hold, bit by bit.
-fn zero_bits(run: &mut Run, disk: &mut Disk, named: &Named) -> Outcome {
+fn zero_bits(run: &Run, disk: &mut Disk, named: &Named) -> Outcome {
     let LedgerRules { zero_after_any, zero_after_earlier, after_earlier_alone, .. } = run.rules.gpt.ledger;
     let by_earlier = !(named.present && after_earlier_alone);
     for side in SIDES {
@@ -236,7 +237,7 @@ fn zero_bits(run: &mut Run, disk: &mut Disk, named: &Named) -> Outcome {
             claim(hold, || format!("slot {} has attributes {attributes:X}", index + 1))?;
         }
     }
-    attributes::by_both(run, disk)
+    Ok(())
 }
 
 fn claim(holds: bool, what: impl Fn() -> String) -> Outcome {

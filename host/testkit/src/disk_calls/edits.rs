@@ -325,13 +325,14 @@ pub fn sgdisk_refuses_the_same(calls: &Calls) {
     }
 }
 
+/// It can't set bit 3, and adds without it.
 pub fn sfdisk_refuses_the_same(calls: &Calls) {
     if peer::present("sfdisk", "fdisk") {
-        refuses_likewise(calls, tool::sfdisk, &[22, 26]);
+        refuses_likewise(calls, tool::sfdisk, &[22, 26, 28]);
     }
 }
 
-/// It can't be told bit 3, and adds without it.
+/// It can't be told of bit 3, and adds without it.
 pub fn cgpt_refuses_the_same(calls: &Calls) {
     if peer::present("cgpt", "cgpt") {
         refuses_likewise(calls, tool::cgpt, &[26, 28]);

@@ -5,17 +5,14 @@ use crate::topic::{variant, Variant};
 use second::rules::{AddJudges, BitRules, Bits, Checked, Offender, Row, Rules, Span};
 
 /// Bits that are wanted zero instead, by the present rule and by the earlier one.
-const PRESENT: [(u32, u32); 10] =
-    [(2, 47), (1, 47), (4, 47), (3, 46), (3, 48), (3, 63), (0, 47), (3, 31), (32, 47), (8, 47)];
-const EARLIER: [(u32, u32); 10] =
-    [(0, 47), (2, 47), (3, 47), (1, 46), (1, 48), (1, 63), (0, 63), (1, 31), (32, 47), (1, 2)];
+const PRESENT: [(u32, u32); 7] = [(0, 47), (1, 47), (2, 47), (4, 47), (3, 31), (3, 46), (3, 48)];
+const EARLIER: [(u32, u32); 7] = [(0, 47), (2, 47), (3, 47), (1, 31), (1, 46), (1, 48), (1, 63)];
 
 /// Numbers of the present rule instead of 0 alone.
-const NAMED: [&[u64]; 8] =
-    [&[], &[1], &[0, 1], &[0, 2], &[0, 1 << 32], &[0, 1 << 63], &[0, u64::MAX], &[0, 1 << 16]];
+const NAMED: [&[u64]; 6] = [&[], &[1], &[0, 1], &[0, 2], &[0, 1 << 32], &[0, u64::MAX]];
 
 /// Bits of the number that are looked at instead of all.
-const NAMED_BITS: [u64; 5] = [1, 0xFF, 0xFFFF, 0xFFFF_FFFF, !(1 << 63)];
+const NAMED_BITS: [u64; 4] = [1, 0xFFFF, 0xFFFF_FFFF, !(1 << 63)];
 
 /// The rules of one call.
 type Of = fn(&mut Rules) -> &mut BitRules;
