@@ -30,10 +30,10 @@ impl Image {
     fn cleared(&self) -> String {
         let path = self.text();
         match self.block {
-            512 => format!("sgdisk -A NUMBER:clear:BIT {path} clears one"),
+            512 => format!("sgdisk -A NUMBER:clear:BIT {path} clears a bit"),
             _ => format!(
                 "losetup -b 4096 -f --show {path} makes a device of it with blocks of 4096 bytes, \
-                 on which sgdisk -A NUMBER:clear:BIT clears one"
+                 on which sgdisk -A NUMBER:clear:BIT clears a bit"
             ),
         }
     }
@@ -224,7 +224,7 @@ fn sgdisk_clears_a_bit() {
     image.with(&[4, 0x21]);
     let hint = image.found("present").text("hint").to_string();
     let call =
-        hint.strip_prefix("sgdisk ").and_then(|hint| hint.strip_suffix(" clears one")).expect("a call");
+        hint.strip_prefix("sgdisk ").and_then(|hint| hint.strip_suffix(" clears a bit")).expect("a call");
     let words = call.replace("NUMBER", "2").replace("BIT", "5");
     peer::printed("sgdisk", words.split(' ').map(OsStr::new));
     assert_eq!(image.passes(), [true, false]);

@@ -5,8 +5,9 @@ mod common;
 use common::{add, Ended, Folder, Loop};
 use std::fs::{self, File};
 use std::os::unix::fs::{symlink, FileExt, OpenOptionsExt};
-use std::path::PathBuf;
+use std::path::{Path, PathBuf};
 use std::process::{Command, Stdio};
+use std::thread;
 use std::time::{Duration, Instant};
 use testkit::{listing, peer};
 
@@ -62,8 +63,15 @@ fn in_use(block: &str) {
     assert_eq!(forced.status, Some(0), "{}", forced.err);
     assert!(forced.err.is_empty() || forced.err.contains("warning: the kernel still goes by the old table"));
     drop(held);
+    wait_until_free(path);
     run!["gpt", "add", path, "--size", "1", "--align", "1"].done();
     assert_eq!(run!["gpt", "show", path, "--json"].json().list("partitions").len(), 2);
+}
+
+/// A program that another test is just starting has a copy of the descriptor until it runs.
+fn wait_until_free(path: &Path) {
+    let held = || File::options().read(true).custom_flags(O_EXCL).open(path).is_err();
+    (0..500).take_while(|_| held()).for_each(|_| thread::sleep(Duration::from_millis(10)));
 }
 
 /// A device goes by its own blocks: no word is needed.

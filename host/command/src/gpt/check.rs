@@ -118,8 +118,8 @@ fn described(Offender { partition, bits }: &Offender) -> Json {
 fn cleared(path: &Path, block: BlockSize, rule: AttributeRule, partitions: &[Partition]) -> String {
     let call = "sgdisk -A NUMBER:clear:BIT";
     let way = match is_file(path) && block != BlockSize::Bytes512 {
-        true => format!("{}, on which {call} clears one", as_device(path, block)),
-        false => format!("{call} {} clears one", quoted(path)),
+        true => format!("{}, on which {call} clears a bit", as_device(path, block)),
+        false => format!("{call} {} clears a bit", quoted(path)),
     };
     let passes = offenders(partitions, AttributeRule::Present).is_empty();
     match rule == AttributeRule::Earlier && passes {

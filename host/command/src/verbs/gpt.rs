@@ -166,7 +166,7 @@ pub static VERBS: &[Verb] = &[
         required: 0,
         about: "Check the attributes of all partitions by a rule: list those that have a bit set which it wants zero, with the bits. \
                 Exit status 0 if none has, 1 where one has. What passes the earlier rule, which some firmware wants, passes the present one. \
-                Bytes in unused slots do not count. The copies of the table are for gpt verify.",
+                Bytes in unused slots do not count. gpt verify checks the copies of the table.",
         examples: &["usigrambal gpt check disk.img", "usigrambal gpt check disk.img /dev/sdb --rule earlier --json"],
         always: &[],
         run: gpt::check,
