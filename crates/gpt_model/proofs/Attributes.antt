@@ -21,7 +21,7 @@ use Rattle.gpt_model.specs.Attributes.{bitOf, lowestBit, offends, usedOf
 use Rattle.gpt_model.specs.declared.Rule.{Rule}
 use Rattle.gpt_model.specs.declared.Rule.the-variants.{Present, Earlier}
 use Rattle.gpt_model.specs.Stored.{WantsZero, BitSet, BreaksRule, EntryOffends, NoneOffends}
-use Rattle.gpt_model.specs.Claims.{OffendsByBits, StringAttributesPass}
+use Rattle.gpt_model.specs.AttributeClaims.{OffendsByBits, StringAttributesPass}
 use Rattle.gpt_model.proofs.Room.{allFrom-get, allFrom-fails}
 use Rattle.gpt_model.proofs.Entries.{entryAt}
 use Rattle.gpt_model.proofs.StoredTable.{used-is, attributes-is}

@@ -26,7 +26,8 @@ use Rattle.gpt_model.specs.Calls.{Edit, add, delete, resize, rename, Cal
 use Rattle.gpt_model.specs.Calls.{entryOf, orZero, newEntry, addRows, startFor, tableRows, change, edited, lengthsOf, openRows, rowsOf, step, format}
 use Rattle.gpt_model.specs.Lists.{afterAll, startAfter}
 use Rattle.gpt_model.specs.Stored.{NoneOffends}
-use Rattle.gpt_model.specs.Claims.{GivenOk, NameFree, CheckByBytes, EarlierPassesPresent, OffendingRefused, NameEarlier, BitsStayZero, BitsStayZeroFrom}
+use Rattle.gpt_model.specs.Claims.{GivenOk, NameFree}
+use Rattle.gpt_model.specs.AttributeClaims.{CheckByBytes, EarlierPassesPresent, OffendingRefused, NameEarlier, BitsStayZero, BitsStayZeroFrom}
 use Rattle.gpt_model.proofs.Fields.{new-attributes, sized-type, sized-attributes, behind-type, named-attributes}
 use Rattle.gpt_model.proofs.Entries.{typed-alike, unused-zeros, empty-unused, entryAt, each-put}
 use Rattle.gpt_model.proofs.Attributes.{offendsByBits, earlier-breaks, earlier-keeps, offends-low, offends-is, keeps-is, first-none, first-some}

@@ -15,7 +15,8 @@ use Rattle.octets.proofs.Chunks.{length-chunk}
 use Rattle.gpt_model.specs.Table.{noBlocks, rangeOf, entryOk, rangesOf, goodTable}
 use Rattle.gpt_model.specs.Disk.{Shape, lastUsable, inRange, primary, backup, lentBytes, guidIn, tableOf, withTable}
 use Rattle.gpt_model.specs.Calls.{delete, read, accepted, Outcome, rowsOf, step}
-use Rattle.gpt_model.specs.Claims.{AnyBytesRead, AnyNameReads, AnyAttributesRead}
+use Rattle.gpt_model.specs.Claims.{AnyBytesRead, AnyNameReads}
+use Rattle.gpt_model.specs.AttributeClaims.{AnyAttributesRead}
 use Rattle.gpt_model.proofs.Entries.{PairOk, ok-alike, pair-alike, behind-alike, getD-range, entryAt, good-at, good-pair, ranges-put, good-put}
 use Rattle.gpt_model.proofs.Copies.{length-entries}
 use Rattle.gpt_model.proofs.States.{Holds, one-primary, readable-good, edit-holds}

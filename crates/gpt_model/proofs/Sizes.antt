@@ -15,7 +15,8 @@ use Rattle.gpt_model.specs.Sizes.{shapeOf, onShape, stepBy, formatBy}
 use Rattle.gpt_model.specs.Lists.{Snapshot, afterAll, startAfter}
 use Rattle.gpt_model.specs.Claims.{Sound, Formats, AfterLists, AfterListsAt, AfterListsAt512, AfterListsAt4096, Demand3At512, Demand3At4096}
 use Rattle.gpt_model.specs.Claims.{NamesDifferIn, OneByNameAt512, OneByNameAt4096, ShapesBySize, OnItsShape, OtherSizeRefused, WholeBlocks}
-use Rattle.gpt_model.specs.Claims.{NoneOffendsIn, BitsStayZeroAt512, BitsStayZeroAt4096, Numbers512, Numbers4096}
+use Rattle.gpt_model.specs.Claims.{Numbers512, Numbers4096}
+use Rattle.gpt_model.specs.AttributeClaims.{NoneOffendsIn, BitsStayZeroAt512, BitsStayZeroAt4096}
 use Rattle.gpt_model.proofs.Demand3.{demand3}
 use Rattle.gpt_model.proofs.Names.{oneByName}
 use Rattle.gpt_model.proofs.Checks.{bitsStayZero}

@@ -12,17 +12,14 @@ use Rattle.gpt_model.specs.Table.{entryBytes, uniqueOf, firstOf, lastOf,
 use Rattle.gpt_model.specs.Disk.{Shape, disk512, disk4096, lastUsable, usable, inRange, Side, primary, backup, entriesBlock, lentBytes}
 use Rattle.gpt_model.specs.Disk.{headerAt, entriesAt, headerBytes, guidIn, goodCopy, state, lent, tableOf, withTable}
 use Rattle.gpt_model.specs.Ranges.{blockIn, inSome, FreeFrom, AlignedFrom, taken}
-use Rattle.gpt_model.specs.Attributes.{offends}
 use Rattle.gpt_model.specs.declared.NewPartition.{NewPartition}
-use Rattle.gpt_model.specs.declared.Rule.{Rule}
-use Rattle.gpt_model.specs.declared.Rule.the-variants.{Present, Earlier}
-use Rattle.gpt_model.specs.Calls.{Edit, add, delete, resize, rename, Call, read, freeCounts, repair, check, edit, refused, accepted, outcome}
+use Rattle.gpt_model.specs.Calls.{Edit, add, delete, resize, rename, Call, read, freeCounts, repair, edit, refused, accepted, outcome}
 use Rattle.gpt_model.specs.Calls.{entryOf, addRows, change, edited, lengthsOf, openRows, rowsOf, step, format}
 use Rattle.gpt_model.specs.Unaligned.{addUnaligned}
 use Rattle.gpt_model.specs.Sizes.{shapeOf, stepBy, formatBy}
 use Rattle.gpt_model.specs.Lists.{Ledger, sizeWas, bookEdit, Snapshot, afterAll, answers, applied, startAfter, rangesIn, StartsAfresh}
 use Rattle.gpt_model.specs.Stored.{unitBytes, EntryNamed, NamesDiffer, SameUsed, EntryHolds, HeadGood, TailGood, SizesOk, ReadSays, FormatSays}
-use Rattle.gpt_model.specs.Stored.{BreaksRule, NoneOffends, CheckSays, Outside, EditSays, RepairSays}
+use Rattle.gpt_model.specs.Stored.{BreaksRule, Outside, EditSays, RepairSays}
 
 -- ---- demand 3
 
@@ -227,66 +224,6 @@ AnyBytesRead at width =
 -- a3: Disks that already hold doubles still read, whatever an entry has as name
 abbrev pub AnyNameReads : Type 0
 AnyNameReads = AnyBytesRead 56 72
-
--- ---- attribute bits
-
--- an attribute value offends, by the definition, exactly when a bit that the rule wants zero is set
-abbrev pub OffendsByBits : Type 0
-OffendsByBits = (rule : Rule) (attributes : ℕ) → (offends rule attributes ≡ true) ↔ BreaksRule rule attributes
-
-abbrev pub CheckByBytes : Type 0
-CheckByBytes =
-    (g : Shape) (n : ℕ) (h t : List ℕ) (rule : Rule) → CheckSays rule h t (tableOf g n h t) (step g n h t read .answer) (step g n h t (check rule))
-
--- k4: A table passing the earlier rule passes the present one. So does an entry
-abbrev pub EarlierPassesPresent : Type 0
-EarlierPassesPresent =
-    ((attributes : ℕ) → offends Earlier attributes ≡ false → offends Present attributes ≡ false)
-    × ((g : Shape) (n : ℕ) (h t : List ℕ)
-    → step g n h t (check Earlier) .answer ≡ accepted (0 ∷ []) → step g n h t (check Present) .answer ≡ accepted (0 ∷ []))
-
--- k5: The string builder goes by the present rule. The attributes that it gives, none and bit 2, pass it
-abbrev pub StringAttributesPass : Type 0
-StringAttributesPass = (offends Present 0 ≡ false) × (offends Present 4 ≡ false)
-
--- k6: 28 in adding, after 26 and before 24: exactly where no row before it holds and a bit is set that the rule wants zero
-abbrev pub OffendingRefused : Type 0
-OffendingRefused =
-    (g : Shape) (n : ℕ) (h t : List ℕ) (p : NewPartition)
-    → (step g n h t (edit (add p)) .answer ≡ refused 28)
-    ↔ ((refusal (openRows g n h t (lengthsOf (add p))) ≡ none) × GivenOk (tableOf g n h t) p × NameFree (tableOf g n h t) (p .name)
-    × BreaksRule (p .rule) (p .attributes))
-
--- every add of the list names the earlier rule
-abbrev pub NameEarlier : List Call → Type 0
-NameEarlier cs = (k : ℕ) (p : NewPartition) → getD cs k read ≡ edit (add p) → p .rule ≡ Earlier
-
--- On a disk that this library formatted, no used slot offends the present rule after any list of calls, and none the earlier one if every add named it.
-abbrev pub NoneOffendsIn : List Call → Shape → ℕ → Snapshot → Type 0
-NoneOffendsIn cs g n r =
-    let es = tableOf g n (r .head) (r .tail) in
-    NoneOffends Present es × (NameEarlier cs → NoneOffends Earlier es)
-
-abbrev pub BitsStayZero : Type 0
-BitsStayZero = AfterLists NoneOffendsIn
-
-abbrev pub BitsStayZeroAt512 : Type 0
-BitsStayZeroAt512 = AfterListsAt512 NoneOffendsIn
-
-abbrev pub BitsStayZeroAt4096 : Type 0
-BitsStayZeroAt4096 = AfterListsAt4096 NoneOffendsIn
-
--- and from every start afresh with a table of which no used slot offends
-abbrev pub BitsStayZeroFrom : Type 0
-BitsStayZeroFrom =
-    (g : Shape) → headerBytes ≤ g .block → (n : ℕ) (es : List ℕ) (r : Snapshot) → StartsAfresh g n es r → (cs : List Call)
-    → let r′ = afterAll (step g n) cs r in
-    let es′ = tableOf g n (r′ .head) (r′ .tail) in
-    (NoneOffends Present es → NoneOffends Present es′) × (NoneOffends Earlier es → NameEarlier cs → NoneOffends Earlier es′)
-
--- (k2) the rule is for adds and checks: a disk reads whatever an entry has as attributes
-abbrev pub AnyAttributesRead : Type 0
-AnyAttributesRead = AnyBytesRead 48 8
 
 -- ---- demand 1. R1: A refusal returns its number alone .. and changes no lent byte.
 

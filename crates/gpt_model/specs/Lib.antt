@@ -9,3 +9,4 @@ pub mod Sizes
 pub mod Lists
 pub mod Stored
 pub mod Claims
+pub mod AttributeClaims
