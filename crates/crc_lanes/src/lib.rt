@@ -1,3 +1,5 @@
+#![tactic(auto)]
+
 // CRC-32 over tables that the caller lends, so that a call that makes several CRCs binds the tables once. Eight bytes a step; a long input goes by
 // four lanes side by side, each of which takes every fourth word of eight bytes.
 // An inner crate: no user calls it, so its functions may have a `requires`, which each caller meets.

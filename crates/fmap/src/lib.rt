@@ -16,7 +16,7 @@ use fmap_carry::Judged;
 use fmap_rules::{Area, Extent, ImagePosition};
 
 // What finding a map answers.
-#[derive(Drop)]
+#[derive(Clone, Copy)]
 pub enum MapFound {
     At(ImagePosition),
     WrongLength,
@@ -25,14 +25,14 @@ pub enum MapFound {
 }
 
 // What a map at a position is; a rule by its number.
-#[derive(Drop)]
+#[derive(Clone, Copy)]
 pub enum MapFault {
     Good,
     Breaks(u32),
     WrongLength,
 }
 
-#[derive(Drop)]
+#[derive(Clone, Copy)]
 pub enum AreaCount {
     Count(u32),
     WrongLength,
@@ -40,7 +40,7 @@ pub enum AreaCount {
     NoGoodMap,
 }
 
-#[derive(Drop)]
+#[derive(Clone, Copy)]
 pub enum Lookup {
     There,
     Nothing,
@@ -50,7 +50,7 @@ pub enum Lookup {
 }
 
 // The number of an area in the map, from 0.
-#[derive(Drop)]
+#[derive(Clone, Copy)]
 pub enum AreaIndex {
     At(u32),
     Nothing,
@@ -60,14 +60,14 @@ pub enum AreaIndex {
 }
 
 // An answer with its area, which is blank unless the answer is There.
-#[derive(Drop)]
+#[derive(Clone, Copy)]
 pub struct AreaFound {
     pub answer: Lookup,
     pub area: Area,
 }
 
 // What stands at a position that is given.
-#[derive(Drop)]
+#[derive(Clone, Copy)]
 enum Standing {
     GoodMap,
     WrongLength,
@@ -76,7 +76,7 @@ enum Standing {
 }
 
 // What a carry answers. The first three refusals are of the old image, or else of the new one.
-#[derive(Drop)]
+#[derive(Clone, Copy)]
 pub enum Carried {
     Done,
     WrongLength,

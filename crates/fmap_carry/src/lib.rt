@@ -12,7 +12,7 @@ ghost use Rattle.fmap_carry.specs.Invariants.{Matched, Fit, Fitting, ends_in};
 use fmap_rules::{Extent, ImagePosition};
 
 // What the judge of a carry answers.
-#[derive(Drop)]
+#[derive(Clone, Copy)]
 pub enum Judged {
     Free,
     Missing,

@@ -1,3 +1,5 @@
+#![tactic(auto)]
+
 // What a good flash map at a position of an image is.
 // An inner crate: no user calls it, so its functions may have a `requires`, which each caller meets.
 ghost use Rattle.std.specs.Prelude.{◌≡◌, true, ◌+◌, ◌*◌, ◌/◌, ◌≤◌, ◌<◌, length, get_or, drop};
@@ -9,18 +11,18 @@ ghost use Rattle.fmap_rules.specs.Map.{disjoint_or_nested, map_size, count_of, h
 ghost use Rattle.fmap_rules.specs.Invariants.{broken, good_pair};
 
 // A byte's position in a flash image.
-#[derive(Drop)]
+#[derive(Clone, Copy)]
 pub struct ImagePosition(pub u32);
 
 // A run of bytes in a flash image.
-#[derive(Drop)]
+#[derive(Clone, Copy)]
 pub struct Extent {
     pub start: ImagePosition,
     pub size: u32,
 }
 
 // An area of a map.
-#[derive(Drop)]
+#[derive(Clone, Copy)]
 pub struct Area {
     pub place: Extent,
     pub name: [u8; 32],
@@ -115,7 +117,7 @@ fn is_disjoint_or_nested(x: Extent, y: Extent) -> bool
 }
 
 // A rule for each area.
-#[derive(Drop)]
+#[derive(Clone, Copy)]
 enum AreaRule {
     SomeByte,
     InImage,
@@ -123,7 +125,7 @@ enum AreaRule {
 }
 
 // A rule for each two areas.
-#[derive(Drop)]
+#[derive(Clone, Copy)]
 enum PairRule {
     Names,
     Places,

@@ -18,7 +18,7 @@ use fmd_head::{Address, Refusal, TextImage};
 use fmd_table::{ROWS, SPOTS};
 
 // What a call answers.
-#[derive(Drop)]
+#[derive(Clone, Copy)]
 pub enum Answer {
     Accepted,
     WrongLength,
@@ -26,7 +26,7 @@ pub enum Answer {
 }
 
 // The image that a layout text describes: its name as a map holds it, its size, its address or 0, and how many sections it has.
-#[derive(Drop)]
+#[derive(Clone, Copy)]
 pub struct Image {
     pub name: [u8; 32],
     pub size: u32,
@@ -35,14 +35,14 @@ pub struct Image {
 }
 
 // An answer with its image, which is blank unless the answer is Accepted.
-#[derive(Drop)]
+#[derive(Clone, Copy)]
 pub struct LayoutReading {
     pub answer: Answer,
     pub image: Image,
 }
 
 // A section of the image.
-#[derive(Drop)]
+#[derive(Clone, Copy)]
 pub struct SectionRecord {
     pub position: ImagePosition,
     pub size: u32,
@@ -51,14 +51,14 @@ pub struct SectionRecord {
 }
 
 // A reading with the number of sections that the tables then hold; none unless the answer is Accepted.
-#[derive(Drop)]
+#[derive(Clone, Copy)]
 struct Counted {
     reading: LayoutReading,
     count: usize,
 }
 
 // What a writer answers: the position of the map that it wrote, 0 unless the answer is Accepted.
-#[derive(Drop)]
+#[derive(Clone, Copy)]
 pub struct Writing {
     pub answer: Answer,
     pub at: ImagePosition,

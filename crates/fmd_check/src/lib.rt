@@ -21,14 +21,14 @@ pub mod areas; // areas.rt: the sections as areas of a map
 mod plan; // plan.rt: offsets and sizes of the sections
 
 // Where a fault stands in the text, if it does.
-#[derive(Drop)]
+#[derive(Clone, Copy)]
 pub enum FaultPlace {
     Byte(usize),
     NoPlace,
 }
 
 // The image, how many sections there are, and the index of section FMAP; or a fault and its place.
-#[derive(Drop)]
+#[derive(Clone, Copy)]
 pub enum Verdict {
     Good(TextImage, usize, usize),
     Fault(Refusal, FaultPlace),

@@ -9,7 +9,7 @@ use fmd_parse::rows::Reach;
 use fmd_table::{Offset, ParentOffset, Placed, Section, placed_at, put_placed, row_at};
 
 // A section at its place; or that it does not fit, or has no size.
-#[derive(Drop)]
+#[derive(Clone, Copy)]
 pub enum Spot {
     Fits(Placed),
     Unfit,
@@ -17,7 +17,7 @@ pub enum Spot {
 }
 
 // All sections have their places; or the first that does not fit, or has no size.
-#[derive(Drop)]
+#[derive(Clone, Copy)]
 pub enum Resolution {
     Whole,
     Unfits(usize),

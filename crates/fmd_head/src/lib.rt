@@ -10,7 +10,7 @@ pub mod section; // section.rt: a section up to its braces
 pub mod front; // front.rt: the image up to its opening brace
 
 // Why a layout text is refused.
-#[derive(Drop)]
+#[derive(Clone, Copy)]
 pub enum Refusal {
     TooLong,
     OutOfGrammar,
@@ -43,27 +43,27 @@ pub fn number(r: Refusal) -> u32
 }
 
 // A number and the token after it; or a fault and its place.
-#[derive(Drop)]
+#[derive(Clone, Copy)]
 pub enum Amount {
     Counted(u32, Token),
     Uncounted(Refusal, usize),
 }
 
 // A section with what is read of it so far and the token after that; or a fault and its place.
-#[derive(Drop)]
+#[derive(Clone, Copy)]
 pub enum HeadPart {
     Read(Section, Token),
     Fault(Refusal, usize),
 }
 
-#[derive(Drop)]
+#[derive(Clone, Copy)]
 pub enum Address {
     Given(u32),
     Omitted,
 }
 
 // The image as it stands in the text: its name by place and length.
-#[derive(Drop)]
+#[derive(Clone, Copy)]
 pub struct TextImage {
     pub address: Address,
     pub size: u32,
@@ -72,7 +72,7 @@ pub struct TextImage {
 }
 
 // The image with what is read of it so far and the token after that; or a fault and its place.
-#[derive(Drop)]
+#[derive(Clone, Copy)]
 pub enum Heading {
     Read(TextImage, Token),
     Fault(Refusal, usize),

@@ -30,20 +30,20 @@ pub const OPEN: u8 = 123;
 pub const CLOSE: u8 = 125;
 
 // A token of the text, from the place start up to the place end.
-#[derive(Drop)]
+#[derive(Clone, Copy)]
 pub struct Token {
     pub kind: u8,
     pub start: usize,
     pub end: usize,
 }
 
-#[derive(Drop)]
+#[derive(Clone, Copy)]
 pub enum Number {
     Value(u32),
     Wrong,
 }
 
-#[derive(Drop)]
+#[derive(Clone, Copy)]
 pub enum Flag {
     Cbfs,
     Preserve,

@@ -11,7 +11,7 @@ use fmap_rules::ImagePosition;
 use fmd::{Image, LayoutReading, SectionRecord};
 
 // A section list after it was lent, with the answer.
-#[derive(Drop)]
+#[derive(Clone, Copy)]
 pub struct Lent {
     pub reading: LayoutReading,
     pub sections: [SectionRecord; 128],

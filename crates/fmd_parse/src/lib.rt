@@ -12,14 +12,14 @@ pub mod rows; // rows.rt: the rows of the whole section list
 mod braces; // braces.rt: a section, and the sections in braces
 
 // The token after what was read, and how many sections the table then has; or a fault and its place.
-#[derive(Drop)]
+#[derive(Clone, Copy)]
 pub enum Step {
     Onward(Token, usize),
     Stopped(Refusal, usize),
 }
 
 // The image, and how many sections the table has; or the first fault and its place.
-#[derive(Drop)]
+#[derive(Clone, Copy)]
 pub enum LayoutAnswer {
     Accepted(TextImage, usize),
     Refused(Refusal, usize),

@@ -11,21 +11,21 @@ ghost use Rattle.fmd_parse.specs.Invariants.{Inside, key_from, key_at, Seen};
 use fmd_table::{Offset, ParentOffset, Section, Size, last_at, next_at, row_at};
 
 // The index of a section, or that there is none.
-#[derive(Drop)]
+#[derive(Clone, Copy)]
 pub enum Found {
     At(usize),
     Nowhere,
 }
 
 // The next sibling's offset, or that there is no next sibling.
-#[derive(Drop)]
+#[derive(Clone, Copy)]
 pub enum Sibling {
     Next(Offset),
     Last,
 }
 
 // How far a section reaches: by its own size, up to its next sibling's offset, or up to its parent's end; or nothing says how far.
-#[derive(Drop)]
+#[derive(Clone, Copy)]
 pub enum Reach {
     OfSize(u32),
     UpTo(ParentOffset),

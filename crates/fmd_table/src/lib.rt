@@ -1,3 +1,5 @@
+#![tactic(auto)]
+
 // Sections in two tables of words that are lent: as they stand in the text, and with their offsets and sizes.
 // Only the functions of this crate know what the words mean.
 // An inner crate: no user calls it, so its functions may have a `requires`, which each caller meets.
@@ -21,23 +23,23 @@ pub const ROWS: usize = 129 * ROW;
 pub const SPOTS: usize = 128 * SPOT;
 
 // A number of bytes from the parent's start.
-#[derive(Drop)]
+#[derive(Clone, Copy)]
 pub struct ParentOffset(pub u32);
 
-#[derive(Drop)]
+#[derive(Clone, Copy)]
 pub enum Offset {
     Given(ParentOffset),
     Omitted,
 }
 
-#[derive(Drop)]
+#[derive(Clone, Copy)]
 pub enum Size {
     Given(u32),
     Omitted,
 }
 
 // A section as it stands in the text: its name by place and length; parent is the parent's row, 128 for the image.
-#[derive(Drop)]
+#[derive(Clone, Copy)]
 pub struct Section {
     pub offset: Offset,
     pub size: Size,
@@ -50,7 +52,7 @@ pub struct Section {
 }
 
 // A section with its offset and its size.
-#[derive(Drop)]
+#[derive(Clone, Copy)]
 pub struct Placed {
     pub offset: ParentOffset,
     pub size: u32,

@@ -19,7 +19,7 @@ use gpt_places::ENTRY;
 use gpt_string_model::{StartByte, WantedPartition};
 
 // Why a layout string is refused; specs/Answers gives each its number.
-#[derive(Drop)]
+#[derive(Clone, Copy)]
 pub enum Refusal {
     StringForm,
     NotWholeBlocks,
@@ -28,14 +28,14 @@ pub enum Refusal {
 }
 
 // No row holds, or the first that does.
-#[derive(Drop)]
+#[derive(Clone, Copy)]
 pub enum Building {
     Pass,
     Stop(Refusal),
 }
 
 // Where a partition stands and how many blocks it takes; or the first row that holds.
-#[derive(Drop)]
+#[derive(Clone, Copy)]
 enum Placing {
     At { first: Block, blocks: u64 },
     Stop(Refusal),

@@ -17,14 +17,14 @@ use gpt_copies::State;
 use gpt_model::{Block, NewPartition, Rule, Shape};
 use gpt_places::Side;
 
-#[derive(Drop)]
+#[derive(Clone, Copy)]
 pub enum Done {
     Accepted,
     Refused(Refusal),
 }
 
 // Both copies good and the same; both good but different (the primary is used); one of them alone.
-#[derive(Drop)]
+#[derive(Clone, Copy)]
 pub enum Reading {
     Same,
     Different,
@@ -33,27 +33,27 @@ pub enum Reading {
     Refused(Refusal),
 }
 
-#[derive(Drop)]
+#[derive(Clone, Copy)]
 pub enum Added {
     At { slot: u64, first: Block },
     Refused(Refusal),
 }
 
-#[derive(Drop)]
+#[derive(Clone, Copy)]
 pub enum Counted {
     Free { blocks: u64, longest: u64 },
     Refused(Refusal),
 }
 
 // The first used slot that offends; 0 where none does.
-#[derive(Drop)]
+#[derive(Clone, Copy)]
 pub enum Offending {
     Slot(u64),
     Refused(Refusal),
 }
 
 // The copy that a reading uses.
-#[derive(Drop)]
+#[derive(Clone, Copy)]
 enum UsedCopy {
     Primary,
     Backup,

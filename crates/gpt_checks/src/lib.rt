@@ -22,7 +22,7 @@ use gpt_room::Place;
 use gpt_table::UNIQUE_AT;
 
 // Why a call is refused; specs/Refusals gives each its number.
-#[derive(Drop)]
+#[derive(Clone, Copy)]
 pub enum Refusal {
     BlockSize,
     WrongLength,
@@ -44,14 +44,14 @@ pub enum Refusal {
 }
 
 // No row holds, or the first that does.
-#[derive(Drop)]
+#[derive(Clone, Copy)]
 pub enum Check {
     Pass,
     Stop(Refusal),
 }
 
 // The same of adding, with the start that it takes.
-#[derive(Drop)]
+#[derive(Clone, Copy)]
 pub enum Start {
     At(Block),
     Stop(Refusal),

@@ -4,7 +4,7 @@ pub mod reading;
 pub mod writing;
 
 // D10: both good with equal disk GUID and entries, both good but different, primary only, backup only; or neither.
-#[derive(Drop)]
+#[derive(Clone, Copy)]
 pub enum State {
     Both,
     Differ,

@@ -26,7 +26,7 @@ pub const ENTRY: usize = 128;
 pub const TABLE: usize = SLOTS * ENTRY;
 
 // The shape that a block size has, if it has one.
-#[derive(Drop)]
+#[derive(Clone, Copy)]
 pub enum BlockSize {
     Known(Shape),
     Other,
@@ -51,7 +51,7 @@ pub fn shape_of(block: u64) -> BlockSize
     BlockSize::Other
 }
 
-#[derive(Drop)]
+#[derive(Clone, Copy)]
 pub enum Side {
     Primary,
     Backup,

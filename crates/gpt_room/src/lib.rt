@@ -13,21 +13,21 @@ use gpt_model::Block;
 use gpt_table::{FIRST_AT, SLOTS};
 
 // Where a partition can start.
-#[derive(Drop)]
+#[derive(Clone, Copy)]
 pub enum Place {
     At(Block),
     None,
 }
 
 // Usable blocks in no partition, and the longest run of such.
-#[derive(Drop)]
+#[derive(Clone, Copy)]
 pub struct Free {
     pub blocks: u64,
     pub longest: u64,
 }
 
 // What begins at a block: partitions up to and with block Taken, or a gap up to but without block Gap.
-#[derive(Drop)]
+#[derive(Clone, Copy)]
 enum Ahead {
     Taken(Block),
     Gap(Block),

@@ -18,7 +18,7 @@ use gpt_checks::{Check, Refusal as DiskRefusal};
 use gpt_model::Shape;
 use gpt_places::{BlockSize, TABLE};
 
-#[derive(Drop)]
+#[derive(Clone, Copy)]
 pub enum Answer {
     Accepted,
     Refused(Refusal),

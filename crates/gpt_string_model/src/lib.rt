@@ -2,14 +2,14 @@
 // The definitions stand in specs/; the contracts of the crates above cite them.
 
 // Where a partition of a layout string begins: at the byte that its start says, or, without one, at the lowest start as in adding.
-#[derive(Drop)]
+#[derive(Clone, Copy)]
 pub enum StartByte {
     Given(u64),
     Lowest,
 }
 
 // A partition as a layout string asks for it: type and unique GUID as they are stored, start and size in bytes, attributes, name.
-#[derive(Drop)]
+#[derive(Clone, Copy)]
 pub struct WantedPartition {
     pub kind: [u8; 16],
     pub unique: [u8; 16],

@@ -16,7 +16,7 @@ use gpt_string_values::{GuidRead, find};
 mod fields; // fields.rt: the fields of a partition, one after the other
 
 // What the fields read so far say. `good`: each is a field, and no two have the same key.
-#[derive(Drop)]
+#[derive(Clone, Copy)]
 struct FieldsRead {
     good: bool,
     named: bool,
@@ -33,7 +33,7 @@ struct FieldsRead {
 }
 
 // What a partition asks for, where it is `good`. (An enum that holds arrays is not covered by the checker.)
-#[derive(Drop)]
+#[derive(Clone, Copy)]
 pub struct PartitionRead {
     pub good: bool,
     pub wanted: WantedPartition,

@@ -14,14 +14,14 @@ use guid::Answer;
 use text_words::Numeral;
 
 // The number of bytes that a value says.
-#[derive(Drop)]
+#[derive(Clone, Copy)]
 pub enum CountRead {
     Bytes(u64),
     Wrong,
 }
 
 // The stored bytes of a GUID where `good`. (An enum that holds an array is not covered by the checker.)
-#[derive(Drop)]
+#[derive(Clone, Copy)]
 pub struct GuidRead {
     pub good: bool,
     pub guid: [u8; 16],

@@ -1,3 +1,5 @@
+#![tactic(auto)]
+
 // GUID text: reading it into 16 stored bytes, writing it, and the short names of types.
 ghost use Rattle.std.specs.Prelude.{◌≡◌, true, ◌<◌, length};
 ghost use Rattle.octets.specs.Tests.{all};
@@ -7,7 +9,7 @@ ghost use Rattle.guid.specs.Types.{short_at};
 ghost use Rattle.guid.specs.Table.{table_agrees};
 ghost use Rattle.guid.specs.Calls.{number_of, read_of, read_type_of, write_of};
 
-#[derive(Drop)]
+#[derive(Clone, Copy)]
 pub enum Answer {
     Done,
     WrongLength,
@@ -15,7 +17,7 @@ pub enum Answer {
 }
 
 // A short name, in the first `length` bytes of `name`, and the stored bytes of the type that it stands for.
-#[derive(Drop)]
+#[derive(Clone, Copy)]
 struct ShortType {
     name: [u8; 6],
     length: usize,

@@ -1,3 +1,5 @@
+#![tactic(auto)]
+
 // Byte fields, copies and comparisons in byte slices, and the words of specs/ that every other crate cites.
 // An inner crate: no user calls it, so its functions may have a `requires`, which each caller meets.
 ghost use Rattle.std.specs.Prelude.{◌≡◌, ◌+◌, ◌≤◌, length, replicate, drop};

@@ -1,7 +1,7 @@
 // What the calls on a disk granted and gave back, by calls and replies alone (D22).
 
 // The sums, and the size last accepted for each slot, by its number; the samples use no slot above 7.
-#[derive(Drop)]
+#[derive(Clone, Copy)]
 pub struct Sums {
     pub granted: u64,
     pub back: u64,
@@ -9,7 +9,7 @@ pub struct Sums {
 }
 
 // What a step changed: the slot has this size now, 0 where it was deleted.
-#[derive(Drop)]
+#[derive(Clone, Copy)]
 pub enum SumChange {
     Size { slot: u64, size: u64 },
     Nothing,

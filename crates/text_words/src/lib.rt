@@ -1,3 +1,5 @@
+#![tactic(auto)]
+
 // Bytes, numerals and names of texts, for readers of several languages.
 // An inner crate: no user calls it, so its functions may have a `requires`, which each caller meets.
 ghost use Rattle.std.specs.Prelude.{◌≡◌, ◌≤◌};
@@ -7,7 +9,7 @@ ghost use Rattle.text_words.specs.Names.{is_sized};
 pub mod digits; // digits.rt: the number that a word begins with
 
 // The number that a word begins with and the place after its last digit; or it is over the limit; or none stands there.
-#[derive(Drop)]
+#[derive(Clone, Copy)]
 pub enum Numeral {
     Value(u64, usize),
     Over,

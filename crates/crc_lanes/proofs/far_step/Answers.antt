@@ -1,0 +1,8 @@
+use mathlib.Core.Path.{ap, ◌∙◌}
+use Prim.Native.Nat.{ℕ}
+use lib.Bits.{bit_xor}
+use Rattle.crc_lanes.specs.Crc.{bit_steps}
+use Rattle.crc_lanes.proofs.far_step.Goals as goal
+
+pub returns : goal.returns
+returns c = c.far_word.ensures ∙ ap (λ (n : ℕ). bit_steps 256 (bit_xor c.args.c n)) c.load64.ensures

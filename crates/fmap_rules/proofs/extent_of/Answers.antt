@@ -1,0 +1,6 @@
+use Rattle.fmap_rules.specs.Map.{area_of}
+use Rattle.fmap_rules.proofs.extent_of.Goals as goal
+
+pub returns : goal.returns
+unfolding area_of
+returns c = rw (c.load32.ensures, c.load32-2.ensures)

@@ -1,0 +1,12 @@
+use mathlib.Core.Path.{◌≡◌}
+use Prim.Native.Nat.{◌≤◌, ◌-◌, ◌+◌}
+use lib.ListN.{drop}
+use Rattle.octets.specs.Tests.{find_ix}
+use Rattle.fmap_rules.specs.Map.{areas_in, named}
+use Rattle.fmap_rules.proofs.find_named.Given as goal
+
+abbrev pub invariant-loop-i : goal.invariant-loop-i
+invariant-loop-i l = (l.i ≤ l.n) × (l.i + find_ix (named l.name) (drop l.i (areas_in l.areas)) ≡ find_ix (named l.name) (areas_in l.areas))
+
+abbrev pub decreases-loop-i : goal.decreases-loop-i
+decreases-loop-i l = l.n - l.i

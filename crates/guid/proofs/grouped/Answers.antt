@@ -1,0 +1,14 @@
+use Rattle.octets.specs.Bytes.{part}
+use Rattle.guid.proofs.Text.{groups-copied}
+use Rattle.guid.proofs.grouped.Goals as goal
+
+pub returns : goal.returns
+unfolding part
+returns c =
+    let s = c in
+    groups-copied s.args.digits.now s.requires _ _ _ _ _
+    c.copy.ensures
+    c.copy-2.ensures
+    c.copy-3.ensures
+    c.copy-4.ensures
+    c.copy-5.ensures
