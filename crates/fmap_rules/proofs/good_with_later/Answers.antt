@@ -1,7 +1,6 @@
 use mathlib.Core.Path.{sym, ◌∙◌}
 use Prim.Native.Nat.{◌-◌}
 use native.Mathlib.Omega.{arith}
-use borrow.Author.Tests.{not-true, not-false}
 use Rattle.fmap_rules.proofs.Areas.{all-next, all-fails, all-over}
 use Rattle.fmap_rules.specs.Invariants.{good_pair}
 use Rattle.fmap_rules.proofs.good_with_later.Goals as goal
@@ -10,14 +9,14 @@ pub returns-then-not-is_good_pair : goal.returns-then-not-is_good_pair
 returns-then-not-is_good_pair c =
     let s1 = c in
     all-fails _ s1.loop-j.j (omega arith) _ c.area_at-in-loop-j.ensures.0 (good_pair _ _)
-    (rw (← c.area_at.ensures.0) (sym c.is_good_pair.ensures ∙ not-true _ c.if-not-is_good_pair.true)) s1.loop-j.invariant.1
+    (rw (← c.area_at.ensures.0) (sym c.is_good_pair.ensures ∙ c.if-not-is_good_pair.true)) s1.loop-j.invariant.1
 
 pub loop-j-preserved : goal.loop-j-preserved
 loop-j-preserved c =
     let s1 = c in (
       omega arith,
       all-next _ s1.loop-j.j (omega arith) _ c.area_at-in-loop-j.ensures.0 (good_pair _ _)
-          (rw (← c.area_at.ensures.0) (sym c.is_good_pair.ensures ∙ not-false _ c.if-not-is_good_pair.false))
+          (rw (← c.area_at.ensures.0) (sym c.is_good_pair.ensures ∙ c.if-not-is_good_pair.false))
           s1.loop-j.invariant.1,
     )
 

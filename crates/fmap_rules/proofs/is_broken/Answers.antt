@@ -10,12 +10,12 @@ use Rattle.fmap_rules.proofs.is_broken.Goals as goal
 
 pub returns-in-SomeByte : goal.returns-in-SomeByte
 unfolding broken empty
-returns-in-SomeByte c = by-rule _ _ c.enum_told-1.given.1 (ap (λ (x : Extent). eqb x.size 0) c.extent_of.ensures)
+returns-in-SomeByte c = by-rule _ _ c.in-SomeByte.is (ap (λ (x : Extent). eqb x.size 0) c.extent_of.ensures)
 
 pub returns-in-InImage : goal.returns-in-InImage
 unfolding broken ends_past
-returns-in-InImage c = by-rule _ _ c.enum_told-in-InImage-1.given.1 (ap (ltb c.args.len) (c.end_of_lem.ensures ∙ ap (λ (x : Extent). end_of x) c.extent_of-in-InImage.ensures))
+returns-in-InImage c = by-rule _ _ c.in-InImage.is (ap (ltb c.args.len) (c.end_of.ensures ∙ ap (λ (x : Extent). end_of x) c.extent_of-in-InImage.ensures))
 
 pub returns-in-LegalName : goal.returns-in-LegalName
 unfolding broken misnamed area_of part
-returns-in-LegalName c = by-rule _ _ c.enum_told-in-LegalName-1.given.1 (ap not c.is_legal_name.ensures)
+returns-in-LegalName c = by-rule _ _ c.in-LegalName.is (ap not c.is_legal_name.ensures)

@@ -7,11 +7,11 @@ pub returns-then-end_of-y : goal.returns-then-end_of-y
 unfolding disjoint
 returns-then-end_of-y c =
     let s1 = c in
-    or-t _ (le-leb (end_of s1.args.x) s1.args.y.start.0 (rw (← c.end_of_lem.ensures) c.if-end_of-y.true))
+    or-t _ (le-leb (end_of s1.args.x) s1.args.y.start.0 (rw (← c.end_of.ensures) c.if-end_of-y.true))
 
 pub returns : goal.returns
 unfolding disjoint
 returns c =
     let s1 = c in
     or-f (lt-leb (end_of s1.args.x) s1.args.y.start.0
-    (rw (← c.end_of_lem.ensures) c.if-end_of-y.false)) (rw c.end_of-2.ensures)
+    (rw (← c.end_of.ensures) c.if-end_of-y.false)) (rw c.end_of-2.ensures)

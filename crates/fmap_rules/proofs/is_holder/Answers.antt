@@ -1,6 +1,6 @@
 use mathlib.Core.Path.{sym, ap, ◌∙◌}
 use lib.Dec.{eqb, leb}
-use borrow.Author.Tests.{eq-eqb, ne_eqb, not-true, not-false}
+use borrow.Author.Tests.{eq-eqb, ne_eqb}
 use Rattle.octets.proofs.Bools.{and-t, and-f}
 use Rattle.octets.specs.Bytes.{part, zeros}
 use Rattle.fmap_rules.specs.Map.{map_size, holds_map, named, area_of}
@@ -9,7 +9,7 @@ use Rattle.fmap_rules.proofs.is_holder.Goals as goal
 
 pub returns-then-not-same : goal.returns-then-not-same
 unfolding holds_map named area_of part zeros
-returns-then-not-same c = and-f _ (sym c.same.ensures ∙ not-true _ c.if-not-same.true)
+returns-then-not-same c = and-f _ (sym c.same.ensures ∙ c.if-not-same.true)
 
 pub returns-then-x-at : goal.returns-then-x-at
 unfolding holds_map named area_of part zeros
@@ -18,7 +18,7 @@ returns-then-x-at c =
     let s2 = s1 in
     let s3 = s2 in
     let s4 = s3 in
-    and-t (sym s3.same.ensures ∙ not-false _ s2.if-not-same.false) (and-f _ (sym (ap (λ (x : Extent). eqb x.start.0 s4.args.at.0)
+    and-t (sym s3.same.ensures ∙ s2.if-not-same.false) (and-f _ (sym (ap (λ (x : Extent). eqb x.start.0 s4.args.at.0)
     s1.extent_of-x.ensures) ∙ ne_eqb _ _ c.if-x-at.true))
 
 pub returns : goal.returns
@@ -28,6 +28,6 @@ returns c =
     let s2 = s1 in
     let s3 = s2 in
     let s4 = s3 in
-    and-t (sym s3.same.ensures ∙ not-false _ s2.if-not-same.false) (and-t (sym (ap (λ (x : Extent). eqb x.start.0 s4.args.at.0)
+    and-t (sym s3.same.ensures ∙ s2.if-not-same.false) (and-t (sym (ap (λ (x : Extent). eqb x.start.0 s4.args.at.0)
     s1.extent_of-x.ensures) ∙ eq-eqb _ _ c.if-x-at.false) (ap (λ (x : Extent). leb (map_size s4.args.count) x.size)
     s1.extent_of-x.ensures))

@@ -9,4 +9,4 @@ returns-then-x-y c = and-f _ (lt-leb _ _ c.if-x-y.true)
 
 pub returns : goal.returns
 unfolding inside
-returns c = and-t (le-leb _ _ c.if-x-y.false) (rw (c.end_of_lem.ensures, c.end_of-2.ensures))
+returns c = and-t (le-leb _ _ c.if-x-y.false) (rw (c.end_of.ensures, c.end_of-2.ensures))

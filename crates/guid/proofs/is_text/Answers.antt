@@ -1,5 +1,4 @@
 use mathlib.Core.Path.{sym, ap, ◌∙◌}
-use borrow.Author.Tests.{not-true, not-false}
 use Rattle.octets.specs.Tests.{all}
 use Rattle.guid.specs.Text.{dashes_in}
 use Rattle.guid.specs.Hex.{is_hex_digit}
@@ -14,7 +13,7 @@ unfolding dashes_in
 returns-then-not-same c =
     let a = c.args in
     text-other a.text.now c.if-text-ne36.false
-    (sym c.same.ensures ∙ not-true _ c.if-not-same.true)
+    (sym c.same.ensures ∙ c.if-not-same.true)
 
 pub returns : goal.returns
 unfolding dashes_in
@@ -23,4 +22,4 @@ returns c =
     c.all_digits.ensures
     ∙ ap (all is_hex_digit) c.digits_in-digits.ensures
     ∙ text-digits a.text.now c.if-text-ne36.false
-    (sym c.same.ensures ∙ not-false _ c.if-not-same.false)
+    (sym c.same.ensures ∙ c.if-not-same.false)

@@ -1,7 +1,6 @@
 use mathlib.Core.List.{List}
 use mathlib.Core.Path.{sym, ap, ◌∙◌}
 use Prim.Native.Nat.{ℕ}
-use borrow.Author.Tests.{not-true, not-false}
 use Rattle.octets.specs.Tests.{all}
 use Rattle.octets.specs.Bytes.{put}
 use Rattle.guid.specs.Text.{reordered, stored_of}
@@ -16,23 +15,23 @@ returns-then-guid-ne16 c = let a = c.args in read_length a.text.now a.guid.now c
 pub returns-then-not-is_text : goal.returns-then-not-is_text
 returns-then-not-is_text c =
     let a = c.args in
-    read-text a.text.now a.guid.now c.if-guid-ne16.false (sym c.is_text.ensures ∙ not-true _ c.if-not-is_text.true)
+    read-text a.text.now a.guid.now c.if-guid-ne16.false (sym c.is_text.ensures ∙ c.if-not-is_text.true)
 
 pub digits_in-digits-requires : goal.digits_in-digits-requires
 digits_in-digits-requires c =
-    let a = c.args in text-length a.text.now (sym c.is_text.ensures ∙ not-false _ c.if-not-is_text.false)
+    let a = c.args in text-length a.text.now (sym c.is_text.ensures ∙ c.if-not-is_text.false)
 
 pub bytes_of-bytes-requires : goal.bytes_of-bytes-requires
 bytes_of-bytes-requires c =
     let a = c.args in
-    let e = sym c.is_text.ensures ∙ not-false _ c.if-not-is_text.false in
+    let e = sym c.is_text.ensures ∙ c.if-not-is_text.false in
     (search rules, ap (all is_hex_digit) c.digits_in-digits.ensures ∙ text-all a.text.now e)
 
 pub returns : goal.returns
 unfolding stored_of
 returns c =
     let a = c.args in
-    let e = sym c.is_text.ensures ∙ not-false _ c.if-not-is_text.false in
+    let e = sym c.is_text.ensures ∙ c.if-not-is_text.false in
     let s =
     c.reordered-stored.ensures
     ∙ ap reordered

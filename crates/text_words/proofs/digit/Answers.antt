@@ -5,47 +5,40 @@ use Rattle.text_words.proofs.digit.Goals as goal
 
 pub returns-then-b-lt48 : goal.returns-then-b-lt48
 unfolding digit_of
-returns-then-b-lt48 c = (simp (lt-ltb _ _ c.if-b-lt48.true), omega arith)
+returns-then-b-lt48 c = record { value = simp (lt-ltb _ _ c.if-b-lt48.true); small = omega arith }
 
 pub returns-then-b-lt58 : goal.returns-then-b-lt58
 unfolding digit_of
-returns-then-b-lt58 c = (simp (le-ltb _ _ c.if-b-lt48.false, lt-ltb _ _ c.if-b-lt58.true), omega arith)
+returns-then-b-lt58 c = record { value = simp (le-ltb _ _ c.if-b-lt48.false, lt-ltb _ _ c.if-b-lt58.true); small = omega arith }
 
 pub returns-then-b-lt65 : goal.returns-then-b-lt65
 unfolding digit_of
-returns-then-b-lt65 c = (simp (le-ltb _ _ c.if-b-lt48.false, le-ltb _ _ c.if-b-lt58.false, lt-ltb _ _ c.if-b-lt65.true), omega arith)
+returns-then-b-lt65 c = record { value = simp (le-ltb _ _ c.if-b-lt48.false, le-ltb _ _ c.if-b-lt58.false, lt-ltb _ _ c.if-b-lt65.true); small = omega arith }
 
 pub returns-then-b-lt71 : goal.returns-then-b-lt71
 unfolding digit_of
-returns-then-b-lt71 c = (
-  simp (
+returns-then-b-lt71 c = record { value = simp (
     le-ltb _ _ c.if-b-lt48.false,
     le-ltb _ _ c.if-b-lt58.false,
     le-ltb _ _ c.if-b-lt65.false,
     lt-ltb
         _ _ c.if-b-lt71.true,
-  ),
-  omega arith,
-)
+  ); small = omega arith }
 
 pub returns-then-b-lt97 : goal.returns-then-b-lt97
 unfolding digit_of
-returns-then-b-lt97 c = (
-  simp (
+returns-then-b-lt97 c = record { value = simp (
     le-ltb _ _ c.if-b-lt48.false,
     le-ltb _ _ c.if-b-lt58.false,
     le-ltb _ _
         c.if-b-lt65.false,
     le-ltb _ _ c.if-b-lt71.false,
     lt-ltb _ _ c.if-b-lt97.true,
-  ),
-  omega arith,
-)
+  ); small = omega arith }
 
 pub returns-then-b-lt103 : goal.returns-then-b-lt103
 unfolding digit_of
-returns-then-b-lt103 c = (
-  simp (
+returns-then-b-lt103 c = record { value = simp (
     le-ltb _ _ c.if-b-lt48.false,
     le-ltb _ _ c.if-b-lt58.false,
     le-ltb _
@@ -53,14 +46,11 @@ returns-then-b-lt103 c = (
     le-ltb _ _ c.if-b-lt71.false,
     le-ltb _ _ c.if-b-lt97.false,
     lt-ltb _ _ c.if-b-lt103.true,
-  ),
-  omega arith,
-)
+  ); small = omega arith }
 
 pub returns : goal.returns
 unfolding digit_of
-returns c = (
-  simp (
+returns c = record { value = simp (
     le-ltb _ _ c.if-b-lt48.false,
     le-ltb _ _ c.if-b-lt58.false,
     le-ltb _
@@ -68,6 +58,4 @@ returns c = (
     le-ltb _ _ c.if-b-lt71.false,
     le-ltb _ _ c.if-b-lt97.false,
     le-ltb _ _ c.if-b-lt103.false,
-  ),
-  omega arith,
-)
+  ); small = omega arith }

@@ -60,7 +60,7 @@ loop-i-preserved c =
     let s = start.args.w.now in
     let h : turn.loop-i.i < length s = search rules in
     let u = under-limit start.args.most start.args.base turn.loop-i.n start.requires.1 c.if-limit-n.false in
-    let d = c.digit-d.ensures.0 in (
+    let d = c.digit-d.ensures.value in (
       search rules,
       omega arith,
       rw d (digits-in s turn.loop-i.i start.args.most start.args.base turn.loop-i.n h (omega arith)) ∙ turn.loop-i.invariant.2,
