@@ -1,3 +1,5 @@
+#![tactic(auto)]
+
 // CRC-32 with constant tables.
 mod tables;
 

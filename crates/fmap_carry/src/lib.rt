@@ -1,3 +1,5 @@
+#![tactic(auto)]
+
 // Carrying preserved areas by two given maps: a judge that writes nothing, then one writer.
 // An inner crate: no user calls it, so its functions may have a `requires`, which each caller meets.
 ghost use Rattle.std.specs.Prelude.{◌≡◌, true, ◌+◌, ◌/◌, ◌≤◌, ◌<◌, length, get_or, take, drop};

@@ -1,3 +1,5 @@
+#![tactic(auto)]
+
 // The bytes of a flash map, written into an image.
 // An inner crate: no user calls it, so its functions may have a `requires`, which each caller meets.
 ghost use Rattle.std.specs.Prelude.{List, ◌≡◌, ◌+◌, ◌≤◌, length};

@@ -1,3 +1,5 @@
+#![tactic(auto)]
+
 // Tokens, numbers, names and flags of a layout text.
 // An inner crate: no user calls it, so its functions may have a `requires`, which each caller meets.
 ghost use Rattle.std.specs.Prelude.{false, ◌≡◌, ◌≤◌, ◌<◌, length, drop, get_or};

@@ -1,3 +1,5 @@
+#![tactic(auto)]
+
 // What a GPT disk is and what each call does to it: definitions and theorems alone, no function.
 // The definitions stand in specs/, in the order of the rules; the contracts of the crates above cite them.
 

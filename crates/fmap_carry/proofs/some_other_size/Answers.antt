@@ -1,0 +1,38 @@
+use mathlib.Core.Path.{sym, ◌∙◌}
+use Prim.Native.Nat.{◌-◌}
+use native.Mathlib.Omega.{arith}
+use Rattle.fmap_rules.proofs.Areas.{any_next, any-holds, any-over}
+use Rattle.fmap_carry.proofs.Match.{matched-long, matched-at}
+use Rattle.fmap_carry.specs.Carry.{other_size}
+use Rattle.fmap_carry.proofs.some_other_size.Goals as goal
+
+pub bounds-matches-i : goal.bounds-matches-i
+bounds-matches-i c = matched-long _ _ _ c.requires c.loop-i.i
+    (omega arith)
+
+pub overflow_cast-matches : goal.overflow_cast-matches
+overflow_cast-matches c = omega (arith, c.shared_slice_known-in-loop-i-1.given c.loop-i.i)
+
+pub is_other_size-requires : goal.is_other_size-requires
+is_other_size-requires c = (
+  c.area_at.ensures.1,
+  matched-at _ _ _ c.requires c.loop-i.i _
+      (omega arith) c.area_at.ensures.0,
+)
+
+pub returns-then-is_other_size : goal.returns-then-is_other_size
+returns-then-is_other_size c =
+    let s1 = c in
+    any-holds _ s1.loop-i.i (omega arith) _ c.area_at.ensures.0 (other_size _)
+    (sym c.is_other_size.ensures ∙ c.if-is_other_size.true) s1.loop-i.invariant.1
+
+pub loop-i-preserved : goal.loop-i-preserved
+loop-i-preserved c =
+    let s1 = c in (
+      omega arith,
+      any_next _ s1.loop-i.i (omega arith) _ c.area_at.ensures.0
+          (other_size _) (sym c.is_other_size.ensures ∙ c.if-is_other_size.false) s1.loop-i.invariant.1,
+    )
+
+pub returns : goal.returns
+returns c = any-over _ c.loop-i.i (omega arith) (other_size _) c.loop-i.invariant.1
