@@ -1,3 +1,5 @@
+#![tactic(auto)]
+
 // What a layout string of the boot loader is, what it asks for, and the disk that becomes of it: definitions and theorems alone, no function.
 // The definitions stand in specs/; the contracts of the crates above cite them.
 

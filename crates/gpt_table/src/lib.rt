@@ -1,3 +1,5 @@
+#![tactic(auto)]
+
 // The judges over the 16,384 entry bytes of a GPT table: reading entries here, their ranges put in order in `order`, the table's rules in `rules`.
 // An inner crate: no user calls it, so its functions may have a `requires`, which each caller meets.
 pub mod order;

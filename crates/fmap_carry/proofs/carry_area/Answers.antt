@@ -1,12 +1,12 @@
 use mathlib.Core.Path.{sym, ◌∙◌}
-use borrow.Author.Tests.{not-true, not-false}
+use borrow.Author.Tests.{not-false}
 use Rattle.fmap_rules.specs.Map.{area_of, areas_in}
 use Rattle.fmap_carry.proofs.Match.{target-by}
 use Rattle.fmap_carry.proofs.Carrying.{carry-other, carry-by, can-copy}
 use Rattle.fmap_carry.proofs.carry_area.Goals as goal
 
 pub returns-then-not-is_preserved : goal.returns-then-not-is_preserved
-returns-then-not-is_preserved c = sym (carry-other _ _ _ _ (sym c.is_preserved.ensures ∙ not-true _ c.if-not-is_preserved.taken))
+returns-then-not-is_preserved c = sym (carry-other _ _ _ _ (sym c.is_preserved.ensures ∙ c.if-not-is_preserved.true))
 
 pub copy_area-requires : goal.copy_area-requires
 copy_area-requires c =
@@ -15,9 +15,9 @@ copy_area-requires c =
     let s3 = s2 in
     let s4 = s3 in
     let a = area_of s4.args.a.now in
-    let p = sym s3.is_preserved.ensures ∙ not-false _ s2.if-not-is_preserved.left in
+    let p = sym s3.is_preserved.ensures ∙ s2.if-not-is_preserved.false in
     can-copy s4.args.old.now (areas_in s4.args.news.now) a p _ _ s1.extent_of.ensures (target-by s4.args.news.now a _ _
-    s4.pre.1 c.place_of.ensures) _ (s4.pre.2 p)
+    s4.requires.1 c.place_of.ensures) _ (s4.requires.2 p)
 
 pub returns : goal.returns
 returns c =
@@ -30,4 +30,4 @@ returns c =
     let a = area_of s6.args.a.now in
     s1.copy_area.ensures
     ∙ carry-by s6.args.old.now (areas_in s6.args.news.now) a (sym s5.is_preserved.ensures ∙ not-false _
-    s4.if-not-is_preserved.left) _ _ s3.extent_of.ensures (target-by s6.args.news.now a _ _ s6.pre.1 s2.place_of.ensures) _
+    s4.if-not-is_preserved.false-raw) _ _ s3.extent_of.ensures (target-by s6.args.news.now a _ _ s6.requires.1 s2.place_of.ensures) _

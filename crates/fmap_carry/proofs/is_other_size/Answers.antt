@@ -1,5 +1,4 @@
 use mathlib.Core.Path.{sym, ◌∙◌}
-use borrow.Author.Tests.{not-true, not-false}
 use Rattle.octets.proofs.Bools.{and-f}
 use Rattle.fmap_carry.proofs.Match.{other-size-by}
 use Rattle.fmap_carry.specs.Carry.{other_size}
@@ -7,7 +6,7 @@ use Rattle.fmap_carry.proofs.is_other_size.Goals as goal
 
 pub returns-then-not-is_preserved : goal.returns-then-not-is_preserved
 unfolding other_size
-returns-then-not-is_preserved c = and-f _ (sym c.is_preserved.ensures ∙ not-true _ c.if-not-is_preserved.taken)
+returns-then-not-is_preserved c = and-f _ (sym c.is_preserved.ensures ∙ c.if-not-is_preserved.true)
 
 pub returns : goal.returns
 returns c =
@@ -16,5 +15,5 @@ returns c =
     let s3 = s2 in
     let s4 = s3 in
     let s5 = s4 in
-    other-size-by _ _ (sym s4.is_preserved.ensures ∙ not-false _ s3.if-not-is_preserved.left)
-    _ s5.pre.1 _ _ s2.extent_of.ensures s1.place_of.ensures
+    other-size-by _ _ (sym s4.is_preserved.ensures ∙ s3.if-not-is_preserved.false)
+    _ s5.requires.1 _ _ s2.extent_of.ensures s1.place_of.ensures

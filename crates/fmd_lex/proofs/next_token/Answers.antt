@@ -14,7 +14,7 @@ returns-then-is_word c = record { value = simp (
     sym c.skip-p.ensures.value,
     lt-ltb _ _ c.if-text-p.false,
     sym
-        c.is_IsWord.ensures,
+        c.is_word.ensures,
     c.if-is_word.true,
     sym c.word_end-e.ensures.value,
   ); within = search rules }
@@ -28,7 +28,7 @@ returns-then-is_sign c =
     let s4 = s3 in record { value = simp (
         sym s4.skip-p.ensures.value,
         lt-ltb _ _ s3.if-text-p.false,
-        sym s2.is_IsWord.ensures,
+        sym s2.is_word.ensures,
         s1.if-is_word.false,
         sym c.is_sign.ensures,
         c.if-is_sign.true,
@@ -43,7 +43,7 @@ returns c =
     let s4 = s3 in record { value = simp (
         sym s4.skip-p.ensures.value,
         lt-ltb _ _ s3.if-text-p.false,
-        sym s2.is_IsWord.ensures,
+        sym s2.is_word.ensures,
         s1.if-is_word.false,
         sym c.is_sign.ensures,
         c.if-is_sign.false,

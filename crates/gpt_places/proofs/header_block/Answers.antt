@@ -1,0 +1,4 @@
+use Rattle.gpt_places.proofs.header_block.Goals as goal
+
+pub returns-in-Backup : goal.returns-in-Backup
+returns-in-Backup c = rw c.in-Backup.is
