@@ -1,3 +1,5 @@
+#![tactic(auto)]
+
 // The flash map of an image: finding it, reading its areas, carrying preserved areas to another image.
 ghost use Rattle.std.specs.Prelude.{◌≡◌, ◌-◌, ◌≤◌, length, eqb};
 ghost use Rattle.std.proofs.Math.Option.{none};
