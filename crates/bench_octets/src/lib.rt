@@ -1,3 +1,5 @@
+#![tactic(auto)]
+
 // The byte functions of `octets`, exported for the benchmark alone: each guards what its callee requires, and answers 0 where that fails.
 // No user calls it.
 fn number(b: bool) -> u32 {

@@ -1,3 +1,5 @@
+#![tactic(auto)]
+
 // The GPT calls for C. Each contract is one equation with `format_by` or `step_by` of gpt_model, for the result, both buffers and the number answers afterwards.
 ghost use Rattle.std.specs.Prelude.{◌≡◌, [], ◌∷◌, length};
 ghost use Rattle.gpt_model.specs.Sizes.{shape_of, step_by, format_by};
@@ -166,16 +168,9 @@ fn wrong_length(block: u64) -> u32
     }
 }
 
-#[unsafe(no_mangle)]
-pub extern "C" fn usi_gpt_format(
-    head: &mut [u8],
-    tail: &mut [u8],
-    n: u64,
-    block: u64,
-    guid: &[u8],
-) -> u32
-    ensures* { λ r. ⌜ record { result = r; head = head.new; tail = tail.new; values = [] }
-        ≡ gpt_effect [] (format_by block n guid.now head.old tail.old) ⌝ }
+pub fn usi_gpt_format(head: &mut [u8], tail: &mut [u8], n: u64, block: u64, guid: &[u8]) -> u32
+    ensures { record { result = result; head = head.new; tail = tail.new; values = [] }
+        ≡ gpt_effect [] (format_by block n guid.now head.old tail.old) }
 {
     if guid.len() != 16 {
         return wrong_length(block);
@@ -183,30 +178,21 @@ pub extern "C" fn usi_gpt_format(
     done(gpt::format(head, tail, n, block, guid_of(guid)))
 }
 
-#[unsafe(no_mangle)]
-pub extern "C" fn usi_gpt_read(head: &[u8], tail: &[u8], n: u64, block: u64, state: &mut u64) -> u32
-    ensures* { λ r. ⌜ record { result = r; head = head.now; tail = tail.now; values = state.new ∷ [] }
-        ≡ gpt_effect (state.old ∷ []) (step_by block n head.now tail.now read_call) ⌝ }
+pub fn usi_gpt_read(head: &[u8], tail: &[u8], n: u64, block: u64, state: &mut u64) -> u32
+    ensures { record { result = result; head = head.now; tail = tail.now; values = state.new ∷ [] }
+        ≡ gpt_effect (state.old ∷ []) (step_by block n head.now tail.now read_call) }
 {
     reading(gpt::read(head, tail, n, block), state)
 }
 
-#[unsafe(no_mangle)]
-pub extern "C" fn usi_gpt_delete(
-    head: &mut [u8],
-    tail: &mut [u8],
-    n: u64,
-    block: u64,
-    slot: u64,
-) -> u32
-    ensures* { λ r. ⌜ record { result = r; head = head.new; tail = tail.new; values = [] }
-        ≡ gpt_effect [] (step_by block n head.old tail.old (edit (delete_call slot))) ⌝ }
+pub fn usi_gpt_delete(head: &mut [u8], tail: &mut [u8], n: u64, block: u64, slot: u64) -> u32
+    ensures { record { result = result; head = head.new; tail = tail.new; values = [] }
+        ≡ gpt_effect [] (step_by block n head.old tail.old (edit (delete_call slot))) }
 {
     done(gpt::delete(head, tail, n, block, slot))
 }
 
-#[unsafe(no_mangle)]
-pub extern "C" fn usi_gpt_resize(
+pub fn usi_gpt_resize(
     head: &mut [u8],
     tail: &mut [u8],
     n: u64,
@@ -214,14 +200,13 @@ pub extern "C" fn usi_gpt_resize(
     slot: u64,
     size: u64,
 ) -> u32
-    ensures* { λ r. ⌜ record { result = r; head = head.new; tail = tail.new; values = [] }
-        ≡ gpt_effect [] (step_by block n head.old tail.old (edit (resize_call slot size))) ⌝ }
+    ensures { record { result = result; head = head.new; tail = tail.new; values = [] }
+        ≡ gpt_effect [] (step_by block n head.old tail.old (edit (resize_call slot size))) }
 {
     done(gpt::resize(head, tail, n, block, slot, size))
 }
 
-#[unsafe(no_mangle)]
-pub extern "C" fn usi_gpt_free(
+pub fn usi_gpt_free(
     head: &[u8],
     tail: &[u8],
     n: u64,
@@ -229,28 +214,20 @@ pub extern "C" fn usi_gpt_free(
     free: &mut u64,
     longest: &mut u64,
 ) -> u32
-    ensures* { λ r. ⌜ record { result = r; head = head.now; tail = tail.now; values = free.new ∷ longest.new ∷ [] }
-        ≡ gpt_effect (free.old ∷ longest.old ∷ []) (step_by block n head.now tail.now free_counts) ⌝ }
+    ensures { record { result = result; head = head.now; tail = tail.now; values = free.new ∷ longest.new ∷ [] }
+        ≡ gpt_effect (free.old ∷ longest.old ∷ []) (step_by block n head.now tail.now free_counts) }
 {
     counted(gpt::free_counts(head, tail, n, block), free, longest)
 }
 
-#[unsafe(no_mangle)]
-pub extern "C" fn usi_gpt_repair(
-    head: &mut [u8],
-    tail: &mut [u8],
-    n: u64,
-    block: u64,
-    state: &mut u64,
-) -> u32
-    ensures* { λ r. ⌜ record { result = r; head = head.new; tail = tail.new; values = state.new ∷ [] }
-        ≡ gpt_effect (state.old ∷ []) (step_by block n head.old tail.old repair_call) ⌝ }
+pub fn usi_gpt_repair(head: &mut [u8], tail: &mut [u8], n: u64, block: u64, state: &mut u64) -> u32
+    ensures { record { result = result; head = head.new; tail = tail.new; values = state.new ∷ [] }
+        ≡ gpt_effect (state.old ∷ []) (step_by block n head.old tail.old repair_call) }
 {
     reading(gpt::repair(head, tail, n, block), state)
 }
 
-#[unsafe(no_mangle)]
-pub extern "C" fn usi_gpt_rename(
+pub fn usi_gpt_rename(
     head: &mut [u8],
     tail: &mut [u8],
     n: u64,
@@ -258,8 +235,8 @@ pub extern "C" fn usi_gpt_rename(
     slot: u64,
     name: &[u16],
 ) -> u32
-    ensures* { λ r. ⌜ record { result = r; head = head.new; tail = tail.new; values = [] }
-        ≡ gpt_effect [] (step_by block n head.old tail.old (edit (rename_call slot name.now))) ⌝ }
+    ensures { record { result = result; head = head.new; tail = tail.new; values = [] }
+        ≡ gpt_effect [] (step_by block n head.old tail.old (edit (rename_call slot name.now))) }
 {
     if name.len() != 36 {
         return wrong_length(block);
@@ -267,8 +244,7 @@ pub extern "C" fn usi_gpt_rename(
     done(gpt::rename(head, tail, n, block, slot, name_of(name)))
 }
 
-#[unsafe(no_mangle)]
-pub extern "C" fn usi_gpt_add(
+pub fn usi_gpt_add(
     head: &mut [u8],
     tail: &mut [u8],
     n: u64,
@@ -283,10 +259,10 @@ pub extern "C" fn usi_gpt_add(
     slot: &mut u64,
     first: &mut u64,
 ) -> u32
-    ensures* { λ r. ⌜ record { result = r; head = head.new; tail = tail.new; values = slot.new ∷ first.new ∷ [] }
+    ensures { record { result = result; head = head.new; tail = tail.new; values = slot.new ∷ first.new ∷ [] }
         ≡ gpt_effect (slot.old ∷ first.old ∷ [])
         (step_by block n head.old tail.old
-        (edit (add_call (new_partition kind.now unique.now size alignment attributes (rule_numbered rule) name.now)))) ⌝ }
+        (edit (add_call (new_partition kind.now unique.now size alignment attributes (rule_numbered rule) name.now)))) }
 {
     if kind.len() != 16 {
         return wrong_length(block);
@@ -309,8 +285,7 @@ pub extern "C" fn usi_gpt_add(
     added(gpt::add(head, tail, n, block, p), slot, first)
 }
 
-#[unsafe(no_mangle)]
-pub extern "C" fn usi_gpt_table(
+pub fn usi_gpt_table(
     head: &[u8],
     tail: &[u8],
     n: u64,
@@ -318,8 +293,8 @@ pub extern "C" fn usi_gpt_table(
     in_tail: &mut u64,
     offset: &mut u64,
 ) -> u32
-    ensures* { λ r. ⌜ record { result = r; head = head.now; tail = tail.now; values = in_tail.new ∷ offset.new ∷ [] }
-        ≡ gpt_effect (in_tail.old ∷ offset.old ∷ []) (table_place_by block n head.now tail.now) ⌝ }
+    ensures { record { result = result; head = head.now; tail = tail.now; values = in_tail.new ∷ offset.new ∷ [] }
+        ≡ gpt_effect (in_tail.old ∷ offset.old ∷ []) (table_place_by block n head.now tail.now) }
 {
     match gpt_places::shape_of(block) {
         BlockSize::Known(shape) => place(gpt::read(head, tail, n, block), shape, in_tail, offset),
@@ -327,17 +302,9 @@ pub extern "C" fn usi_gpt_table(
     }
 }
 
-#[unsafe(no_mangle)]
-pub extern "C" fn usi_gpt_check(
-    head: &[u8],
-    tail: &[u8],
-    n: u64,
-    block: u64,
-    rule: u64,
-    slot: &mut u64,
-) -> u32
-    ensures* { λ r. ⌜ record { result = r; head = head.now; tail = tail.now; values = slot.new ∷ [] }
-        ≡ gpt_effect (slot.old ∷ []) (step_by block n head.now tail.now (check_call (rule_numbered rule))) ⌝ }
+pub fn usi_gpt_check(head: &[u8], tail: &[u8], n: u64, block: u64, rule: u64, slot: &mut u64) -> u32
+    ensures { record { result = result; head = head.now; tail = tail.now; values = slot.new ∷ [] }
+        ≡ gpt_effect (slot.old ∷ []) (step_by block n head.now tail.now (check_call (rule_numbered rule))) }
 {
     offending(gpt::check(head, tail, n, block, rule_of(rule)), slot)
 }

@@ -1,3 +1,5 @@
+#![tactic(auto)]
+
 // The flash map calls for C.
 ghost use Rattle.std.specs.Prelude.{◌≡◌, length};
 ghost use Rattle.octets.specs.Rows.{code_of};
@@ -12,7 +14,7 @@ use fmap_rules::ImagePosition;
 
 #[unsafe(no_mangle)]
 pub extern "C" fn usi_fmap_find(image: &[u8], position: &mut u64) -> u32
-    ensures* { λ r. ⌜ record { result = r; value = position.new } ≡ find_effect position.old (find_map image.now) ⌝ }
+    ensures { record { result = result; value = position.new } ≡ find_effect position.old (find_map image.now) }
 {
     match fmap::find(image) {
         MapFound::At(p) => {
@@ -37,7 +39,7 @@ fn position_of(n: u64) -> ImagePosition
 
 #[unsafe(no_mangle)]
 pub extern "C" fn usi_fmap_fault(image: &[u8], position: u64, rule: &mut u64) -> u32
-    ensures* { λ r. ⌜ record { result = r; value = rule.new } ≡ fault_effect rule.old (fault_at image.now position) ⌝ }
+    ensures { record { result = result; value = rule.new } ≡ fault_effect rule.old (fault_at image.now position) }
 {
     match fmap::fault_at(image, position_of(position)) {
         MapFault::Good => {
@@ -55,7 +57,7 @@ pub extern "C" fn usi_fmap_fault(image: &[u8], position: u64, rule: &mut u64) ->
 // Writes the area that was found.
 fn area_found(a: AreaFound, area: &mut [u8]) -> u32
     requires { length area.old ≡ 42 }
-    ensures* { λ r. ⌜ record { result = r; buffer = area.new } ≡ looked_effect area.old (looked a) ⌝ }
+    ensures { record { result = result; buffer = area.new } ≡ looked_effect area.old (looked a) }
 {
     let answer = a.answer;
     match answer {
@@ -73,7 +75,7 @@ fn area_found(a: AreaFound, area: &mut [u8]) -> u32
 
 #[unsafe(no_mangle)]
 pub extern "C" fn usi_fmap_area(image: &[u8], k: u64, area: &mut [u8]) -> u32
-    ensures* { λ r. ⌜ record { result = r; buffer = area.new } ≡ area_effect area.old (area_numbered image.now k) ⌝ }
+    ensures { record { result = result; buffer = area.new } ≡ area_effect area.old (area_numbered image.now k) }
 {
     if area.len() != 42 {
         return 1;
@@ -83,7 +85,7 @@ pub extern "C" fn usi_fmap_area(image: &[u8], k: u64, area: &mut [u8]) -> u32
 
 #[unsafe(no_mangle)]
 pub extern "C" fn usi_fmap_named(image: &[u8], name: &[u8], k: &mut u64) -> u32
-    ensures* { λ r. ⌜ record { result = r; value = k.new } ≡ named_effect k.old (index_named image.now name.now) ⌝ }
+    ensures { record { result = result; value = k.new } ≡ named_effect k.old (index_named image.now name.now) }
 {
     match fmap::area_index(image, name) {
         AreaIndex::At(i) => {
@@ -114,7 +116,7 @@ fn carried(c: Carried) -> u32
 
 #[unsafe(no_mangle)]
 pub extern "C" fn usi_fmap_carry(old: &[u8], image: &mut [u8]) -> u32
-    ensures* { λ r. ⌜ record { result = r; buffer = image.new } ≡ carry_effect (carry_images old.now image.old) ⌝ }
+    ensures { record { result = result; buffer = image.new } ≡ carry_effect (carry_images old.now image.old) }
 {
     carried(fmap::carry(old, image))
 }

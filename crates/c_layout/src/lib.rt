@@ -1,3 +1,5 @@
+#![tactic(auto)]
+
 // The calls of the layout language for C.
 ghost use Rattle.std.specs.Prelude.{◌≡◌, [], ◌∷◌, length};
 ghost use Rattle.octets.specs.Rows.{code_of};
@@ -15,8 +17,8 @@ fn image(
     count: &mut u64,
 ) -> u32
     requires { length name.old ≡ 32 }
-    ensures* { λ r. ⌜ record { result = r; name = name.new; values = size.new ∷ address.new ∷ count.new ∷ [] }
-        ≡ image_effect name.old (size.old ∷ address.old ∷ count.old ∷ []) (reading a) ⌝ }
+    ensures { record { result = result; name = name.new; values = size.new ∷ address.new ∷ count.new ∷ [] }
+        ≡ image_effect name.old (size.old ∷ address.old ∷ count.old ∷ []) (reading a) }
 {
     let answer = a.answer;
     let k = fmd::number(answer);
@@ -40,8 +42,8 @@ pub extern "C" fn usi_fmd_read(
     address: &mut u64,
     count: &mut u64,
 ) -> u32
-    ensures* { λ r. ⌜ record { result = r; name = name.new; values = size.new ∷ address.new ∷ count.new ∷ [] }
-        ≡ read_effect name.old (size.old ∷ address.old ∷ count.old ∷ []) (read_text text.now) ⌝ }
+    ensures { record { result = result; name = name.new; values = size.new ∷ address.new ∷ count.new ∷ [] }
+        ≡ read_effect name.old (size.old ∷ address.old ∷ count.old ∷ []) (read_text text.now) }
 {
     if name.len() != 32 {
         return 1;
@@ -65,15 +67,15 @@ fn counted(a: LayoutReading, count: &mut u64) -> u32
 
 #[unsafe(no_mangle)]
 pub extern "C" fn usi_fmd_records(text: &[u8], records: &mut [u8], count: &mut u64) -> u32
-    ensures* { λ r. ⌜ record { result = r; records = records.new; count = count.new }
-        ≡ records_effect count.old (record_text text.now records.old) ⌝ }
+    ensures { record { result = result; records = records.new; count = count.new }
+        ≡ records_effect count.old (record_text text.now records.old) }
 {
     counted(fmd::put_records(text, records), count)
 }
 
 #[unsafe(no_mangle)]
 pub extern "C" fn usi_fmd_write(text: &[u8], image: &mut [u8]) -> u32
-    ensures* { λ r. ⌜ record { result = r; image = image.new } ≡ write_effect (write_text text.now image.old) ⌝ }
+    ensures { record { result = result; image = image.new } ≡ write_effect (write_text text.now image.old) }
 {
     let w = fmd::write_map(text, image);
     let answer = w.answer;

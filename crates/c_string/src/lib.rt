@@ -1,3 +1,5 @@
+#![tactic(auto)]
+
 // The call for C that makes a disk of a layout string. Its contract is one equation with `build_by` of gpt_string_model, for the result and both buffers.
 ghost use Rattle.std.specs.Prelude.{◌≡◌, []};
 ghost use Rattle.gpt_string_model.specs.Calls.{build_by};
@@ -37,8 +39,8 @@ pub extern "C" fn usi_gpt_build(
     alignment: u64,
     text: &[u8],
 ) -> u32
-    ensures* { λ r. ⌜ record { result = r; head = head.new; tail = tail.new; values = [] }
-        ≡ gpt_effect [] (build_by block n alignment text.now head.old tail.old) ⌝ }
+    ensures { record { result = result; head = head.new; tail = tail.new; values = [] }
+        ≡ gpt_effect [] (build_by block n alignment text.now head.old tail.old) }
 {
     answered(gpt_string::build(head, tail, n, block, alignment, text))
 }

@@ -5,8 +5,7 @@ use mathlib.Core.Option.{Option}
 use Prim.Native.Nat.{ℕ}
 use native.Mathlib.Omega.{arith}
 use Rattle.octets.specs.Rows.{code_of}
-use Rattle.guid.specs.Calls.{Outcome, number_of}
-use Rattle.guid.specs.declared.Answer.{Answer}
+use Rattle.guid.specs.Calls.{Outcome}
 use Rattle.guid.specs.declared.Answer.TheVariants.{Done, WrongLength, NotGuidText}
 use Rattle.c_text.specs.Effects.{Effect, effect}
 use Rattle.c_text.specs.Claims.{ZeroIsAccepted}

@@ -1,3 +1,5 @@
+#![tactic(auto)]
+
 // CRC and GUID text for C (include/usigrambal.h): numbers, slices, and 0 or the refusal's number.
 ghost use Rattle.std.specs.Prelude.{◌≡◌};
 ghost use Rattle.octets.specs.Rows.{code_of};
@@ -26,21 +28,21 @@ fn code(a: Answer) -> u32
 
 #[unsafe(no_mangle)]
 pub extern "C" fn usi_guid_read(text: &[u8], guid: &mut [u8]) -> u32
-    ensures* { λ r. ⌜ record { result = r; buffer = guid.new } ≡ effect (read_of text.now guid.old) ⌝ }
+    ensures { record { result = result; buffer = guid.new } ≡ effect (read_of text.now guid.old) }
 {
     code(guid::read(text, guid))
 }
 
 #[unsafe(no_mangle)]
 pub extern "C" fn usi_type_read(text: &[u8], guid: &mut [u8]) -> u32
-    ensures* { λ r. ⌜ record { result = r; buffer = guid.new } ≡ effect (read_type_of text.now guid.old) ⌝ }
+    ensures { record { result = result; buffer = guid.new } ≡ effect (read_type_of text.now guid.old) }
 {
     code(guid::read_type(text, guid))
 }
 
 #[unsafe(no_mangle)]
 pub extern "C" fn usi_guid_write(guid: &[u8], text: &mut [u8]) -> u32
-    ensures* { λ r. ⌜ record { result = r; buffer = text.new } ≡ effect (write_of guid.now text.old) ⌝ }
+    ensures { record { result = result; buffer = text.new } ≡ effect (write_of guid.now text.old) }
 {
     code(guid::write(guid, text))
 }

@@ -1,0 +1,5 @@
+use Rattle.c_text.proofs.Effects.{tells}
+use Rattle.c_text.proofs.usi_guid_read.Goals as goal
+
+pub returns : goal.returns
+returns c = tells _ _ _ _ c.read.ensures c.code.ensures
