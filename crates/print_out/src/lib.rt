@@ -1,9 +1,11 @@
-// Bytes, and numbers in upper-case hex or decimal, on standard output, for the samples programs.
+// Bytes, and numbers in upper-case hex or decimal, printed by a handle, for the samples programs.
 // An inner crate: no user calls it.
-use libc::STDOUT_FILENO;
+#![tactic(auto)]
 
-pub fn bytes(s: &[u8]) {
-    io::write_all(STDOUT_FILENO, s);
+use std::io;
+
+pub fn bytes(rt: &impl Print, s: &[u8]) -> io::Result<()> {
+    rt.write_all(s)
 }
 
 fn digit(n: u8) -> u8 {
@@ -11,25 +13,21 @@ fn digit(n: u8) -> u8 {
     if d < 10 { 48 + d } else { 55 + d }
 }
 
-fn hex8(b: u8) {
-    bytes(&[digit(b / 16), digit(b)]);
+fn hex8(rt: &impl Print, b: u8) -> io::Result<()> {
+    bytes(rt, &[digit(b / 16), digit(b)])
 }
 
-pub fn hex32(x: u32) {
-    hex8((x / 16777216) as u8);
-    hex8((x / 65536 % 256) as u8);
-    hex8((x / 256 % 256) as u8);
-    hex8((x % 256) as u8);
+pub fn hex32(rt: &impl Print, x: u32) -> io::Result<()> {
+    hex(rt, &x.to_be_bytes())
 }
 
-pub fn hex(s: &[u8]) {
-    let mut i = 0;
-    while i < s.len() {
-        hex8(s[i]);
-        i += 1;
+pub fn hex(rt: &impl Print, s: &[u8]) -> io::Result<()> {
+    for b in s {
+        hex8(rt, *b)?;
     }
+    Ok(())
 }
 
-pub fn decimal(x: u64) {
-    io::print_decimal(STDOUT_FILENO, x);
+pub fn decimal(rt: &impl Print, x: u64) -> io::Result<()> {
+    print!(rt; "{x}")
 }

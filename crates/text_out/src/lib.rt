@@ -1,3 +1,5 @@
+#![tactic(auto)]
+
 // Text put into a lent buffer: bytes, and numbers in lower-case hex or decimal. Each function answers the place after what it put.
 // An inner crate: no user calls it, so its functions may have a `requires`, which each caller meets.
 ghost use Rattle.std.specs.Prelude.{◌+◌, ◌≤◌, ◌<◌, ◌^◌, length};
