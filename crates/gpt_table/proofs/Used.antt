@@ -165,7 +165,7 @@ ranges-slots es f l n d u =
     go : (i : ℕ) → i < n → get_or (ranges f l n) i no_blocks ≡ get_or (map range_of es) i no_blocks
     go i h =
         get_or-ranges f l n i h ∙ ap₂ spans (low-at d i h) (high-at d i h) ∙ sym (range-used (get_or es i []) (u i h))
-        ∙ sym (ap (get_or (map range_of es) i) (sym slot-nil) ∙ ListN.get_d_map range_of es i [])
+        ∙ sym (ap (get_or (map range_of es) i) (sym slot-nil) ∙ ListN.get_or-map range_of es i [])
 
 inside-none : (b : ℕ) → block_in b no_blocks ≡ false
 unfolding block_in

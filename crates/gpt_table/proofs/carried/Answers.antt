@@ -9,11 +9,8 @@ use Rattle.octets.specs.Bytes.{part}
 use Rattle.gpt_model.specs.Calls.{carries}
 use Rattle.gpt_model.specs.Table.{entries}
 use Rattle.gpt_table.proofs.Entries.{length-but}
+use Rattle.gpt_table.proofs.carried.Invariants.{test}
 use Rattle.gpt_table.proofs.carried.Goals as goal
-
-
-abbrev test : ℕ → List ℕ → List ℕ → Bool
-test at bytes = carries (part at (length bytes)) bytes
 
 pub loop-i-init : goal.loop-i-init
 loop-i-init c = (omega arith, refl)
