@@ -1,3 +1,5 @@
+#![tactic(auto)]
+
 // Attribute bits: whether a number offends a rule, and the first used entry of a table that does.
 // An inner crate: no user calls it, so its functions may have a `requires`, which each caller meets.
 ghost use Rattle.std.specs.Prelude.{◌≡◌, [], ◌<◌, length, get_or};

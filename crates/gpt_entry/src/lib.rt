@@ -1,3 +1,5 @@
+#![tactic(auto)]
+
 // The 128 bytes of the one entry that an edit writes: of a new partition, or of one with another size or name; the bytes of a name.
 // An inner crate: no user calls it, so its functions may have a `requires`, which each caller meets.
 ghost use Rattle.std.specs.Prelude.{◌≡◌, ◌+◌, ◌-◌, ◌≤◌, ◌<◌, length};

@@ -40,6 +40,10 @@ pub run-same : (p q : ℕ → Bool) → p ≡ q → (last a : ℕ) → run_from 
 run-same p q e last a = ap (λ (p : ℕ → Bool). run_from p a (suc last - a)) e
 
 module _ (s u : List BlockRange) (e : in_none s ≡ in_none u) (last : ℕ) where
+  pub room-same : (size : ℕ) {a b : ℕ} → a ≡ b → room_at s last size a ≡ room_at u last size b
+  unfolding room_at
+  room-same size q = ap₂ (λ (p : ℕ → Bool) (x : ℕ). leb (x + size) (suc last) and all_from p x size) e q
+
   module _ (first : ℕ) where
     pub place_same : (size m : ℕ) → lowest_start s first last size m ≡ lowest_start u first last size m
     unfolding lowest_start room_at

@@ -1,8 +1,10 @@
+#![tactic(auto)]
+
 // Room for partitions: one walk from gap to gap over the ranges in order. No sum of a block and a size is formed, so no size is too large.
 // An inner crate: no user calls it, so its functions may have a `requires`, which each caller meets.
 ghost use Rattle.std.specs.Prelude.{◌≡◌, suc, ◌+◌, ◌-◌, ◌≤◌, ◌<◌, max, leb, length};
 ghost use Rattle.octets.specs.Tests.{◌and◌};
-ghost use Rattle.gpt_model.specs.Ranges.{in_none, MultipleOf, lowest_start, run_from};
+ghost use Rattle.gpt_model.specs.Ranges.{in_none, MultipleOf, room_at, lowest_start, run_from};
 ghost use Rattle.gpt_model.specs.Table.{slot_count, table_bytes, ranges_of};
 ghost use Rattle.gpt_model.specs.Calls.{fits_at};
 ghost use Rattle.gpt_table.specs.Invariants.{ranges, Ascending};
@@ -212,12 +214,13 @@ fn run(firsts: &[u64; SLOTS], lasts: &[u64; SLOTS], count: usize, a: Block, last
     ensures { result ≡ run_from (in_none (ranges firsts.now lasts.now count)) a.0 (suc last.0 - a.0) }
 {
     if last.0 < a.0 {
-        return 0;
-    }
-    let i = next(firsts, lasts, count, 0, a);
-    match look(firsts, lasts, count, i, a, last) {
-        Ahead::Taken(_) => 0,
-        Ahead::Gap(g) => g.0 - a.0,
+        0
+    } else {
+        let i = next(firsts, lasts, count, 0, a);
+        match look(firsts, lasts, count, i, a, last) {
+            Ahead::Taken(_) => 0,
+            Ahead::Gap(g) => g.0 - a.0,
+        }
     }
 }
 
@@ -231,6 +234,20 @@ pub fn run_at(t: &[u8], a: Block, last: Block) -> u64
     run(&firsts, &lasts, count, a, last)
 }
 
+fn room_at(
+    firsts: &[u64; SLOTS],
+    lasts: &[u64; SLOTS],
+    count: usize,
+    a: Block,
+    last: Block,
+    size: u64,
+) -> bool
+    requires { (count ≤ slot_count) × (0 < size) × (last.0 < 18446744073709551615) × Ascending 1 count firsts.now }
+    ensures { result ≡ room_at (ranges firsts.now lasts.now count) last.0 size a.0 }
+{
+    size <= run(firsts, lasts, count, a, last)
+}
+
 // From its first block on, the partition of slot k, counted from 1, has room for that size, its own range left out.
 pub fn fits_at(t: &[u8], k: usize, last: Block, size: u64) -> bool
     requires { (1 ≤ k) × (k ≤ slot_count) × (length t.now ≡ table_bytes) × (0 < size) × (last.0 < 18446744073709551615) }
@@ -241,5 +258,5 @@ pub fn fits_at(t: &[u8], k: usize, last: Block, size: u64) -> bool
     let mut firsts = [0u64; SLOTS];
     let mut lasts = [0u64; SLOTS];
     let count = gpt_table::order::ranges(t, i, &mut firsts, &mut lasts);
-    size <= run(&firsts, &lasts, count, a, last)
+    room_at(&firsts, &lasts, count, a, last, size)
 }

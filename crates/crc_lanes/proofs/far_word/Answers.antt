@@ -6,8 +6,7 @@ use Rattle.crc_lanes.proofs.far_word.Goals as goal
 
 pub returns : goal.returns
 returns c =
-    let start = c in
-    let t = start.args.t.now in
+    let t = c.args.t.now in
     sum-on 8 t 7 _ c.far_entry-7.ensures
     (sum-on 8 t 6 _ c.far_entry-8.ensures
     (sum-on 8 t 5 _ c.far_entry-5.ensures
@@ -16,4 +15,4 @@ returns c =
     (sum-on 8 t 2 _ c.far_entry-4.ensures
     (sum-on 8 t 1 _ c.far_entry.ensures
     (sum_first 8 t _ c.far_entry-2.ensures)))))))
-    ∙ sum-steps 8 192 8 t start.requires 8 start.args.x (omega arith) (search rules)
+    ∙ sum-steps 8 192 8 t c.requires 8 c.args.x (omega arith) (search rules)

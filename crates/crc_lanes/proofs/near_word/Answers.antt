@@ -5,8 +5,7 @@ use Rattle.crc_lanes.proofs.near_word.Goals as goal
 
 pub returns : goal.returns
 returns c =
-    let start = c in
-    let t = start.args.t.now in
+    let t = c.args.t.now in
     sum-on 4 t 15 _ c.near_entry-15.ensures
     (sum-on 4 t 14 _ c.near_entry-16.ensures
     (sum-on 4 t 13 _ c.near_entry-13.ensures
@@ -23,4 +22,4 @@ returns c =
     (sum-on 4 t 2 _ c.near_entry-4.ensures
     (sum-on 4 t 1 _ c.near_entry.ensures
     (sum_first 4 t _ c.near_entry-2.ensures)))))))))))))))
-    ∙ sum-steps 4 0 16 t start.requires 16 start.args.x (omega arith) start.ranges.x.fits
+    ∙ sum-steps 4 0 16 t c.requires 16 c.args.x (omega arith) c.ranges.x.fits

@@ -29,8 +29,5 @@ returns-in-NoGoodMap c = ap (count_by c.args.image.now)
 pub returns-in-At : goal.returns-in-At
 unfolding count_areas
 returns-in-At c =
-    let s1 = c in
-    let s2 = s1 in
-    let s3 = s2 in
     ap (λ (k : ℕ). accepted k) (sym (length-areas _)) ∙ ap (λ (l : List Area). accepted (length l)) c.areas_at.ensures.0
-    ∙ ap (count_by s3.args.image.now) (sym (ap found_reply s1.in-At.is) ∙ s2.find.ensures)
+    ∙ ap (count_by c.args.image.now) (sym (ap found_reply c.in-At.is) ∙ c.find.ensures)

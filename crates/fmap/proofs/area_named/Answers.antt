@@ -13,29 +13,23 @@ areas_at-requires c = found-good _ _ (sym c.find.ensures ∙ ap found_reply c.in
 pub returns-in-WrongLength : goal.returns-in-WrongLength
 unfolding area_named
 returns-in-WrongLength c =
-    let s1 = c in
-    c.no_area.ensures ∙ ap (area_by s1.args.image.now (find_ix (called s1.args.name.now)))
+    c.no_area.ensures ∙ ap (area_by c.args.image.now (find_ix (called c.args.name.now)))
     (sym (ap found_reply c.in-WrongLength.is) ∙ c.find.ensures)
 
 pub returns-in-NoSignature : goal.returns-in-NoSignature
 unfolding area_named
 returns-in-NoSignature c =
-    let s1 = c in
-    c.no_area-in-NoSignature.ensures ∙ ap (area_by s1.args.image.now (find_ix (called s1.args.name.now)))
+    c.no_area-in-NoSignature.ensures ∙ ap (area_by c.args.image.now (find_ix (called c.args.name.now)))
     (sym (ap found_reply c.in-NoSignature.is) ∙ c.find.ensures)
 
 pub returns-in-NoGoodMap : goal.returns-in-NoGoodMap
 unfolding area_named
 returns-in-NoGoodMap c =
-    let s1 = c in
-    c.no_area-in-NoGoodMap.ensures ∙ ap (area_by s1.args.image.now (find_ix (called s1.args.name.now)))
+    c.no_area-in-NoGoodMap.ensures ∙ ap (area_by c.args.image.now (find_ix (called c.args.name.now)))
     (sym (ap found_reply c.in-NoGoodMap.is) ∙ c.find.ensures)
 
 pub returns-in-At : goal.returns-in-At
 unfolding area_named
 returns-in-At c =
-    let s1 = c in
-    let s2 = s1 in
-    let s3 = s2 in
-    c.area_called.ensures ∙ ap (λ (l : List Area). area_in l (find_ix (called s3.args.name.now) l)) c.areas_at.ensures.0
-    ∙ ap (area_by s3.args.image.now (find_ix (called s3.args.name.now))) (sym (ap found_reply s1.in-At.is) ∙ s2.find.ensures)
+    c.area_called.ensures ∙ ap (λ (l : List Area). area_in l (find_ix (called c.args.name.now) l)) c.areas_at.ensures.0
+    ∙ ap (area_by c.args.image.now (find_ix (called c.args.name.now))) (sym (ap found_reply c.in-At.is) ∙ c.find.ensures)

@@ -14,41 +14,26 @@ returns-then-image-gt16777216 c = find-40 _ (too_long _ c.if-image-gt16777216.tr
 
 pub returns-then-image-at : goal.returns-then-image-at
 returns-then-image-at c =
-    let s1 = c in
-    let s2 = s1 in
-    let s3 = s2 in
-    let s4 = s3 in
-    let s = s4.args.image.now in
-    find-41 s (in-range _ s3.if-image-lt98.false s2.if-image-gt16777216.false) (none_below s (signed_at s) _ s1.next_signed-at.ensures.0 c.if-image-at.true)
+    let s = c.args.image.now in
+    find-41 s (in-range _ c.if-image-lt98.false c.if-image-gt16777216.false) (none_below s (signed_at s) _ c.next_signed-at.ensures.0 c.if-image-at.true)
 
 pub loop-at-init : goal.loop-at-init
-loop-at-init c =
-    let s1 = c in
-    looking-starts _ _ s1.next_signed-at.ensures.0 s1.next_signed-at.ensures.1
+loop-at-init c = looking-starts _ _ c.next_signed-at.ensures.0 c.next_signed-at.ensures.1
 
 pub returns-then-good_at : goal.returns-then-good_at
 returns-then-good_at c =
-    let s1 = c in
-    let s2 = s1 in
-    let s3 = s2 in
-    let s4 = s3 in
-    let s5 = s4 in
-    let s6 = s5 in
-    let s7 = s6 in
-    let s = s7.args.image.now in
-    finds s _ s6.if-image-lt98.false s5.if-image-gt16777216.false (some-below s (signed_at s) _ s4.next_signed-at.ensures.0 s3.if-image-at.false) s1.loop-at-test.true
-    (looking-hits s _ s2.loop-at.invariant s1.loop-at-test.true (sym c.good_at.ensures ∙ c.if-good_at.true))
+    let s = c.args.image.now in
+    finds s _ c.if-image-lt98.false c.if-image-gt16777216.false (some-below s (signed_at s) _ c.next_signed-at.ensures.0 c.if-image-at.false) c.loop-at-test.true
+    (looking-hits s _ c.loop-at.invariant c.loop-at-test.true (sym c.good_at.ensures ∙ c.if-good_at.true))
 
 pub overflow_add-at : goal.overflow_add-at
 overflow_add-at c = omega (arith, room _ _ c.loop-at.invariant c.loop-at-test.true)
 
 pub next_signed-at-requires-in-loop-at : goal.next_signed-at-requires-in-loop-at
 next_signed-at-requires-in-loop-at c =
-    let s1 = c in
-    let s2 = s1 in
-    let s3 = s2 in (
-      omega (arith, room _ _ s2.loop-at.invariant s1.loop-at-test.true),
-      s3.if-image-gt16777216.false,
+    (
+      omega (arith, room _ _ c.loop-at.invariant c.loop-at-test.true),
+      c.if-image-gt16777216.false,
     )
 
 pub loop-at-smaller : goal.loop-at-smaller
@@ -61,21 +46,11 @@ loop-at-smaller c =
 
 pub loop-at-preserved : goal.loop-at-preserved
 loop-at-preserved c =
-    let s1 = c in
-    let s2 = s1 in
-    let s3 = s2 in
-    let s4 = s3 in
-    looking-goes _ _ s4.loop-at.invariant _ s3.loop-at-test.true
-    (sym s2.good_at.ensures ∙ s1.if-good_at.false) c.next_signed-at-in-loop-at.ensures.0 c.next_signed-at-in-loop-at.ensures.1
+    looking-goes _ _ c.loop-at.invariant _ c.loop-at-test.true
+    (sym c.good_at.ensures ∙ c.if-good_at.false) c.next_signed-at-in-loop-at.ensures.0 c.next_signed-at-in-loop-at.ensures.1
 
 pub returns : goal.returns
 returns c =
-    let s1 = c in
-    let s2 = s1 in
-    let s3 = s2 in
-    let s4 = s3 in
-    let s5 = s4 in
-    let s6 = s5 in
-    let s = s6.args.image.now in
-    find-42 s (in-range _ s5.if-image-lt98.false s4.if-image-gt16777216.false) (some-below s (signed_at s) _ s3.next_signed-at.ensures.0 s2.if-image-at.false)
-    (looking-ends s _ s1.loop-at.invariant c.loop-at-test.false)
+    let s = c.args.image.now in
+    find-42 s (in-range _ c.if-image-lt98.false c.if-image-gt16777216.false) (some-below s (signed_at s) _ c.next_signed-at.ensures.0 c.if-image-at.false)
+    (looking-ends s _ c.loop-at.invariant c.loop-at-test.false)

@@ -12,16 +12,15 @@ loop-i-init c = (search rules, zero-add _)
 
 pub returns-then-is_called : goal.returns-then-is_called
 returns-then-is_called c =
-    let s1 = c in
-    find-here _ s1.loop-i.i (omega arith) _ c.area_at.ensures.0 (called _)
-    (sym c.is_called.ensures ∙ c.if-is_called.true) s1.loop-i.invariant.1
+    find-here _ c.loop-i.i (omega arith) _ c.area_at.ensures.0 (called _)
+    (sym c.is_called.ensures ∙ c.if-is_called.true) c.loop-i.invariant.1
 
 pub loop-i-preserved : goal.loop-i-preserved
 loop-i-preserved c =
-    let s1 = c in (
+    (
       omega arith,
-      find-next _ s1.loop-i.i (omega arith) _ c.area_at.ensures.0 (called _)
-          (sym c.is_called.ensures ∙ c.if-is_called.false) s1.loop-i.invariant.1,
+      find-next _ c.loop-i.i (omega arith) _ c.area_at.ensures.0 (called _)
+          (sym c.is_called.ensures ∙ c.if-is_called.false) c.loop-i.invariant.1,
     )
 
 pub returns : goal.returns

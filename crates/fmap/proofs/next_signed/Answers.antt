@@ -9,31 +9,28 @@ use Rattle.fmap.proofs.next_signed.Goals as goal
 
 pub returns-then-is_signed : goal.returns-then-is_signed
 returns-then-is_signed c =
-    let s1 = c in
-    let s = s1.args.image.now in
-    let i = s1.loop-i.i in (
-      sym (s1.loop-i.invariant.1
+    let s = c.args.image.now in
+    let i = c.loop-i.i in (
+      sym (c.loop-i.invariant.1
           ∙ first-stop (length s) i (signed_at s) (omega arith) (signed-slice s i _ _ c.is_signed.ensures c.if-is_signed.true)),
       omega arith,
     )
 
 pub loop-i-preserved-then-is_letter : goal.loop-i-preserved-then-is_letter
 loop-i-preserved-then-is_letter c =
-    let s1 = c in
-    let s = s1.args.image.now in
-    let i = s1.loop-i.i in (
+    let s = c.args.image.now in
+    let i = c.loop-i.i in (
       omega arith,
-      s1.loop-i.invariant.1
+      c.loop-i.invariant.1
           ∙ first_step (length s) i (signed_at s) (omega arith) (signed-slice s i _ _ c.is_signed.ensures c.if-is_signed.false),
     )
 
 pub loop-i-preserved : goal.loop-i-preserved
 loop-i-preserved c =
-    let s1 = c in
-    let s = s1.args.image.now in
-    let i = s1.loop-i.i in (
+    let s = c.args.image.now in
+    let i = c.loop-i.i in (
       omega arith,
-      s1.loop-i.invariant.1 ∙ first-skip 8 (length s) i (signed_at s) (omega arith)
+      c.loop-i.invariant.1 ∙ first-skip 8 (length s) i (signed_at s) (omega arith)
           (λ j a b. unsigned s i j (sym c.is_letter.ensures ∙ c.if-is_letter.false) a b),
     )
 

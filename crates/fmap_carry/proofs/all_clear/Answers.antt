@@ -10,14 +10,13 @@ clear_of_later-requires c = (c.requires, omega arith)
 
 pub returns-then-not-clear_of_later : goal.returns-then-not-clear_of_later
 returns-then-not-clear_of_later c =
-    let s1 = c in
-    pairs-fails _ s1.loop-i.i (omega arith) (clear _) (sym c.clear_of_later.ensures ∙ c.if-not-clear_of_later.true) s1.loop-i.invariant.1
+    pairs-fails _ c.loop-i.i (omega arith) (clear _) (sym c.clear_of_later.ensures ∙ c.if-not-clear_of_later.true) c.loop-i.invariant.1
 
 pub loop-i-preserved : goal.loop-i-preserved
 loop-i-preserved c =
-    let s1 = c in (
+    (
       omega arith,
-      pairs_next _ s1.loop-i.i (omega arith) (clear _) (sym c.clear_of_later.ensures ∙ c.if-not-clear_of_later.false) s1.loop-i.invariant.1,
+      pairs_next _ c.loop-i.i (omega arith) (clear _) (sym c.clear_of_later.ensures ∙ c.if-not-clear_of_later.false) c.loop-i.invariant.1,
     )
 
 pub returns : goal.returns

@@ -6,13 +6,10 @@ use Rattle.fmap_carry.proofs.carry_areas.Goals as goal
 
 pub write_areas-requires : goal.write_areas-requires
 write_areas-requires c =
-    let s1 = c in
-    let s2 = s1 in
-    let s3 = s2 in
-    let s4 = s3 in (
-      s3.match_areas.ensures,
-      fitting (areas_in s4.args.olds.now) (areas_in s4.args.news.now)
-          (sym s2.judge.ensures ∙ ap judged_number s1.in-Free.is) _ _ s4.requires.2 s4.requires.3,
+    (
+      c.match_areas.ensures,
+      fitting (areas_in c.args.olds.now) (areas_in c.args.news.now)
+          (sym c.judge.ensures ∙ ap judged_number c.in-Free.is) _ _ c.requires.2 c.requires.3,
     )
 
 pub returns-in-Missing : goal.returns-in-Missing
@@ -28,8 +25,4 @@ pub returns-in-OnMap : goal.returns-in-OnMap
 returns-in-OnMap c = refuses _ _ _ _ 63 (sym (ap judged_number c.in-OnMap.is) ∙ c.judge.ensures)
 
 pub returns-in-Free : goal.returns-in-Free
-returns-in-Free c =
-    let s1 = c in
-    let s2 = s1 in
-    let s3 = s2 in
-    accepts _ _ _ _ _ (sym (ap judged_number s2.in-Free.is) ∙ s3.judge.ensures) s1.write_areas.ensures
+returns-in-Free c = accepts _ _ _ _ _ (sym (ap judged_number c.in-Free.is) ∙ c.judge.ensures) c.write_areas.ensures

@@ -10,8 +10,5 @@ returns-then-not-is_preserved c = and-f _ (sym c.is_preserved.ensures ∙ c.if-n
 
 pub returns : goal.returns
 returns c =
-    let s1 = c in
-    let s2 = s1 in
-    let s3 = s2 in
-    on-map-by _ _ (sym s2.is_preserved.ensures ∙ s1.if-not-is_preserved.false) _ s3.requires.1 _ _ c.place_of.ensures s3.requires.2
+    on-map-by _ _ (sym c.is_preserved.ensures ∙ c.if-not-is_preserved.false) _ c.requires.1 _ _ c.place_of.ensures c.requires.2
     c.is_disjoint.ensures

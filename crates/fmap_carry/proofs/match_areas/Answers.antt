@@ -16,13 +16,11 @@ loop-i-init c = (search rules, matched-none _ _ _, refl)
 pub loop-i-preserved : goal.loop-i-preserved
 unfolding area_of part
 loop-i-preserved c =
-    let s1 = c in
-    let s2 = s1 in
-    let s3 = s2 in (
+    (
       omega arith,
-      matched-more _ _ s2.loop-i.matches s2.loop-i.i _ (omega arith) s2.loop-i.invariant.1 (c.find_named-k.ensures.0 ∙ ap
-          (λ (a : Area). find_ix (named a.name) (areas_in s3.args.news.now)) s1.area_at-a.ensures.0),
-      length-set s2.loop-i.matches s2.loop-i.i _ ∙ s2.loop-i.invariant.2,
+      matched-more _ _ c.loop-i.matches c.loop-i.i _ (omega arith) c.loop-i.invariant.1 (c.find_named-k.ensures.0 ∙ ap
+          (λ (a : Area). find_ix (named a.name) (areas_in c.args.news.now)) c.area_at-a.ensures.0),
+      length-set c.loop-i.matches c.loop-i.i _ ∙ c.loop-i.invariant.2,
     )
 
 pub returns : goal.returns

@@ -22,16 +22,15 @@ is_missing-requires c = (
 
 pub returns-then-is_missing : goal.returns-then-is_missing
 returns-then-is_missing c =
-    let s1 = c in
-    any-holds _ s1.loop-i.i (omega arith) _ c.area_at.ensures.0 (missing _)
-    (sym c.is_missing.ensures ∙ c.if-is_missing.true) s1.loop-i.invariant.1
+    any-holds _ c.loop-i.i (omega arith) _ c.area_at.ensures.0 (missing _)
+    (sym c.is_missing.ensures ∙ c.if-is_missing.true) c.loop-i.invariant.1
 
 pub loop-i-preserved : goal.loop-i-preserved
 loop-i-preserved c =
-    let s1 = c in (
+    (
       omega arith,
-      any_next _ s1.loop-i.i (omega arith) _ c.area_at.ensures.0
-          (missing _) (sym c.is_missing.ensures ∙ c.if-is_missing.false) s1.loop-i.invariant.1,
+      any_next _ c.loop-i.i (omega arith) _ c.area_at.ensures.0
+          (missing _) (sym c.is_missing.ensures ∙ c.if-is_missing.false) c.loop-i.invariant.1,
     )
 
 pub returns : goal.returns

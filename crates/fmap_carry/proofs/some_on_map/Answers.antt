@@ -15,27 +15,24 @@ overflow_cast-matches c = omega (arith, c.shared_slice_known-in-loop-i-1.given c
 
 pub is_on_map-requires : goal.is_on_map-requires
 is_on_map-requires c =
-    let s1 = c in
-    let s2 = s1 in
-    let s3 = s2 in (
+    (
       c.area_at.ensures.1,
-      matched-at _ _ _ s3.requires s1.loop-i.i
+      matched-at _ _ _ c.requires c.loop-i.i
           _ (omega arith) c.area_at.ensures.0,
-      s2.map_place-f.ensures,
+      c.map_place-f.ensures,
     )
 
 pub returns-then-is_on_map : goal.returns-then-is_on_map
 returns-then-is_on_map c =
-    let s1 = c in
-    any-holds _ s1.loop-i.i (omega arith) _ c.area_at.ensures.0 (on_map _)
-    (sym c.is_on_map.ensures ∙ c.if-is_on_map.true) s1.loop-i.invariant.1
+    any-holds _ c.loop-i.i (omega arith) _ c.area_at.ensures.0 (on_map _)
+    (sym c.is_on_map.ensures ∙ c.if-is_on_map.true) c.loop-i.invariant.1
 
 pub loop-i-preserved : goal.loop-i-preserved
 loop-i-preserved c =
-    let s1 = c in (
+    (
       omega arith,
-      any_next _ s1.loop-i.i (omega arith) _ c.area_at.ensures.0
-          (on_map _) (sym c.is_on_map.ensures ∙ c.if-is_on_map.false) s1.loop-i.invariant.1,
+      any_next _ c.loop-i.i (omega arith) _ c.area_at.ensures.0
+          (on_map _) (sym c.is_on_map.ensures ∙ c.if-is_on_map.false) c.loop-i.invariant.1,
     )
 
 pub returns : goal.returns

@@ -22,16 +22,15 @@ is_other_size-requires c = (
 
 pub returns-then-is_other_size : goal.returns-then-is_other_size
 returns-then-is_other_size c =
-    let s1 = c in
-    any-holds _ s1.loop-i.i (omega arith) _ c.area_at.ensures.0 (other_size _)
-    (sym c.is_other_size.ensures ∙ c.if-is_other_size.true) s1.loop-i.invariant.1
+    any-holds _ c.loop-i.i (omega arith) _ c.area_at.ensures.0 (other_size _)
+    (sym c.is_other_size.ensures ∙ c.if-is_other_size.true) c.loop-i.invariant.1
 
 pub loop-i-preserved : goal.loop-i-preserved
 loop-i-preserved c =
-    let s1 = c in (
+    (
       omega arith,
-      any_next _ s1.loop-i.i (omega arith) _ c.area_at.ensures.0
-          (other_size _) (sym c.is_other_size.ensures ∙ c.if-is_other_size.false) s1.loop-i.invariant.1,
+      any_next _ c.loop-i.i (omega arith) _ c.area_at.ensures.0
+          (other_size _) (sym c.is_other_size.ensures ∙ c.if-is_other_size.false) c.loop-i.invariant.1,
     )
 
 pub returns : goal.returns

@@ -23,29 +23,23 @@ overflow_cast-matches c = omega (arith, c.shared_slice_known-in-loop-i-1.given c
 
 pub carry_area-requires : goal.carry_area-requires
 carry_area-requires c =
-    let s1 = c in
-    let s2 = s1 in
-    let s3 = s2 in (
-      s1.area_at.ensures.1,
-      matched-at _ _ _ s3.requires.0 s2.loop-i.i _ (omega arith) s1.area_at.ensures.0,
-      λ p. fit_at _ _ _ _ _ s2.loop-i.i _ s3.requires.1 (omega arith) s1.area_at.ensures.0 s2.loop-i.invariant.1 p,
+    (
+      c.area_at.ensures.1,
+      matched-at _ _ _ c.requires.0 c.loop-i.i _ (omega arith) c.area_at.ensures.0,
+      λ p. fit_at _ _ _ _ _ c.loop-i.i _ c.requires.1 (omega arith) c.area_at.ensures.0 c.loop-i.invariant.1 p,
     )
 
 pub loop-i-preserved : goal.loop-i-preserved
 loop-i-preserved c =
-    let s1 = c in
-    let s2 = s1 in
-    let s3 = s2 in
-    let s4 = s3 in (
+    (
       omega arith,
-      ap length s1.carry_area.ensures ∙ length-area _ _ _ _ ∙ s3.loop-i.invariant.1,
-      carried-next _ _ (areas_in s4.args.olds.now) s3.loop-i.i s3.loop-i.new _ _ (omega (arith, length-areas s4.args.olds.now))
-          (s1.carry_area.ensures ∙ ap (λ (a : Area). carry_area s4.args.old.now (areas_in s4.args.news.now) a
-          s3.loop-i.new) s2.area_at.ensures.0) s3.loop-i.invariant.2,
+      ap length c.carry_area.ensures ∙ length-area _ _ _ _ ∙ c.loop-i.invariant.1,
+      carried-next _ _ (areas_in c.args.olds.now) c.loop-i.i c.loop-i.new _ _ (omega (arith, length-areas c.args.olds.now))
+          (c.carry_area.ensures ∙ ap (λ (a : Area). carry_area c.args.old.now (areas_in c.args.news.now) a
+          c.loop-i.new) c.area_at.ensures.0) c.loop-i.invariant.2,
     )
 
 pub returns : goal.returns
 returns c =
-    let s1 = c in
-    carried-over _ _ (areas_in s1.args.olds.now) c.loop-i.i _ _
-    (omega (arith, length-areas s1.args.olds.now)) c.loop-i.invariant.2
+    carried-over _ _ (areas_in c.args.olds.now) c.loop-i.i _ _
+    (omega (arith, length-areas c.args.olds.now)) c.loop-i.invariant.2

@@ -14,21 +14,19 @@ loop-i-init c = (search rules, zero-add _)
 pub returns-then-same : goal.returns-then-same
 unfolding named area_of part
 returns-then-same c =
-    let s1 = c in
-    let s2 = s1 in (
-      find-here _ s2.loop-i.i (omega arith) s1.area_at-a.result.now
-          s1.area_at-a.ensures.0 (named _) (sym c.same.ensures ∙ c.if-same.true) s2.loop-i.invariant.1,
+    (
+      find-here _ c.loop-i.i (omega arith) c.area_at-a.result.now
+          c.area_at-a.ensures.0 (named _) (sym c.same.ensures ∙ c.if-same.true) c.loop-i.invariant.1,
       omega arith,
     )
 
 pub loop-i-preserved : goal.loop-i-preserved
 unfolding named area_of part
 loop-i-preserved c =
-    let s1 = c in
-    let s2 = s1 in (
+    (
       omega arith,
-      find-next _ s2.loop-i.i (omega arith) s1.area_at-a.result.now
-          s1.area_at-a.ensures.0 (named _) (sym c.same.ensures ∙ c.if-same.false) s2.loop-i.invariant.1,
+      find-next _ c.loop-i.i (omega arith) c.area_at-a.result.now
+          c.area_at-a.ensures.0 (named _) (sym c.same.ensures ∙ c.if-same.false) c.loop-i.invariant.1,
     )
 
 pub returns : goal.returns

@@ -7,17 +7,16 @@ use Rattle.fmap_rules.proofs.good_with_later.Goals as goal
 
 pub returns-then-not-is_good_pair : goal.returns-then-not-is_good_pair
 returns-then-not-is_good_pair c =
-    let s1 = c in
-    all-fails _ s1.loop-j.j (omega arith) _ c.area_at-in-loop-j.ensures.0 (good_pair _ _)
-    (rw (← c.area_at.ensures.0) (sym c.is_good_pair.ensures ∙ c.if-not-is_good_pair.true)) s1.loop-j.invariant.1
+    all-fails _ c.loop-j.j (omega arith) _ c.area_at-in-loop-j.ensures.0 (good_pair _ _)
+    (rw (← c.area_at.ensures.0) (sym c.is_good_pair.ensures ∙ c.if-not-is_good_pair.true)) c.loop-j.invariant.1
 
 pub loop-j-preserved : goal.loop-j-preserved
 loop-j-preserved c =
-    let s1 = c in (
+    (
       omega arith,
-      all-next _ s1.loop-j.j (omega arith) _ c.area_at-in-loop-j.ensures.0 (good_pair _ _)
+      all-next _ c.loop-j.j (omega arith) _ c.area_at-in-loop-j.ensures.0 (good_pair _ _)
           (rw (← c.area_at.ensures.0) (sym c.is_good_pair.ensures ∙ c.if-not-is_good_pair.false))
-          s1.loop-j.invariant.1,
+          c.loop-j.invariant.1,
     )
 
 pub returns : goal.returns

@@ -14,20 +14,12 @@ returns-then-not-same c = and-f _ (sym c.same.ensures ∙ c.if-not-same.true)
 pub returns-then-x-at : goal.returns-then-x-at
 unfolding holds_map named area_of part zeros
 returns-then-x-at c =
-    let s1 = c in
-    let s2 = s1 in
-    let s3 = s2 in
-    let s4 = s3 in
-    and-t (sym s3.same.ensures ∙ s2.if-not-same.false) (and-f _ (sym (ap (λ (x : Extent). eqb x.start.0 s4.args.at.0)
-    s1.extent_of-x.ensures) ∙ ne_eqb _ _ c.if-x-at.true))
+    and-t (sym c.same.ensures ∙ c.if-not-same.false) (and-f _ (sym (ap (λ (x : Extent). eqb x.start.0 c.args.at.0)
+    c.extent_of-x.ensures) ∙ ne_eqb _ _ c.if-x-at.true))
 
 pub returns : goal.returns
 unfolding holds_map named area_of part zeros
 returns c =
-    let s1 = c in
-    let s2 = s1 in
-    let s3 = s2 in
-    let s4 = s3 in
-    and-t (sym s3.same.ensures ∙ s2.if-not-same.false) (and-t (sym (ap (λ (x : Extent). eqb x.start.0 s4.args.at.0)
-    s1.extent_of-x.ensures) ∙ eq-eqb _ _ c.if-x-at.false) (ap (λ (x : Extent). leb (map_size s4.args.count) x.size)
-    s1.extent_of-x.ensures))
+    and-t (sym c.same.ensures ∙ c.if-not-same.false) (and-t (sym (ap (λ (x : Extent). eqb x.start.0 c.args.at.0)
+    c.extent_of-x.ensures) ∙ eq-eqb _ _ c.if-x-at.false) (ap (λ (x : Extent). leb (map_size c.args.count) x.size)
+    c.extent_of-x.ensures))

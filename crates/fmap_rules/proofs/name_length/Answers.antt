@@ -14,24 +14,24 @@ loop-i-init c = (search rules, zero-add _)
 pub returns-then-n-i-lt33 : goal.returns-then-n-i-lt33
 unfolding name_length
 returns-then-n-i-lt33 c =
-    let s1 = c in (
-      sym (find_ix-stop stops _ 0 s1.loop-i.i (omega arith) (below _ c.if-n-i-lt33.true)) ∙ s1.loop-i.invariant.1,
+    (
+      sym (find_ix-stop stops _ 0 c.loop-i.i (omega arith) (below _ c.if-n-i-lt33.true)) ∙ c.loop-i.invariant.1,
       omega arith,
     )
 
 pub returns-then-n-i-gt126 : goal.returns-then-n-i-gt126
 unfolding name_length
 returns-then-n-i-gt126 c =
-    let s1 = c in (
-      sym (find_ix-stop stops _ 0 s1.loop-i.i (omega arith) (above _ c.if-n-i-lt33.false c.if-n-i-gt126.true)) ∙ s1.loop-i.invariant.1,
+    (
+      sym (find_ix-stop stops _ 0 c.loop-i.i (omega arith) (above _ c.if-n-i-lt33.false c.if-n-i-gt126.true)) ∙ c.loop-i.invariant.1,
       omega arith,
     )
 
 pub loop-i-preserved : goal.loop-i-preserved
 loop-i-preserved c =
-    let s1 = c in (
+    (
       omega arith,
-      sym (find_ix-on stops _ 0 s1.loop-i.i (omega arith) (goes _ c.if-n-i-lt33.false c.if-n-i-gt126.false)) ∙ s1.loop-i.invariant.1,
+      sym (find_ix-on stops _ 0 c.loop-i.i (omega arith) (goes _ c.if-n-i-lt33.false c.if-n-i-gt126.false)) ∙ c.loop-i.invariant.1,
     )
 
 pub returns : goal.returns

@@ -7,16 +7,15 @@ use Rattle.fmap_rules.proofs.some_broken.Goals as goal
 
 pub returns-then-is_broken : goal.returns-then-is_broken
 returns-then-is_broken c =
-    let s1 = c in
-    any-holds _ s1.loop-i.i (omega arith) _ c.area_at.ensures.0 (broken _ _)
-    (sym c.is_broken.ensures ∙ c.if-is_broken.true) s1.loop-i.invariant.1
+    any-holds _ c.loop-i.i (omega arith) _ c.area_at.ensures.0 (broken _ _)
+    (sym c.is_broken.ensures ∙ c.if-is_broken.true) c.loop-i.invariant.1
 
 pub loop-i-preserved : goal.loop-i-preserved
 loop-i-preserved c =
-    let s1 = c in (
+    (
       omega arith,
-      any_next _ s1.loop-i.i (omega arith) _ c.area_at.ensures.0 (broken _ _)
-          (sym c.is_broken.ensures ∙ c.if-is_broken.false) s1.loop-i.invariant.1,
+      any_next _ c.loop-i.i (omega arith) _ c.area_at.ensures.0 (broken _ _)
+          (sym c.is_broken.ensures ∙ c.if-is_broken.false) c.loop-i.invariant.1,
     )
 
 pub returns : goal.returns

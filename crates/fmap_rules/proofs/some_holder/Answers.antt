@@ -16,16 +16,15 @@ loop-i-init c = (
 
 pub returns-then-is_holder : goal.returns-then-is_holder
 returns-then-is_holder c =
-    let s1 = c in
-    any-holds _ s1.loop-i.i (omega arith) _ c.area_at.ensures.0 (holds_map _ _)
-    (sym c.is_holder.ensures ∙ c.if-is_holder.true) s1.loop-i.invariant.1
+    any-holds _ c.loop-i.i (omega arith) _ c.area_at.ensures.0 (holds_map _ _)
+    (sym c.is_holder.ensures ∙ c.if-is_holder.true) c.loop-i.invariant.1
 
 pub loop-i-preserved : goal.loop-i-preserved
 loop-i-preserved c =
-    let s1 = c in (
+    (
       omega arith,
-      any_next _ s1.loop-i.i (omega arith) _ c.area_at.ensures.0 (holds_map _ _)
-          (sym c.is_holder.ensures ∙ c.if-is_holder.false) s1.loop-i.invariant.1,
+      any_next _ c.loop-i.i (omega arith) _ c.area_at.ensures.0 (holds_map _ _)
+          (sym c.is_holder.ensures ∙ c.if-is_holder.false) c.loop-i.invariant.1,
     )
 
 pub returns : goal.returns

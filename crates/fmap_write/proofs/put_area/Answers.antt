@@ -8,18 +8,13 @@ use Rattle.fmap_write.proofs.put_area.Goals as goal
 
 pub copy-requires : goal.copy-requires
 copy-requires c =
-    let top = c in
-    let long : length top.args.a.name ≡ 32 = search rules in
+    let long : length c.args.a.name ≡ 32 = search rules in
     omega arith
 
 pub returns : goal.returns
 returns c =
-    let top = c in
-    let long : length top.args.a.name ≡ 32 = search rules in
-    let s1 = c in
-    let s2 = s1 in
-    let s3 = s2 in
-    let s4 = s3 in (
-      area-written top.args.a top.args.at _ _ _ _ _ long s4.store32.ensures s3.store32-2.ensures s2.copy.ensures s1.store16.ensures,
-      length-area top.args.a long,
+    let long : length c.args.a.name ≡ 32 = search rules in
+    (
+      area-written c.args.a c.args.at _ _ _ _ _ long c.store32.ensures c.store32-2.ensures c.copy.ensures c.store16.ensures,
+      length-area c.args.a long,
     )

@@ -6,12 +6,6 @@ use Rattle.fmap_write.proofs.put_header.Goals as goal
 
 pub returns : goal.returns
 returns c =
-    let top = c in
-    let long : length top.args.name ≡ 32 = search rules in
-    let s1 = c in
-    let s2 = s1 in
-    let s3 = s2 in
-    let s4 = s3 in
-    let s5 = s4 in
-    header-written top.args.size top.args.name top.args.base top.args.minor long top.args.at _ _ _ _ _ _ _
-    s5.copy.ensures s4.store64.ensures s3.store32.ensures s2.copy-2.ensures s1.store16.ensures
+    let long : length c.args.name ≡ 32 = search rules in
+    header-written c.args.size c.args.name c.args.base c.args.minor long c.args.at _ _ _ _ _ _ _
+    c.copy.ensures c.store64.ensures c.store32.ensures c.copy-2.ensures c.store16.ensures

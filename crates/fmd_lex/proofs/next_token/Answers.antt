@@ -22,14 +22,11 @@ returns-then-is_word c = record { value = simp (
 pub returns-then-is_sign : goal.returns-then-is_sign
 unfolding token_at token_here
 returns-then-is_sign c =
-    let s1 = c in
-    let s2 = s1 in
-    let s3 = s2 in
-    let s4 = s3 in record { value = simp (
-        sym s4.skip-p.ensures.value,
-        lt-ltb _ _ s3.if-text-p.false,
-        sym s2.is_word.ensures,
-        s1.if-is_word.false,
+    record { value = simp (
+        sym c.skip-p.ensures.value,
+        lt-ltb _ _ c.if-text-p.false,
+        sym c.is_word.ensures,
+        c.if-is_word.false,
         sym c.is_sign.ensures,
         c.if-is_sign.true,
       ); within = search rules }
@@ -37,14 +34,11 @@ returns-then-is_sign c =
 pub returns : goal.returns
 unfolding token_at token_here
 returns c =
-    let s1 = c in
-    let s2 = s1 in
-    let s3 = s2 in
-    let s4 = s3 in record { value = simp (
-        sym s4.skip-p.ensures.value,
-        lt-ltb _ _ s3.if-text-p.false,
-        sym s2.is_word.ensures,
-        s1.if-is_word.false,
+    record { value = simp (
+        sym c.skip-p.ensures.value,
+        lt-ltb _ _ c.if-text-p.false,
+        sym c.is_word.ensures,
+        c.if-is_word.false,
         sym c.is_sign.ensures,
         c.if-is_sign.false,
       ); within = search rules }

@@ -9,13 +9,10 @@ use Rattle.fmd_lex.proofs.skip.Goals.{then-comment+then-b-eq10, then-comment+els
 
 pub returns-else-is_blank : goal.returns-else-is_blank
 returns-else-is_blank c =
-    let s1 = c in
-    let s2 = s1 in
-    let s3 = s2 in
-    let s = s3.args.text.now in
-    let i = s2.loop-i.i in
+    let s = c.args.text.now in
+    let i = c.loop-i.i in
     let h : i < length s = search rules in
-    record { value = cc (skip_stop s i h (cc) s1.if-b-eq35.false); within = search rules }
+    record { value = cc (skip_stop s i h (cc) c.if-b-eq35.false); within = search rules }
 
 pub loop-i-preserved : goal.loop-i-preserved
 loop-i-preserved c =

@@ -6,16 +6,15 @@ use Rattle.fmd_lex.proofs.word_end.Goals as goal
 
 pub loop-i-preserved : goal.loop-i-preserved
 loop-i-preserved c =
-    let turn = c in (
+    (
       search rules,
       search rules,
-      word_in c.args.text.now turn.loop-i.i (search rules) (cc) ∙ turn.loop-i.invariant.2,
+      word_in c.args.text.now c.loop-i.i (search rules) (cc) ∙ c.loop-i.invariant.2,
     )
 
 pub returns-else-is_word : goal.returns-else-is_word
 returns-else-is_word c =
-    let turn = c in
-    record { value = word_out c.args.text.now turn.loop-i.i (search rules) (cc) ∙ turn.loop-i.invariant.2; within = search rules }
+    record { value = word_out c.args.text.now c.loop-i.i (search rules) (cc) ∙ c.loop-i.invariant.2; within = search rules }
 
 pub returns : goal.returns
 returns c = record { value = word-stop _ _ (search rules) ∙ c.loop-i.invariant.2; within = search rules }

@@ -14,8 +14,7 @@ slice_bounds-result-end c = omega (arith, entries-end c.args.shape c.requires.1 
 
 pub returns : goal.returns
 returns c =
-    let top = c in
-    let b = top.args.b.now in
-    let k = entries-end top.args.shape top.requires.1 (side_of top.args.side) in
+    let b = c.args.b.now in
+    let k = entries-end c.args.shape c.requires.1 (side_of c.args.side) in
     let w : c.entries_at-at.result + 16384 ≤ length b = omega arith in
-    (cut b _ _ _ _ c.entries_at-at.ensures refl, length_cut b c.entries_at-at.result _ _ refl w, part-behind top.args.b.ref_ptr _ _ c.entries_at-at.ensures)
+    (cut b _ _ _ _ c.entries_at-at.ensures refl, length_cut b c.entries_at-at.result _ _ refl w, part-behind c.args.b.ref_ptr _ _ c.entries_at-at.ensures)

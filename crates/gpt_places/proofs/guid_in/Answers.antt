@@ -17,8 +17,7 @@ slice_bounds-result-end c = omega (arith, header-end c.args.shape c.requires.1 (
 
 pub returns : goal.returns
 returns c =
-    let top = c in
-    let b = top.args.b.now in
-    let k = header-end top.args.shape top.requires.1 (side_of top.args.side) in
+    let b = c.args.b.now in
+    let k = header-end c.args.shape c.requires.1 (side_of c.args.side) in
     let w : c.header_at-at.result + 56 + 16 ≤ length b = omega arith in
-    (cut-guid top.args.shape b (side_of top.args.side) _ _ (ap (λ (k : ℕ). k + 56) c.header_at-at.ensures) refl, length_cut b (c.header_at-at.result + 56) _ _ refl w)
+    (cut-guid c.args.shape b (side_of c.args.side) _ _ (ap (λ (k : ℕ). k + 56) c.header_at-at.ensures) refl, length_cut b (c.header_at-at.result + 56) _ _ refl w)

@@ -17,9 +17,8 @@ loop-i-init c = (omega arith, refl)
 
 pub returns-then-carries : goal.returns-then-carries
 returns-then-carries c =
-    let c3 = c in
-    let a = c3.args in
-    let l = c3.loop-i in
+    let a = c.args in
+    let l = c.loop-i in
     let k = length-but a.t.now a.but in
     sym (sym l.invariant.1
     ∙ any-stop (test a.at a.bytes.now) (set (entries a.t.now) a.but []) [] l.i (omega arith)
@@ -27,9 +26,8 @@ returns-then-carries c =
 
 pub loop-i-preserved : goal.loop-i-preserved
 loop-i-preserved c =
-    let c3 = c in
-    let a = c3.args in
-    let l = c3.loop-i in
+    let a = c.args in
+    let l = c.loop-i in
     let k = length-but a.t.now a.but in (
       omega arith,
       sym (any-on (test a.at a.bytes.now) (set (entries a.t.now) a.but []) [] l.i (omega arith)

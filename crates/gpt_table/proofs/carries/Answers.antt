@@ -7,12 +7,10 @@ use Rattle.gpt_table.proofs.carries.Goals as goal
 
 pub returns-then-wanted : goal.returns-then-wanted
 returns-then-wanted c =
-    let c4 = c in
-    let c7 = c4 in
-    let a = c7.args in
+    let a = c.args in
     c.same.ensures
-    ∙ carries-at a.t.now a.but a.i a.at a.bytes.now _ c7.requires.0 c.entry.ensures.0
-    (not-true _ (sym c4.wanted.ensures ∙ c.if-wanted.true))
+    ∙ carries-at a.t.now a.but a.i a.at a.bytes.now _ c.requires.0 c.entry.ensures.0
+    (not-true _ (sym c.wanted.ensures ∙ c.if-wanted.true))
 
 pub returns : goal.returns
 returns c =

@@ -17,9 +17,8 @@ digit-requires-in-loop-i c = omega (arith, c.shared_slice_known-1.given c.loop-i
 
 pub loop-i-preserved : goal.loop-i-preserved
 loop-i-preserved c =
-    let s = c in
     let l = c.loop-i in
-    digits-on s.args.bytes.now l.digits l.i _ _ s.requires c.loop-i-test.true
+    digits-on c.args.bytes.now l.digits l.i _ _ c.requires c.loop-i-test.true
     c.digit.ensures c.digit-in-loop-i.ensures l.invariant
 
 pub returns : goal.returns

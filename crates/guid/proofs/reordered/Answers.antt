@@ -5,6 +5,4 @@ use Rattle.guid.proofs.reordered.Goals as goal
 
 pub returns : goal.returns
 unfolding reordered part rest
-returns c =
-    let s = c in
-    reordered-each s.args.b.now s.requires
+returns c = reordered-each c.args.b.now c.requires

@@ -6,28 +6,22 @@ use Rattle.fmd_lex.proofs.Numbers.{capped-in, capped-out, scaled-none, scaled-on
 use Rattle.fmd_lex.proofs.digits.with_unit.Goals as goal
 
 pub returns-then-left-eq0 : goal.returns-then-left-eq0
-returns-then-left-eq0 c =
-    let s1 = c in
-    capped-in s1.args.n (omega arith) ∙ scaled-none s1.args.w.now s1.args.at s1.args.n (omega arith)
+returns-then-left-eq0 c = capped-in c.args.n (omega arith) ∙ scaled-none c.args.w.now c.args.at c.args.n (omega arith)
 
 pub returns-then-left-ne1 : goal.returns-then-left-ne1
-returns-then-left-ne1 c =
-    let start = c in
-    scaled-many start.args.w.now start.args.at start.args.n (omega arith)
+returns-then-left-ne1 c = scaled-many c.args.w.now c.args.at c.args.n (omega arith)
 
 pub returns-then-u-eq0 : goal.returns-then-u-eq0
 returns-then-u-eq0 c =
-    let start = c in
-    rw (sym (scaled-one start.args.w.now start.args.at start.args.n (omega arith)), sym c.unit-u.ensures.value, eq-eqb _ _ c.if-u-eq0.true)
+    rw (sym (scaled-one c.args.w.now c.args.at c.args.n (omega arith)), sym c.unit-u.ensures.value, eq-eqb _ _ c.if-u-eq0.true)
 
 pub overflow_mul-m : goal.overflow_mul-m
 overflow_mul-m c = record { fits = omega (arith, mul-le-mul c.requires.1 c.unit-u.ensures.small) }
 
 pub returns-then-m-le4294967295 : goal.returns-then-m-le4294967295
 returns-then-m-le4294967295 c =
-    let start = c in
     rw (
-      sym (scaled-one start.args.w.now start.args.at start.args.n (omega arith)),
+      sym (scaled-one c.args.w.now c.args.at c.args.n (omega arith)),
       sym c.unit-u.ensures.value,
       ne_eqb _ _
           c.if-u-eq0.false,
@@ -35,9 +29,8 @@ returns-then-m-le4294967295 c =
 
 pub returns-else-m-le4294967295 : goal.returns-else-m-le4294967295
 returns-else-m-le4294967295 c =
-    let start = c in
     rw (
-      sym (scaled-one start.args.w.now start.args.at start.args.n (omega arith)),
+      sym (scaled-one c.args.w.now c.args.at c.args.n (omega arith)),
       sym c.unit-u.ensures.value,
       ne_eqb _ _
           c.if-u-eq0.false,

@@ -8,12 +8,8 @@ use Rattle.gpt_places.proofs.header.good.Goals as goal
 
 pub returns : goal.returns
 returns c =
-    let s1 = c in
-    let s2 = s1 in
-    let s3 = s2 in
-    let top = s3 in
-    let b = top.args.b.now in
-    let es = entries_in top.args.shape (side_of top.args.side) b in
+    let b = c.args.b.now in
+    let es = entries_in c.args.shape (side_of c.args.side) b in
     c.same.ensures
-    ∙ ap₂ same s1.header_in.ensures
-    (s2.write.ensures es top.requires.2 ∙ ap (λ (g : List ℕ). header top.args.shape top.args.n (side_of top.args.side) g es) s3.guid_in.ensures.0)
+    ∙ ap₂ same c.header_in.ensures
+    (c.write.ensures es c.requires.2 ∙ ap (λ (g : List ℕ). header c.args.shape c.args.n (side_of c.args.side) g es) c.guid_in.ensures.0)

@@ -12,16 +12,13 @@ returns-then-unused c = sym (unused-ok _ _ _ (sym c.unused.ensures ∙ c.if-unus
 pub returns-then-is_zero : goal.returns-then-is_zero
 unfolding part
 returns-then-is_zero c =
-    let c3 = c in
-    sym (ok-unique _ _ _ (sym c3.unused.ensures ∙ c3.if-unused.false) (sym c.is_zero.ensures ∙ c.if-is_zero.true))
+    sym (ok-unique _ _ _ (sym c.unused.ensures ∙ c.if-unused.false) (sym c.is_zero.ensures ∙ c.if-is_zero.true))
 
 pub returns : goal.returns
 unfolding part
 returns c =
-    let c3 = c in
-    let c6 = c3 in
-    let a = c6.args in
-    let used = sym c6.unused.ensures ∙ c6.if-unused.false in
-    let unique = sym c3.is_zero.ensures ∙ c3.if-is_zero.false in
+    let a = c.args in
+    let used = sym c.unused.ensures ∙ c.if-unused.false in
+    let unique = sym c.is_zero.ensures ∙ c.if-is_zero.false in
     c.bounded.ensures ∙ ap₂ (λ (x y : ℕ). bounded a.first.0 a.last.0 (spans x y)) c.load64.ensures c.load64-2.ensures
     ∙ sym (ok-range a.first.0 a.last.0 a.e.now used unique)

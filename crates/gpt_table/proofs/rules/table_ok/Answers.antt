@@ -7,31 +7,22 @@ returns-then-not-entries_ok c = sym (good-not _ _ _ (sym c.entries_ok.ensures �
 
 pub returns-then-not-guids_differ : goal.returns-then-not-guids_differ
 returns-then-not-guids_differ c =
-    let c4 = c in
-    let c8 = c4 in
-    let a = c8.args in
-    let ok = sym c8.entries_ok.ensures ∙ c4.if-not-entries_ok.false in
-    let g = used-guids a.t.now c8.requires (λ j. (c8.shared_slice_known-1.given j).fits) c4.decode-guids.ensures in
+    let a = c.args in
+    let ok = sym c.entries_ok.ensures ∙ c.if-not-entries_ok.false in
+    let g = used-guids a.t.now c.requires (λ j. (c.shared_slice_known-1.given j).fits) c.decode-guids.ensures in
     sym (good-guids a.first.0 a.last.0 a.t.now ok (sym (c.guids_differ.ensures _ g) ∙ c.if-not-guids_differ.true))
 
 pub ranges_apart-requires : goal.ranges_apart-requires
 ranges_apart-requires c =
-    let c4 = c in
-    let c8 = c4 in
-    let c12 = c8 in
-    let a = c12.args in
+    let a = c.args in
     let w = c.ranges-count.ensures in
-    let ok = sym c12.entries_ok.ensures ∙ c12.if-not-entries_ok.false in
+    let ok = sym c.entries_ok.ensures ∙ c.if-not-entries_ok.false in
     (w.most, w.ascending, ranges-proper a.first.0 a.last.0 a.t.now ok w)
 
 pub returns : goal.returns
 returns c =
-    let c4 = c in
-    let c8 = c4 in
-    let c12 = c8 in
-    let c16 = c12 in
-    let a = c16.args in
-    let ok = sym c12.entries_ok.ensures ∙ c12.if-not-entries_ok.false in
-    let g = used-guids a.t.now c16.requires (λ j. (c12.shared_slice_known-1.given j).fits) c8.decode-guids.ensures in
+    let a = c.args in
+    let ok = sym c.entries_ok.ensures ∙ c.if-not-entries_ok.false in
+    let g = used-guids a.t.now c.requires (λ j. (c.shared_slice_known-1.given j).fits) c.decode-guids.ensures in
     c.ranges_apart.ensures
-    ∙ good-ranges a.first.0 a.last.0 a.t.now ok c.ranges-count.ensures (sym (c4.guids_differ.ensures _ g) ∙ c4.if-not-guids_differ.false)
+    ∙ good-ranges a.first.0 a.last.0 a.t.now ok c.ranges-count.ensures (sym (c.guids_differ.ensures _ g) ∙ c.if-not-guids_differ.false)

@@ -8,67 +8,54 @@ use Rattle.text_words.proofs.digits.digits_from.Goals as goal
 
 pub returns-then-base-d : goal.returns-then-base-d
 returns-then-base-d c =
-    let turn = c in
-    let start = c in
-    let s = start.args.w.now in
-    let h : turn.loop-i.i < length s = search rules in
-    up-to _ _ _ turn.loop-i.invariant.1 ∙ digits-out s turn.loop-i.i start.args.most start.args.base turn.loop-i.n h (omega arith) ∙ turn.loop-i.invariant.2
+    let s = c.args.w.now in
+    let h : c.loop-i.i < length s = search rules in
+    up-to _ _ _ c.loop-i.invariant.1 ∙ digits-out s c.loop-i.i c.args.most c.args.base c.loop-i.n h (omega arith) ∙ c.loop-i.invariant.2
 
 pub returns-then-limit-n : goal.returns-then-limit-n
 returns-then-limit-n c =
-    let turn = c in
-    let start = c in
-    let s = start.args.w.now in
-    let h : turn.loop-i.i < length s = search rules in
-    let o = over-limit start.args.most start.args.base turn.loop-i.n start.requires.1 c.if-limit-n.true in
-    digits-over start.args.most start.args.base _ _ _ start.requires.1 (omega arith)
-    ∙ digits-in s turn.loop-i.i start.args.most start.args.base turn.loop-i.n h (omega arith) ∙ turn.loop-i.invariant.2
+    let s = c.args.w.now in
+    let h : c.loop-i.i < length s = search rules in
+    let o = over-limit c.args.most c.args.base c.loop-i.n c.requires.1 c.if-limit-n.true in
+    digits-over c.args.most c.args.base _ _ _ c.requires.1 (omega arith)
+    ∙ digits-in s c.loop-i.i c.args.most c.args.base c.loop-i.n h (omega arith) ∙ c.loop-i.invariant.2
 
 pub overflow_mul-high : goal.overflow_mul-high
 overflow_mul-high c =
-    let start = c in
-    let u = under-limit start.args.most start.args.base c.loop-i.n start.requires.1 c.if-limit-n.false in
+    let u = under-limit c.args.most c.args.base c.loop-i.n c.requires.1 c.if-limit-n.false in
     search rules
 
 pub overflow_sub-most : goal.overflow_sub-most
 overflow_sub-most c =
-    let start = c in
-    let u = under-limit start.args.most start.args.base c.loop-i.n start.requires.1 c.if-limit-n.false in
+    let u = under-limit c.args.most c.args.base c.loop-i.n c.requires.1 c.if-limit-n.false in
     search rules
 
 pub returns-then-most-high : goal.returns-then-most-high
 returns-then-most-high c =
-    let turn = c in
-    let start = c in
-    let s = start.args.w.now in
-    let h : turn.loop-i.i < length s = search rules in
-    let u = under-limit start.args.most start.args.base turn.loop-i.n start.requires.1 c.if-limit-n.false in
-    digits-over start.args.most start.args.base _ _ _ start.requires.1 (omega arith)
-    ∙ digits-in s turn.loop-i.i start.args.most start.args.base turn.loop-i.n h (omega arith) ∙ turn.loop-i.invariant.2
+    let s = c.args.w.now in
+    let h : c.loop-i.i < length s = search rules in
+    let u = under-limit c.args.most c.args.base c.loop-i.n c.requires.1 c.if-limit-n.false in
+    digits-over c.args.most c.args.base _ _ _ c.requires.1 (omega arith)
+    ∙ digits-in s c.loop-i.i c.args.most c.args.base c.loop-i.n h (omega arith) ∙ c.loop-i.invariant.2
 
 pub overflow_add-n : goal.overflow_add-n
 overflow_add-n c =
-    let start = c in
-    let u = under-limit start.args.most start.args.base c.loop-i.n start.requires.1
+    let u = under-limit c.args.most c.args.base c.loop-i.n c.requires.1
     c.if-limit-n.false in
     search rules
 
 pub loop-i-preserved : goal.loop-i-preserved
 loop-i-preserved c =
-    let turn = c in
-    let start = c in
-    let s = start.args.w.now in
-    let h : turn.loop-i.i < length s = search rules in
-    let u = under-limit start.args.most start.args.base turn.loop-i.n start.requires.1 c.if-limit-n.false in
+    let s = c.args.w.now in
+    let h : c.loop-i.i < length s = search rules in
+    let u = under-limit c.args.most c.args.base c.loop-i.n c.requires.1 c.if-limit-n.false in
     let d = c.digit-d.ensures.value in (
       search rules,
       omega arith,
-      rw d (digits-in s turn.loop-i.i start.args.most start.args.base turn.loop-i.n h (omega arith)) ∙ turn.loop-i.invariant.2,
+      rw d (digits-in s c.loop-i.i c.args.most c.args.base c.loop-i.n h (omega arith)) ∙ c.loop-i.invariant.2,
     )
 
 pub returns : goal.returns
 returns c =
-    let turn = c in
-    let start = c in
-    up-to _ _ _ turn.loop-i.invariant.1 ∙ digits-end start.args.w.now turn.loop-i.i start.args.most start.args.base turn.loop-i.n
-    (omega arith) ∙ turn.loop-i.invariant.2
+    up-to _ _ _ c.loop-i.invariant.1 ∙ digits-end c.args.w.now c.loop-i.i c.args.most c.args.base c.loop-i.n
+    (omega arith) ∙ c.loop-i.invariant.2

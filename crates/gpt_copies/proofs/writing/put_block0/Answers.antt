@@ -1,0 +1,6 @@
+use Rattle.gpt_copies.proofs.Writes.{block0-put}
+use Rattle.gpt_copies.proofs.writing.put_block0.Goals as goal
+
+pub returns : goal.returns
+returns c =
+    block0-put c.args.n c.args.head.now _ _ _ _ c.copy.ensures c.store32.ensures c.store32-2.ensures c.copy-2.ensures
