@@ -1,19 +1,19 @@
 -- The areas of a map by the image's bytes: record k stands 56 + 42 k bytes behind the map's position.
 use mathlib.Core.Path.{◌≡◌, refl, sym, ap, ap₂, subst, ◌∙◌}
-use mathlib.Core.Bool.{Bool, true, false, not}
+use mathlib.Core.Bool.{true, not}
 use mathlib.Core.List.{List, [], ◌∷◌, ◌++◌, append-nil}
 use mathlib.Core.Option.{none}
 use Prim.Native.Nat.{ℕ, zero, suc, ◌+◌, ◌*◌, ◌/◌, ◌%◌, ◌≤◌, ◌<◌, suc-le-suc}
 use native.Mathlib.Nat.{add-zero, zero-lt-suc, suc_inj}
 use native.Mathlib.Omega.{arith}
 use lib.Dec.{eqb, ltb}
-use lib.ListN.{length, get_or, drop, drop_of_length-le}
+use lib.ListN.{length, get_or, drop_of_length-le}
 use Rattle.octets.specs.Rows.{refusal}
 use Rattle.octets.specs.Bytes.{le, unle, part, rest, field, same}
 use Rattle.octets.proofs.Rows.{passes, pick-false}
 use Rattle.octets.proofs.Parts.{length_part, length_rest, get_d_part, part-on, part-part, part-of-rest}
 use Rattle.fmap_rules.specs.declared.Area.{Area}
-use Rattle.fmap_rules.specs.Map.{signature, signed, major_of, minor_of, size_of, name_of, count_of, map_size, area_of, areas_in, areas_of, blank_area, legal_name, header_rows, good_map_header, good_areas, good_map}
+use Rattle.fmap_rules.specs.Map.{signature, signed, count_of, map_size, area_of, areas_in, areas_of, blank_area, legal_name, header_rows, good_map_header, good_areas, good_map}
 use Rattle.fmap_rules.specs.Written.{area_bytes}
 use Rattle.fmap_rules.specs.Claims.{AreaIsItsBytes}
 use Rattle.fmap_rules.proofs.Areas.{length-areas, area-part}

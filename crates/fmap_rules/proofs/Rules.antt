@@ -1,19 +1,18 @@
 -- The number of the first row that holds, and what it gives where it is 0.
 use mathlib.Core.Path.{◌≡◌, refl, sym, ap, ◌∙◌}
 use mathlib.Core.Logic.{◌⊎◌, inl, inr}
-use mathlib.Core.Bool.{Bool, true, false, false≢true, true≢false}
+use mathlib.Core.Bool.{true, false, false≢true, true≢false}
 use mathlib.Core.List.{List, ◌++◌}
 use mathlib.Core.Option.{Option, none, some}
 use Prim.Native.Nat.{ℕ}
-use native.Mathlib.Omega.{arith}
 use lib.Dec.{eqb}
 use borrow.Author.Tests.{eq-eqb, ne_eqb}
 use Rattle.octets.specs.Tests.{◌and◌, ◌or◌, any}
 use Rattle.octets.specs.Rows.{Row, refusal, code_of}
 use Rattle.octets.proofs.Bools.{option_cases}
-use Rattle.octets.proofs.Rows.{refusal-append, refusal-first, refusal-before, refusal-holds}
+use Rattle.octets.proofs.Rows.{refusal-append, refusal-first, refusal-holds}
 use Rattle.fmap_rules.specs.declared.Area.{Area}
-use Rattle.fmap_rules.specs.Map.{is_none, none_holds, header_rows, area_rows, map_rows, good_map}
+use Rattle.fmap_rules.specs.Map.{is_none, none_holds, header_rows, area_rows, map_rows}
 
 -- ---- no row holds
 

@@ -8,7 +8,6 @@ use native.Mathlib.Omega.{arith}
 use lib.ListN.{length, get_or, take, drop, length-append}
 use lib.Seq.{take_at, drop_at, length-take-le}
 use borrow.Author.Tests.{eq-eqb, ne_eqb, le-ltb, leb-true, eqb-true}
-use Rattle.octets.specs.Tests.{◌and◌}
 use Rattle.octets.specs.Bytes.{le, unle, part, rest, field, put, same, chunks, flat}
 use Rattle.octets.proofs.Bools.{and_l, and_r}
 use Rattle.octets.proofs.Rows.{pick-false}

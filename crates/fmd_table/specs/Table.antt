@@ -1,5 +1,5 @@
 -- Sections in a table of words: as they stand in the text, and with their offsets and sizes.
-use Rattle.std.specs.Prelude.{Bool, true, false, cond, List, [], ◌∷◌, ◌++◌, ℕ, zero, suc, ◌*◌, ◌≤◌, eqb, length, get_or}
+use Rattle.std.specs.Prelude.{Bool, cond, List, [], ◌∷◌, ◌++◌, ℕ, zero, suc, ◌*◌, ◌≤◌, eqb, length, get_or}
 use Rattle.octets.specs.Bytes.{part}
 use Rattle.fmd_table.specs.declared.Offset.{Offset}
 use Rattle.fmd_table.specs.declared.Offset.TheVariants.{Given as GivenOffset, Omitted as OmittedOffset}

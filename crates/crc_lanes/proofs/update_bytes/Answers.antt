@@ -1,5 +1,5 @@
 use mathlib.Core.Path.{ap, sym, refl, ◌∙◌}
-use Prim.Native.Nat.{ℕ, ◌+◌, ◌-◌}
+use Prim.Native.Nat.{ℕ, ◌+◌}
 use lib.ListN.{drop}
 use Rattle.crc_lanes.specs.Crc.{crc_update}
 use Rattle.crc_lanes.proofs.Parts.{update-on, update-done}

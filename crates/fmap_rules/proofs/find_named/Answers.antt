@@ -1,5 +1,4 @@
 use mathlib.Core.Path.{sym, ◌∙◌}
-use Prim.Native.Nat.{◌-◌}
 use native.Mathlib.Omega.{arith}
 use native.Mathlib.Nat.{zero-add}
 use Rattle.octets.specs.Bytes.{part}
@@ -13,21 +12,19 @@ loop-i-init c = (search rules, zero-add _)
 
 pub returns-then-same : goal.returns-then-same
 unfolding named area_of part
-returns-then-same c =
-    (
-      find-here _ c.loop-i.i (omega arith) c.area_at-a.result.now
-          c.area_at-a.ensures.0 (named _) (sym c.same.ensures ∙ c.if-same.true) c.loop-i.invariant.1,
-      omega arith,
-    )
+returns-then-same c = (
+  find-here _ c.loop-i.i (omega arith) c.area_at-a.result.now
+      c.area_at-a.ensures.0 (named _) (sym c.same.ensures ∙ c.if-same.true) c.loop-i.invariant.1,
+  omega arith,
+)
 
 pub loop-i-preserved : goal.loop-i-preserved
 unfolding named area_of part
-loop-i-preserved c =
-    (
-      omega arith,
-      find-next _ c.loop-i.i (omega arith) c.area_at-a.result.now
-          c.area_at-a.ensures.0 (named _) (sym c.same.ensures ∙ c.if-same.false) c.loop-i.invariant.1,
-    )
+loop-i-preserved c = (
+  omega arith,
+  find-next _ c.loop-i.i (omega arith) c.area_at-a.result.now
+      c.area_at-a.ensures.0 (named _) (sym c.same.ensures ∙ c.if-same.false) c.loop-i.invariant.1,
+)
 
 pub returns : goal.returns
 returns c = (find-over _ c.loop-i.i (omega arith) (named _) c.loop-i.invariant.1, omega arith)

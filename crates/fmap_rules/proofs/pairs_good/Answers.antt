@@ -1,5 +1,4 @@
 use mathlib.Core.Path.{sym, ◌∙◌}
-use Prim.Native.Nat.{◌-◌}
 use native.Mathlib.Omega.{arith}
 use Rattle.fmap_rules.proofs.Areas.{pairs_next, pairs-fails, pairs-over}
 use Rattle.fmap_rules.specs.Invariants.{good_pair}
@@ -10,11 +9,10 @@ returns-then-not-good_with_later c =
     pairs-fails _ c.loop-i.i (omega arith) (good_pair _) (sym c.good_with_later.ensures ∙ c.if-not-good_with_later.true) c.loop-i.invariant.1
 
 pub loop-i-preserved : goal.loop-i-preserved
-loop-i-preserved c =
-    (
-      omega arith,
-      pairs_next _ c.loop-i.i (omega arith) (good_pair _) (sym c.good_with_later.ensures ∙ c.if-not-good_with_later.false) c.loop-i.invariant.1,
-    )
+loop-i-preserved c = (
+  omega arith,
+  pairs_next _ c.loop-i.i (omega arith) (good_pair _) (sym c.good_with_later.ensures ∙ c.if-not-good_with_later.false) c.loop-i.invariant.1,
+)
 
 pub returns : goal.returns
 returns c = pairs-over _ c.loop-i.i (omega arith) (good_pair _) c.loop-i.invariant.1

@@ -1,5 +1,5 @@
 use mathlib.Core.Path.{sym, ap, ◌∙◌}
-use Prim.Native.Nat.{ℕ, ◌-◌}
+use Prim.Native.Nat.{ℕ}
 use native.Mathlib.Omega.{arith}
 use Rattle.octets.specs.Tests.{any}
 use Rattle.fmap_rules.proofs.Areas.{length-areas, any_next, any-holds, any-over}
@@ -20,12 +20,11 @@ returns-then-is_holder c =
     (sym c.is_holder.ensures ∙ c.if-is_holder.true) c.loop-i.invariant.1
 
 pub loop-i-preserved : goal.loop-i-preserved
-loop-i-preserved c =
-    (
-      omega arith,
-      any_next _ c.loop-i.i (omega arith) _ c.area_at.ensures.0 (holds_map _ _)
-          (sym c.is_holder.ensures ∙ c.if-is_holder.false) c.loop-i.invariant.1,
-    )
+loop-i-preserved c = (
+  omega arith,
+  any_next _ c.loop-i.i (omega arith) _ c.area_at.ensures.0 (holds_map _ _)
+      (sym c.is_holder.ensures ∙ c.if-is_holder.false) c.loop-i.invariant.1,
+)
 
 pub returns : goal.returns
 returns c = any-over _ c.loop-i.i (omega arith) (holds_map _ _) c.loop-i.invariant.1

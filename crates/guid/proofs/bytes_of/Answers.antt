@@ -1,5 +1,5 @@
 use mathlib.Core.Path.{refl}
-use Prim.Native.Nat.{◌+◌, ◌*◌, ◌-◌}
+use Prim.Native.Nat.{◌+◌, ◌*◌}
 use native.Mathlib.Omega.{arith}
 use Rattle.octets.proofs.Filled.{filled_on, filled-all}
 use Rattle.guid.proofs.Hex.{length-bytes, bytes-at, digit-below}

@@ -1,5 +1,4 @@
 use mathlib.Core.Path.{sym, ◌∙◌}
-use Prim.Native.Nat.{◌-◌}
 use Rattle.guid.proofs.Table.{name_fits, length-name, passed_none, passed_on, found, passed-all}
 use Rattle.guid.proofs.short_at.Goals as goal
 

@@ -7,7 +7,7 @@ use Rattle.octets.proofs.Puts.{put-snoc}
 use Rattle.octets.specs.Bytes.{put}
 use lib.ListN.{length}
 use mathlib.Core.Path.{ap, ◌∙◌}
-use Prim.Native.Nat.{ℕ, ◌<◌, ◌-◌}
+use Prim.Native.Nat.{ℕ, ◌<◌}
 use borrow.Author.Rules.{rules}
 use Rattle.octets.proofs.copy_bytes.Goals as goal
 

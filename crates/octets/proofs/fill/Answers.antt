@@ -1,7 +1,7 @@
 use borrow.Author.Fill.{fill_more}
 use lib.ListN.{length, replicate, drop_of_length-le, length-set}
 use native.Mathlib.Omega.{arith}
-use Prim.Native.Nat.{ℕ, ◌-◌}
+use Prim.Native.Nat.{ℕ}
 use mathlib.Core.List.{List, ◌++◌, append-nil}
 use mathlib.Core.Path.{◌≡◌, refl, ap, ◌∙◌}
 use Rattle.octets.proofs.fill.Goals as goal

@@ -1,5 +1,4 @@
 use mathlib.Core.Path.{sym, ◌∙◌}
-use Prim.Native.Nat.{◌-◌}
 use native.Mathlib.Omega.{arith}
 use Rattle.octets.proofs.Equal.{zero-on, zero-stop}
 use Rattle.octets.proofs.is_zero.Goals as goal

@@ -1,5 +1,4 @@
 use mathlib.Core.Path.{sym, ◌∙◌}
-use Prim.Native.Nat.{◌-◌}
 use native.Mathlib.Omega.{arith}
 use Rattle.octets.proofs.Equal.{same-on, same_stop, same_length, field-same, field-differ}
 use Rattle.octets.proofs.same.Goals as goal

@@ -1,5 +1,4 @@
 use mathlib.Core.Path.{sym, ◌∙◌}
-use Prim.Native.Nat.{◌-◌}
 use native.Mathlib.Omega.{arith}
 use Rattle.octets.proofs.Equal.{same_next, same-differ, same-done}
 use Rattle.octets.proofs.same_from.Goals as goal

@@ -17,28 +17,35 @@ returns-then-b-lt65 c = record { value = simp (le-ltb _ _ c.if-b-lt48.false, le-
 
 pub returns-then-b-lt71 : goal.returns-then-b-lt71
 unfolding digit_of
-returns-then-b-lt71 c = record { value = simp (
+returns-then-b-lt71 c = record {
+  value = simp (
     le-ltb _ _ c.if-b-lt48.false,
     le-ltb _ _ c.if-b-lt58.false,
     le-ltb _ _ c.if-b-lt65.false,
     lt-ltb
         _ _ c.if-b-lt71.true,
-  ); small = omega arith }
+  );
+  small = omega arith;
+}
 
 pub returns-then-b-lt97 : goal.returns-then-b-lt97
 unfolding digit_of
-returns-then-b-lt97 c = record { value = simp (
+returns-then-b-lt97 c = record {
+  value = simp (
     le-ltb _ _ c.if-b-lt48.false,
     le-ltb _ _ c.if-b-lt58.false,
     le-ltb _ _
         c.if-b-lt65.false,
     le-ltb _ _ c.if-b-lt71.false,
     lt-ltb _ _ c.if-b-lt97.true,
-  ); small = omega arith }
+  );
+  small = omega arith;
+}
 
 pub returns-then-b-lt103 : goal.returns-then-b-lt103
 unfolding digit_of
-returns-then-b-lt103 c = record { value = simp (
+returns-then-b-lt103 c = record {
+  value = simp (
     le-ltb _ _ c.if-b-lt48.false,
     le-ltb _ _ c.if-b-lt58.false,
     le-ltb _
@@ -46,11 +53,14 @@ returns-then-b-lt103 c = record { value = simp (
     le-ltb _ _ c.if-b-lt71.false,
     le-ltb _ _ c.if-b-lt97.false,
     lt-ltb _ _ c.if-b-lt103.true,
-  ); small = omega arith }
+  );
+  small = omega arith;
+}
 
 pub returns : goal.returns
 unfolding digit_of
-returns c = record { value = simp (
+returns c = record {
+  value = simp (
     le-ltb _ _ c.if-b-lt48.false,
     le-ltb _ _ c.if-b-lt58.false,
     le-ltb _
@@ -58,4 +68,6 @@ returns c = record { value = simp (
     le-ltb _ _ c.if-b-lt71.false,
     le-ltb _ _ c.if-b-lt97.false,
     le-ltb _ _ c.if-b-lt103.false,
-  ); small = omega arith }
+  );
+  small = omega arith;
+}
