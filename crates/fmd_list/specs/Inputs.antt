@@ -7,4 +7,4 @@ use Rattle.fmd_list.specs.declared.Input.TheVariants.{Bytes, Failed}
 -- so many bytes at the start of the buffer
 abbrev pub InputWithin : Input → List ℕ → Type 0
 InputWithin (Bytes n) xs = IsPrefixLen n xs
-InputWithin Failed xs = Unit {0}
+InputWithin (Failed e) xs = Unit {0}

@@ -1,49 +1,49 @@
 // Lists a layout text from standard input: the image, then each section, a line each; or the refusal (S10 to S13).
+#![tactic(auto)]
+
 ghost use Rattle.fmd_list.specs.Inputs.{InputWithin};
 
-use libc::{STDIN_FILENO, STDOUT_FILENO};
+use std::io;
+use std::io::Read;
 
 // One byte more than a layout text may have, so that a longer text is refused and not cut.
 const TEXT: usize = 32769;
 
 // What was read: so many bytes, or nothing, as the input can't be read.
-#[derive(Clone, Copy)]
+#[derive(Drop)]
 enum Input {
     Bytes(usize),
-    Failed,
+    Failed(io::Error),
 }
 
 // Reads until the buffer is full or the input ends.
-fn read_all(buf: &mut [u8]) -> Input
+fn read_all<R: Read>(input: &mut R, buf: &mut [u8]) -> Input
     ensures { InputWithin result buf.new }
 {
     let mut done = 0;
     while done < buf.len() {
-        let got = libc::read(STDIN_FILENO, &mut buf[done..]);
-        if got < 0 {
-            return Input::Failed;
+        match input.read(&mut buf[done..]) {
+            Ok(0) => return Input::Bytes(done),
+            Ok(n) => done += n,
+            Err(e) => return Input::Failed(e),
         }
-        let n = io::count(got, &buf[done..]);
-        if n == 0 {
-            return Input::Bytes(done);
-        }
-        done += n;
     }
     Input::Bytes(done)
 }
 
-fn show(text: &[u8]) {
+fn show(rt: &(impl Print + Eprint), text: &[u8]) -> io::Result<()> {
     let mut out = [0u8; 8192];
     let n = fmd_lines::listing(&mut out, text);
-    if !io::write_all(STDOUT_FILENO, &out[..n]) {
-        os::fail(b"Standard output can't be written");
+    match rt.write_all(&out[..n]) {
+        Ok(()) => Ok(()),
+        Err(e) => eprintln!(rt; "Standard output can't be written: {e}"),
     }
 }
 
-fn main() {
+fn main(rt: HostRuntime) -> io::Result<()> {
     let mut text = [0u8; TEXT];
-    match read_all(&mut text) {
-        Input::Bytes(n) => show(&text[..n]),
-        Input::Failed => os::fail(b"Standard input can't be read"),
+    match read_all(&mut rt.stdin(), &mut text) {
+        Input::Bytes(n) => show(&rt, &text[..n]),
+        Input::Failed(e) => eprintln!(rt; "Standard input can't be read: {e}"),
     }
 }

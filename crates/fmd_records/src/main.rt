@@ -1,3 +1,5 @@
+#![tactic(auto)]
+
 // Lends a section list of 128 records that hold a known pattern (L16): for sample 10's text, then for one that the last row refuses. Of each:
 //
 //     accepted COUNT                the number of sections; or "refused" and the number
@@ -13,7 +15,7 @@ ghost use Rattle.fmd_records.specs.Records.{pattern as pattern_of, hex_bytes, re
 
 use fmap_rules::ImagePosition;
 use fmd::{LayoutReading, SectionRecord};
-use libc::STDOUT_FILENO;
+use std::io;
 
 // What a record holds before it is lent, so that it shows whether it was filled.
 fn pattern() -> SectionRecord
@@ -96,17 +98,19 @@ fn records(out: &mut [u8], text: &[u8]) -> usize
     record_lines(out, at, sections)
 }
 
-fn show(text: &[u8]) {
+fn show(rt: &impl Print, text: &[u8]) -> io::Result<()> {
     let mut out = [0u8; 16384];
     let n = records(&mut out, text);
-    io::write_all(STDOUT_FILENO, &out[..n]);
+    rt.write_all(&out[..n])
 }
 
-fn main() {
+fn main(rt: HostRuntime) -> io::Result<()> {
     show(
+        &rt,
         b"PRINTNODE@0xff800000 8M {\n  BOOT 2M { FMAP 4K }\n  RW_CAL(PRESERVE)@3M 64K\n  RW_LOG\n}\n",
-    );
+    )?;
     show(
+        &rt,
         b"PRINTNODE@0xff800000 8M {\n  BOOT 2M { FMAP 223 }\n  RW_CAL(PRESERVE)@3M 64K\n  RW_LOG\n}\n",
-    );
+    )
 }

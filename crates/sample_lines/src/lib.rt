@@ -1,107 +1,117 @@
 // The lines of the disk samples, as the program `samples` describes them.
 // An inner crate: no user calls it.
+#![tactic(auto)]
+
 ghost use Rattle.std.specs.Prelude.{◌≡◌, length};
 
 use gpt_calls::{Added, Counted, Done, Reading};
 use gpt_checks::Refusal;
+use std::io;
 
 // The samples are on disks of 512-byte blocks.
 pub const BLOCK: u64 = 512;
 
-pub fn begin(n: u64, call: &[u8]) {
-    print_out::bytes(b"disk ");
-    print_out::decimal(n);
-    print_out::bytes(b" ");
-    print_out::bytes(call);
+pub fn begin(rt: &impl Print, n: u64, call: &[u8]) -> io::Result<()> {
+    print_out::bytes(rt, b"disk ")?;
+    print_out::decimal(rt, n)?;
+    print_out::bytes(rt, b" ")?;
+    print_out::bytes(rt, call)
 }
 
-fn named(name: &[u8], x: u64) {
-    print_out::bytes(name);
-    print_out::decimal(x);
+fn named(rt: &impl Print, name: &[u8], x: u64) -> io::Result<()> {
+    print_out::bytes(rt, name)?;
+    print_out::decimal(rt, x)
 }
 
-fn refused(r: Refusal) {
-    named(b" refused ", gpt::number(r) as u64);
+fn refused(rt: &impl Print, r: Refusal) -> io::Result<()> {
+    named(rt, b" refused ", gpt::number(r) as u64)
 }
 
-pub fn done(answer: Done) {
+pub fn done(rt: &impl Print, answer: Done) -> io::Result<()> {
     match answer {
         Done::Accepted => (),
-        Done::Refused(r) => refused(r),
+        Done::Refused(r) => refused(rt, r)?,
     }
-    print_out::bytes(b"\n");
+    print_out::bytes(rt, b"\n")
 }
 
-pub fn added(answer: Added) {
+pub fn added(rt: &impl Print, answer: Added) -> io::Result<()> {
     match answer {
         Added::At { slot, first } => {
-            named(b" slot ", slot);
-            named(b" first ", first.0);
+            named(rt, b" slot ", slot)?;
+            named(rt, b" first ", first.0)?;
         }
-        Added::Refused(r) => refused(r),
+        Added::Refused(r) => refused(rt, r)?,
     }
-    print_out::bytes(b"\n");
+    print_out::bytes(rt, b"\n")
 }
 
-fn state(answer: Reading) {
+fn state(rt: &impl Print, answer: Reading) -> io::Result<()> {
     match answer {
-        Reading::Same => print_out::bytes(b" 1"),
-        Reading::Different => print_out::bytes(b" 2"),
-        Reading::PrimaryOnly => print_out::bytes(b" 3"),
-        Reading::BackupOnly => print_out::bytes(b" 4"),
-        Reading::Refused(r) => refused(r),
+        Reading::Same => print_out::bytes(rt, b" 1")?,
+        Reading::Different => print_out::bytes(rt, b" 2")?,
+        Reading::PrimaryOnly => print_out::bytes(rt, b" 3")?,
+        Reading::BackupOnly => print_out::bytes(rt, b" 4")?,
+        Reading::Refused(r) => refused(rt, r)?,
     }
-    print_out::bytes(b"\n");
+    print_out::bytes(rt, b"\n")
 }
 
-fn free(answer: Counted) {
+fn free(rt: &impl Print, answer: Counted) -> io::Result<()> {
     match answer {
         Counted::Free { blocks, longest } => {
-            named(b" ", blocks);
-            named(b" longest ", longest);
+            named(rt, b" ", blocks)?;
+            named(rt, b" longest ", longest)?;
         }
-        Counted::Refused(r) => refused(r),
+        Counted::Refused(r) => refused(rt, r)?,
     }
-    print_out::bytes(b"\n");
+    print_out::bytes(rt, b"\n")
 }
 
 // State, free counts, what was granted and given back since formatting, and bytes.
-pub fn close(head: &[u8], tail: &[u8], n: u64, granted: u64, back: u64) {
-    begin(n, b"state");
-    state(gpt::read(head, tail, n, BLOCK));
-    begin(n, b"free");
-    free(gpt::free_counts(head, tail, n, BLOCK));
-    begin(n, b"granted");
-    named(b" ", granted);
-    named(b" back ", back);
-    print_out::bytes(b"\n");
-    crcs(head, tail, n);
+pub fn close(
+    rt: &impl Print,
+    head: &[u8],
+    tail: &[u8],
+    n: u64,
+    granted: u64,
+    back: u64,
+) -> io::Result<()> {
+    begin(rt, n, b"state")?;
+    state(rt, gpt::read(head, tail, n, BLOCK))?;
+    begin(rt, n, b"free")?;
+    free(rt, gpt::free_counts(head, tail, n, BLOCK))?;
+    begin(rt, n, b"granted")?;
+    named(rt, b" ", granted)?;
+    named(rt, b" back ", back)?;
+    print_out::bytes(rt, b"\n")?;
+    crcs(rt, head, tail, n)
 }
 
-fn crcs(head: &[u8], tail: &[u8], n: u64) {
-    begin(n, b"crc32 ");
-    print_out::hex32(crc32::crc32(head));
-    print_out::bytes(b" ");
-    print_out::hex32(crc32::crc32(tail));
-    print_out::bytes(b"\n");
+fn crcs(rt: &impl Print, head: &[u8], tail: &[u8], n: u64) -> io::Result<()> {
+    begin(rt, n, b"crc32 ")?;
+    print_out::hex32(rt, crc32::crc32(head))?;
+    print_out::bytes(rt, b" ")?;
+    print_out::hex32(rt, crc32::crc32(tail))?;
+    print_out::bytes(rt, b"\n")
 }
 
 // Of a header's bytes: its own block and the other header's, the usable blocks, where the entries begin.
-fn header(h: &[u8], n: u64)
+fn header(rt: &impl Print, h: &[u8], n: u64) -> io::Result<()>
     requires { length h.now ≡ 92 }
 {
-    begin(n, b"header ");
-    print_out::decimal(octets::load64(h, 24));
-    named(b" other ", octets::load64(h, 32));
-    named(b" usable ", octets::load64(h, 40));
-    named(b" ", octets::load64(h, 48));
-    named(b" entries ", octets::load64(h, 72));
-    print_out::bytes(b"\n");
+    begin(rt, n, b"header ")?;
+    print_out::decimal(rt, octets::load64(h, 24))?;
+    named(rt, b" other ", octets::load64(h, 32))?;
+    named(rt, b" usable ", octets::load64(h, 40))?;
+    named(rt, b" ", octets::load64(h, 48))?;
+    named(rt, b" entries ", octets::load64(h, 72))?;
+    print_out::bytes(rt, b"\n")
 }
 
-pub fn headers(head: &[u8], tail: &[u8], n: u64)
+pub fn headers(rt: &impl Print, head: &[u8], tail: &[u8], n: u64) -> io::Result<()>
     requires { (length head.now ≡ 17408) × (length tail.now ≡ 16896) }
 {
-    header(&head[512..604], n);
-    header(&tail[16384..16476], n);
+    header(rt, &head[512..604], n)?;
+    header(rt, &tail[16384..16476], n)
 }

@@ -3,17 +3,19 @@ use crate::ledger::SumChange;
 use gpt_calls::{Added, Done};
 use gpt_model::{NewPartition, Rule};
 use sample_lines::BLOCK;
+use std::io;
 
-pub fn format(head: &mut [u8], tail: &mut [u8], n: u64) -> SumChange {
-    sample_lines::begin(n, b"format");
-    sample_lines::done(gpt::format(
+pub fn format(rt: &impl Print, head: &mut [u8], tail: &mut [u8], n: u64) -> io::Result<SumChange> {
+    sample_lines::begin(rt, n, b"format")?;
+    let answer = gpt::format(
         head,
         tail,
         n,
         BLOCK,
         *b"\x00\x01\x02\x03\x04\x05\x06\x07\x08\x09\x0a\x0b\x0c\x0d\x0e\x0f",
-    ));
-    SumChange::Nothing
+    );
+    sample_lines::done(rt, answer)?;
+    Ok(SumChange::Nothing)
 }
 
 // Type linux (G4), as stored.
@@ -29,9 +31,16 @@ fn name(letter: u16) -> [u16; 36] {
 }
 
 // The k-th add: each has another unique GUID and another name.
-pub fn add(head: &mut [u8], tail: &mut [u8], n: u64, k: u8, size: u64) -> SumChange {
-    sample_lines::begin(n, b"add ");
-    print_out::decimal(size);
+pub fn add(
+    rt: &impl Print,
+    head: &mut [u8],
+    tail: &mut [u8],
+    n: u64,
+    k: u8,
+    size: u64,
+) -> io::Result<SumChange> {
+    sample_lines::begin(rt, n, b"add ")?;
+    print_out::decimal(rt, size)?;
     let p = NewPartition {
         kind: linux(),
         unique: [k; 16],
@@ -42,32 +51,50 @@ pub fn add(head: &mut [u8], tail: &mut [u8], n: u64, k: u8, size: u64) -> SumCha
         name: name(64 + k as u16),
     };
     let answer = gpt::add(head, tail, n, BLOCK, p);
-    sample_lines::added(answer);
-    match answer {
+    sample_lines::added(rt, answer)?;
+    Ok(match answer {
         Added::At { slot, .. } => SumChange::Size { slot, size },
         Added::Refused(_) => SumChange::Nothing,
-    }
+    })
 }
 
 // After an accepted call the slot has this size.
-fn done(answer: Done, slot: u64, size: u64) -> SumChange {
-    sample_lines::done(answer);
-    match answer {
+fn done(rt: &impl Print, answer: Done, slot: u64, size: u64) -> io::Result<SumChange> {
+    sample_lines::done(rt, answer)?;
+    Ok(match answer {
         Done::Accepted => SumChange::Size { slot, size },
         Done::Refused(_) => SumChange::Nothing,
-    }
+    })
 }
 
-pub fn delete(head: &mut [u8], tail: &mut [u8], n: u64, slot: u64) -> SumChange {
-    sample_lines::begin(n, b"delete ");
-    print_out::decimal(slot);
-    done(gpt::delete(head, tail, n, BLOCK, slot), slot, 0)
+pub fn delete(
+    rt: &impl Print,
+    head: &mut [u8],
+    tail: &mut [u8],
+    n: u64,
+    slot: u64,
+) -> io::Result<SumChange> {
+    sample_lines::begin(rt, n, b"delete ")?;
+    print_out::decimal(rt, slot)?;
+    done(rt, gpt::delete(head, tail, n, BLOCK, slot), slot, 0)
 }
 
-pub fn resize(head: &mut [u8], tail: &mut [u8], n: u64, slot: u64, size: u64) -> SumChange {
-    sample_lines::begin(n, b"resize ");
-    print_out::decimal(slot);
-    print_out::bytes(b" ");
-    print_out::decimal(size);
-    done(gpt::resize(head, tail, n, BLOCK, slot, size), slot, size)
+pub fn resize(
+    rt: &impl Print,
+    head: &mut [u8],
+    tail: &mut [u8],
+    n: u64,
+    slot: u64,
+    size: u64,
+) -> io::Result<SumChange> {
+    sample_lines::begin(rt, n, b"resize ")?;
+    print_out::decimal(rt, slot)?;
+    print_out::bytes(rt, b" ")?;
+    print_out::decimal(rt, size)?;
+    done(
+        rt,
+        gpt::resize(head, tail, n, BLOCK, slot, size),
+        slot,
+        size,
+    )
 }

@@ -1,3 +1,5 @@
+#![tactic(auto)]
+
 // Samples S1 to S5 and S9 on a head and a tail, one line a call:
 //
 //     disk N format                           accepted; "refused" and the number instead, here and below
@@ -15,6 +17,7 @@ mod ledger;
 ghost use Rattle.std.specs.Prelude.{◌≡◌, length};
 
 use ledger::{SumChange, Sums};
+use std::io;
 
 const HEAD: usize = 17408;
 
@@ -30,23 +33,31 @@ const TAIL: usize = 16896;
 //     a_kSS    the K-th add, of SS blocks
 //     m_k00    the K-th add, of 2^64 − 1 blocks
 //     w_k00    the K-th add, of all usable blocks
-fn show(head: &[u8], tail: &[u8], n: u64, sums: Sums, letter: u8)
+fn show(rt: &impl Print, head: &[u8], tail: &[u8], n: u64, sums: Sums, letter: u8) -> io::Result<()>
     requires { (length head.now ≡ 17408) × (length tail.now ≡ 16896) }
 {
     match letter {
-        b'h' => sample_lines::headers(head, tail, n),
-        b'c' => sample_lines::close(head, tail, n, sums.granted, sums.back),
-        _ => (),
+        b'h' => sample_lines::headers(rt, head, tail, n),
+        b'c' => sample_lines::close(rt, head, tail, n, sums.granted, sums.back),
+        _ => Ok(()),
     }
 }
 
-fn call(head: &mut [u8], tail: &mut [u8], n: u64, letter: u8, k: u8, size: u64) -> SumChange {
+fn call(
+    rt: &impl Print,
+    head: &mut [u8],
+    tail: &mut [u8],
+    n: u64,
+    letter: u8,
+    k: u8,
+    size: u64,
+) -> io::Result<SumChange> {
     match letter {
-        b'f' => calls::format(head, tail, n),
-        b'd' => calls::delete(head, tail, n, k as u64),
-        b'r' => calls::resize(head, tail, n, k as u64, size),
-        b'a' | b'm' | b'w' => calls::add(head, tail, n, k, asked(n, letter, size)),
-        _ => SumChange::Nothing,
+        b'f' => calls::format(rt, head, tail, n),
+        b'd' => calls::delete(rt, head, tail, n, k as u64),
+        b'r' => calls::resize(rt, head, tail, n, k as u64, size),
+        b'a' | b'm' | b'w' => calls::add(rt, head, tail, n, k, asked(n, letter, size)),
+        _ => Ok(SumChange::Nothing),
     }
 }
 
@@ -68,7 +79,7 @@ fn number(tens: u8, ones: u8) -> u64 {
 }
 
 // The steps, each with a blank behind it, on a disk of n blocks.
-fn steps(n: u64, script: &[u8]) {
+fn steps(rt: &impl Print, n: u64, script: &[u8]) -> io::Result<()> {
     let mut head = [0u8; HEAD];
     let mut tail = [0u8; TAIL];
     let mut sums = ledger::empty();
@@ -77,28 +88,31 @@ fn steps(n: u64, script: &[u8]) {
     while i < count {
         let at = 5 * i;
         let letter = script[at];
-        show(&head, &tail, n, sums, letter);
+        show(rt, &head, &tail, n, sums, letter)?;
         let change = call(
+            rt,
             &mut head,
             &mut tail,
             n,
             letter,
             digit(script[at + 1]),
             number(script[at + 2], script[at + 3]),
-        );
+        )?;
         sums = ledger::booked(sums, change);
         i += 1;
     }
+    Ok(())
 }
 
 // S1; S2; S3 to S5; S9, and that the whole disk can be taken afterwards.
-fn main() {
-    steps(67, b"f000 ");
-    steps(68, b"f000 h000 a101 a201 c000 ");
+fn main(rt: HostRuntime) -> io::Result<()> {
+    steps(&rt, 67, b"f000 ")?;
+    steps(&rt, 68, b"f000 h000 a101 a201 c000 ")?;
     steps(
+        &rt,
         100,
         b"f000 h000 a110 a205 d100 a311 a410 c000 r119 r118 c000 ",
-    );
-    steps(100, b"f000 m100 w200 c000 ");
-    steps(4294967296, b"f000 m100 w200 c000 ");
+    )?;
+    steps(&rt, 100, b"f000 m100 w200 c000 ")?;
+    steps(&rt, 4294967296, b"f000 m100 w200 c000 ")
 }
