@@ -1,5 +1,5 @@
 -- The numbers of refusals: all of 50 to 59.
-use Prim.Native.Nat.{ℕ, ◌≤◌}
+use Prim.Native.Nat.{◌≤◌}
 use native.Mathlib.Omega.{arith}
 use Rattle.fmd_head.specs.Refusals.{number_of}
 use Rattle.fmd_head.specs.declared.Refusal.{Refusal}

@@ -1,3 +1,5 @@
+#![tactic(auto)]
+
 // Heads: the image of a layout text up to its opening brace, and a section up to its braces; or the first fault there.
 // An inner crate: no user calls it, so its functions may have a `requires`, which each caller meets.
 ghost use Rattle.std.specs.Prelude.{◌≡◌};

@@ -9,7 +9,7 @@ use lib.Dec.{leb, eqb}
 use lib.ListN.{length, set}
 use borrow.Author.Tests.{eq-eqb, ne_eqb, eqb-true, eqb-false, le-leb, lt-leb, leb-true, le-ltb, lt-ltb}
 use mathlib.Core.Logic.{◌≢◌, ◌⊎◌, inl, inr}
-use Rattle.octets.specs.Tests.{◌and◌, ◌or◌, any, find_ix}
+use Rattle.octets.specs.Tests.{◌and◌, any, find_ix}
 use Rattle.octets.specs.Bytes.{part, is_zero}
 use Rattle.octets.specs.Rows.{Row, row, pick_row, refusal}
 use Rattle.octets.proofs.Bools.{and_l, and_r, and_i, and-t, and-false-l, not_f, bool_cases}

@@ -1,3 +1,5 @@
+#![tactic(auto)]
+
 // The judges of the disk calls: each goes through the call's rows of refusals in the rules' order, to the first that holds. They write nothing.
 // An inner crate: no user calls it, so its functions may have a `requires`, which each caller meets.
 ghost use Rattle.std.specs.Prelude.{◌≡◌, true, not, [], ℕ, ◌≤◌, length, set};

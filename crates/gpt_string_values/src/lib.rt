@@ -1,3 +1,5 @@
+#![tactic(auto)]
+
 // Values in a layout string: numbers of bytes, names and GUIDs; and the search for the byte that ends a part.
 // An inner crate: no user calls it, so its functions may have a `requires`, which each caller meets.
 ghost use Rattle.std.specs.Prelude.{◌≡◌, cond, ◌+◌, ◌≤◌, eqb, length, drop};
