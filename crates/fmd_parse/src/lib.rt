@@ -1,3 +1,5 @@
+#![tactic(auto)]
+
 // Image and sections of a layout text, or its first fault; the rows of the whole section list that the text alone decides.
 // An inner crate: no user calls it, so its functions may have a `requires`, which each caller meets.
 ghost use Rattle.std.specs.Prelude.{List, ◌≡◌, ℕ, ◌≤◌, length};

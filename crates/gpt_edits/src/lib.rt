@@ -1,3 +1,5 @@
+#![tactic(auto)]
+
 // The writers of the calls that change a disk, where none of the call's rows of refusals holds: one entry in both copies, or one copy from the other.
 // An inner crate: no user calls it, so its functions may have a `requires`, which each caller meets.
 ghost use Rattle.std.specs.Prelude.{◌≡◌, [], ◌∷◌, length};

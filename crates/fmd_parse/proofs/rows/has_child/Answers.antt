@@ -1,0 +1,5 @@
+use Rattle.fmd_parse.proofs.RowLoops.{child-is}
+use Rattle.fmd_parse.proofs.rows.has_child.Goals as goal
+
+pub returns : goal.returns
+returns c = child-is _ _ c.requires.2 _ c.requires.1 c.last_at.ensures

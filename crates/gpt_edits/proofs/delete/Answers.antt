@@ -1,0 +1,26 @@
+use mathlib.Core.Path.{refl}
+use native.Mathlib.Omega.{arith}
+use Rattle.gpt_checks.proofs.Judged.{edit-facts}
+use Rattle.gpt_edits.proofs.Outcomes.{same_tables, edit-made, delete-slot}
+use Rattle.gpt_model.specs.Calls.{delete}
+use Rattle.octets.specs.Bytes.{zeros}
+use borrow.Author.Rules.{rules}
+use Rattle.gpt_edits.proofs.delete.Goals as goal
+
+pub overflow_sub-slot : goal.overflow_sub-slot
+overflow_sub-slot c =
+    let a = c.args in
+    omega (arith, (delete-slot a.shape a.n a.head.now a.tail.now a.slot c.requires.0).0)
+
+pub put_both-requires : goal.put_both-requires
+put_both-requires c =
+    let a = c.args in
+    let o = edit-facts a.shape a.n a.head.now a.tail.now (delete a.slot) c.requires.0 in
+    let k = delete-slot a.shape a.n a.head.now a.tail.now a.slot c.requires.0 in
+    (o.head, o.tail, record { legal = c.requires.1; least = o.least }, omega arith, search rules, same_tables a.shape a.n a.head.now a.tail.now (delete a.slot) c.requires.0)
+
+pub returns : goal.returns
+unfolding zeros
+returns c =
+    let a = c.args in
+    edit-made a.shape a.n a.head.now a.tail.now (delete a.slot) c.requires.0 _ _ _ refl c.put_both.ensures.0 c.put_both.ensures.1

@@ -1,0 +1,40 @@
+use native.Mathlib.Omega.{arith}
+use Rattle.gpt_checks.proofs.Judged.{edit-facts}
+use Rattle.gpt_edits.proofs.Outcomes.{same_tables, edit-made, rename-slot, renamed-is}
+use Rattle.gpt_model.specs.Calls.{rename}
+use Rattle.gpt_edits.proofs.rename.Goals as goal
+
+pub overflow_sub-i : goal.overflow_sub-i
+overflow_sub-i c =
+    let a = c.args in
+    omega (arith, (rename-slot a.shape a.n a.head.now a.tail.now a.slot a.name.now c.requires.0).0)
+
+pub entries_in-requires : goal.entries_in-requires
+entries_in-requires c =
+    let a = c.args in
+    ((edit-facts a.shape a.n a.head.now a.tail.now (rename a.slot a.name.now) c.requires.0).head, c.requires.1)
+
+pub entry-requires : goal.entry-requires
+entry-requires c =
+    let a = c.args in
+    let k = rename-slot a.shape a.n a.head.now a.tail.now a.slot a.name.now c.requires.0 in
+    (omega arith, c.entries_in.ensures.1)
+
+pub renamed-new-requires : goal.renamed-new-requires
+renamed-new-requires c =
+    let a = c.args in
+    (c.entry.ensures.1, (rename-slot a.shape a.n a.head.now a.tail.now a.slot a.name.now c.requires.0).2)
+
+pub put_both-requires : goal.put_both-requires
+put_both-requires c =
+    let a = c.args in
+    let o = edit-facts a.shape a.n a.head.now a.tail.now (rename a.slot a.name.now) c.requires.0 in
+    let k = rename-slot a.shape a.n a.head.now a.tail.now a.slot a.name.now c.requires.0 in
+    (o.head, o.tail, record { legal = c.requires.1; least = o.least }, omega arith, c.renamed-new.ensures.1, same_tables a.shape a.n a.head.now a.tail.now (rename a.slot a.name.now) c.requires.0)
+
+pub returns : goal.returns
+returns c =
+    let a = c.args in
+    edit-made a.shape a.n a.head.now a.tail.now (rename a.slot a.name.now) c.requires.0 _ _ _
+    (renamed-is a.shape a.n a.head.now a.tail.now a.slot _ _ c.entries_in.ensures.0 c.entry.ensures.0 _ a.name.now c.renamed-new.ensures.0)
+    c.put_both.ensures.0 c.put_both.ensures.1
