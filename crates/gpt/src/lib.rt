@@ -1,3 +1,5 @@
+#![tactic(auto)]
+
 // The GPT calls on a disk of 512-byte or 4,096-byte blocks. The caller lends the head (blocks 0 to 33, or 0 to 5) and the tail (the last 33 blocks, or 5),
 // and says N, the number of blocks, and the bytes of a block.
 // Every call takes any buffers and any numbers; its contract is one equation with `format_by` or `step_by` of gpt_model, for its answer and both buffers.

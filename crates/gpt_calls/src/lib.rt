@@ -1,3 +1,5 @@
+#![tactic(auto)]
+
 // The GPT calls on a disk of a shape: each asks its judge of gpt_checks first, and writes after, by gpt_edits or gpt_copies.
 // Its contract is one equation with `format` or `step` of gpt_model for its answer and both buffers afterwards.
 // An inner crate: no user calls it, so its functions have a `requires`, that the shape is legal, which gpt meets by the block size.

@@ -1,3 +1,5 @@
+#![tactic(auto)]
+
 // Reads layout strings: whether a text is one, its disk GUID, and each partition that it asks for.
 // An inner crate: no user calls it, so its functions may have a `requires`, which each caller meets.
 ghost use Rattle.std.specs.Prelude.{◌≡◌, true, cond, ◌≤◌, length};
