@@ -1,3 +1,5 @@
+#![tactic(auto)]
+
 // All refusals of a layout text, in their order: 50, the first fault in the text, then 54, 56, 57, 58 and 59 over the whole list; the sections as areas.
 // The sections and their places stand in two lent tables, in the first n rows.
 // An inner crate: no user calls it, so its functions may have a `requires`, which each caller meets.

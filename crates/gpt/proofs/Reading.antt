@@ -4,12 +4,11 @@ use mathlib.Core.List.{List, []}
 use mathlib.Core.Option.{Option, none, some}
 use Prim.Native.Nat.{ℕ}
 use Rattle.gpt_model.specs.Disk.{Shape}
-use Rattle.gpt_model.specs.Calls.{outcome, read}
-use Rattle.gpt_model.specs.Sizes.{shape_of, step_by}
+use Rattle.gpt_model.specs.Calls.{read}
+use Rattle.gpt_model.specs.Sizes.{shape_of}
 use Rattle.gpt_model.proofs.Sizes.{on_its_shape}
 use Rattle.gpt_places.specs.Sides.{behind}
-use Rattle.gpt_calls.specs.Answers.{reading_of, Handed, handed, entries_on, handed_on}
-use Rattle.gpt_calls.specs.declared.Reading.{Reading}
+use Rattle.gpt_calls.specs.Answers.{Handed, handed, entries_on, handed_on}
 use Rattle.gpt_calls.proofs.Found.{entries-of-reading}
 use Rattle.gpt.specs.Parts.{part_on, entries_by, handed_part}
 use Rattle.gpt.specs.Claims.{EntriesOfReading}

@@ -1,3 +1,5 @@
+#![tactic(auto)]
+
 // One partition of a layout string on the table that the earlier ones left: why it is refused, where it stands, and its entry.
 // An inner crate: no user calls it, so its functions may have a `requires`, which each caller meets.
 ghost use Rattle.std.specs.Prelude.{◌≡◌, ◌+◌, ◌≤◌, ◌<◌, length};

@@ -1,0 +1,11 @@
+use Rattle.gpt_build.proofs.Places.{uneven-given, uneven-size, uneven-lowest}
+use Rattle.gpt_build.proofs.uneven.Goals as goal
+
+pub returns-then-at-block-ne0 : goal.returns-then-at-block-ne0
+returns-then-at-block-ne0 c = uneven-given _ _ _ _ c.in-Given.is c.if-at-block-ne0.true
+
+pub returns-in-Lowest : goal.returns-in-Lowest
+returns-in-Lowest c = uneven-lowest _ _ _ c.in-Lowest.is
+
+pub returns-else-at-block-ne0 : goal.returns-else-at-block-ne0
+returns-else-at-block-ne0 c = uneven-size _ _ _ _ c.in-Given.is c.if-at-block-ne0.false
