@@ -28,11 +28,11 @@ const TAIL: usize = 16896;
 //     h000    the headers
 //     c000    state, free counts, sums and CRCs
 //     f000    format
-//     d_k00    delete slot K
-//     r_kSS    resize slot K to SS blocks
-//     a_kSS    the K-th add, of SS blocks
-//     m_k00    the K-th add, of 2^64 − 1 blocks
-//     w_k00    the K-th add, of all usable blocks
+//     dK00    delete slot K
+//     rKSS    resize slot K to SS blocks
+//     aKSS    the K-th add, of SS blocks
+//     mK00    the K-th add, of 2^64 − 1 blocks
+//     wK00    the K-th add, of all usable blocks
 fn show(rt: &impl Print, head: &[u8], tail: &[u8], n: u64, sums: Sums, letter: u8) -> io::Result<()>
     requires { (length head.now ≡ 17408) × (length tail.now ≡ 16896) }
 {
