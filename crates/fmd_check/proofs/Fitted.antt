@@ -66,7 +66,7 @@ spot-facts h e start size room r u f =
     let some = leb-true 1 size (and_l _ _ a) in (
       record {
         begin = refl;
-        reach = f _ refl refl some;
+        reach = f (record { offset = record { 0 = start }; size = size; parent = h.parent; level = h.level }) refl refl some;
         some = some;
         after = leb-true e start (and_r _ _ a);
         within = leb-true (start + size) room (and_r _ _ q);
