@@ -14,7 +14,6 @@ use Rattle.octets.proofs.Bools.{choice, clash, and_i, and_r, not_t}
 use Rattle.text_words.specs.Classes.{is_digit, digit_of}
 use Rattle.text_words.specs.Numerals.{some_digits, numeral_of}
 use Rattle.text_words.specs.declared.Numeral.{Numeral}
-use Rattle.text_words.specs.declared.Numeral.TheVariants.{Missing}
 use Rattle.fmd_lex.specs.Numbers.{scaled_after, number_in}
 use Rattle.fmd_lex.specs.Names.{good_name, flag_of}
 use Rattle.fmd_lex.specs.declared.Number.{Number}

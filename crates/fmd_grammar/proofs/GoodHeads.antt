@@ -127,7 +127,7 @@ module _ (p n lv par : ℕ) where
       sign-good 41 (ret (h true true)) (λ e. ret (h true true)) (item (mark_act (h true true))) (λ e. item (mark_act (h true true)))
       (λ c. ret-good (h true true) (true, true, g c, refl))
       (item-good (mark_act (h true true)) (mark-steady (h true true))
-      (mark-fine _ (λ (us : List Lexeme). FlagsOn (o ++ us)) (h true true)
+      (mark-fine (λ (us : List Lexeme) (x : Section). Flagged p n lv par (o ++ us) x) (λ (us : List Lexeme). FlagsOn (o ++ us)) (h true true)
       (sign 0 41 ∷ [], true, true, subst (λ (r : List Lexeme). OptionalFlags (r ++ (sign 0 41 ∷ [])) true true) (sym (append-nil o)) (g 0))
       (λ q. inl ([], true, true, subst (λ (r : List Lexeme). OptionalFlags r true true) (sym (append-nil (o ++ (sign q 41 ∷ [])))) (g q)))
       (λ z. absurd (clash refl z)) (λ z. absurd (clash refl z))))
