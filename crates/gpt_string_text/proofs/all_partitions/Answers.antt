@@ -1,5 +1,4 @@
 use mathlib.Core.Path.{sym, ◌∙◌}
-use Prim.Native.Nat.{◌-◌}
 use native.Mathlib.Omega.{arith}
 use borrow.Author.Tests.{not-true, not-false}
 use Rattle.gpt_string_text.proofs.Text.{partition-good, all-wrong, all-last, all-on, all_end}
@@ -16,7 +15,7 @@ returns-then-not-read c =
     let text = args.text.now in
     let w = find in
     let g = partition-good _ read.result read.ensures in
-    sym (all-wrong text loop.i w.result w.ensures.0 loop-test.true w.ensures.1.1 _ g (not-true _ if1.true)) ∙ loop.invariant.1
+    sym (all-wrong text loop.i w.result w.ensures.value loop-test.true w.ensures.within.1 _ g (not-true _ if1.true)) ∙ loop.invariant.1
 
 pub returns-then-end-text : goal.returns-then-end-text
 returns-then-end-text c =
@@ -30,7 +29,7 @@ returns-then-end-text c =
     let text = args.text.now in
     let w = find in
     let g = partition-good _ read.result read.ensures in
-    sym (all-last text loop.i w.result w.ensures.0 loop-test.true w.ensures.1.1 _ g (not-false _ if1.false) if2.true) ∙
+    sym (all-last text loop.i w.result w.ensures.value loop-test.true w.ensures.within.1 _ g (not-false _ if1.false) if2.true) ∙
     loop.invariant.1
 
 pub loop-i-preserved : goal.loop-i-preserved
@@ -46,7 +45,7 @@ loop-i-preserved c =
     let w = find in
     let g = partition-good _ read.result read.ensures in (
       omega arith,
-      sym (all-on text loop.i w.result w.ensures.0 loop-test.true w.ensures.1.1 _ g (not-false _ if1.false) if2.false) ∙
+      sym (all-on text loop.i w.result w.ensures.value loop-test.true w.ensures.within.1 _ g (not-false _ if1.false) if2.false) ∙
           loop.invariant.1,
     )
 

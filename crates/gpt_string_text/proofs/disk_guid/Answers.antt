@@ -8,4 +8,4 @@ returns c =
     let disk-in = c.disk_in-disk in
     let pre = c.requires in
     let w = find in
-    disk-guid-is args.text.now w.result disk-in.result pre w.ensures.0 w.ensures.1.1 disk-in.ensures
+    disk-guid-is args.text.now w.result disk-in.result pre w.ensures.value w.ensures.within.1 disk-in.ensures

@@ -18,8 +18,8 @@ returns-then-same c =
     let guid-in = c.guid_in in
     let d = args.d.now in
     let n = key-length in
-    let k = ap (λ (x : List ℕ). same x (ascii "uuid_disk=")) (sym (key-lent d n.result n.ensures.0)) ∙ sym equal.ensures ∙ if1.true in
-    guid-in.ensures ∙ ap (λ (x : List ℕ). cond (is_guid_text x) (some (stored_of x)) none) (value_lent d n.result n.ensures.0) ∙ disk-keyed d k
+    let k = ap (λ (x : List ℕ). same x (ascii "uuid_disk=")) (sym (key-lent d n.result n.ensures.value)) ∙ sym equal.ensures ∙ if1.true in
+    guid-in.ensures ∙ ap (λ (x : List ℕ). cond (is_guid_text x) (some (stored_of x)) none) (value_lent d n.result n.ensures.value) ∙ disk-keyed d k
 
 pub returns : goal.returns
 returns c =
@@ -29,4 +29,4 @@ returns c =
     let if1 = c.if-same in
     let d = args.d.now in
     let n = key-length in
-    disk-other d (ap (λ (x : List ℕ). same x (ascii "uuid_disk=")) (sym (key-lent d n.result n.ensures.0)) ∙ sym equal.ensures ∙ if1.false)
+    disk-other d (ap (λ (x : List ℕ). same x (ascii "uuid_disk=")) (sym (key-lent d n.result n.ensures.value)) ∙ sym equal.ensures ∙ if1.false)

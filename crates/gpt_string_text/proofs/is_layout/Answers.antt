@@ -12,7 +12,7 @@ returns-then-text-end-le1 c =
     let args = c.args in
     let if1 = c.if-text-gt8192 in
     let w = find in
-    layout-few args.text.now if1.false w.result w.ensures.0 w.ensures.1.1 (omega arith)
+    layout-few args.text.now if1.false w.result w.ensures.value w.ensures.within.1 (omega arith)
 
 pub returns-then-disk : goal.returns-then-disk
 returns-then-disk c =
@@ -24,7 +24,7 @@ returns-then-disk c =
     let all-partitions = c.all_partitions in
     let w = find in
     let g = guid-good _ _ disk-in.result disk-in.ensures in
-    layout-disked args.text.now if1.false w.result w.ensures.0 w.ensures.1.1 (omega arith) _ _ g if3.true all-partitions.ensures
+    layout-disked args.text.now if1.false w.result w.ensures.value w.ensures.within.1 (omega arith) _ _ g if3.true all-partitions.ensures
 
 pub returns : goal.returns
 returns c =
@@ -35,4 +35,4 @@ returns c =
     let if3 = c.if-disk in
     let w = find in
     let g = guid-good _ _ disk-in.result disk-in.ensures in
-    layout-undisked args.text.now if1.false w.result w.ensures.0 w.ensures.1.1 (omega arith) _ g if3.false
+    layout-undisked args.text.now if1.false w.result w.ensures.value w.ensures.within.1 (omega arith) _ g if3.false

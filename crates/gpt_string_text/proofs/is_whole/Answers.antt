@@ -5,7 +5,7 @@ use Rattle.gpt_string_text.proofs.is_whole.Goals as goal
 
 pub returns-then-not-f : goal.returns-then-not-f
 unfolding is_whole ◌and◌
-returns-then-not-f c = rw c.if-not-f.true
+returns-then-not-f c = rw (not-true c.args.f.good c.if-not-f.true)
 
 pub returns-then-not-f-2 : goal.returns-then-not-f-2
 unfolding is_whole ◌and◌

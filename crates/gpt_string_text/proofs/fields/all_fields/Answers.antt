@@ -1,4 +1,3 @@
-use Prim.Native.Nat.{◌-◌}
 use borrow.Author.Tests.{not-true, not-false}
 use Rattle.gpt_string_text.proofs.Taken.{read-to-none, read-to-wrong, read-to-last, read-to-on}
 use Rattle.gpt_string_text.proofs.fields.all_fields.Goals as goal
@@ -15,7 +14,7 @@ returns-then-not-f c =
     let if1 = c.if-not-f in
     let p = args.p.now in
     let w = find in
-    read-to-wrong p loop.f took.result loop.i w.result w.ensures.0 w.ensures.1.1 loop.invariant took.ensures (not-true _ if1.true)
+    read-to-wrong p loop.f took.result loop.i w.result w.ensures.value w.ensures.within.1 loop.invariant took.ensures (not-true _ if1.true)
 
 pub returns-then-end-p : goal.returns-then-end-p
 returns-then-end-p c =
@@ -27,7 +26,7 @@ returns-then-end-p c =
     let if2 = c.if-end-p in
     let p = args.p.now in
     let w = find in
-    read-to-last p loop.f took.result loop.i w.result w.ensures.0 w.ensures.1.1 loop.invariant took.ensures
+    read-to-last p loop.f took.result loop.i w.result w.ensures.value w.ensures.within.1 loop.invariant took.ensures
     (not-false _ if1.false) if2.true
 
 pub loop-f-preserved : goal.loop-f-preserved
@@ -40,5 +39,5 @@ loop-f-preserved c =
     let if2 = c.if-end-p in
     let p = args.p.now in
     let w = find in
-    read-to-on p loop.f took.result loop.i w.result w.ensures.0 w.ensures.1.1 loop.invariant took.ensures
+    read-to-on p loop.f took.result loop.i w.result w.ensures.value w.ensures.within.1 loop.invariant took.ensures
     (not-false _ if1.false) if2.false

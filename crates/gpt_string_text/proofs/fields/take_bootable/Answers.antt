@@ -9,8 +9,8 @@ use Rattle.gpt_string_text.proofs.fields.take_bootable.Goals as goal
 
 pub returns-then-known : goal.returns-then-known
 unfolding fields_in
-returns-then-known c = wrong-none _ c.wrong.ensures ∙ field-twice fs f _ q (sym (ap (λ (x : FieldsRead). x.bootable) e) ∙ c.if-known.true)
+returns-then-known c f q v fs e = wrong-none _ c.wrong.ensures ∙ field-twice fs f _ q (sym (ap (λ (x : FieldsRead). x.bootable) e) ∙ c.if-known.true)
 
 pub returns : goal.returns
 unfolding fields_in same ◌and◌
-returns c = rw e (field-on fs f _ q (sym (ap (λ (x : FieldsRead). x.bootable) e) ∙ c.if-known.false) (bootable-field f q))
+returns c f q v fs e = rw e (field-on fs f _ q (sym (ap (λ (x : FieldsRead). x.bootable) e) ∙ c.if-known.false) (bootable-field f q))

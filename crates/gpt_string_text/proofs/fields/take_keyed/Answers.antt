@@ -1,30 +1,29 @@
 use mathlib.Core.Path.{sym, ◌∙◌}
 use Rattle.octets.proofs.Equal.{same_true}
-use Rattle.octets.specs.Bytes.{same}
 use Rattle.gpt_string_model.proofs.Asked.{no_field}
 use Rattle.gpt_string_text.proofs.Taken.{wrong-none, field-bad}
 use Rattle.gpt_string_text.proofs.fields.take_keyed.Goals as goal
 
 pub returns-then-same : goal.returns-then-same
-returns-then-same c = c.take_name.ensures f (q ∙ same_true _ _ (sym c.same.ensures ∙ c.if-same.true)) v fs e
+returns-then-same c f q v fs e = c.take_name.ensures f (q ∙ same_true _ _ (sym c.same.ensures ∙ c.if-same.true)) v fs e
 
 pub returns-then-same-2 : goal.returns-then-same-2
-returns-then-same-2 c = c.take_size.ensures f (q ∙ same_true _ _ (sym c.same-2.ensures ∙ c.if-same-2.true)) v fs e
+returns-then-same-2 c f q v fs e = c.take_size.ensures f (q ∙ same_true _ _ (sym c.same-2.ensures ∙ c.if-same-2.true)) v fs e
 
 pub returns-then-same-3 : goal.returns-then-same-3
-returns-then-same-3 c = c.take_uuid.ensures f (q ∙ same_true _ _ (sym c.same-3.ensures ∙ c.if-same-3.true)) v fs e
+returns-then-same-3 c f q v fs e = c.take_uuid.ensures f (q ∙ same_true _ _ (sym c.same-3.ensures ∙ c.if-same-3.true)) v fs e
 
 pub returns-then-same-4 : goal.returns-then-same-4
-returns-then-same-4 c = c.take_start.ensures f (q ∙ same_true _ _ (sym c.same-4.ensures ∙ c.if-same-4.true)) v fs e
+returns-then-same-4 c f q v fs e = c.take_start.ensures f (q ∙ same_true _ _ (sym c.same-4.ensures ∙ c.if-same-4.true)) v fs e
 
 pub returns-then-same-5 : goal.returns-then-same-5
-returns-then-same-5 c = c.take_type.ensures f (q ∙ same_true _ _ (sym c.same-5.ensures ∙ c.if-same-5.true)) v fs e
+returns-then-same-5 c f q v fs e = c.take_type.ensures f (q ∙ same_true _ _ (sym c.same-5.ensures ∙ c.if-same-5.true)) v fs e
 
 pub returns-then-same-6 : goal.returns-then-same-6
-returns-then-same-6 c = c.take_bootable.ensures f (q ∙ same_true _ _ (sym c.same-6.ensures ∙ c.if-same-6.true)) v fs e
+returns-then-same-6 c f q v fs e = c.take_bootable.ensures f (q ∙ same_true _ _ (sym c.same-6.ensures ∙ c.if-same-6.true)) v fs e
 
 pub returns : goal.returns
-returns c =
+returns c f q v fs e =
     let equal = c.same in
     let if1 = c.if-same in
     let equal2 = c.same-2 in

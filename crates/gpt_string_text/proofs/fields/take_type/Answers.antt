@@ -16,10 +16,10 @@ use Rattle.gpt_string_text.proofs.fields.take_type.Goals as goal
 
 pub returns-then-known : goal.returns-then-known
 unfolding fields_in
-returns-then-known c = wrong-none _ c.wrong.ensures ∙ field-twice fs f _ q (sym (ap (λ (x : FieldsRead). x.typed) e) ∙ c.if-known.true)
+returns-then-known c f q v fs e = wrong-none _ c.wrong.ensures ∙ field-twice fs f _ q (sym (ap (λ (x : FieldsRead). x.typed) e) ∙ c.if-known.true)
 
 pub returns-then-not-read : goal.returns-then-not-read
-returns-then-not-read c =
+returns-then-not-read c f q v fs e =
     let type-in = c.type_in-read in
     let if2 = c.if-not-read in
     let wrong2 = c.wrong-then-not-read in
@@ -29,7 +29,7 @@ returns-then-not-read c =
 
 pub returns : goal.returns
 unfolding fields_in same ◌and◌
-returns c =
+returns c f q v fs e =
     let type-in = c.type_in-read in
     let if2 = c.if-not-read in
     let if1 = c.if-known in

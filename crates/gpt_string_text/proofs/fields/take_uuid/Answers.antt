@@ -12,10 +12,10 @@ use Rattle.gpt_string_text.proofs.fields.take_uuid.Goals as goal
 
 pub returns-then-known : goal.returns-then-known
 unfolding fields_in
-returns-then-known c = wrong-none _ c.wrong.ensures ∙ field-twice fs f _ q (sym (ap (λ (x : FieldsRead). x.identified) e) ∙ c.if-known.true)
+returns-then-known c f q v fs e = wrong-none _ c.wrong.ensures ∙ field-twice fs f _ q (sym (ap (λ (x : FieldsRead). x.identified) e) ∙ c.if-known.true)
 
 pub returns-then-not-read : goal.returns-then-not-read
-returns-then-not-read c =
+returns-then-not-read c f q v fs e =
     let guid-in = c.guid_in-read in
     let if2 = c.if-not-read in
     let wrong2 = c.wrong-then-not-read in
@@ -24,7 +24,7 @@ returns-then-not-read c =
 
 pub returns : goal.returns
 unfolding fields_in same ◌and◌
-returns c =
+returns c f q v fs e =
     let guid-in = c.guid_in-read in
     let if2 = c.if-not-read in
     let if1 = c.if-known in
