@@ -268,7 +268,8 @@ unfolding image_p
 image-complete p n q a w v g o m i j us =
     rw (g, addresses-complete p (length w) o (word q v ∷ sign a 123 ∷ us) tt, m, and_i _ _ (le-leb 98 n i) (le-leb n 16777216 j))
 
-pub layout-complete : {ts : List Lexeme} {i : TextImage} {l : List Section} → LayoutText 128 8 ts i l → (f : ℕ) → 2 * length ts ≤ f → layout_p f ts ≡ ok (i, l) []
+pub layout-complete : {ts : List Lexeme} {i : TextImage} {l : List Section} → LayoutText 128 8 ts i l → (f : ℕ) → 2 * length ts ≤ f
+    → layout_p f ts ≡ ok (i, l) []
 unfolding layout_p
 layout-complete (image {place = p} {n} q a b c {name = w} v {os} {ts} g o m x y d) f h =
     rw (

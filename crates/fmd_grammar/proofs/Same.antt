@@ -113,7 +113,8 @@ same_name {s} {t} (word p w ∷ xs) v lv par n =
   where
     by_rows : Worded s t p w xs → (b c d : Bool)
         → Parts s (cond (not b) (Fault BadName t.start) (cond c (Fault TooMany t.start) (cond d (Fault TooMany t.start) (Read (bare t lv par) (next s t)))))
-        (acted (cond (not b) (stop 53) (cond c (stop 55) (cond d (stop 55) (eat (built p (length w) lv par false false OmittedOffset OmittedSize))))) (word p w) xs)
+        (acted (cond (not b) (stop 53) (cond c (stop 55) (cond d (stop 55) (eat (built p (length w) lv par false false OmittedOffset OmittedSize)))))
+        (word p w) xs)
     by_rows a false c d = (refl, a.place)
     by_rows a true true d = (refl, a.place)
     by_rows a true false true = (refl, a.place)

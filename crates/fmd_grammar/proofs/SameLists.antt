@@ -18,8 +18,8 @@ use Rattle.fmd_table.specs.declared.Section.{Section}
 use Rattle.fmd_head.specs.Refusals.{number_of as refusal_number}
 use Rattle.fmd_head.specs.Heads.{next, is_kind, counted, amount_at, head_at}
 use Rattle.fmd_head.specs.Images.{onward, title_at, set_address, with_address, address_at, set_length, with_length, length_at, open_at, image_at}
-use Rattle.fmd_parse.specs.Layouts.{Parsed, fault, parsed, after_head, after_section, section_from, list_from, Layout, layout, refused, after_image, after_list}
-use Rattle.fmd_parse.specs.Layouts.{ended_by, layout_of}
+use Rattle.fmd_parse.specs.Layouts.{Parsed, fault, parsed, after_head, after_section, section_from, list_from}
+use Rattle.fmd_parse.specs.Layouts.{Layout, layout, refused, after_image, after_list, ended_by, layout_of}
 use Rattle.fmd_head.specs.declared.Refusal.TheVariants.{BadNumber, BadName}
 use Rattle.fmd_head.specs.declared.Address.TheVariants.{Omitted}
 use Rattle.fmd_head.specs.declared.Amount.{Amount}
@@ -126,12 +126,14 @@ module _ {s : List ℕ} where
   same_length {t} (word p w ∷ xs) v i = let a = as-word v in rw (a.kind, a.bytes) (by_number a (number_in w))
     where
       in-range : Worded s t p w xs → (n : ℕ) (b : Bool)
-          → Imaged s (cond b (ReadImage (set_length n i) (next s t)) (FaultImage BadNumber t.start)) (acted (cond b (eat (set_length n i)) (stop 52)) (word p w) xs)
+          → Imaged s (cond b (ReadImage (set_length n i) (next s t)) (FaultImage BadNumber t.start))
+          (acted (cond b (eat (set_length n i)) (stop 52)) (word p w) xs)
       in-range a n true = (refl, a.then)
       in-range a n false = (refl, a.place)
 
       by_number : Worded s t p w xs → (n : Number)
-          → Imaged s (with_length i t (counted s t n)) (acted (valued n (λ m. cond (leb 98 m and leb m 16777216) (eat (set_length m i)) (stop 52))) (word p w) xs)
+          → Imaged s (with_length i t (counted s t n))
+          (acted (valued n (λ m. cond (leb 98 m and leb m 16777216) (eat (set_length m i)) (stop 52))) (word p w) xs)
       by_number a (Value n) = in-range a n (leb 98 n and leb n 16777216)
       by_number a Wrong = (refl, a.place)
 
@@ -181,7 +183,8 @@ same_layout s = by-image (image_at s (token_at s 0)) (image_p (lexemes_of s)) (s
     by-list i j e (fault n p) (no m q) w = w
 
     by-image : (q : Heading) (g : Got TextImage) → Imaged s q g
-        → Whole (after_image q (λ i t. after_list (list_from f s t 1 128 []) (ended_by i))) (after g (λ i. bind (list_p f 1 128 []) (λ l. item (must_be 0 (i, l)))))
+        → Whole (after_image q (λ i t. after_list (list_from f s t 1 128 []) (ended_by i)))
+        (after g (λ i. bind (list_p f 1 128 []) (λ l. item (must_be 0 (i, l)))))
     by-image (ReadImage i u) (ok j us) w = by-list i j w.0 (list_from f s u 1 128 []) (list_p f 1 128 [] us) (same-list f us w.1 1 128 [])
     by-image (ReadImage i u) (no m p) w = absurd w
     by-image (FaultImage r p) (ok i us) w = absurd w
