@@ -2,7 +2,6 @@ pub mod Answers
 pub mod Filled
 pub mod Records
 pub mod Layouts
-pub mod Tables
 pub mod Writable
 pub mod Claims
 pub mod Listings

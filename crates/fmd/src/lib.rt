@@ -1,3 +1,5 @@
+#![tactic(auto)]
+
 // The layout language: a layout text read, listed as sections, and written as a map into an image.
 ghost use Rattle.std.specs.Prelude.{map, ◌≡◌, ◌+◌, ◌≤◌, ◌<◌, length};
 ghost use Rattle.std.proofs.Math.Option.{none};
