@@ -1,3 +1,5 @@
+#![tactic(auto)]
+
 // Layout strings of the boot loader become a disk: the text is judged as a whole first, then each partition is placed on one table, and head and tail are
 // written once, at the end. The contract of `build` is one equation with `build_by` of gpt_string_model for its answer and both buffers afterwards.
 ghost use Rattle.std.specs.Prelude.{◌≡◌, true, ◌≤◌, length};
