@@ -12,28 +12,38 @@ PREFIX = /usr/local
 DESTDIR =
 SECONDS_PER_CALL = 30
 BENCH =
-C_CRATES = c_text c_disk c_string c_flash c_layout
+C_CRATES = c_text c_disk_c c_string c_flash c_layout
 ARCHIVE = target/staticlib/libusigrambal.a
+BENCH_ARCHIVE = target/staticlib/libbench_octets.a
 SONAME = libusigrambal.so.3
 SHARED = target/sharedlib/$(SONAME)
 COMMAND = target/command/release/usigrambal
 PAGES = target/pages
-SOURCES = crates.txt $(shell find crates -name '*.rt' -o -name '*.antt')
+SOURCES = crates.txt $(shell find crates -name out -prune -o \( -name '*.rt' -o -name '*.antt' \) -print)
 VERSION = $(shell sed -n 's/^version = "\(.*\)"/\1/p' host/Cargo.toml)
 
 run:
-	rt check fmd_list
-	target/bin/fmd_list <examples/sample10.fmd
+	cd crates/fmd_list && rt run <../../examples/sample10.fmd
 
 archive: $(ARCHIVE)
 
 shared: $(SHARED)
 
-# The archive of each crate has its exported functions alone; `ar` joins them.
+# The archive of each crate, crates/NAME/out/libNAME.a, has its exported functions alone; `ar` joins them. They are built side by side: each waits for what
+# another one proves below it.
 $(ARCHIVE): $(SOURCES)
 	@echo 'proving and compiling the library: about five minutes on two processors, less where proofs are kept from before'
-	for crate in $(C_CRATES); do rt staticlib $$crate >/dev/null || exit 1; done
-	cd target/staticlib && { echo create libusigrambal.a; printf 'addlib lib%s.a\n' $(C_CRATES); echo save; } | ar -M
+	builds=; for crate in $(C_CRATES); do (cd crates/$$crate && exec rt lib >/dev/null) & builds="$$builds $$!"; done; \
+	    for build in $$builds; do wait $$build || exit 1; done
+	mkdir -p target/staticlib
+	cd target/staticlib && { echo create libusigrambal.a; for crate in $(C_CRATES); do echo "addlib ../../crates/$$crate/out/lib$$crate.a"; done; \
+	    echo save; } | ar -M
+
+# What the benchmark alone calls.
+$(BENCH_ARCHIVE): $(SOURCES)
+	cd crates/bench_octets && rt lib >/dev/null
+	mkdir -p target/staticlib
+	cp crates/bench_octets/out/libbench_octets.a $(BENCH_ARCHIVE)
 
 # The archive's code is position independent. Only the calls are seen from outside.
 $(SHARED): $(ARCHIVE)
@@ -84,9 +94,8 @@ uninstall:
 test:
 	.ci/run
 
-bench: archive command
-	rt check fmd_list >/dev/null
-	rt staticlib bench_octets >/dev/null
+bench: archive command $(BENCH_ARCHIVE)
+	cd crates/fmd_list && rt run </dev/null >/dev/null
 	tests/moves
 	host/bench/peers/make
 	cd host && cargo build --release --quiet

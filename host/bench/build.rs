@@ -3,5 +3,5 @@
 include!("../archive.rs");
 
 fn main() {
-    link_archive("bench_octets", "rt staticlib bench_octets");
+    link_archive("bench_octets", "make target/staticlib/libbench_octets.a");
 }

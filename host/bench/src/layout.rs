@@ -67,9 +67,9 @@ struct Programs {
 impl Programs {
     /// Both are there and say the same of the text; or what is missing.
     fn ready() -> Result<Programs, String> {
-        let list = testkit::host().join("../target/bin/fmd_list");
+        let list = testkit::host().join("../crates/fmd_list/out/fmd_list");
         if !list.is_file() {
-            return Err("target/bin/fmd_list (`rt check fmd_list` builds it)".into());
+            return Err("crates/fmd_list/out/fmd_list (`rt run` in crates/fmd_list builds it)".into());
         }
         peers::program(fmaptool::TOOL, fmaptool::PACKAGE)?;
         let programs = Programs { list, text: Scratch::new(), map: Scratch::new() };
