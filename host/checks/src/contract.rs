@@ -108,7 +108,7 @@ fn bare<'a, 'b>(term: &'b [&'a str]) -> &'b [&'a str] {
 }
 
 /// Signs that make something else of a term than one equation.
-const CONNECTIVES: [&str; 11] = ["×", "→", "⊎", "∨", "∧", "¬", "∀", "∃", "Σ", "λ", ","];
+const CONNECTIVES: [&str; 15] = ["×", "→", "⊎", "∨", "∧", "¬", "∀", "∃", "Σ", "λ", ",", "⌜", "⌝", "let", "∗"];
 
 /// The two sides of a term that is one equation.
 fn sides<'a, 'b>(term: &'b [&'a str]) -> Option<(&'b [&'a str], &'b [&'a str])> {
@@ -122,14 +122,25 @@ fn sides<'a, 'b>(term: &'b [&'a str]) -> Option<(&'b [&'a str], &'b [&'a str])> 
     }
 }
 
-/// The name of the answer and the term of an `ensures`: `λ r. ⌜ TERM ⌝`.
-fn opened(ensures: &str) -> Option<(&str, &str)> {
-    let (answer, rest) = ensures.trim().strip_prefix('λ')?.split_once('.')?;
-    Some((answer.trim(), rest.trim().strip_prefix('⌜')?.strip_suffix('⌝')?))
+/// A name and what it is of: `NAME`, `NAME.0`, `NAME.field`.
+fn is_of(token: &str, name: &str) -> bool {
+    token.strip_prefix(name).is_some_and(|rest| rest.is_empty() || rest.starts_with('.'))
 }
 
-fn speaks_of_exit(side: &[&str], name: &str) -> bool {
-    side.windows(2).any(|pair| pair == [name, ".exit"])
+/// Whether a term speaks of the answer, `result`; a record's field of that name, `result = ..`, does not.
+fn speaks_of_answer(term: &[&str]) -> bool {
+    let field = |i: usize| term.get(i + 1) == Some(&"=");
+    (0..term.len()).any(|i| is_of(term[i], "result") && !field(i))
+}
+
+fn speaks_of_exit(term: &[&str], name: &str) -> bool {
+    let exit = format!("{name}.new");
+    term.iter().any(|token| is_of(token, &exit))
+}
+
+/// Whether a term speaks of what any lent buffer is afterwards.
+fn speaks_of_an_exit(term: &[&str]) -> bool {
+    term.iter().any(|token| token.split('.').skip(1).any(|part| part == "new"))
 }
 
 /// The imports that a contract names and that a specs/ folder defines.
@@ -154,10 +165,10 @@ pub fn faults(callable: &Callable, definitions: &Definitions) -> Vec<String> {
 }
 
 fn ensures_faults(callable: &Callable, definitions: &Definitions, ensures: &str) -> Vec<String> {
-    let Some((answer, term)) = opened(ensures) else {
-        return vec!["its `ensures` is not of the form `λ r. ⌜ .. ⌝`".to_string()];
-    };
-    let words = tokens(term);
+    if callable.function.starred {
+        return vec!["its `ensures` is starred: an assertion, and no equation".to_string()];
+    }
+    let words = tokens(ensures);
     let Some((left, right)) = sides(&words) else {
         return vec!["its `ensures` is not one equation".to_string()];
     };
@@ -166,15 +177,15 @@ fn ensures_faults(callable: &Callable, definitions: &Definitions, ensures: &str)
     if left == right {
         found.push("both sides of its `ensures` are the same".to_string());
     }
-    if f.answers && (answer == "_" || !left.contains(&answer)) {
+    if f.answers && !speaks_of_answer(left) {
         found.push("the left side of its `ensures` does not hold the answer".to_string());
     }
     for name in f.lent.iter().filter(|name| !speaks_of_exit(left, name)) {
         found.push(format!(
-            "the left side of its `ensures` does not hold `{name} .exit`, which is lent to be written"
+            "the left side of its `ensures` does not hold `{name}.new`, which is lent to be written"
         ));
     }
-    if right.contains(&".exit") || (answer != "_" && right.contains(&answer)) {
+    if speaks_of_an_exit(right) || speaks_of_answer(right) {
         found.push("the right side of its `ensures` speaks of the outcome".to_string());
     }
     if named(callable, definitions, &right.join(" ")).is_empty() {
@@ -184,62 +195,85 @@ fn ensures_faults(callable: &Callable, definitions: &Definitions, ensures: &str)
 }
 
 /// Contracts with what must be said of each; none for the good ones.
-const SAMPLES: [(&str, &str, &str); 16] = [
-    ("an equation", "pub fn f(x: u8) -> u8 ensures { λ r. ⌜ r ≡ next x ⌝ } { x }", ""),
+const SAMPLES: [(&str, &str, &str); 23] = [
+    ("an equation", "pub fn f(x: u8) -> u8 ensures { result ≡ next x } { x }", ""),
+    ("an equation of a part", "pub fn f(x: u8) -> u8 ensures { result.0 ≡ next x } { x }", ""),
     (
         "a record with a lent buffer",
-        "pub fn f(s: &mut [u8], k: u64) -> u32 ensures { λ a. ⌜ (record { result = a; bytes = now (s .exit) } ≡ told k (now (s .entry))) ⌝ } { 0 }",
+        "pub fn f(s: &mut [u8], k: u64) -> u32 ensures { (record { result = result; bytes = s.new } ≡ told k s.old) } { 0 }",
         "",
     ),
-    ("no answer", "pub fn f<'a>(s: &'a mut [u8]) ensures { λ _. ⌜ now (s .exit) ≡ zeroed (now (s .entry)) ⌝ } { }", ""),
-    ("a requires", "pub fn f(x: u8) -> u8 requires { ⌜ x < 16 ⌝ } ensures { λ r. ⌜ r ≡ next x ⌝ } { x }", "it has a `requires`"),
+    ("a clause with a name", "pub fn f(x: u8) -> u8 ensures value { result ≡ next x } { x }", ""),
+    ("no answer", "pub fn f<'a>(s: &'a mut [u8]) ensures { s.new ≡ zeroed s.old } { }", ""),
+    ("a requires", "pub fn f(x: u8) -> u8 requires { x < 16 } ensures { result ≡ next x } { x }", "it has a `requires`"),
+    ("a requires with a name", "pub fn f(x: u8) -> u8 requires small { x < 16 } ensures { result ≡ next x } { x }", "it has a `requires`"),
     ("no ensures", "pub fn f(x: u8) -> u8 { x }", "it has no `ensures`"),
     (
+        "two ensures",
+        "pub fn f(x: u8) -> u8 ensures value { result ≡ next x } ensures low { result ≡ next x } { x }",
+        "it has more than one `ensures`",
+    ),
+    (
+        "an assertion",
+        "pub fn f(x: u8) -> u8 ensures* { ⌜ result ≡ next x ⌝ } { x }",
+        "its `ensures` is starred: an assertion, and no equation",
+    ),
+    (
         "no definition",
-        "pub fn f(x: u8) -> u8 ensures { λ r. ⌜ r ≡ x + 1 ⌝ } { x }",
+        "pub fn f(x: u8) -> u8 ensures { result ≡ x + 1 } { x }",
         "the right side of its `ensures` names no definition of a specs/ folder",
     ),
     (
         "a law for a definition",
-        "pub fn f(x: u8) -> u8 ensures { λ r. ⌜ r ≡ proved x ⌝ } { x }",
+        "pub fn f(x: u8) -> u8 ensures { result ≡ proved x } { x }",
         "the right side of its `ensures` names no definition of a specs/ folder",
     ),
     (
         "a name that its file of specs/ has not",
-        "pub fn f(x: u8) -> u8 ensures { λ r. ⌜ r ≡ gone x ⌝ } { x }",
+        "pub fn f(x: u8) -> u8 ensures { result ≡ gone x } { x }",
         "the right side of its `ensures` names no definition of a specs/ folder",
     ),
     (
         "a definition on the left alone",
-        "pub fn f(x: u8) -> u8 ensures { λ r. ⌜ next r ≡ x ⌝ } { x }",
+        "pub fn f(x: u8) -> u8 ensures { next result ≡ x } { x }",
         "the right side of its `ensures` names no definition of a specs/ folder",
     ),
     (
         "a lent buffer passed over",
-        "pub fn f(s: &mut [u8], t: &mut u64) -> u32 ensures { λ r. ⌜ record { result = r; bytes = now (s .exit) } ≡ told (now (t .entry)) ⌝ } { 0 }",
-        "the left side of its `ensures` does not hold `t .exit`, which is lent to be written",
+        "pub fn f(s: &mut [u8], t: &mut u64) -> u32 ensures { record { result = result; bytes = s.new } ≡ told t.old } { 0 }",
+        "the left side of its `ensures` does not hold `t.new`, which is lent to be written",
     ),
     (
         "a lent buffer as it was",
-        "pub fn f(s: &mut [u8]) -> u32 ensures { λ r. ⌜ record { result = r; bytes = now (s .entry) } ≡ told (now (s .entry)) ⌝ } { 0 }",
-        "the left side of its `ensures` does not hold `s .exit`, which is lent to be written",
+        "pub fn f(s: &mut [u8]) -> u32 ensures { record { result = result; bytes = s.old } ≡ told s.old } { 0 }",
+        "the left side of its `ensures` does not hold `s.new`, which is lent to be written",
     ),
     (
         "an answer passed over",
-        "pub fn f(s: &mut [u8]) -> u32 ensures { λ r. ⌜ now (s .exit) ≡ zeroed (now (s .entry)) ⌝ } { 0 }",
+        "pub fn f(s: &mut [u8]) -> u32 ensures { s.new ≡ zeroed s.old } { 0 }",
         "the left side of its `ensures` does not hold the answer",
     ),
-    ("a product", "pub fn f(x: u8) -> u8 ensures { λ r. ⌜ (r ≡ next x) × (r < 60) ⌝ } { x }", "its `ensures` is not one equation"),
-    ("a condition", "pub fn f(x: u8) -> u8 ensures { λ r. ⌜ x < 16 → r ≡ next x ⌝ } { x }", "its `ensures` is not one equation"),
-    ("a bare fact", "pub fn f(x: u8) -> u8 ensures { λ r. ⌜ Near r ⌝ } { x }", "its `ensures` is not one equation"),
+    (
+        "an answer named as a field alone",
+        "pub fn f(s: &mut [u8]) -> u32 ensures { record { result = 0; bytes = s.new } ≡ told s.old } { 0 }",
+        "the left side of its `ensures` does not hold the answer",
+    ),
+    (
+        "the outcome on the right",
+        "pub fn f(s: &mut [u8]) -> u32 ensures { record { result = result; bytes = s.new } ≡ told s.new } { 0 }",
+        "the right side of its `ensures` speaks of the outcome",
+    ),
+    ("a product", "pub fn f(x: u8) -> u8 ensures { (result ≡ next x) × (result < 60) } { x }", "its `ensures` is not one equation"),
+    ("a condition", "pub fn f(x: u8) -> u8 ensures { x < 16 → result ≡ next x } { x }", "its `ensures` is not one equation"),
+    ("a bare fact", "pub fn f(x: u8) -> u8 ensures { Near result } { x }", "its `ensures` is not one equation"),
     (
         "the same on both sides",
-        "pub fn f(x: u8) -> u8 ensures { λ r. ⌜ next r ≡ next r ⌝ } { x }",
+        "pub fn f(x: u8) -> u8 ensures { next result ≡ next result } { x }",
         "both sides of its `ensures` are the same",
     ),
 ];
 
-const SAMPLE_IMPORTS: &str = "ghost use Rattle·k·specs.specs.Calls.{next, plain as zeroed, told, gone, Near};\nghost use Rattle·k.proofs.Laws.{proved};\n";
+const SAMPLE_IMPORTS: &str = "ghost use Rattle.k.specs.Calls.{next, plain as zeroed, told, gone, Near};\nghost use Rattle.k.proofs.Laws.{proved};\n";
 
 const SAMPLE_SPECS: &str =
     "-- gone\nabbrev pub next : ℕ → ℕ\nnext x = gone x\nunfoldable pub plain : List ℕ → List ℕ\n\
@@ -274,7 +308,7 @@ mod tests {
 
     #[test]
     fn reads_terms() {
-        assert_eq!(tokens("f (now x); {a}"), ["f", "(", "now", "x", ")", ";", "{", "a", "}"]);
+        assert_eq!(tokens("f (g x.now); {a}"), ["f", "(", "g", "x.now", ")", ";", "{", "a", "}"]);
         let term = tokens("(a ≡ b) × (c ≡ d)");
         assert!(sides(&term).is_none());
         assert_eq!(bare(&term).len(), term.len());

@@ -1,4 +1,6 @@
-//! What each crate's check costs: processor seconds, as .ci/watch left them in target/log/NAME.cpu.
+//! What each crate's check costs: processor seconds, as .ci/watch left them in target/log/NAME.cpu. What an earlier run proved, `rt ci` does not check again.
+
+use std::collections::BTreeSet;
 
 /// Processor seconds that one check may take.
 pub const MOST: u64 = 35;
@@ -15,20 +17,38 @@ pub fn told(costs: &[(String, u64)]) -> (String, Vec<String>) {
     (line, over.map(|(name, cost)| fault(name, *cost)).collect())
 }
 
+/// The crates that an earlier run proved, as `rt ci` says: `rt: NAME is kept: ..`.
+pub fn kept(output: &str) -> BTreeSet<&str> {
+    let name = |line: &'_ str| {
+        let (name, _) = line.strip_prefix("rt: ")?.split_once(" is kept: ")?;
+        Some(name.len())
+    };
+    output.lines().filter_map(|line| Some(&line["rt: ".len()..][..name(line)?])).collect()
+}
+
 #[cfg(test)]
 mod tests {
     use super::*;
 
     #[test]
     fn tells_the_dearest_first_and_those_over_the_bound() {
-        let costs =
-            [("low", 14), ("edge", MOST), ("high", MOST + 1)].map(|(name, cost)| (name.to_string(), cost));
+        let costs = [("low", MOST - 21), ("edge", MOST), ("high", MOST + 1)]
+            .map(|(name, cost)| (name.to_string(), cost));
         let (line, faults) = told(&costs);
-        assert_eq!(line, "high 36, edge 35, low 14");
+        assert_eq!(line, format!("high {}, edge {MOST}, low {}", MOST + 1, MOST - 21));
         assert_eq!(
             faults,
-            ["high: its check takes 36 processor seconds, and 35 are the most: make two crates of it"]
+            [format!(
+                "high: its check takes {} processor seconds, and {MOST} are the most: make two crates of it",
+                MOST + 1
+            )]
         );
         assert!(told(&costs[..2]).1.is_empty());
+    }
+
+    #[test]
+    fn reads_what_was_kept() {
+        let output = "rt: a is kept: an earlier run on this machine proved the same files\nrt: b proved\n== a is kept: c\n";
+        assert_eq!(kept(output).into_iter().collect::<Vec<_>>(), ["a"]);
     }
 }

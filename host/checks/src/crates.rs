@@ -41,10 +41,12 @@ impl Crates {
 
     /// Whether a crate's source declares a function, type, constant or module of that name.
     pub fn source_has(&self, name: &str, item: &str) -> bool {
-        let kinds = ["fn", "struct", "enum", "const", "mod"];
-        self.sources
-            .get(name)
-            .is_some_and(|source| kinds.iter().any(|kind| is_word(source, &format!("{kind} {item}"))))
+        ["fn", "struct", "enum", "const", "mod"].iter().any(|kind| self.source_has_a(kind, name, item))
+    }
+
+    /// The same of one kind of thing.
+    pub fn source_has_a(&self, kind: &str, name: &str, item: &str) -> bool {
+        self.sources.get(name).is_some_and(|source| is_word(source, &format!("{kind} {item}")))
     }
 
     pub fn any_has(&self, item: &str) -> bool {

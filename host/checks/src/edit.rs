@@ -151,8 +151,7 @@ pub fn shortened(change: &Change) -> (String, String) {
 mod tests {
     use super::*;
 
-    const TEXT: &str =
-        "const N: u8 = 5;\nfn f(x: u8) -> u8\n    ensures { λ r. ⌜ r ≡ x ⌝ }\n{\n    x + 1\n}\n";
+    const TEXT: &str = "const N: u8 = 5;\nfn f(x: u8) -> u8\n    ensures { result ≡ x }\n{\n    x + 1\n}\n";
 
     fn change(file: &str, old: &str, new: &str) -> Change {
         Change { file: file.to_string(), old: old.to_string(), new: new.to_string() }
@@ -175,7 +174,7 @@ mod tests {
     fn tells_code_from_specification() {
         let place = |old: &str, new: &str| change("src/lib.rt", old, new).place(TEXT);
         assert_eq!(place("    x + 1", "    x + 2"), (Kind::Code, "f".to_string()));
-        assert_eq!(place("r ≡ x ⌝", "r ≡ y ⌝"), (Kind::Specification, "f".to_string()));
+        assert_eq!(place("result ≡ x }", "result ≡ y }"), (Kind::Specification, "f".to_string()));
         assert_eq!(place("u8 = 5", "u8 = 6"), (Kind::Constant, "N".to_string()));
         let specs = "abbrev pub g : ℕ\n-- pub h : x\ng = 1\n";
         assert_eq!(

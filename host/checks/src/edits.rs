@@ -125,10 +125,10 @@ pub fn abundant(rows: &[Row], wanted: &[(String, usize)]) -> Vec<String> {
 const HEAD: &str = "# Edits that the prover refuses
 
 `rt ci` makes each of these edits in a copy of its crate, and the prover must refuse the copy. `edits --write` (host/checks) writes this
-file from `crates/*/must-fail/*.edit` and the logs of that run, and `tests/80-edits` holds it to them.
+file from `crates/*/must-fail/*.edit` and what that run says of each, and `tests/80-edits` holds it to them.
 
 A row tells what the edit rules out, as its first line has it; what it changes: code, a constant or a specification, old → new; and the
-fact that failed, as the log's first error has it: the proof's file, the fact's name, the message up to the terms.
+fact that failed, as the first error has it: the proof's file, the fact's name, the message up to the terms, as far as `rt` prints it.
 ";
 
 /// The document.
@@ -172,7 +172,7 @@ pub fn facts(document: &str) -> BTreeMap<String, String> {
 mod tests {
     use super::*;
 
-    const CODE: &str = "fn f(x: u8) -> u8\n    ensures { λ r. ⌜ r ≡ g x ⌝ }\n{\n    x | 1\n}\n";
+    const CODE: &str = "fn f(x: u8) -> u8\n    ensures { result ≡ g x }\n{\n    x | 1\n}\n";
 
     fn row(label: &str, text: &str, fact: &str) -> Row {
         Row::new(Edit::parse("k", label, text), fact.to_string(), &|_| CODE.to_string())
@@ -233,7 +233,7 @@ mod tests {
 
     #[test]
     fn rejects_a_specification_taken_for_code() {
-        let text = "# rules out: k::f: w\nfile: src/lib.rt\nold: r ≡ g x\nnew: r ≡ x\n";
+        let text = "# rules out: k::f: w\nfile: src/lib.rt\nold: result ≡ g x\nnew: result ≡ x\n";
         let mut rows = good();
         rows.push(row("spec", text, "`p`, `q`: r"));
         assert!(rows[2].change.starts_with("specification `f`: "));

@@ -61,13 +61,16 @@ pub fn crates() -> Result<Vec<String>, String> {
     Ok(described.into_iter().filter(|row| row.1).map(|row| row.0).collect())
 }
 
+/// The functions of a crate of the repository.
+pub fn in_repository(krate: &str) -> Vec<Callable> {
+    of_crate(krate, &|file| std::fs::read_to_string(Path::new("crates").join(krate).join(file)).ok())
+}
+
 /// The repository's callable functions, by crate.
 pub fn callables() -> Result<Vec<Callable>, String> {
     let mut found = Vec::new();
     for krate in crates()? {
-        let own = of_crate(&krate, &|file| {
-            std::fs::read_to_string(Path::new("crates").join(&krate).join(file)).ok()
-        });
+        let own = in_repository(&krate);
         if own.is_empty() {
             return Err(format!(
                 "crates/{krate}: docs/ARCHITECTURE.md calls it callable, and it has no callable function"
@@ -89,7 +92,7 @@ mod tests {
                 "src/lib.rt" => "pub mod open;\nmod own;\npub fn a() {}\nfn b() {}\npub(crate) fn c() {}\n",
                 "src/open.rt" => "mod deep;\npub fn d() {}\n",
                 "src/open/deep.rt" => "pub fn e() {}\n",
-                "src/own.rt" => "pub fn f() {}\n#[no_mangle]\npub extern \"C\" fn g() {}\n",
+                "src/own.rt" => "pub fn f() {}\n#[unsafe(no_mangle)]\npub extern \"C\" fn g() {}\n",
                 _ => return None,
             };
             Some(text.to_string())

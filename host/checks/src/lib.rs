@@ -11,6 +11,7 @@ pub mod promises;
 pub mod rattle;
 pub mod reference;
 pub mod tables;
+pub mod thin;
 pub mod words;
 
 use std::path::{Path, PathBuf};

@@ -1,13 +1,14 @@
-//! The log that `rt must-fail` leaves of an edit, and the fact of its first error.
+//! What `rt ci` or `rt must-fail` says of each edit, and the fact of its first error.
 
-use crate::edit::Edit;
 use std::collections::BTreeMap;
-use std::fs;
 
 /// A shown message has at most so many characters.
 const SHOWN: usize = 170;
 
-/// What the first error of a log says: the file of the proof, the name of the fact, and what failed.
+/// `rt` tells so many characters of an edit's first error.
+const TOLD: usize = 160;
+
+/// What the first error of an edit says: the file of the proof, the name of the fact, and what failed.
 #[derive(Clone, Debug, PartialEq)]
 pub struct Fact {
     pub file: String,
@@ -22,49 +23,62 @@ impl Fact {
     }
 }
 
-/// The log of an edit whose files are these now; none if it was not refused, or was tried with other files.
-pub fn of_edit(edit: &Edit, edited: &BTreeMap<String, String>) -> Option<String> {
-    let folder = format!("target/must-fail/{}", edit.name());
-    let text = |path: String| fs::read_to_string(path).ok();
-    let tried = edited.iter().all(|(file, now)| text(format!("{folder}/{file}")).as_ref() == Some(now));
-    let refused = text(format!("{folder}.res")).is_some_and(|word| word.trim() == "refused");
-    text(format!("{folder}/.log")).filter(|_| tried && refused)
+/// What is said of each edit, by CRATE/LABEL: the lines `rt: must-fail CRATE/LABEL.edit: ..`, the last one where there are several.
+pub fn outcomes(output: &str) -> BTreeMap<String, String> {
+    let one = |line: &str| {
+        let (name, said) = line.strip_prefix("rt: must-fail ")?.split_once(".edit: ")?;
+        Some((name.to_string(), said.to_string()))
+    };
+    output.lines().filter_map(one).collect()
 }
 
-/// The first error of the log of an edit that does not merely follow from another one; where a function has no proof of its own, the first need that the
-/// prover could not meet, at its place in the source.
-pub fn first_error(log: &str, name: &str) -> Option<Fact> {
-    let lines: Vec<&str> = log.lines().collect();
-    in_a_proof(&lines, name).or_else(|| lines.iter().find_map(|line| in_the_source(line, name)))
+/// How that begins where the prover refused the edit, and not for a name that is gone or for a limit of its own.
+const REFUSED: &str = "refused, as it must be: ";
+
+/// The first error of what is said of an edit: `PLACE: error: `NAME`: MESSAGE`, or, where a function has no proof of its own, the first goal that the prover could not
+/// meet, at its place in the source: `note: PLACE: MESSAGE (`NAME`)`. None where no fact is told.
+pub fn first_error(said: &str) -> Option<Fact> {
+    let told = said.strip_prefix(REFUSED)?;
+    let whole = if told.chars().count() < TOLD { told } else { told.rsplit_once(' ')?.0 };
+    let more = if whole == told { "" } else { " …" };
+    match whole.strip_prefix("note: ") {
+        Some(note) => {
+            let (place, message) = note.split_once(": ")?;
+            let named = message
+                .split_once(" (`")
+                .and_then(|(message, rest)| Some((message, rest.split_once("`)")?.0)));
+            let (message, name) =
+                named.map_or((ended(&plain(message), more), ""), |(message, name)| (plain(message), name));
+            Some(Fact { file: file_of(place)?, name: name.to_string(), message })
+        }
+        None => {
+            let (place, message) = whole.split_once(": error: ")?;
+            let named = message.strip_prefix('`').and_then(|rest| rest.split_once("`: "));
+            let (name, message) = named.unwrap_or(("", message));
+            Some(Fact {
+                file: file_of(place)?,
+                name: name.to_string(),
+                message: ended(&plain(message), more),
+            })
+        }
+    }
 }
 
-/// The file of a place, `FOLDER/NAME/FILE:LINE:COLUMN`.
-fn file_of(place: &str, name: &str) -> Option<String> {
-    let (_, place) = place.split_once(&format!("/{name}/"))?;
-    Some(place.split(':').next()?.to_string())
+/// The file of a place, `FILE:LINE:COLUMN`.
+fn file_of(place: &str) -> Option<String> {
+    let file = place.split(':').next()?;
+    (!place.contains(' ')).then(|| file.trim_start_matches("./").to_string())
 }
 
-/// How an error ends that follows from another one.
-const FOLLOWS: &str = "so this cannot be checked";
-
-/// `PLACE: error: `NAME`: MESSAGE`, with the lines below it that are indented.
-fn in_a_proof(lines: &[&str], name: &str) -> Option<Fact> {
-    let is_error = |line: &&str| line.split_once(": error").is_some_and(|(place, _)| !place.contains(' '));
-    let at = lines.iter().position(|line| is_error(line) && !line.ends_with(FOLLOWS))?;
-    let (place, said) = lines[at].split_once(": error: ")?;
-    let more = lines[at + 1..].iter().take_while(|line| line.starts_with("  "));
-    let whole = [said].into_iter().chain(more.map(|line| line.trim())).collect::<Vec<_>>().join(" ");
-    let named = whole.strip_prefix('`').and_then(|rest| rest.split_once("`: "));
-    let (fact, message) = named.unwrap_or(("", &whole));
-    Some(Fact { file: file_of(place, name)?, name: fact.to_string(), message: plain(message) })
-}
-
-/// `note: PLACE: MESSAGE (`NAME`)`
-fn in_the_source(line: &str, name: &str) -> Option<Fact> {
-    let (place, said) = line.strip_prefix("note: ")?.split_once(": ")?;
-    let (message, fact) = said.strip_suffix("`)")?.rsplit_once(" (`")?;
-    let file = file_of(place, name).filter(|_| !place.contains(' '))?;
-    Some(Fact { file, name: fact.to_string(), message: plain(message) })
+/// A message that is cut within a quotation, with the quotation's end; a quotation of which nothing is left is left out.
+fn ended(message: &str, more: &str) -> String {
+    if message.matches('`').count() % 2 == 0 {
+        return format!("{message}{more}");
+    }
+    match message.strip_suffix('`') {
+        Some(before) => format!("{}{more}", before.trim_end()),
+        None => format!("{message}{more}`"),
+    }
 }
 
 /// How the comparison of two types begins that says most; one of the types as they are printed may stand before it.
@@ -93,28 +107,29 @@ fn cut(line: &str) -> String {
     format!("{} …{}", start.trim_end(), if quoted { "`" } else { "" })
 }
 
-/// A term with each name without its modules, `c .before .before .x` as `c .x`, unknowns without their numbers, and parts left out without their lengths.
+/// A term with each name without its modules, `c.before.before.x` as `c.x`, unknowns without their numbers, and parts left out without their lengths.
 fn term(text: &str) -> String {
-    let mut words = Vec::new();
-    for word in text.split(' ') {
+    let word = |word: &str| {
         let body = word.trim_end_matches([')', '}']);
-        let closing = &word[body.len()..];
-        if body == ".before" {
-            words.last_mut().into_iter().for_each(|last: &mut String| last.push_str(closing));
-            continue;
-        }
         let start = body.rfind(['(', '{']).map_or(0, |i| i + 1);
-        words.push(format!("{}{}{closing}", &body[..start], name(&body[start..])));
-    }
-    words.join(" ")
+        format!("{}{}{}", &body[..start], name(&body[start..]), &word[body.len()..])
+    };
+    text.split(' ').map(word).collect::<Vec<_>>().join(" ")
 }
 
-fn name(word: &str) -> &str {
-    match word {
-        unknown if unknown.starts_with('?') => "?",
-        left_out if left_out.contains("…[") || left_out.contains("]…") => "…",
-        field if field.starts_with('.') => field,
-        path => path.rsplit('.').find(|part| !part.is_empty()).unwrap_or(path),
+fn name(word: &str) -> String {
+    if word.starts_with('?') {
+        return "?".to_string();
+    }
+    if word.contains("…[") || word.contains("]…") {
+        return "…".to_string();
+    }
+    let parts: Vec<&str> = word.split('.').filter(|part| !part.is_empty() && *part != "before").collect();
+    let is_module = |part: &&str| part.starts_with(char::is_uppercase);
+    match parts.split_last() {
+        Some((last, modules)) if modules.iter().any(is_module) => last.to_string(),
+        Some(_) => parts.join("."),
+        None => word.to_string(),
     }
 }
 
@@ -135,11 +150,6 @@ pub fn is_fact(message: &str) -> bool {
 mod tests {
     use super::*;
 
-    const LOG: &str = "/r/target/must-fail/k/far/proofs/N.antt:3:2: note: nothing: error: no\n\
-        /r/target/must-fail/k/far/proofs/m/f/Proof.antt:29:75: error: `returns-2`: computed as far as they go, the two types differ only where one has `(c .before .before .loop .i) / Prim.Native.Nat._%_`\n  \
-        (expected) and the other has `now (c .before .args .b)` (found)\n  expected type `a.long.one`\n\
-        /r/target/must-fail/k/far/proofs/g/Proof.antt:1:1: error: `g`: x\nlogic=not-proved\n";
-
     #[test]
     fn a_type_that_differs_is_a_fact() {
         let differs = "expected type `a ≤ b + 1`, but this has type `a ≤ b` `a`, `b` are not in scope here, so what is shown does not paste back";
@@ -148,38 +158,64 @@ mod tests {
     }
 
     #[test]
-    fn reads_the_first_error() {
-        let fact = first_error(LOG, "k/far").unwrap();
-        assert_eq!((fact.file.as_str(), fact.name.as_str()), ("proofs/m/f/Proof.antt", "returns-2"));
-        assert_eq!(
-            fact.message,
-            "computed as far as they go, the two types differ only where one has `(c .loop .i) / _%_` (expected) and the other has `now (c .args .b)` (found)"
-        );
-        assert!(is_fact(&fact.message));
-        assert!(first_error("logic=not-proved\n", "k/far").is_none());
+    fn reads_what_is_said_of_each_edit() {
+        let output = "rt: k: trying its must-fail edits (2)\nrt: must-fail k/far.edit: refused, as it must be: a\nrt: must-fail k/near.edit: BAD EDIT: b\n\
+            rt: must-fail k/far.edit: refused, as it must be: c: d\n";
+        let found = outcomes(output);
+        assert_eq!((found.len(), found["k/far"].as_str()), (2, "refused, as it must be: c: d"));
+        assert_eq!(found["k/near"], "BAD EDIT: b");
     }
 
     #[test]
-    fn reads_a_need_at_its_place_in_the_source() {
-        let log = "note: what antt said: /r/k/far/x: no (`f`)\nnote: /r/target/must-fail/k/far/src/lib.rt:16:5: it is not proved that what `f` requires holds at this call (`f-requires`)\nlogic=not-proved\n";
-        let fact = first_error(log, "k/far").unwrap();
+    fn reads_the_first_error() {
+        let fact = first_error("refused, as it must be: ./proofs/m/f/Answers.antt:29:75: error: `returns-then-x`: computed as far as they go, the two types differ only where one has `1`").unwrap();
+        assert_eq!((fact.file.as_str(), fact.name.as_str()), ("proofs/m/f/Answers.antt", "returns-then-x"));
+        assert_eq!(fact.message, "computed as far as they go, the two types differ only where one has `1`");
+        assert!(is_fact(&fact.message));
+        for none in [
+            "refused, as it must be",
+            "BAD EDIT: there is no file proofs/f/Proof.antt",
+            "NOT REFUSED: the crate is still proved with this edit",
+        ] {
+            assert!(first_error(none).is_none(), "{none}");
+        }
+        for weak in [
+            "(only because a proof file names what the edit took away)",
+            "(only by a limit of the prover, which gave no verdict)",
+        ] {
+            assert!(
+                first_error(&format!("refused, as it must be {weak}: proofs/A.antt:1:1: error: `f`: x"))
+                    .is_none(),
+                "{weak}"
+            );
+        }
+    }
+
+    #[test]
+    fn reads_a_goal_at_its_place_in_the_source() {
+        let said = "refused, as it must be: note: src/lib.rt:16:5: it is not proved that what `f` requires holds at this call (`f-requires`); the facts known there allow";
         assert_eq!(
-            fact.shown(),
+            first_error(said).unwrap().shown(),
             "`src/lib.rt`, `f-requires`: it is not proved that what `f` requires holds at this call"
         );
     }
 
     #[test]
-    fn passes_over_what_follows_from_another_error() {
-        let log = "/r/target/must-fail/k/far/proofs/g/Proof.antt:9:1: error: `g-spec`: `close` was not admitted (it has holes), so this cannot be checked\n\
-            note: /r/target/must-fail/k/far/src/lib.rt:16:1: it is not proved that what the function ensures holds when it returns (`returns-2`)\n";
-        let fact = first_error(log, "k/far").unwrap();
-        assert_eq!((fact.file.as_str(), fact.name.as_str()), ("src/lib.rt", "returns-2"));
+    fn ends_what_rt_has_cut() {
+        let said = |end: &str| {
+            let text = "./proofs/same/Answers.antt:16:62: error: `returns`: as printed, the two types differ only where one has `c.i` (expected), right after";
+            let told: String = format!("{text} {end}").chars().take(TOLD).collect();
+            first_error(&format!("refused, as it must be: {told}")).unwrap().message
+        };
+        let start = "as printed, the two types differ only where one has `c.i` (expected), right after";
+        assert_eq!(said("`A.b`"), format!("{start} `b`"));
+        assert_eq!(said("`A.b c.before.d mathlib.Core.Path.refl`"), format!("{start} `b c.d …`"));
+        assert_eq!(said("`mathlib.Core.Path.a_name_of_many_letters x y z`"), format!("{start} …"));
     }
 
     #[test]
     fn prefers_the_computed_comparison() {
-        let message = "as printed, the two types first differ where one has `a` (expected) and the other has `b` (found) computed as far as they go, the two types differ only where one has `c.d` (expected) and the other has `x` (found) `c` does not unfold here expected type `e`";
+        let message = "as printed, the two types first differ where one has `a` (expected) and the other has `b` (found) computed as far as they go, the two types differ only where one has `A.d` (expected) and the other has `x` (found) `d` does not unfold here expected type `e`";
         assert_eq!(
             plain(message),
             "computed as far as they go, the two types differ only where one has `d` (expected) and the other has `x` (found)"
@@ -203,7 +239,7 @@ mod tests {
     fn cuts_a_long_message() {
         let shown = cut(&plain(&format!("the goal `{}` does not hold", "x ".repeat(200))));
         assert!(shown.ends_with("x …`") && shown.chars().count() <= SHOWN + 3, "{shown}");
-        assert_eq!(term("Rattle·a.specs.B.f (c .before .before)"), "f (c)");
+        assert_eq!(term("Rattle.a.specs.B.f (c.before.before) c.before.args.b.now"), "f (c) c.args.b.now");
         assert_eq!(term("f (lib.L…[536 bytes]…ytes.isZero guid) (?57 g)"), "f (… … guid) (? g)");
     }
 }

@@ -85,14 +85,14 @@ mod tests {
 
     #[test]
     fn prints_contracts_and_their_definitions() {
-        let text = "ghost use Rattle·k·specs.specs.Calls.{next as after};\n// Adds one.\npub fn f(\n    x: u8,\n) -> u8\n    ensures { λ r. ⌜ r\n        ≡ after x ⌝ }\n{ x }\n";
+        let text = "ghost use Rattle.k.specs.Calls.{next as after};\n// Adds one.\npub fn f(\n    x: u8,\n) -> u8\n    ensures { result\n        ≡ after x }\n{ x }\n";
         let callables = face::of_crate("k", &|path| (path == "src/lib.rt").then(|| text.to_string()));
         let mut definitions = Definitions::default();
         definitions.add("k", "Calls", "abbrev pub next : ℕ → ℕ\n");
         let printed = section(&callables, &definitions);
         assert_eq!(
             printed,
-            "\n### `k`\n```\n// k::f: Adds one.\npub fn f(x: u8) -> u8\n    ensures { λ r. ⌜ r ≡ after x ⌝ }\n```\nDefined in\n- `crates/k/specs/Calls.antt`: `next` (here `after`)\n"
+            "\n### `k`\n```\n// k::f: Adds one.\npub fn f(x: u8) -> u8\n    ensures { result ≡ after x }\n```\nDefined in\n- `crates/k/specs/Calls.antt`: `next` (here `after`)\n"
         );
         let document = with_section(&format!("a\n{BEGIN}\nold\n{END}\nb\n"), &printed).unwrap();
         assert_eq!(parts(&document).unwrap(), ("a\n", printed.as_str(), "\nb\n"));

@@ -7,7 +7,7 @@ use std::ops::Range;
 pub struct Function {
     pub name: String,
     pub public: bool,
-    /// `#[no_mangle] .. extern "C"`
+    /// `#[unsafe(no_mangle)] .. extern "C"`
     pub exported: bool,
     /// the comment lines right above it
     pub comment: String,
@@ -19,6 +19,8 @@ pub struct Function {
     pub answers: bool,
     pub requires: Vec<String>,
     pub ensures: Vec<String>,
+    /// a clause is an assertion: `requires*`, `ensures*`
+    pub starred: bool,
     pub contract: Range<usize>,
     pub body: Range<usize>,
 }
@@ -163,7 +165,7 @@ fn function(text: &str, code: &[u8], at: usize) -> Option<Function> {
     let mut made = Function {
         name,
         public: places(&code[before..at], "pub").iter().any(|i| code.get(before + i + 3) != Some(&b'(')),
-        exported: text[before..at].contains("#[no_mangle]")
+        exported: text[before..at].contains("#[unsafe(no_mangle)]")
             && !places(&code[before..at], "extern").is_empty(),
         comment: comment_above(text, text[before..start].find("#[").map_or(start, |i| before + i)),
         lent: lent(std::str::from_utf8(&code[open + 1..close]).ok()?),
@@ -190,6 +192,7 @@ fn contract(text: &str, code: &[u8], from: usize, made: &mut Function) -> Option
             made.body = open..close + 1;
             return Some(());
         };
+        made.starred |= words.ends_with(b"* ") || words.ends_with(b"*");
         let inside = text[open + 1..close].trim().to_string();
         if clause == "requires" { &mut made.requires } else { &mut made.ensures }.push(inside);
         first = first.or(Some(at + places(words, clause).first().copied().unwrap_or(words.len())));
@@ -224,11 +227,11 @@ pub fn modules(text: &str) -> Vec<(String, bool)> {
     code.lines().filter_map(module).collect()
 }
 
-/// What a file imports of the crates' specs/: `ghost use Rattle·CRATE.specs.MODULE.{..}`, of its own crate `Rattle·CRATE·specs.specs.MODULE.{..}`.
+/// What a file imports of the crates' specs/: `ghost use Rattle.CRATE.specs.MODULE.{..}`.
 pub fn imports(text: &str) -> Vec<Import> {
     let code = String::from_utf8(blanked(text)).unwrap_or_default();
     let mut found = Vec::new();
-    for line in code.split("ghost use Rattle·").skip(1) {
+    for line in code.split("ghost use Rattle.").skip(1) {
         let Some((path, names)) = line.split(';').next().and_then(|line| line.split_once(".{")) else {
             continue;
         };
@@ -239,7 +242,7 @@ pub fn imports(text: &str) -> Vec<Import> {
             found.push(Import {
                 local: local.trim().to_string(),
                 name: name.trim().to_string(),
-                krate: krate.split('·').next().unwrap_or_default().to_string(),
+                krate: krate.to_string(),
                 module: module.replace('.', "/"),
             });
         }
@@ -251,10 +254,10 @@ pub fn imports(text: &str) -> Vec<Import> {
 mod tests {
     use super::*;
 
-    const FILE: &str = "// A file.\npub mod inner; // fn no()\nmod own;\nghost use Rattle·a.specs.B.{x, y as z};\n\
-        ghost use Rattle·c·specs.specs.D.{w};\nconst N: [u8; 2] = *b\";{\";\n\n// Adds\n// one.\npub fn add<'a>(s: &'a mut [u8], mut k: u8, t: &[u8]) -> [u8; 2]\n    \
-        requires { ⌜ record { a = k } ≡ z ⌝ }\n    ensures { λ r. ⌜ r ≡ x ⌝ }\n{\n    if k == '{' { }\n}\n\nfn own() {\n}\n\n\
-        // For C.\n#[no_mangle]\npub extern \"C\" fn usi(x: &mut u64) -> u32 { 0 }\n";
+    const FILE: &str = "// A file.\npub mod inner; // fn no()\nmod own;\nghost use Rattle.a.specs.B.{x, y as z};\n\
+        ghost use Rattle.c.specs.D.{w};\nconst N: [u8; 2] = *b\";{\";\n\n// Adds\n// one.\npub fn add<'a>(s: &'a mut [u8], mut k: u8, t: &[u8]) -> [u8; 2]\n    \
+        requires small { record { a = k } ≡ z }\n    ensures { result ≡ x }\n{\n    if k == '{' { }\n}\n\nfn own() {\n}\n\n\
+        // For C.\n#[unsafe(no_mangle)]\npub extern \"C\" fn usi(x: &mut u64) -> u32 { 0 }\n";
 
     #[test]
     fn scans_a_file() {
@@ -265,12 +268,13 @@ mod tests {
         assert_eq!(add.comment, "Adds one.");
         assert_eq!(add.signature, "pub fn add<'a>(s: &'a mut [u8], mut k: u8, t: &[u8]) -> [u8; 2]");
         assert_eq!(add.lent, ["s"]);
-        assert_eq!(add.requires, ["⌜ record { a = k } ≡ z ⌝"]);
-        assert_eq!(add.ensures, ["λ r. ⌜ r ≡ x ⌝"]);
+        assert_eq!(add.requires, ["record { a = k } ≡ z"]);
+        assert_eq!(add.ensures, ["result ≡ x"]);
         assert!(
             FILE[add.contract.clone()].starts_with("requires") && FILE[add.contract.clone()].ends_with('}')
         );
         assert!(FILE[add.body.clone()].contains("if k"));
+        assert!(!add.starred && functions("fn f() ensures* { emp } { }")[0].starred);
         assert_eq!((found[1].public, found[1].answers, found[1].ensures.len()), (false, false, 0));
         assert_eq!((found[2].exported, found[2].lent.as_slice()), (true, ["x".to_string()].as_slice()));
         assert_eq!(found[2].comment, "For C.");

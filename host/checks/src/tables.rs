@@ -1,9 +1,9 @@
 //! The lists that stand once: the crates in crates.txt, what each is in docs/ARCHITECTURE.md, the rules in docs/TRACE.md.
 
-/// The crates, lowest first.
+/// The crates, lowest first; behind a name may stand what kind of crate it is.
 pub fn crates(list: &str) -> Vec<String> {
     let lines = list.lines().filter(|line| !line.starts_with('#'));
-    lines.filter_map(|line| Some(line.split_once(':')?.0.trim().to_string())).collect()
+    lines.filter_map(|line| Some(line.split_once(':')?.0.split_whitespace().next()?.to_string())).collect()
 }
 
 /// The cells of a table's row; nothing for other text.
@@ -41,7 +41,7 @@ mod tests {
 
     #[test]
     fn reads_the_tables() {
-        assert_eq!(crates("# NAME: imports\na:\nb: a io\n"), ["a", "b"]);
+        assert_eq!(crates("# NAME: imports\na:\nb: a\nc staticlib: a b\n"), ["a", "b", "c"]);
         let table = "x\n| crate | says | callable |\n|---|---|---|\n| `a` | b | no (inner) |\n| `c` | d | yes |\n\n| `e` | f | yes |\n";
         assert_eq!(described(table), [("a".to_string(), false), ("c".to_string(), true)]);
         let table =

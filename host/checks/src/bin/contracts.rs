@@ -1,9 +1,9 @@
-//! Lists every callable function and judges its contract; holds docs/PROMISES.md, its printed contracts and its references, to the sources.
+//! Lists every callable function and judges its contract; holds the exports of thin crates to their libraries; holds docs/PROMISES.md, its printed contracts and its references, to the sources.
 //!
 //! usage, from the repository's root: contracts [--list | --print | --write | --self-test]
 
 use checks::contract::{faults, self_test, Definitions};
-use checks::{face, fail, promises, read, reference, settle, write};
+use checks::{face, fail, promises, read, reference, settle, tables, thin, write};
 use std::{env, fs};
 
 const DOCUMENT: &str = "docs/PROMISES.md";
@@ -28,6 +28,10 @@ fn main() {
         },
         "" => {
             let mut found: Vec<String> = callables.iter().flat_map(|c| faults(c, &definitions)).collect();
+            for (name, library) in thin::pairs(&tables::crates(&read("crates.txt"))) {
+                let parts = [&name, &library].map(|krate| face::in_repository(krate));
+                found.extend(thin::faults(&parts[0], &parts[1], &|path| read(path)));
+            }
             let document = read(DOCUMENT);
             let broken = reference::faults(&document, &|path| fs::read_to_string(path).ok());
             found.extend(broken.into_iter().map(|fault| format!("{DOCUMENT}: {fault}")));

@@ -1,24 +1,35 @@
-//! Prints what the check of each crate cost, and fails where one is over the bound, or none was watched.
+//! Prints what the check of each crate cost, and fails where one is over the bound, or where a crate was neither watched nor kept from an earlier run.
 //!
 //! usage, from the repository's root: cost
 
-use checks::cost::told;
+use checks::cost::{kept, told};
 use checks::crates::Crates;
-use checks::settle;
+use checks::{read, settle};
 use std::fs;
 use std::path::Path;
 
 fn main() {
+    let output = read("target/log/ci");
+    let kept = kept(&output);
+    let names = Crates::read(Path::new(".")).names;
     let seconds = |name: &String| {
         let text = fs::read_to_string(format!("target/log/{name}.cpu")).ok()?;
         Some((name.clone(), text.trim().parse().ok()?))
     };
-    let costs: Vec<(String, u64)> = Crates::read(Path::new(".")).names.iter().filter_map(seconds).collect();
+    let costs: Vec<(String, u64)> = names.iter().filter_map(seconds).collect();
     let (line, mut faults) = told(&costs);
     println!("{line}");
-    if costs.is_empty() {
-        faults.push("target/log has no processor seconds: .ci/run watches the checks".to_string());
+    for name in names.iter().filter(|name| !costs.iter().any(|one| one.0 == **name)) {
+        if !kept.contains(name.as_str()) {
+            faults.push(format!(
+                "{name}: target/log has no processor seconds of it: .ci/run watches the checks"
+            ));
+        }
     }
     let sum: u64 = costs.iter().map(|one| one.1).sum();
-    settle(&faults, &format!("{} crates checked in {sum} processor seconds", costs.len()));
+    let kept = names.len() - costs.len();
+    settle(
+        &faults,
+        &format!("{} crates checked in {sum} processor seconds, {kept} kept from earlier runs", costs.len()),
+    );
 }

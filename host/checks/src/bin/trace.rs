@@ -2,8 +2,8 @@
 //! names a rule that stands there and begins with words of it; and what a row names (definition, function, proof, edit,
 //! test) is there. A row with an empty cell is an error.
 //!
-//! A cell names things in segments that `;` parts: a crate's name, then `File: name, ..` of its specs or proofs, paths of
-//! proofs (`read/Proof`), edits behind `must-fail`; or `crate::function`; or a path of the repository, with names behind `crates/..:`.
+//! A cell names things in segments that `;` parts: a crate's name, then `File: name, ..` of its specs or proofs, proofs of
+//! functions (`read/Proof`, `module/read/Proof`), edits behind `must-fail`; or `crate::function`; or a path of the repository, with names behind `crates/..:`.
 //! The tables behind the rules, from `# Forms` on, name things in the same way.
 //!
 //! usage, from the repository's root: trace
@@ -129,8 +129,10 @@ impl Place<'_> {
             (self.file, self.edits) = (None, true);
         } else if word.starts_with("tests/") {
             return self.crates.root.join(word).exists();
-        } else if word.ends_with("/Proof") {
-            return folder.join(format!("proofs/{word}.antt")).exists();
+        } else if let Some(place) = word.strip_suffix("/Proof") {
+            let (modules, function) = place.rsplit_once('/').unwrap_or(("", place));
+            let module = |name: &str| self.crates.source_has_a("mod", of, name);
+            return self.crates.source_has_a("fn", of, function) && modules.split_terminator('/').all(module);
         } else if let Some(name) = word.strip_suffix(':').filter(|name| name.starts_with(char::is_uppercase))
         {
             let texts = ["specs", "proofs"].map(|layer| folder.join(format!("{layer}/{name}.antt")));
@@ -197,6 +199,7 @@ mod tests {
         for good in [
             "`octets` Rows: `refusal`, `row`; `crc_lanes` Crc: `crc32`",
             "`octets` same/Proof; must-fail `rest_from_start`",
+            "`fmd_parse` rows/first_cbfs/Proof",
             "`octets::load64`, `store64`; in C `usi_crc32`",
         ] {
             assert_eq!(row(good), [""; 0], "{good}");
@@ -205,6 +208,8 @@ mod tests {
             "`octets` Rows: `refuser`",
             "`octets` Row: `refusal`",
             "`octets` copied/Proof",
+            "`octets` rows/same/Proof",
+            "`fmd_parse` rows/Proof",
             "`octets` must-fail `low_half`",
             "`octets::load128`",
             "`octet` Rows: `refusal`",
