@@ -27,7 +27,8 @@ use Rattle.gpt_model.proofs.Edits.{nonzero}
 use Rattle.gpt_string_model.specs.declared.StartByte.{StartByte}
 use Rattle.gpt_string_model.specs.declared.StartByte.TheVariants.{Given, Lowest}
 use Rattle.gpt_string_model.specs.declared.WantedPartition.{WantedPartition}
-use Rattle.gpt_string_model.specs.Build.{uneven, blocked, needed, as_new, standing, first_block, size_in_blocks, part_rows, with_part, faulty, complete, unless_faulty}
+use Rattle.gpt_string_model.specs.Build.{uneven, blocked, needed, as_new, standing, first_block, size_in_blocks}
+use Rattle.gpt_string_model.specs.Build.{part_rows, with_part, faulty, complete, unless_faulty}
 use Rattle.gpt_string_model.proofs.Parts.{part_room}
 use Rattle.gpt_model.specs.declared.Block.{Block}
 use Rattle.gpt_model.specs.declared.NewPartition.{NewPartition}
@@ -91,13 +92,15 @@ module _ (g : Shape) (n : ℕ) (es : List ℕ) (at : ℕ) where
     where
       go : (leb b (last_usable g n) ≡ true) ⊎ (leb b (last_usable g n) ≡ false) → (in_none (ranges_of es) b ≡ true) ⊎ (in_none (ranges_of es) b ≡ false)
           → not (leb b (last_usable g n) and in_none (ranges_of es) b) ≡ eqb run 0
-      go (inr h) c = rw h (sym (eq-eqb run 0 (let z = leb-false b (last_usable g n) h in let k = run-bound (in_none (ranges_of es)) b (suc (last_usable g n) - b) in omega arith)))
+      go (inr h) c =
+          rw h (sym (eq-eqb run 0 (let z = leb-false b (last_usable g n) h in let k = run-bound (in_none (ranges_of es)) b (suc (last_usable g n) - b) in omega arith)))
       go (inl h) (inl c) = rw (h, c) (sym (ne_eqb run 0 (λ z. let k = one c in omega arith)))
         where
           one : in_none (ranges_of es) b ≡ true → 1 ≤ run
           one c =
               let l : b ≤ last_usable g n = leb-true _ _ h in
-              run-least (in_none (ranges_of es)) b (suc (last_usable g n) - b) 1 (omega arith) (λ x p q. let z : x ≡ b = omega arith in ap (in_none (ranges_of es)) z ∙ c)
+              run-least (in_none (ranges_of es)) b (suc (last_usable g n) - b) 1 (omega arith)
+              (λ x p q. let z : x ≡ b = omega arith in ap (in_none (ranges_of es)) z ∙ c)
       go (inl h) (inr c) = rw (h, c) (sym (eq-eqb run 0 (none_from (dec_lt 0 run))))
         where
           none_from : Dec (0 < run) → run ≡ 0
@@ -125,7 +128,8 @@ module _ (g : Shape) (n a : ℕ) (es : List ℕ) (w : WantedPartition) (final : 
       → s ≡ blocks_from g n es w final f → from f s ≡ part_place_of g n a es w final start rows
   spot-from start rows f s e p q =
       ap (from f) q ∙ ap (λ (x : ℕ). from x (blocks_from g n es w final x)) (sym p)
-      ∙ sym (ap (λ (o : Option ℕ). part_place_unless o (or_zero (standing g n a es w final start)) (blocks_from g n es w final (or_zero (standing g n a es w final start)))) e)
+      ∙ sym (ap (λ (o : Option ℕ). part_place_unless o (or_zero (standing g n a es w final start))
+      (blocks_from g n es w final (or_zero (standing g n a es w final start)))) e)
 
   -- ---- 71
 
@@ -175,7 +179,8 @@ module _ (g : Shape) (n a : ℕ) (es : List ℕ) (w : WantedPartition) (final : 
         pub given-short : usable_run g n es (at / g.block) < needed g w final → refusal all-rows ≡ some 25
         given-short h =
             from25
-            ∙ pick_true _ 25 _ (ap (λ (c : Bool). is_none (cond c (some (at / g.block)) none)) (room-is ∙ lt-leb (needed g w final) (usable_run g n es (at / g.block)) h))
+            ∙ pick_true _ 25 _ (ap (λ (c : Bool). is_none (cond c (some (at / g.block)) none))
+            (room-is ∙ lt-leb (needed g w final) (usable_run g n es (at / g.block)) h))
 
         pub given-stands : needed g w final ≤ usable_run g n es (at / g.block)
             → (refusal all-rows ≡ none) × (or_zero (standing g n a es w final (Given at)) ≡ at / g.block)
@@ -196,17 +201,20 @@ module _ (g : Shape) (n a : ℕ) (es : List ℕ) (w : WantedPartition) (final : 
 
 -- ---- in the words of the code: the free blocks r from the start on, the blocks s that are needed, what adding is given
 
-module _ (g : Shape) (n a : ℕ) (es : List ℕ) (w : WantedPartition) (final : Bool) (s : ℕ) (p : NewPartition) (is-s : s ≡ needed g w final) (is-p : p ≡ as_new a w s) where
+module _ (g : Shape) (n a : ℕ) (es : List ℕ) (w : WantedPartition) (final : Bool) (s : ℕ) (p : NewPartition)
+    (is-s : s ≡ needed g w final) (is-p : p ≡ as_new a w s) where
   own_is : refusal (add_rows es (as_new a w (needed g w final))) ≡ refusal (add_rows es p)
   own_is = ap (λ (x : ℕ). refusal (add_rows es (as_new a w x))) (sym is-s) ∙ ap (λ (x : NewPartition). refusal (add_rows es x)) (sym is-p)
 
   module _ (at r : ℕ) (is-r : r ≡ usable_run g n es (at / g.block)) (ne : r ≢ 0) where
-    pub given-says-stop : (k : ℕ) → refusal (add_rows es p) ≡ some k → stopped k ≡ part_place_of g n a es w final (Given at) (rows_from72 g n a es w final (Given at))
+    pub given-says-stop : (k : ℕ) → refusal (add_rows es p) ≡ some k
+        → stopped k ≡ part_place_of g n a es w final (Given at) (rows_from72 g n a es w final (Given at))
     given-says-stop k e =
         spot-stop g n a es w final (Given at) (rows_from72 g n a es w final (Given at)) k
         (given-stop g n a es w final at (λ z. ne (is-r ∙ z)) k (own_is ∙ e))
 
-    pub given-says-short : refusal (add_rows es p) ≡ none → r < s → stopped 25 ≡ part_place_of g n a es w final (Given at) (rows_from72 g n a es w final (Given at))
+    pub given-says-short : refusal (add_rows es p) ≡ none → r < s
+        → stopped 25 ≡ part_place_of g n a es w final (Given at) (rows_from72 g n a es w final (Given at))
     given-says-short e h =
         spot-stop g n a es w final (Given at) (rows_from72 g n a es w final (Given at)) 25
         (given-short g n a es w final at (λ z. ne (is-r ∙ z)) (own_is ∙ e) (omega arith))

@@ -41,7 +41,8 @@ unfolding ◌or◌
 any-given k [] = ap is_given (sym (value-nil k))
 any-given k (f ∷ fs) = go (bool_cases (has_key k f)) (any-given k fs)
   where
-    go : (has_key k f ≡ true) ⊎ (has_key k f ≡ false) → any (has_key k) fs ≡ is_given (value_in k fs) → any (has_key k) (f ∷ fs) ≡ is_given (value_in k (f ∷ fs))
+    go : (has_key k f ≡ true) ⊎ (has_key k f ≡ false) → any (has_key k) fs ≡ is_given (value_in k fs)
+        → any (has_key k) (f ∷ fs) ≡ is_given (value_in k (f ∷ fs))
     go (inl q) ih = rw q (ap is_given (sym (value-yes k f fs q)))
     go (inr q) ih = rw q (ih ∙ ap is_given (sym (value-no k f fs q)))
 
