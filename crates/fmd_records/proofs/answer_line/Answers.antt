@@ -10,15 +10,13 @@ numbered-requires c =
     (omega (arith, number_small c.args.r.answer _ c.number-n.ensures), search rules)
 
 pub returns-then-n-gt0 : goal.returns-then-n-gt0
-returns-then-n-gt0 c =
-    (
-      omega (arith, c.numbered.ensures.0),
-      puts-as _ _ _ _ _ _ (refused-is c.args.r.answer c.number-n.result _ c.number-n.ensures (omega arith)) c.numbered.ensures.1,
-    )
+returns-then-n-gt0 c = (
+  omega (arith, c.numbered.ensures.0),
+  puts-as _ _ _ _ _ _ (refused-is c.args.r.answer c.number-n.result _ c.number-n.ensures (omega arith)) c.numbered.ensures.1,
+)
 
 pub returns : goal.returns
-returns c =
-    (
-      omega (arith, c.numbered-2.ensures.0),
-      puts-as _ _ _ _ _ _ (accepted-is c.args.r.answer c.number-n.result _ c.number-n.ensures (omega arith)) c.numbered-2.ensures.1,
-    )
+returns c = (
+  omega (arith, c.numbered-2.ensures.0),
+  puts-as _ _ _ _ _ _ (accepted-is c.args.r.answer c.number-n.result _ c.number-n.ensures (omega arith)) c.numbered-2.ensures.1,
+)
