@@ -93,7 +93,8 @@ module _ (g : Shape) (n : ℕ) (es : List ℕ) (at : ℕ) where
       go : (leb b (last_usable g n) ≡ true) ⊎ (leb b (last_usable g n) ≡ false) → (in_none (ranges_of es) b ≡ true) ⊎ (in_none (ranges_of es) b ≡ false)
           → not (leb b (last_usable g n) and in_none (ranges_of es) b) ≡ eqb run 0
       go (inr h) c =
-          rw h (sym (eq-eqb run 0 (let z = leb-false b (last_usable g n) h in let k = run-bound (in_none (ranges_of es)) b (suc (last_usable g n) - b) in omega arith)))
+          rw h (sym (eq-eqb run 0 (let z = leb-false b (last_usable g n) h in
+          let k = run-bound (in_none (ranges_of es)) b (suc (last_usable g n) - b) in omega arith)))
       go (inl h) (inl c) = rw (h, c) (sym (ne_eqb run 0 (λ z. let k = one c in omega arith)))
         where
           one : in_none (ranges_of es) b ≡ true → 1 ≤ run
