@@ -15,7 +15,8 @@ use Rattle.text_out.specs.Text.{hex_digits, decimal_digits}
 
 length_digits : (b k n : ℕ) → length (last_digits b k n) ≡ k
 length_digits b zero n = refl
-length_digits b (suc k) n = length-append (last_digits b k (n / b)) (hex_digit_ascii (n % b) ∷ []) ∙ ap (λ (i : ℕ). i + 1) (length_digits b k (n / b)) ∙ add-one k
+length_digits b (suc k) n =
+    length-append (last_digits b k (n / b)) (hex_digit_ascii (n % b) ∷ []) ∙ ap (λ (i : ℕ). i + 1) (length_digits b k (n / b)) ∙ add-one k
 
 no_more : (b least n k w : ℕ) → 0 < b → IsDigitCount b least n k → IsDigitCount b least n w → k < w → ⊥
 no_more b least n k w p f g h =
