@@ -7,7 +7,6 @@ use mathlib.Core.Option.{Option, none, some}
 use Prim.Native.Nat.{ℕ}
 use lib.ListN.{length}
 use borrow.Author.Tests.{ne_eqb}
-use Rattle.octets.specs.Tests.{◌and◌}
 use Rattle.octets.proofs.Bools.{and-false-l, and_false_r}
 use Rattle.octets.proofs.Rows.{pick_true}
 use Rattle.gpt_model.specs.Disk.{Shape}
