@@ -30,11 +30,10 @@ pub overflow_add-at : goal.overflow_add-at
 overflow_add-at c = omega (arith, room _ _ c.loop-at.invariant c.loop-at-test.true)
 
 pub next_signed-at-requires-in-loop-at : goal.next_signed-at-requires-in-loop-at
-next_signed-at-requires-in-loop-at c =
-    (
-      omega (arith, room _ _ c.loop-at.invariant c.loop-at-test.true),
-      c.if-image-gt16777216.false,
-    )
+next_signed-at-requires-in-loop-at c = (
+  omega (arith, room _ _ c.loop-at.invariant c.loop-at-test.true),
+  c.if-image-gt16777216.false,
+)
 
 pub loop-at-smaller : goal.loop-at-smaller
 loop-at-smaller c =

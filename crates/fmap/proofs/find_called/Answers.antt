@@ -16,12 +16,11 @@ returns-then-is_called c =
     (sym c.is_called.ensures ∙ c.if-is_called.true) c.loop-i.invariant.1
 
 pub loop-i-preserved : goal.loop-i-preserved
-loop-i-preserved c =
-    (
-      omega arith,
-      find-next _ c.loop-i.i (omega arith) _ c.area_at.ensures.0 (called _)
-          (sym c.is_called.ensures ∙ c.if-is_called.false) c.loop-i.invariant.1,
-    )
+loop-i-preserved c = (
+  omega arith,
+  find-next _ c.loop-i.i (omega arith) _ c.area_at.ensures.0 (called _)
+      (sym c.is_called.ensures ∙ c.if-is_called.false) c.loop-i.invariant.1,
+)
 
 pub returns : goal.returns
 returns c = find-over _ c.loop-i.i (omega arith) (called _) c.loop-i.invariant.1

@@ -13,11 +13,10 @@ returns-then-not-clear_of_later c =
     pairs-fails _ c.loop-i.i (omega arith) (clear _) (sym c.clear_of_later.ensures ∙ c.if-not-clear_of_later.true) c.loop-i.invariant.1
 
 pub loop-i-preserved : goal.loop-i-preserved
-loop-i-preserved c =
-    (
-      omega arith,
-      pairs_next _ c.loop-i.i (omega arith) (clear _) (sym c.clear_of_later.ensures ∙ c.if-not-clear_of_later.false) c.loop-i.invariant.1,
-    )
+loop-i-preserved c = (
+  omega arith,
+  pairs_next _ c.loop-i.i (omega arith) (clear _) (sym c.clear_of_later.ensures ∙ c.if-not-clear_of_later.false) c.loop-i.invariant.1,
+)
 
 pub returns : goal.returns
 returns c = pairs-over _ c.loop-i.i (omega arith) (clear _) c.loop-i.invariant.1

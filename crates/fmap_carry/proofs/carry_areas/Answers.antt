@@ -5,12 +5,11 @@ use Rattle.fmap_carry.specs.Carry.{judged_number}
 use Rattle.fmap_carry.proofs.carry_areas.Goals as goal
 
 pub write_areas-requires : goal.write_areas-requires
-write_areas-requires c =
-    (
-      c.match_areas.ensures,
-      fitting (areas_in c.args.olds.now) (areas_in c.args.news.now)
-          (sym c.judge.ensures ∙ ap judged_number c.in-Free.is) _ _ c.requires.2 c.requires.3,
-    )
+write_areas-requires c = (
+  c.match_areas.ensures,
+  fitting (areas_in c.args.olds.now) (areas_in c.args.news.now)
+      (sym c.judge.ensures ∙ ap judged_number c.in-Free.is) _ _ c.requires.2 c.requires.3,
+)
 
 pub returns-in-Missing : goal.returns-in-Missing
 returns-in-Missing c = refuses _ _ _ _ 60 (sym (ap judged_number c.in-Missing.is) ∙ c.judge.ensures)

@@ -10,13 +10,12 @@ pub slice_bounds-carry_areas-end : goal.slice_bounds-carry_areas-end
 slice_bounds-carry_areas-end c = sym c.keep_areas-n.ensures.2
 
 pub carry_areas-requires : goal.carry_areas-requires
-carry_areas-requires c =
-    (
-      c.areas_at.ensures.1,
-      omega (arith, c.keep_areas-n.ensures.1, c.keep_areas-n.ensures.2),
-      good-ends _ _ _ c.requires.0 c.areas_at.ensures.0,
-      good-ends _ _ _ c.requires.1 c.keep_areas-n.ensures.0,
-    )
+carry_areas-requires c = (
+  c.areas_at.ensures.1,
+  omega (arith, c.keep_areas-n.ensures.1, c.keep_areas-n.ensures.2),
+  good-ends _ _ _ c.requires.0 c.areas_at.ensures.0,
+  good-ends _ _ _ c.requires.1 c.keep_areas-n.ensures.0,
+)
 
 pub returns : goal.returns
 returns c =

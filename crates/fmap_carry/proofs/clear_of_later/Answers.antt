@@ -29,14 +29,13 @@ returns-then-not-is_clear c =
     ∙ sym c.is_clear.ensures ∙ c.if-not-is_clear.true) c.loop-j.invariant.1
 
 pub loop-j-preserved : goal.loop-j-preserved
-loop-j-preserved c =
-    (
-      omega arith,
-      all-next _ c.loop-j.j (omega arith) c.area_at-in-loop-j.result.now c.area_at-in-loop-j.ensures.0 (clear (areas_in c.args.news.now)
-          (get_or (areas_in c.args.olds.now) c.args.i blank_area)) (clear_at _ _ _ c.requires.0 c.args.i c.loop-j.j
-          c.requires.1 (omega arith) _ _ _ _ c.area_at.ensures.0 c.area_at-in-loop-j.ensures.0 c.place_of-x.ensures c.place_of-y.ensures
-          ∙ sym c.is_clear.ensures ∙ c.if-not-is_clear.false) c.loop-j.invariant.1,
-    )
+loop-j-preserved c = (
+  omega arith,
+  all-next _ c.loop-j.j (omega arith) c.area_at-in-loop-j.result.now c.area_at-in-loop-j.ensures.0 (clear (areas_in c.args.news.now)
+      (get_or (areas_in c.args.olds.now) c.args.i blank_area)) (clear_at _ _ _ c.requires.0 c.args.i c.loop-j.j
+      c.requires.1 (omega arith) _ _ _ _ c.area_at.ensures.0 c.area_at-in-loop-j.ensures.0 c.place_of-x.ensures c.place_of-y.ensures
+      ∙ sym c.is_clear.ensures ∙ c.if-not-is_clear.false) c.loop-j.invariant.1,
+)
 
 pub returns : goal.returns
 returns c = all-over _ c.loop-j.j (omega arith) (clear _ _) c.loop-j.invariant.1

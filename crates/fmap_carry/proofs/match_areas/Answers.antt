@@ -15,13 +15,12 @@ loop-i-init c = (search rules, matched-none _ _ _, refl)
 
 pub loop-i-preserved : goal.loop-i-preserved
 unfolding area_of part
-loop-i-preserved c =
-    (
-      omega arith,
-      matched-more _ _ c.loop-i.matches c.loop-i.i _ (omega arith) c.loop-i.invariant.1 (c.find_named-k.ensures.0 ∙ ap
-          (λ (a : Area). find_ix (named a.name) (areas_in c.args.news.now)) c.area_at-a.ensures.0),
-      length-set c.loop-i.matches c.loop-i.i _ ∙ c.loop-i.invariant.2,
-    )
+loop-i-preserved c = (
+  omega arith,
+  matched-more _ _ c.loop-i.matches c.loop-i.i _ (omega arith) c.loop-i.invariant.1 (c.find_named-k.ensures.0 ∙ ap
+      (λ (a : Area). find_ix (named a.name) (areas_in c.args.news.now)) c.area_at-a.ensures.0),
+  length-set c.loop-i.matches c.loop-i.i _ ∙ c.loop-i.invariant.2,
+)
 
 pub returns : goal.returns
 returns c = matched-all _ _ _ c.loop-i.i (omega arith) (omega arith) c.loop-i.invariant.1

@@ -26,12 +26,11 @@ returns-then-is_missing c =
     (sym c.is_missing.ensures ∙ c.if-is_missing.true) c.loop-i.invariant.1
 
 pub loop-i-preserved : goal.loop-i-preserved
-loop-i-preserved c =
-    (
-      omega arith,
-      any_next _ c.loop-i.i (omega arith) _ c.area_at.ensures.0
-          (missing _) (sym c.is_missing.ensures ∙ c.if-is_missing.false) c.loop-i.invariant.1,
-    )
+loop-i-preserved c = (
+  omega arith,
+  any_next _ c.loop-i.i (omega arith) _ c.area_at.ensures.0
+      (missing _) (sym c.is_missing.ensures ∙ c.if-is_missing.false) c.loop-i.invariant.1,
+)
 
 pub returns : goal.returns
 returns c = any-over _ c.loop-i.i (omega arith) (missing _) c.loop-i.invariant.1

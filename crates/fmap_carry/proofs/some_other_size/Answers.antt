@@ -26,12 +26,11 @@ returns-then-is_other_size c =
     (sym c.is_other_size.ensures ∙ c.if-is_other_size.true) c.loop-i.invariant.1
 
 pub loop-i-preserved : goal.loop-i-preserved
-loop-i-preserved c =
-    (
-      omega arith,
-      any_next _ c.loop-i.i (omega arith) _ c.area_at.ensures.0
-          (other_size _) (sym c.is_other_size.ensures ∙ c.if-is_other_size.false) c.loop-i.invariant.1,
-    )
+loop-i-preserved c = (
+  omega arith,
+  any_next _ c.loop-i.i (omega arith) _ c.area_at.ensures.0
+      (other_size _) (sym c.is_other_size.ensures ∙ c.if-is_other_size.false) c.loop-i.invariant.1,
+)
 
 pub returns : goal.returns
 returns c = any-over _ c.loop-i.i (omega arith) (other_size _) c.loop-i.invariant.1

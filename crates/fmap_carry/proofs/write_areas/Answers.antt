@@ -22,22 +22,20 @@ pub overflow_cast-matches : goal.overflow_cast-matches
 overflow_cast-matches c = omega (arith, c.shared_slice_known-in-loop-i-1.given c.loop-i.i)
 
 pub carry_area-requires : goal.carry_area-requires
-carry_area-requires c =
-    (
-      c.area_at.ensures.1,
-      matched-at _ _ _ c.requires.0 c.loop-i.i _ (omega arith) c.area_at.ensures.0,
-      λ p. fit_at _ _ _ _ _ c.loop-i.i _ c.requires.1 (omega arith) c.area_at.ensures.0 c.loop-i.invariant.1 p,
-    )
+carry_area-requires c = (
+  c.area_at.ensures.1,
+  matched-at _ _ _ c.requires.0 c.loop-i.i _ (omega arith) c.area_at.ensures.0,
+  λ p. fit_at _ _ _ _ _ c.loop-i.i _ c.requires.1 (omega arith) c.area_at.ensures.0 c.loop-i.invariant.1 p,
+)
 
 pub loop-i-preserved : goal.loop-i-preserved
-loop-i-preserved c =
-    (
-      omega arith,
-      ap length c.carry_area.ensures ∙ length-area _ _ _ _ ∙ c.loop-i.invariant.1,
-      carried-next _ _ (areas_in c.args.olds.now) c.loop-i.i c.loop-i.new _ _ (omega (arith, length-areas c.args.olds.now))
-          (c.carry_area.ensures ∙ ap (λ (a : Area). carry_area c.args.old.now (areas_in c.args.news.now) a
-          c.loop-i.new) c.area_at.ensures.0) c.loop-i.invariant.2,
-    )
+loop-i-preserved c = (
+  omega arith,
+  ap length c.carry_area.ensures ∙ length-area _ _ _ _ ∙ c.loop-i.invariant.1,
+  carried-next _ _ (areas_in c.args.olds.now) c.loop-i.i c.loop-i.new _ _ (omega (arith, length-areas c.args.olds.now))
+      (c.carry_area.ensures ∙ ap (λ (a : Area). carry_area c.args.old.now (areas_in c.args.news.now) a
+      c.loop-i.new) c.area_at.ensures.0) c.loop-i.invariant.2,
+)
 
 pub returns : goal.returns
 returns c =

@@ -22,7 +22,7 @@ loop-i-preserved c =
       search rules,
       search rules,
       elim c.if-comment.branch [
-        then-comment+then-b-eq10 w ↦ cc (skip-lf s i h w.if-b-eq10.true)
+        | then-comment+then-b-eq10 w ↦ cc (skip-lf s i h w.if-b-eq10.true)
         | then-comment+else-b-eq10 w ↦ cc (skip-comment s i h w.if-b-eq10.false)
         | else-comment+then-b-eq35 w ↦ cc (skip-hash s i h w.if-b-eq35.true)
         | else-comment+else-b-eq35+then-is_blank w ↦ cc (skip-blank s i h (cc))

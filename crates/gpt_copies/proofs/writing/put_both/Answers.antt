@@ -11,14 +11,13 @@ put_entry-requires c =
     (c.requires.0, c.requires.2, c.requires.3, c.requires.4, c.crc_with-crc.ensures ∙ ap (λ (es : List ℕ). crc32 (put_chunk 128 c.args.i c.args.e.now es)) c.entries_in.ensures.0)
 
 pub put_entry-requires-2 : goal.put_entry-requires-2
-put_entry-requires-2 c =
-    (
-      c.requires.1,
-      c.requires.2,
-      c.requires.3,
-      c.requires.4,
-      c.crc_with-crc.ensures ∙ ap (λ (es : List ℕ). crc32 (put_chunk 128 c.args.i c.args.e.now es)) (c.entries_in.ensures.0 ∙ c.requires.5),
-    )
+put_entry-requires-2 c = (
+  c.requires.1,
+  c.requires.2,
+  c.requires.3,
+  c.requires.4,
+  c.crc_with-crc.ensures ∙ ap (λ (es : List ℕ). crc32 (put_chunk 128 c.args.i c.args.e.now es)) (c.entries_in.ensures.0 ∙ c.requires.5),
+)
 
 pub returns : goal.returns
 returns c =
