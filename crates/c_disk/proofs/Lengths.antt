@@ -58,7 +58,8 @@ module _ (size n : ℕ) (h t : List ℕ) where
   pub format-on : (d guid : List ℕ) {o : Outcome} → d ≡ guid → o ≡ format_by size n d h t → o ≡ format_by size n guid h t
   format-on d guid p e = e ∙ ap (λ (x : List ℕ). format_by size n x h t) p
 
-  pub rename-on : (slot : ℕ) (m name : List ℕ) {o : Outcome} → m ≡ name → o ≡ step_by size n h t (edit (rename slot m)) → o ≡ step_by size n h t (edit (rename slot name))
+  pub rename-on : (slot : ℕ) (m name : List ℕ) {o : Outcome} → m ≡ name → o ≡ step_by size n h t (edit (rename slot m))
+      → o ≡ step_by size n h t (edit (rename slot name))
   rename-on slot m name p e = e ∙ ap (λ (x : List ℕ). step_by size n h t (edit (rename slot x))) p
 
   -- what the code adds, and what was given

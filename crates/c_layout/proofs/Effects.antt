@@ -21,7 +21,8 @@ pub image-refused : (name old : List ℕ) (r : LayoutReading) (k : ℕ) → k �
     → record { result = k; name = name; values = old } ≡ image_effect name old (reading r)
 image-refused name old r k p q = ap (replied name old r.image) (sym (refused-by r.answer k p (omega arith)))
 
-pub image-accepted : (name new old : List ℕ) (r : LayoutReading) (k : ℕ) → length name ≡ 32 → length r.image.name ≡ 32 → k ≡ code_of (number_of r.answer) → k ≡ 0
+pub image-accepted : (name new old : List ℕ) (r : LayoutReading) (k : ℕ) → length name ≡ 32 → length r.image.name ≡ 32 → k ≡ code_of (number_of r.answer)
+    → k ≡ 0
     → new ≡ put 0 r.image.name name
     → record { result = 0; name = new; values = r.image.size ∷ r.image.address ∷ r.image.count ∷ [] } ≡ image_effect name old (reading r)
 image-accepted name new old r k l w p q e =

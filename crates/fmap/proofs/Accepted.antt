@@ -20,7 +20,8 @@ use Rattle.fmap_rules.specs.declared.ImagePosition.{ImagePosition}
 use Rattle.fmap_rules.specs.declared.Extent.{Extent}
 use Rattle.fmap_rules.specs.declared.Area.{Area}
 use Rattle.fmap_rules.specs.Map.{areas_of, blank_area, named, fmap_name, end_of, disjoint, good_map}
-use Rattle.fmap_carry.specs.Carry.{preserved, with_name, target, missing, other_size, clear_by, clear, on_map, carry_rows, Outcome, unless_refused, carried, carry_areas}
+use Rattle.fmap_carry.specs.Carry.{preserved, with_name, target, missing, other_size, clear_by, clear, on_map, carry_rows, Outcome, unless_refused, carried}
+use Rattle.fmap_carry.specs.Carry.{carry_areas}
 use Rattle.fmap_carry.proofs.Passed.{size_same, all_apart, judge-free}
 use Rattle.fmap.specs.Find.{Reply, accepted, refused, find_map}
 use Rattle.fmap.specs.Carry.{place_rows, carry_at, carry_to, carry_from, carry_images}
@@ -152,7 +153,8 @@ module _ (old : List ℕ) (at : ℕ) (new : List ℕ) (bt : ℕ) (g : good_map o
         (λ i k o l. go i k o l (bool_cases (preserved (get_or olds i blank_area))) (bool_cases (preserved (get_or olds k blank_area))))
       where
         go : (i k : ℕ) → i < k → k < length olds → (preserved (get_or olds i blank_area) ≡ true) ⊎ (preserved (get_or olds i blank_area) ≡ false)
-            → (preserved (get_or olds k blank_area) ≡ true) ⊎ (preserved (get_or olds k blank_area) ≡ false) → clear news (get_or olds i blank_area) (get_or olds k blank_area) ≡ true
+            → (preserved (get_or olds k blank_area) ≡ true) ⊎ (preserved (get_or olds k blank_area) ≡ false)
+            → clear news (get_or olds i blank_area) (get_or olds k blank_area) ≡ true
         go i k o l (inr p) q = or-il _ _ (ap not p)
         go i k o l (inl p) (inr q) = or-ir _ _ (or-il _ _ (ap not q))
         go i k o l (inl p) (inl q) =
@@ -225,7 +227,8 @@ does-carry old at new bt m =
     let a = sym (place-good old at (in-range _ m.old_length.0 m.old_length.1) (is_signed old at g) g) in
     let b = sym (place-good new bt (in-range _ m.new_length.0 m.new_length.1) (is_signed new bt h) h) in
     sym (ap (λ (o : Outcome). o.answer) (both-stand old at new bt a b))
-    ∙ ap (λ (o : Option ℕ). (unless_refused o (carried old (areas_of (rest bt new)) (areas_of (rest at old)) new) new).answer) (sym (rows-free old at new bt g h m))
+    ∙ ap (λ (o : Option ℕ). (unless_refused o (carried old (areas_of (rest bt new)) (areas_of (rest at old)) new) new).answer)
+    (sym (rows-free old at new bt g h m))
 
 pub accepted-by-bytes : AcceptedByBytes
 accepted-by-bytes old at new bt = (may-carry old at new bt, does-carry old at new bt)
@@ -241,7 +244,8 @@ images-accepted-by-bytes old new = (
       ∙ ap (λ (r : Reply ImagePosition). (carry_to old w.0 new r).answer) w.3 ∙ does-carry old w.0.0 new w.1.0 w.4,
 )
   where
-    to : (p : ImagePosition) → find_map old ≡ accepted p → (r : Reply ImagePosition) → find_map new ≡ r → (carry_to old p new r).answer ≡ none → ByFound old new
+    to : (p : ImagePosition) → find_map old ≡ accepted p → (r : Reply ImagePosition) → find_map new ≡ r → (carry_to old p new r).answer ≡ none
+        → ByFound old new
     to p a (accepted q) b e = (p, q, a, b, may-carry old p.0 new q.0 e)
     to p a (refused k) b e = absurd (some-none e)
 

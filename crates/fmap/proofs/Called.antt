@@ -150,7 +150,8 @@ module _ (image name : List ℕ) (p : ImagePosition) (k : ℕ) (found : find_map
   first = find_ix-get (called name) listed blank_area (any-make (called name) listed blank_area k in_list passes)
 
   -- another record of that name would have the same 32 bytes
-  one_name : (j : ℕ) → j < count_in image p.0 → called name (get_or listed j blank_area) ≡ true → name_in image (record_of p.0 j) ≡ name_in image (record_of p.0 k)
+  one_name : (j : ℕ) → j < count_in image p.0 → called name (get_or listed j blank_area) ≡ true
+      → name_in image (record_of p.0 j) ≡ name_in image (record_of p.0 k)
   unfolding called
   one_name j a q =
       let room = area-room image p.0 is-good in

@@ -43,7 +43,8 @@ module _ (old new image : List ℕ) where
       → CarriedOver old new image
   two p q a b e = record { from = p; to = q; old_found = a; new_found = b; arrived = arrives old p.0 new q.0 image e }
 
-  one : (p : ImagePosition) → find_map old ≡ accepted p → (g : Reply ImagePosition) → find_map new ≡ g → carry_to old p new g ≡ record { answer = none; image = image }
+  one : (p : ImagePosition) → find_map old ≡ accepted p → (g : Reply ImagePosition) → find_map new ≡ g
+      → carry_to old p new g ≡ record { answer = none; image = image }
       → CarriedOver old new image
   one p a (accepted q) b e = two p q a b e
   one p a (refused k) b e = let z : ◌≡◌ {A = ℕ} 0 1 = cc (ap (λ (o : Outcome). o.answer) e) in absurd (omega arith)

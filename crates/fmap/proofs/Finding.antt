@@ -184,7 +184,8 @@ module _ (image : List ℕ) (at : ℕ) (l : Looking image at) where
   pub room : at < length image → at + 8 ≤ length image
   room h = signed-whole image at (l.at-signed h)
 
-  pub looking-goes : (r : ℕ) → at < length image → good_map image at ≡ false → r ≡ first_from (length image - (at + 6)) (at + 6) (signed_at image) → r ≤ length image
+  pub looking-goes : (r : ℕ) → at < length image → good_map image at ≡ false → r ≡ first_from (length image - (at + 6)) (at + 6) (signed_at image)
+      → r ≤ length image
       → Looking image r
   looking-goes r h g e b =
       let w = room h in
@@ -205,13 +206,15 @@ module _ (image : List ℕ) (at : ℕ) (l : Looking image at) where
   looking-hits h g = l.rest-decides ∙ first-stop (length image) at (good_map image) h g
 
   pub looking-ends : length image ≤ at → some_below (length image) (good_map image) ≡ false
-  looking-ends h = le-ltb (lowest (length image) (good_map image)) (length image) (omega (arith, l.rest-decides ∙ first-end (length image) at (good_map image) h))
+  looking-ends h = le-ltb (lowest (length image) (good_map image)) (length image)
+      (omega (arith, l.rest-decides ∙ first-end (length image) at (good_map image) h))
 
 -- the position that is found
 pub finds : (image : List ℕ) (at : ℕ) → 98 ≤ length image → length image ≤ 16777216 → some_below (length image) (signed_at image) ≡ true
     → at < length image → lowest (length image) (good_map image) ≡ at → accepted (position at) ≡ find_map image
 finds image at a b s h e =
-    ap (λ (k : ℕ). accepted (position k)) (sym e) ∙ find_at image (in-range (length image) a b) s (lt-ltb (lowest (length image) (good_map image)) (length image) (omega (arith, e)))
+    ap (λ (k : ℕ). accepted (position k)) (sym e)
+    ∙ find_at image (in-range (length image) a b) s (lt-ltb (lowest (length image) (good_map image)) (length image) (omega (arith, e)))
 
 pub within : (len : ℕ) → out_of_range len ≡ false → (98 ≤ len) × (len ≤ 16777216)
 unfolding out_of_range

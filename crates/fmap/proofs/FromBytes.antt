@@ -20,7 +20,9 @@ use Rattle.octets.proofs.Parts.{length_part, length_rest, get_d_part, part-of-re
 use Rattle.octets.proofs.Equal.{same_refl, same_false}
 use Rattle.fmap_rules.specs.declared.Extent.{Extent}
 use Rattle.fmap_rules.specs.declared.Area.{Area}
-use Rattle.fmap_rules.specs.Map.{signature, signed, major_of, minor_of, size_of, count_of, name_of, graphic, stops, name_length, legal_name, fmap_name, map_size, areas_of, blank_area, named, end_of, disjoint, inside, disjoint_or_nested, header_rows, good_map_header, good_map, holds_map}
+use Rattle.fmap_rules.specs.Map.{signature, signed, major_of, minor_of, size_of, count_of, name_of, graphic, stops, name_length, legal_name, fmap_name}
+use Rattle.fmap_rules.specs.Map.{map_size, areas_of, blank_area, named, end_of, disjoint, inside, disjoint_or_nested, header_rows, good_map_header}
+use Rattle.fmap_rules.specs.Map.{good_map, holds_map}
 use Rattle.fmap_rules.proofs.Rules.{none-holds}
 use Rattle.fmap_rules.proofs.Good.{areas-good, map-good}
 use Rattle.fmap_rules.proofs.Signature.{signed_part}

@@ -20,7 +20,8 @@ use Rattle.octets.proofs.Parts.{get_d_part, part-of-rest}
 use Rattle.octets.proofs.Equal.{same_true, same_refl}
 use Rattle.fmap_rules.specs.declared.Extent.{Extent}
 use Rattle.fmap_rules.specs.declared.Area.{Area}
-use Rattle.fmap_rules.specs.Map.{signature, signed, minor_of, fmap_name, legal_name, map_size, area_of, areas_of, blank_area, named, end_of, disjoint, inside, disjoint_or_nested, header_rows, area_rows, good_map_header, good_areas, good_map, holds_map, empty, good_places}
+use Rattle.fmap_rules.specs.Map.{signature, signed, minor_of, fmap_name, legal_name, map_size, area_of, areas_of, blank_area, named, end_of, disjoint}
+use Rattle.fmap_rules.specs.Map.{inside, disjoint_or_nested, header_rows, area_rows, good_map_header, good_areas, good_map, holds_map, empty, good_places}
 use Rattle.fmap_rules.proofs.Rules.{holds-none}
 use Rattle.fmap_rules.proofs.Good.{good-header, good-areas, good-fits, good-within, header-signed, holder, ends-in, legal, names_differ}
 use Rattle.fmap_rules.proofs.Signature.{signed_part}
@@ -76,7 +77,8 @@ module _ (image : List ℕ) (at : ℕ) (g : good_map image at ≡ true) where
   some_byte : (k : ℕ) → k < count_in image at → 1 ≤ size_in image (record_of at k)
   unfolding empty
   some_byte k h =
-      let e : (get_or areas k blank_area).place.size ≡ 0 → ⊥ = eqb-false _ 0 (any_none empty areas blank_area (passes 10 (area_rows (length image) at areas) area-rows) k (there k h)) in
+      let e : (get_or areas k blank_area).place.size ≡ 0 → ⊥ =
+      eqb-false _ 0 (any_none empty areas blank_area (passes 10 (area_rows (length image) at areas) area-rows) k (there k h)) in
       let s = size_is k h in
       omega (arith, e)
 
@@ -240,7 +242,8 @@ module _ (old : List ℕ) (at : ℕ) (new : List ℕ) (bt : ℕ) (g : good_map o
     arrive i j w k l =
         let a = r.arrive i (there old at g i w.old_record) (marked i w.old_record w.preserve) in
         let t = goes_to i j w in
-        let ts : (target news (get_or olds i blank_area)).start.0 ≡ start_in new (record_of bt j) = ap (λ (x : Extent). x.start.0) t ∙ start_is new bt h j w.new_record in
+        let ts : (target news (get_or olds i blank_area)).start.0 ≡ start_in new (record_of bt j) = ap (λ (x : Extent). x.start.0) t
+        ∙ start_is new bt h j w.new_record in
         let os = start_is old at g i w.old_record in
         let oz = size_is old at g i w.old_record in
         let z = size_same olds news e i (there old at g i w.old_record) (marked i w.old_record w.preserve) in

@@ -28,7 +28,8 @@ pub first_passes : (p : Area → Bool) (areas : List Area) → find_ix p areas <
 first_passes p [] h = absurd (not-suc-le-zero h)
 first_passes p (a ∷ areas) h = go (bool_cases (p a)) h (first_passes p areas)
   where
-    go : (p a ≡ true) ⊎ (p a ≡ false) → find_ix p (a ∷ areas) < suc (length areas) → (find_ix p areas < length areas → p (get_or areas (find_ix p areas) blank_area) ≡ true)
+    go : (p a ≡ true) ⊎ (p a ≡ false) → find_ix p (a ∷ areas) < suc (length areas)
+        → (find_ix p areas < length areas → p (get_or areas (find_ix p areas) blank_area) ≡ true)
         → p (get_or (a ∷ areas) (find_ix p (a ∷ areas)) blank_area) ≡ true
     go (inl q) h ih = rw (q, find_ix) q
     go (inr q) h ih = rw (q, find_ix) (ih (le_of_suc-le-suc (rw (q, find_ix) at h)))
@@ -58,7 +59,8 @@ long-name-is-nothing image name e = by-find image name (find_map image) refl e
 pub picked : (i n k : ℕ) → ◌≡◌ {A = Reply (Option ℕ)} (accepted (cond (ltb i n) (some i) none)) (accepted (some k)) → (ltb i n ≡ true) × (i ≡ k)
 picked i n k e = go (bool_cases (ltb i n)) e
   where
-    go : (ltb i n ≡ true) ⊎ (ltb i n ≡ false) → ◌≡◌ {A = Reply (Option ℕ)} (accepted (cond (ltb i n) (some i) none)) (accepted (some k)) → (ltb i n ≡ true) × (i ≡ k)
+    go : (ltb i n ≡ true) ⊎ (ltb i n ≡ false) → ◌≡◌ {A = Reply (Option ℕ)} (accepted (cond (ltb i n) (some i) none)) (accepted (some k)) → (ltb i n ≡ true)
+        × (i ≡ k)
     go (inl t) e = let q : ◌≡◌ {A = Reply (Option ℕ)} (accepted (some i)) (accepted (some k)) = rw t at e in (t, (cc))
     go (inr t) e =
         let q : ◌≡◌ {A = Reply (Option ℕ)} (accepted none) (accepted (some k)) = rw t at e in

@@ -101,7 +101,8 @@ module _ (old : List ℕ) (at : ℕ) (new : List ℕ) (bt : ℕ) where
 
   pub old-stops : (k : ℕ) → some k ≡ refusal (place_rows old at) → record { answer = some k; image = new } ≡ carry_at old at new bt
   old-stops k e =
-      rows-give (some k) (sym (refusal-first (place_rows old at) (place_rows new bt ++ carry_rows (areas_of (rest at old)) (areas_of (rest bt new))) k (sym e)))
+      rows-give (some k) (sym (refusal-first (place_rows old at) (place_rows new bt ++ carry_rows (areas_of (rest at old)) (areas_of (rest bt new))) k
+      (sym e)))
 
   module _ (a : refusal (place_rows old at) ≡ none) where
     pub new-stops : (k : ℕ) → some k ≡ refusal (place_rows new bt) → record { answer = some k; image = new } ≡ carry_at old at new bt

@@ -43,11 +43,13 @@ index-there xs k i e h =
     rw (lt-ltb i (length (areas_in xs)) l, e)
 
 -- the number of the area with a name, by what finding answered
-pub index-by : (image name : List ℕ) (f x : MapFound) → f ≡ x → found_reply f ≡ find_map image → index_by image (find_ix (called name)) (found_reply x) ≡ index_named image name
+pub index-by : (image name : List ℕ) (f x : MapFound) → f ≡ x → found_reply f ≡ find_map image
+    → index_by image (find_ix (called name)) (found_reply x) ≡ index_named image name
 unfolding index_named
 index-by image name f x p q = ap (index_by image (find_ix (called name))) (sym (ap found_reply p) ∙ q)
 
-pub index-found : (image name : List ℕ) (f : MapFound) (p : ImagePosition) (areas : List Area) (r : Reply (Option ℕ)) → f ≡ At p → found_reply f ≡ find_map image
+pub index-found : (image name : List ℕ) (f : MapFound) (p : ImagePosition) (areas : List Area) (r : Reply (Option ℕ)) → f ≡ At p
+    → found_reply f ≡ find_map image
     → areas ≡ areas_of (rest p.0 image) → r ≡ accepted (index_in areas (find_ix (called name) areas)) → r ≡ index_named image name
 index-found image name f p areas r e q l k =
     k ∙ ap (λ (x : List Area). accepted (index_in x (find_ix (called name) x))) l ∙ index-by image name f (At p) e q

@@ -36,7 +36,8 @@ end_in image r = start_in image r + size_in image r
 abbrev pub Apart : List ℕ → ℕ → ℕ → Type 0
 Apart image r s =
     ((end_in image r ≤ start_in image s) ⊎ (end_in image s ≤ start_in image r))
-    ⊎ (((start_in image s ≤ start_in image r) × (end_in image r ≤ end_in image s)) ⊎ ((start_in image r ≤ start_in image s) × (end_in image s ≤ end_in image r)))
+    ⊎ (((start_in image s ≤ start_in image r) × (end_in image r ≤ end_in image s)) ⊎ ((start_in image r ≤ start_in image s)
+    × (end_in image s ≤ end_in image r)))
 
 -- (M3), (M4), (M5), (M6), (M7), (M8) of the map at a position
 pub record MapAt (image : List ℕ) (at : ℕ) : Type 0 where

@@ -39,10 +39,12 @@ module _ (old : List ℕ) (olds : List Area) (new : List ℕ) (news : List Area)
       record {
         same_length = length-carried old news olds new;
         arrive = λ i h p. arrives old news (length new) olds new refl (all_apart olds news e) f i h p;
-        stay = λ p c. byte (carried old news olds new) new p (part-carried old news (length new) olds new p 1 f (λ i h q. side (get_or olds i blank_area) p (c i h q)));
+        stay = λ p c. byte (carried old news olds new) new p
+            (part-carried old news (length new) olds new p 1 f (λ i h q. side (get_or olds i blank_area) p (c i h q)));
       }
     where
-      side : (x : Area) (p : ℕ) → (p < (target news x).start.0) ⊎ (end_of (target news x) ≤ p) → (end_of (target news x) ≤ p) ⊎ (p + 1 ≤ (target news x).start.0)
+      side : (x : Area) (p : ℕ) → (p < (target news x).start.0) ⊎ (end_of (target news x) ≤ p)
+          → (end_of (target news x) ≤ p) ⊎ (p + 1 ≤ (target news x).start.0)
       side x p (inl h) = inr (omega arith)
       side x p (inr h) = inl h
 

@@ -59,7 +59,8 @@ module _ (old : List ℕ) (news : List Area) where
 
   -- ---- along the loop: the rest decides
 
-  pub carried-next : (olds : List Area) (i : ℕ) (image image' result : List ℕ) → i < length olds → image' ≡ carry_area old news (get_or olds i blank_area) image
+  pub carried-next : (olds : List Area) (i : ℕ) (image image' result : List ℕ) → i < length olds
+      → image' ≡ carry_area old news (get_or olds i blank_area) image
       → carried old news (drop i olds) image ≡ result → carried old news (drop (i + 1) olds) image' ≡ result
   unfolding carried
   carried-next olds i image image' result h e f =
@@ -121,7 +122,8 @@ module _ (old : List ℕ) (news : List Area) where
     arrives [] image l e f i h p = absurd (not-suc-le-zero h)
     arrives (a ∷ olds) image l e f zero h p =
         part-carried olds (carry_area old news a image) (target news a).start.0 (target news a).size (λ j k. f (suc j) (suc-le-suc k))
-        (λ j k q. swap (get_or olds j blank_area) (targets-apart news a (get_or olds j blank_area) (all-get (clear news a) olds blank_area (and_l _ _ e) j k) p q))
+        (λ j k q. swap (get_or olds j blank_area)
+        (targets-apart news a (get_or olds j blank_area) (all-get (clear news a) olds blank_area (and_l _ _ e) j k) p q))
         ∙ placed a image l p (f zero (zero-lt-suc _) p)
       where
         swap : (b : Area) → (end_of (target news a) ≤ (target news b).start.0) ⊎ (end_of (target news b) ≤ (target news a).start.0)
@@ -154,7 +156,8 @@ fit_at xs lo ln m news i b f h e l p =
     (subst (λ (a : Area). Fit lo ln news a) (sym e) (f i (omega (arith, length-areas xs)) (ap preserved (sym e) ∙ p)))
 
 -- bytes kept apart
-pub kept-are : (vs xs ys : List ℕ) (areas : List Area) → length vs ≤ length xs → ys ≡ put 0 vs xs → areas_in vs ≡ areas → areas_in (take (length vs) ys) ≡ areas
+pub kept-are : (vs xs ys : List ℕ) (areas : List Area) → length vs ≤ length xs → ys ≡ put 0 vs xs → areas_in vs ≡ areas
+    → areas_in (take (length vs) ys) ≡ areas
 unfolding part
 kept-are vs xs ys areas h e f = ap (λ (l : List ℕ). areas_in (take (length vs) l)) e ∙ ap areas_in (part-put-same vs xs 0 (omega arith)) ∙ f
 

@@ -38,7 +38,8 @@ matched-more olds news matches i v h m e = record { each = λ j k. go j k (eqb j
     go : (j : ℕ) → j < i + 1 → (t : Bool) → eqb j i ≡ t → get_or (set matches i v) j 0 ≡ find_ix (named (get_or olds j blank_area).name) news
     go j k true w =
         let q : j ≡ i = eqb-true _ _ w in
-        ap (λ (x : ℕ). get_or (set matches i v) x 0) q ∙ get_or-set_same matches i v 0 h ∙ e ∙ ap (λ (x : ℕ). find_ix (named (get_or olds x blank_area).name) news) (sym q)
+        ap (λ (x : ℕ). get_or (set matches i v) x 0) q ∙ get_or-set_same matches i v 0 h ∙ e
+        ∙ ap (λ (x : ℕ). find_ix (named (get_or olds x blank_area).name) news) (sym q)
     go j k false w = let q : j ≡ i → ⊥ = eqb-false _ _ w in get_or-set_other matches i j v 0 q ∙ m.each j (omega arith)
 
 pub matched-all : (xs : List ℕ) (news : List Area) (matches : List ℕ) (i : ℕ) → length xs / 42 ≤ i → length xs / 42 ≤ length matches
@@ -53,10 +54,12 @@ module _ (xs : List ℕ) (news : List Area) (matches : List ℕ) (m : Matched (a
   pub matched-each : (i : ℕ) → i < length xs / 42 → get_or matches i 0 ≡ find_ix (named (get_or (areas_in xs) i blank_area).name) news
   matched-each i h = m.each i (omega (arith, length-areas xs))
 
-  pub matched-at : (i : ℕ) (b : List ℕ) → i < length xs / 42 → area_of b ≡ get_or (areas_in xs) i blank_area → get_or matches i 0 ≡ find_ix (named (area_of b).name) news
+  pub matched-at : (i : ℕ) (b : List ℕ) → i < length xs / 42 → area_of b ≡ get_or (areas_in xs) i blank_area
+      → get_or matches i 0 ≡ find_ix (named (area_of b).name) news
   matched-at i b h e = matched-each i h ∙ ap (λ (a : Area). find_ix (named a.name) news) (sym e)
 
-  pub target_at : (i : ℕ) (x : Extent) → i < length xs / 42 → x ≡ (get_or news (get_or matches i 0) blank_area).place → x ≡ target news (get_or (areas_in xs) i blank_area)
+  pub target_at : (i : ℕ) (x : Extent) → i < length xs / 42 → x ≡ (get_or news (get_or matches i 0) blank_area).place
+      → x ≡ target news (get_or (areas_in xs) i blank_area)
   unfolding with_name
   target_at i x h e = e ∙ ap (λ (k : ℕ). (get_or news k blank_area).place) (matched-each i h)
 
@@ -77,7 +80,8 @@ find-count {A} p xs d = go (bool_cases (any p xs))
         ne_eqb (find_ix p xs) (length xs) f ∙ ap not (sym q)
     go (inr q) = eq-eqb (find_ix p xs) (length xs) (find_none p xs q) ∙ ap not (sym q)
 
-pub target-by : (xs : List ℕ) (a : Area) (k : ℕ) (y : Extent) → k ≡ find_ix (named a.name) (areas_in xs) → y ≡ (get_or (areas_in xs) k blank_area).place → y ≡ target (areas_in xs) a
+pub target-by : (xs : List ℕ) (a : Area) (k : ℕ) (y : Extent) → k ≡ find_ix (named a.name) (areas_in xs) → y ≡ (get_or (areas_in xs) k blank_area).place
+    → y ≡ target (areas_in xs) a
 unfolding with_name
 target-by xs a k y q r = r ∙ ap (λ (i : ℕ). (get_or (areas_in xs) i blank_area).place) q
 
@@ -99,10 +103,12 @@ clear-by : (news : List Area) (a b : Area) (x y : Extent) → x ≡ target news 
 unfolding clear
 clear-by news a b x y p q = ap₂ (λ (u v : Extent). clear_by a u b v) p q
 
-module _ (xs : List ℕ) (news : List Area) (matches : List ℕ) (m : Matched (areas_in xs) news matches) (i j : ℕ) (h : i < length xs / 42) (k : j < length xs / 42) where
+module _ (xs : List ℕ) (news : List Area) (matches : List ℕ) (m : Matched (areas_in xs) news matches) (i j : ℕ) (h : i < length xs / 42)
+    (k : j < length xs / 42) where
   pub clear_at : (a b : List ℕ) (x y : Extent) → area_of a ≡ get_or (areas_in xs) i blank_area → area_of b ≡ get_or (areas_in xs) j blank_area
       → x ≡ (get_or news (get_or matches i 0) blank_area).place → y ≡ (get_or news (get_or matches j 0) blank_area).place
       → clear news (get_or (areas_in xs) i blank_area) (area_of b) ≡ clear_by (area_of a) x (area_of b) y
   clear_at a b x y p q r t =
       ap (λ (l : Area). clear news l (area_of b)) (sym p)
-      ∙ sym (clear-by news (area_of a) (area_of b) x y (target_at xs news matches m i x h r ∙ ap (target news) (sym p)) (target_at xs news matches m j y k t ∙ ap (target news) (sym q)))
+      ∙ sym (clear-by news (area_of a) (area_of b) x y (target_at xs news matches m i x h r ∙ ap (target news) (sym p))
+      (target_at xs news matches m j y k t ∙ ap (target news) (sym q)))

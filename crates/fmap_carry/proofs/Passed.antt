@@ -23,14 +23,16 @@ module _ (olds news : List Area) (e : refusal (carry_rows olds news) ≡ none) w
   unfolding missing
   present i h p = not-false _ (and-skip _ _ p (any_none (missing news) olds blank_area (passes 60 (carry_rows olds news) e) i h))
 
-  pub size_same : (i : ℕ) → i < length olds → preserved (get_or olds i blank_area) ≡ true → (get_or olds i blank_area).place.size ≡ (target news (get_or olds i blank_area)).size
+  pub size_same : (i : ℕ) → i < length olds → preserved (get_or olds i blank_area) ≡ true
+      → (get_or olds i blank_area).place.size ≡ (target news (get_or olds i blank_area)).size
   unfolding other_size
   size_same i h p = eqb-true _ _ (not-false _ (and-skip _ _ p (any_none (other_size news) olds blank_area (passes 61 (carry_rows olds news) e) i h)))
 
   pub all_apart : pairs (clear news) olds ≡ true
   all_apart = not_f _ (passes 62 (carry_rows olds news) e)
 
-  pub fitting : (old_length new_length : ℕ) → all (ends_in old_length) olds ≡ true → all (ends_in new_length) news ≡ true → Fitting old_length new_length news olds
+  pub fitting : (old_length new_length : ℕ) → all (ends_in old_length) olds ≡ true → all (ends_in new_length) news ≡ true
+      → Fitting old_length new_length news olds
   unfolding with_name ends_in
   fitting old_length new_length a b i h p =
       let k = (find_ix-get (named (get_or olds i blank_area).name) news blank_area (present i h p)).0 in
@@ -78,7 +80,9 @@ module _ (old : List ℕ) (olds : List Area) (new : List ℕ) (news : List Area)
 pub good-ends-of : (image : List ℕ) (at : ℕ) → good_map image at ≡ true → all (ends_in (length image)) (areas_of (rest at image)) ≡ true
 unfolding ends_in
 good-ends-of image at g =
-    all-make (ends_in (length image)) (areas_of (rest at image)) blank_area (λ i h. le-leb _ _ (ends-in (length image) at (areas_of (rest at image)) (good-areas image at g) i h))
+    all-make (ends_in (length image)) (areas_of (rest at image)) blank_area
+    (λ i h. le-leb _ _ (ends-in (length image) at (areas_of (rest at image)) (good-areas image at g) i h))
 
-pub good-ends : (image xs : List ℕ) (at : ℕ) → good_map image at ≡ true → areas_in xs ≡ areas_of (rest at image) → all (ends_in (length image)) (areas_in xs) ≡ true
+pub good-ends : (image xs : List ℕ) (at : ℕ) → good_map image at ≡ true → areas_in xs ≡ areas_of (rest at image)
+    → all (ends_in (length image)) (areas_in xs) ≡ true
 good-ends image xs at g e = ap (all (ends_in (length image))) e ∙ good-ends-of image at g

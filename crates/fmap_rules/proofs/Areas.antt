@@ -8,7 +8,8 @@ use native.Mathlib.Nat.{mul_comm}
 use lib.ListN.{length, get_or, take, drop, length-map}
 use Rattle.octets.specs.Bytes.{part, chunks}
 use Rattle.octets.specs.Tests.{all, any, pairs, find_ix}
-use Rattle.octets.proofs.Tests.{get_d_map, all-on, all-stop, all_done, any-on, any-stop, any-done, pairs-on, pairs-stop, pairs-done, find_ix-on, find_ix-stop, find_ix-done}
+use Rattle.octets.proofs.Tests.{get_d_map, all-on, all-stop, all_done, any-on, any-stop, any-done, pairs-on, pairs-stop, pairs-done, find_ix-on}
+use Rattle.octets.proofs.Tests.{find_ix-stop, find_ix-done}
 use Rattle.octets.proofs.Parts.{length_part}
 use Rattle.octets.proofs.Chunks.{length-chunks, chunk_part}
 use Rattle.fmap_rules.specs.declared.Area.{Area}
@@ -31,7 +32,8 @@ area-part xs i h =
 -- ---- what a lent part holds
 
 pub area-slice : (xs : List ℕ) (i : ℕ) → i < length xs / 42
-    → (area_of (take (42 * i + 42 - 42 * i) (drop (42 * i) xs)) ≡ get_or (areas_in xs) i blank_area) × (length (take (42 * i + 42 - 42 * i) (drop (42 * i) xs)) ≡ 42)
+    → (area_of (take (42 * i + 42 - 42 * i) (drop (42 * i) xs)) ≡ get_or (areas_in xs) i blank_area)
+    × (length (take (42 * i + 42 - 42 * i) (drop (42 * i) xs)) ≡ 42)
 unfolding part
 area-slice xs i h =
     let e : 42 * i + 42 - 42 * i ≡ 42 = omega arith in
@@ -89,7 +91,8 @@ module _ (xs : List ℕ) (i : ℕ) (h : length xs / 42 ≤ i) where
   pairs-over q {r} f = sym (pairs-done q (areas_in xs) i over) ∙ f
 
 module _ (xs : List ℕ) (i : ℕ) (h : i < length xs / 42) (q : Area → Area → Bool) {r : Bool} where
-  pub pairs_next : all (q (get_or (areas_in xs) i blank_area)) (drop (i + 1) (areas_in xs)) ≡ true → pairs q (drop i (areas_in xs)) ≡ r → pairs q (drop (i + 1) (areas_in xs)) ≡ r
+  pub pairs_next : all (q (get_or (areas_in xs) i blank_area)) (drop (i + 1) (areas_in xs)) ≡ true → pairs q (drop i (areas_in xs)) ≡ r
+      → pairs q (drop (i + 1) (areas_in xs)) ≡ r
   pairs_next e f = sym (pairs-on q (areas_in xs) blank_area i (omega (arith, length-areas xs)) e) ∙ f
 
   pub pairs-fails : all (q (get_or (areas_in xs) i blank_area)) (drop (i + 1) (areas_in xs)) ≡ false → pairs q (drop i (areas_in xs)) ≡ r → false ≡ r

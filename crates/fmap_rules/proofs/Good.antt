@@ -15,7 +15,9 @@ use Rattle.octets.proofs.Rows.{passes, pick_true, pick-false, refusal-before, re
 use Rattle.octets.proofs.Tests.{any_none, any_false, pairs-get, pairs-make}
 use Rattle.octets.proofs.Parts.{length_rest, rest-slice}
 use Rattle.fmap_rules.specs.declared.Area.{Area}
-use Rattle.fmap_rules.specs.Map.{signed, count_of, map_size, areas_in, areas_of, blank_area, end_of, legal_name, named, disjoint_or_nested, empty, ends_past, misnamed, other_name, good_places, header_rows, area_rows, map_rows, good_map_header, good_areas, good_map, holds_map}
+use Rattle.fmap_rules.specs.Map.{signed, count_of, map_size, areas_in, areas_of, blank_area, end_of, legal_name, named, disjoint_or_nested, empty}
+use Rattle.fmap_rules.specs.Map.{ends_past, misnamed, other_name, good_places, header_rows, area_rows, map_rows, good_map_header, good_areas, good_map}
+use Rattle.fmap_rules.specs.Map.{holds_map}
 use Rattle.fmap_rules.proofs.Rules.{holds-none, none-holds, code-none, code-first, code-later, header-no-zero}
 use Rattle.fmap_rules.proofs.Signature.{short-unsigned}
 
@@ -52,7 +54,8 @@ module _ (len : ℕ) (m : List ℕ) (g : good_map_header len m ≡ true) where
 module _ (image : List ℕ) (at : ℕ) (g : good_map image at ≡ true) where
   map-rows : (refusal (header_rows (length image) (rest at image)) ≡ none) × (refusal (area_rows (length image) at (areas_of (rest at image))) ≡ none)
   unfolding good_map
-  map-rows = refusal-before (header_rows (length image) (rest at image)) (area_rows (length image) at (areas_of (rest at image))) (holds-none (map_rows image at) g)
+  map-rows = refusal-before (header_rows (length image) (rest at image)) (area_rows (length image) at (areas_of (rest at image)))
+      (holds-none (map_rows image at) g)
 
   pub good-header : good_map_header (length image) (rest at image) ≡ true
   unfolding good_map_header
@@ -68,7 +71,8 @@ module _ (image : List ℕ) (at : ℕ) (g : good_map image at ≡ true) where
   pub good-within : at + map_size (count_of (rest at image)) ≤ length image
   good-within = omega (arith, good-fits.whole, good-fits.some, length_rest image at)
 
-pub map-good : (image : List ℕ) (at : ℕ) → good_map_header (length image) (rest at image) ≡ true → good_areas (length image) at (areas_of (rest at image)) ≡ true
+pub map-good : (image : List ℕ) (at : ℕ) → good_map_header (length image) (rest at image) ≡ true
+    → good_areas (length image) at (areas_of (rest at image)) ≡ true
     → good_map image at ≡ true
 unfolding good_map good_map_header good_areas
 map-good image at h a =
@@ -94,7 +98,8 @@ module _ (image : List ℕ) (at : ℕ) (m : List ℕ) (q : m ≡ rest at image) 
   pub header_read : k ≡ 0 → Fits m
   header_read h = rows_fit (length image) m (code-none (header_rows (length image) m) (header-no-zero (length image) m) (sym h ∙ e))
 
-  pub by-areas : {n : ℕ} → k ≡ 0 → n ≡ code_of (refusal (area_rows (length image) at (areas_in (part 56 (42 * count_of m) m)))) → n ≡ code_of (refusal (map_rows image at))
+  pub by-areas : {n : ℕ} → k ≡ 0 → n ≡ code_of (refusal (area_rows (length image) at (areas_in (part 56 (42 * count_of m) m))))
+      → n ≡ code_of (refusal (map_rows image at))
   unfolding areas_of
   by-areas {n} h f =
       code-later (header_rows (length image) (rest at image)) (area_rows (length image) at (areas_of (rest at image))) k header-code
@@ -168,7 +173,8 @@ module _ (len at : ℕ) (areas : List Area)
         ∙ pick-false _ 14 _ (ap not all-differ) ∙ pick-false _ 15 _ (ap not all_apart))
 
 -- the bytes of all areas, as a lent part
-pub areas-are : (image xs : List ℕ) (at : ℕ) → xs ≡ part 56 (42 * count_of (take (length image - at) (drop at image))) (take (length image - at) (drop at image))
+pub areas-are : (image xs : List ℕ) (at : ℕ)
+    → xs ≡ part 56 (42 * count_of (take (length image - at) (drop at image))) (take (length image - at) (drop at image))
     → areas_in xs ≡ areas_of (rest at image)
 unfolding areas_of
 areas-are image xs at e = ap areas_in e ∙ ap (λ (l : List ℕ). areas_in (part 56 (42 * count_of l) l)) (rest-slice at image)

@@ -61,7 +61,9 @@ module _ (len : ℕ) (m : List ℕ) where
             p5 = ap not (eq-eqb _ len e)
 
             pub rule-6 : count_of m ≡ 0 → 6 ≡ rule
-            rule-6 h = ap code_of (sym (pick-false _ 1 _ p1 ∙ pick-false _ 2 _ p2 ∙ pick-false _ 3 _ p3 ∙ pick-false _ 4 _ p4 ∙ pick-false _ 5 _ p5 ∙ pick_true _ 6 _ (eq-eqb _ 0 h)))
+            rule-6 h = ap code_of
+                (sym (pick-false _ 1 _ p1 ∙ pick-false _ 2 _ p2 ∙ pick-false _ 3 _ p3 ∙ pick-false _ 4 _ p4 ∙ pick-false _ 5 _ p5
+                ∙ pick_true _ 6 _ (eq-eqb _ 0 h)))
 
             module _ (f : count_of m ≡ 0 → ⊥) where
               p6 : eqb (count_of m) 0 ≡ false

@@ -13,7 +13,8 @@ use Rattle.octets.specs.Bytes.{le, unle, part, rest, field, same}
 use Rattle.octets.proofs.Rows.{passes, pick-false}
 use Rattle.octets.proofs.Parts.{length_part, length_rest, get_d_part, part-on, part-part, part-of-rest}
 use Rattle.fmap_rules.specs.declared.Area.{Area}
-use Rattle.fmap_rules.specs.Map.{signature, signed, count_of, map_size, area_of, areas_in, areas_of, blank_area, legal_name, header_rows, good_map_header, good_areas, good_map}
+use Rattle.fmap_rules.specs.Map.{signature, signed, count_of, map_size, area_of, areas_in, areas_of, blank_area, legal_name, header_rows, good_map_header}
+use Rattle.fmap_rules.specs.Map.{good_areas, good_map}
 use Rattle.fmap_rules.specs.Written.{area_bytes}
 use Rattle.fmap_rules.specs.Claims.{AreaIsItsBytes}
 use Rattle.fmap_rules.proofs.Areas.{length-areas, area-part}
@@ -62,7 +63,8 @@ module _ (image : List ℕ) (at : ℕ) where
     record-whole i h =
         let l = length-records in
         area-part records i (omega (arith, count-in))
-        ∙ ap area_of (part-part (42 * i) 42 56 (42 * count_of (rest at image)) (rest at image) (omega (arith, count-in)) ∙ part-of-rest (56 + 42 * i) 42 at image)
+        ∙ ap area_of (part-part (42 * i) 42 56 (42 * count_of (rest at image)) (rest at image) (omega (arith, count-in))
+        ∙ part-of-rest (56 + 42 * i) 42 at image)
 
   module _ (g : good_map image at ≡ true) where
     pub count_at : count_of (rest at image) ≡ field (at + 54) 2 image

@@ -17,7 +17,8 @@ use Rattle.octets.proofs.Parts.{part-here, part-skip, part-from, part_in, part-w
 use Rattle.octets.proofs.Puts.{put-eq, length-put}
 use Rattle.octets.proofs.Equal.{same_refl}
 use Rattle.fmap_rules.specs.declared.Area.{Area}
-use Rattle.fmap_rules.specs.Map.{signature, signed, major_of, minor_of, base_of, size_of, name_of, count_of, map_size, area_of, areas_in, areas_of, blank_area, legal_name, header_rows, good_map_header, good_areas, good_map, holds_map}
+use Rattle.fmap_rules.specs.Map.{signature, signed, major_of, minor_of, base_of, size_of, name_of, count_of, map_size, area_of, areas_in, areas_of}
+use Rattle.fmap_rules.specs.Map.{blank_area, legal_name, header_rows, good_map_header, good_areas, good_map, holds_map}
 use Rattle.fmap_rules.specs.Written.{area_bytes, map_bytes, Stored, Writable}
 use Rattle.fmap_rules.specs.Claims.{WrittenIsGood, WrittenHeader}
 use Rattle.fmap_rules.proofs.Good.{ends-in, holder, map-good}

@@ -86,7 +86,11 @@ module _ {s : List ℕ} {i : TextImage} {rows spots : List ℕ} {n m : ℕ} (g :
 
     pub read_is :
         ◌≡◌ {A = Read} (record { answer = none; image = x })
-        (record { answer = (said_by s (good i (sections_in n rows) (placed_in n spots) m)).answer; image = (said_by s (good i (sections_in n rows) (placed_in n spots) m)).image })
+        (record {
+          answer = (said_by s (good i (sections_in n rows) (placed_in n spots) m)).answer;
+          image =
+              (said_by s (good i (sections_in n rows) (placed_in n spots) m)).image;
+        })
     read_is = rw image-is
 
     module _ (image : List ℕ) (h : length image ≡ i.size) where

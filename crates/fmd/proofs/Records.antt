@@ -27,7 +27,8 @@ module _ (s old : List ℕ) (h : length old ≡ 5376) (j : Checked) (c : j ≡ c
   unfolding record_text layout_in
   records-good y new e p = rw (eq-eqb (length old) 5376 h, sym c) (rw (e, p))
 
-pub records-fault : (s bs : List ℕ) → length bs ≡ 5376 → (n : ℕ) (p : FaultPlace) → fault n p ≡ check_text s → (y : Read) → y ≡ record { answer = some n; image = blank_image }
+pub records-fault : (s bs : List ℕ) → length bs ≡ 5376 → (n : ℕ) (p : FaultPlace) → fault n p ≡ check_text s → (y : Read)
+    → y ≡ record { answer = some n; image = blank_image }
     → with-records y bs ≡ record_text s bs
 unfolding record_text layout_in put
 records-fault s bs h n p c y e = rw (eq-eqb (length bs) 5376 h, sym c) (rw e)

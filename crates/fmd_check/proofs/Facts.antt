@@ -83,7 +83,8 @@ module _ (s : List ℕ) (i : TextImage) (l : List Section) (short : length s ≤
       unfolding fmap_in
       map-facts = by-found (found_from (is_fmap s l) (length l) 0) (first-facts (is_fmap s l) (length l) 0) refl
         where
-          by-found : (f : Found) → FirstFacts (is_fmap s l) (length l) 0 f → found_from (is_fmap s l) (length l) 0 ≡ f → CheckedFacts s (check_from 4 s i l (plan ps))
+          by-found : (f : Found) → FirstFacts (is_fmap s l) (length l) 0 f → found_from (is_fmap s l) (length l) 0 ≡ f
+              → CheckedFacts s (check_from 4 s i l (plan ps))
           by-found (At k) w e = leaf-facts k (omega (arith, w.0)) w.1 e
           by-found Nowhere w e = subst (CheckedFacts s) (no-map s i l ps e) ((omega arith, omega arith), tt)
 

@@ -21,7 +21,8 @@ use Rattle.fmd_table.specs.declared.Size.{Size}
 use Rattle.fmd_table.specs.declared.Size.TheVariants.{Given as GivenSize, Omitted as OmittedSize}
 use Rattle.fmd_table.specs.declared.Section.{Section}
 use Rattle.fmd_table.specs.declared.Placed.{Placed}
-use Rattle.fmd_check.specs.Plans.{placed_end, end_with, sibling_end, room_of, start_of, fits, spot_of, spot_by, spot_in, spot_for, Resolved, after_spot, resolve_from}
+use Rattle.fmd_check.specs.Plans.{placed_end, end_with, sibling_end, room_of, start_of, fits, spot_of, spot_by, spot_in, spot_for, Resolved, after_spot}
+use Rattle.fmd_check.specs.Plans.{resolve_from}
 use Rattle.fmd_check.specs.Fitted.{Siblings, Neighbours, BeginsAt, EndsAt, Lies, Sized}
 use Rattle.fmd_check.specs.Claims.{ResolvedFacts}
 use Rattle.fmd_parse.specs.Rows.{sibling_in, reach_of, is_undecided, undecided}
@@ -175,7 +176,8 @@ module _ (l : List Section) (k : ℕ) where
   next-is i h n =
       let a = n.before in
       let m : suc k + (i - suc k) ≡ i = omega arith in
-      let x : get_or (drop (suc k) l) (i - suc k) blank_section ≡ get_or l i blank_section = after-k (i - suc k) ∙ ap (λ (j : ℕ). get_or l j blank_section) m in
+      let x : get_or (drop (suc k) l) (i - suc k) blank_section ≡ get_or l i blank_section = after-k (i - suc k)
+      ∙ ap (λ (j : ℕ). get_or l j blank_section) m in
       next-first (get_or l k blank_section).parent (drop (suc k) l) (i - suc k) (omega (arith, length-after))
       (ap (λ (y : Section). y.parent) x ∙ sym n.siblings)
       (λ j g q. n.between (suc k + j) (omega arith) (omega arith) (sym (ap (λ (y : Section). y.parent) (after-k j)) ∙ (q ∙ n.siblings)))
@@ -224,7 +226,8 @@ module _ (z : ℕ) (ps : List Placed) {h : Section} {start : ℕ} {r : Reach} {p
       omega arith
 
   -- the last end with the parent of an earlier section, after p
-  old-end : (k : ℕ) → k < length ps → placed_end (get_or ps k blank_placed) ≤ end_with (get_or ps k blank_placed).parent (sibling_end (get_or ps k blank_placed).parent 0 ps) p
+  old-end : (k : ℕ) → k < length ps
+      → placed_end (get_or ps k blank_placed) ≤ end_with (get_or ps k blank_placed).parent (sibling_end (get_or ps k blank_placed).parent 0 ps) p
   unfolding end_with
   old-end k q =
       choice (λ (n : ℕ). placed_end (get_or ps k blank_placed) ≤ n) (eqb p.parent (get_or ps k blank_placed).parent) _ _
@@ -279,7 +282,8 @@ module _ (z : ℕ) (l : List Section) (ps : List Placed) (p : Placed)
 
   begins-push : p.offset.0 ≡ start_of h.offset (sibling_end h.parent 0 ps)
       → ((k : ℕ) → k < length ps → BeginsAt l ps k (get_or l k blank_section).offset (get_or ps k blank_placed).offset.0)
-      → (k : ℕ) → k < length (ps ++ (p ∷ [])) → BeginsAt l (ps ++ (p ∷ [])) k (get_or l k blank_section).offset (get_or (ps ++ (p ∷ [])) k blank_placed).offset.0
+      → (k : ℕ) → k < length (ps ++ (p ∷ []))
+      → BeginsAt l (ps ++ (p ∷ [])) k (get_or l k blank_section).offset (get_or (ps ++ (p ∷ [])) k blank_placed).offset.0
   begins-push e f =
       every ps p (λ k q. BeginsAt l (ps ++ (p ∷ [])) k (get_or l k blank_section).offset q.offset.0)
       (λ k a. old k a (get_or l k blank_section).offset _ (f k a))

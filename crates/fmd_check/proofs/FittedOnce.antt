@@ -74,7 +74,8 @@ module _ (l : List Section) (k : ℕ) where
 
 -- ---- section k of two resolutions that agree below k
 
-module _ (z : ℕ) (l : List Section) (ps qs : List Placed) (k : ℕ) (h : k < length l) (same-before : (j : ℕ) → j < k → get_or ps j blank_placed ≡ get_or qs j blank_placed) where
+module _ (z : ℕ) (l : List Section) (ps qs : List Placed) (k : ℕ) (h : k < length l) (same-before : (j : ℕ) → j < k
+    → get_or ps j blank_placed ≡ get_or qs j blank_placed) where
   begins-once : (o : Offset) (x y : ℕ) → BeginsAt l ps k o x → BeginsAt l qs k o y → x ≡ y
   begins-once (GivenOffset o) x y a b = a ∙ sym b
   begins-once OmittedOffset x y a b = by (previous l k k (omega arith) (λ j u v. absurd (omega arith)))
@@ -106,14 +107,16 @@ placed_same : (p q : Placed) → p.offset.0 ≡ q.offset.0 → p.size ≡ q.size
 placed_same p q a b c d = λ i. record { offset = record { 0 = a i }; size = b i; parent = c i; level = d i }
 
 module _ (z : ℕ) (l : List Section) (ps qs : List Placed) (f : Fitted z l ps) (g : Fitted z l qs) where
-  at_last : (n : ℕ) → n < length l → ((k : ℕ) → k < n → get_or ps k blank_placed ≡ get_or qs k blank_placed) → get_or ps n blank_placed ≡ get_or qs n blank_placed
+  at_last : (n : ℕ) → n < length l → ((k : ℕ) → k < n → get_or ps k blank_placed ≡ get_or qs k blank_placed)
+      → get_or ps n blank_placed ≡ get_or qs n blank_placed
   at_last n h s =
       let u : n < length ps = omega (arith, f.count) in
       let v : n < length qs = omega (arith, g.count) in
       let o = begins-once z l ps qs n h s (get_or l n blank_section).offset _ _ (f.begins n u) (g.begins n v) in
       let par = f.parent n u ∙ sym (g.parent n v) in
       placed_same _ _ o
-      (ends-once z l ps qs n h s (omega arith) (omega arith) (get_or l n blank_section).size (get_or ps n blank_placed) (get_or qs n blank_placed) o par (f.ends n u)
+      (ends-once z l ps qs n h s (omega arith) (omega arith) (get_or l n blank_section).size (get_or ps n blank_placed) (get_or qs n blank_placed) o par
+      (f.ends n u)
       (g.ends n v))
       par (f.level n u ∙ sym (g.level n v))
 

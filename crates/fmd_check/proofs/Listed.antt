@@ -53,7 +53,8 @@ climb : (lv : ℕ) (ps : List Placed) (k : ℕ) → (lv ≡ 0 → ⊥) → Climb
 climb zero ps k n c = absurd (n refl)
 climb (suc lv) ps k n c = rw sub-one c
 
-below : (lv : ℕ) (ps : List Placed) (k : ℕ) → (lv ≡ 0 → ⊥) → (get_or ps k blank_placed).offset.0 + position_in (lv - 1) ps (get_or ps k blank_placed).parent ≡ position_in lv ps k
+below : (lv : ℕ) (ps : List Placed) (k : ℕ) → (lv ≡ 0 → ⊥)
+    → (get_or ps k blank_placed).offset.0 + position_in (lv - 1) ps (get_or ps k blank_placed).parent ≡ position_in lv ps k
 unfolding position_in
 below zero ps k n = absurd (n refl)
 below (suc lv) ps k n = rw sub-one
@@ -98,6 +99,7 @@ module _ {s rows spots : List ℕ} {n : ℕ} (g : Laid s rows spots n) where
         pub name_fits : (x.place + x.length ≤ length s) × (x.length ≤ 32)
         name_fits = rw (section-in n rows k blank_section h, sym d) at (name-short (g.tree.each k (omega (arith, length-sections n rows))).named)
 
-        pub area-made : {a : Area} (at : ℕ) → a ≡ area_from s x q at → at ≡ position_in q.level (placed_in n spots) k → a ≡ area_at s (sections_in n rows) (placed_in n spots) k
+        pub area-made : {a : Area} (at : ℕ) → a ≡ area_from s x q at → at ≡ position_in q.level (placed_in n spots) k
+            → a ≡ area_at s (sections_in n rows) (placed_in n spots) k
         unfolding area_at
         area-made at p r = rw (p, r, section-in n rows k blank_section h, placed-in n spots k h, d, e)

@@ -42,7 +42,8 @@ module _ (s : List ℕ) (z : ℕ) (l : List Section) (ps : List Placed) (t : Tre
   pub above : (k : ℕ) → k < length ps → Top z (get_or ps k blank_placed) ⊎ Child ps k (get_or ps k blank_placed)
   above k h = go (t.each k (rw f.count at h)).under
     where
-      go : Under l k (get_or l k blank_section).level (get_or l k blank_section).parent → Top z (get_or ps k blank_placed) ⊎ Child ps k (get_or ps k blank_placed)
+      go : Under l k (get_or l k blank_section).level (get_or l k blank_section).parent
+          → Top z (get_or ps k blank_placed) ⊎ Child ps k (get_or ps k blank_placed)
       go (inl u) =
           let e : (get_or ps k blank_placed).parent ≡ 128 = f.parent k h ∙ u.1 in
           let q = t.room in

@@ -59,7 +59,8 @@ module _ (n : ℕ) (rows : List ℕ) (k : ℕ) (spots : List ℕ) (z : ℕ) wher
   unfolding resolve_from
   resolve-unsized h q = rw (here h, q, length-placed k spots)
 
-  pub resolve-on : (new : List ℕ) (x : Placed) → k < n → spot_for z (placed_in k spots) (get_or (sections_in n rows) k blank_section) (drop (k + 1) (sections_in n rows)) ≡ Fits x
+  pub resolve-on : (new : List ℕ) (x : Placed) → k < n
+      → spot_for z (placed_in k spots) (get_or (sections_in n rows) k blank_section) (drop (k + 1) (sections_in n rows)) ≡ Fits x
       → placed_in (k + 1) new ≡ placed_in k spots ++ (x ∷ [])
       → resolve_from z (placed_in (k + 1) new) (drop (k + 1) (sections_in n rows)) ≡ resolve_from z (placed_in k spots) (drop k (sections_in n rows))
   unfolding resolve_from

@@ -55,7 +55,8 @@ at_top : (ps : List Placed) (k n : ℕ) → n ≡ 1 → position_in n ps k ≡ (
 unfolding position_in
 at_top ps k n e = rw (e, add-zero)
 
-at-child : (ps : List Placed) (k n m : ℕ) → m + 1 ≡ n → position_in n ps k ≡ (get_or ps k blank_placed).offset.0 + position_in m ps (get_or ps k blank_placed).parent
+at-child : (ps : List Placed) (k n m : ℕ) → m + 1 ≡ n
+    → position_in n ps k ≡ (get_or ps k blank_placed).offset.0 + position_in m ps (get_or ps k blank_placed).parent
 unfolding position_in
 at-child ps k n m e = rw (sym e, add-one m)
 

@@ -77,7 +77,8 @@ AmountFrom s a (Uncounted r p) = Faulty s (refusal_number r) p
 pub amount-from : {s : List ℕ} {a : ℕ} {t : Token} → From s a t → AmountFrom s t.end (amount_at s t)
 unfolding amount_at ◌or◌
 amount-from {s} {a} {t} w =
-    choice (AmountFrom s t.end) (is_kind word_kind t) _ _ (λ e. by_number (number_in (token_bytes s t)) (number_fits (token_bytes s t))) (λ e. fault-here w 51 refl)
+    choice (AmountFrom s t.end) (is_kind word_kind t) _ _ (λ e. by_number (number_in (token_bytes s t)) (number_fits (token_bytes s t)))
+    (λ e. fault-here w 51 refl)
   where
     by_number : (n : Number) → NumberFits n → AmountFrom s t.end (counted s t n)
     by_number (Value n) h = (next-from w, h)

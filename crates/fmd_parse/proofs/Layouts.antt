@@ -42,7 +42,8 @@ parent-next (inr e) = inr (omega arith)
 
 -- n rows of the table old before
 module _ {s : List ℕ} {t : Token} {lv par : ℕ} (n : ℕ) (old : List ℕ) where
-  pub section-stopped : {k : Refusal} {p : ℕ} {rows : List ℕ} → head_at s t lv par n ≡ Fault k p → SectionRead s t lv par (sections_in n old) rows (Stopped k p)
+  pub section-stopped : {k : Refusal} {p : ℕ} {rows : List ℕ} → head_at s t lv par n ≡ Fault k p
+      → SectionRead s t lv par (sections_in n old) rows (Stopped k p)
   unfolding section_from
   section-stopped {k} {p} {rows} e = record { within = tt; same = same }
     where

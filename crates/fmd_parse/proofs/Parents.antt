@@ -12,7 +12,8 @@ use Rattle.fmd_lex.specs.Names.{good_name, flag_of}
 use Rattle.fmd_lex.specs.declared.Token.{Token}
 use Rattle.fmd_lex.specs.declared.Flag.{Flag}
 use Rattle.fmd_lex.specs.declared.Flag.TheVariants.{Cbfs, Preserve, Unknown}
-use Rattle.fmd_head.specs.Heads.{next, is_kind, amount_at, onward, named_at, marked, mark_at, last_at, other_at, flags_at, with_offset, offset_at, with_size, size_at, head_at}
+use Rattle.fmd_head.specs.Heads.{next, is_kind, amount_at, onward, named_at, marked, mark_at, last_at, other_at, flags_at, with_offset, offset_at}
+use Rattle.fmd_head.specs.Heads.{with_size, size_at, head_at}
 use Rattle.fmd_table.specs.declared.Section.{Section}
 use Rattle.fmd_head.specs.declared.Amount.{Amount}
 use Rattle.fmd_head.specs.declared.Amount.TheVariants.{Counted, Uncounted}
@@ -23,7 +24,8 @@ abbrev Of : ℕ → HeadPart → Type 0
 Of par (Read h u) = h.parent ≡ par
 Of par (Fault r p) = Unit {0}
 
-onward-of : (par : ℕ) (p : HeadPart) (f : Section → Token → HeadPart) → Of par p → ((h : Section) (u : Token) → h.parent ≡ par → Of par (f h u)) → Of par (onward p f)
+onward-of : (par : ℕ) (p : HeadPart) (f : Section → Token → HeadPart) → Of par p → ((h : Section) (u : Token) → h.parent ≡ par → Of par (f h u))
+    → Of par (onward p f)
 onward-of par (Read h u) f e g = g h u e
 onward-of par (Fault r p) f e g = tt
 
@@ -77,7 +79,8 @@ module _ (par : ℕ) (s : List ℕ) (t : Token) where
   flags_of : (h : Section) → h.parent ≡ par → Of par (flags_at s t h)
   unfolding flags_at
   flags_of h e =
-      choice (Of par) (is_kind 40 t) _ _ (λ q. onward-of par (mark_at s (next s t) h) _ (mark_of par s (next s t) h e) (λ k u f. other-of par s u k f)) (λ q. e)
+      choice (Of par) (is_kind 40 t) _ _ (λ q. onward-of par (mark_at s (next s t) h) _ (mark_of par s (next s t) h e) (λ k u f. other-of par s u k f))
+      (λ q. e)
 
 head_of : (s : List ℕ) (t : Token) (lv par n : ℕ) → Of par (head_at s t lv par n)
 unfolding head_at

@@ -68,7 +68,8 @@ pub first-facts : (p : ℕ → Bool) (n k : ℕ) → FirstFacts p n k (found_fro
 unfolding found_from
 first-facts p zero k = λ j a b. absurd (omega arith)
 first-facts p (suc n) k =
-    choice (FirstFacts p (suc n) k) (p k) (At k) (found_from p n (suc k)) (λ e. (omega arith, e)) (λ e. later p n k e (found_from p n (suc k)) (first-facts p n (suc k)))
+    choice (FirstFacts p (suc n) k) (p k) (At k) (found_from p n (suc k)) (λ e. (omega arith, e))
+    (λ e. later p n k e (found_from p n (suc k)) (first-facts p n (suc k)))
 
 -- ---- the first n rows of a table: the section e of row j
 
@@ -161,11 +162,13 @@ module _ (n : ℕ) (rows : List ℕ) where
 
       pub among-on : same (section_name s e) (section_name s h) ≡ false → among s h k (sections_in n rows) (j + 1) ≡ among s h k (sections_in n rows) j
       among-on d =
-          sym (any-on (λ x. same (section_name s x) (section_name s h)) (take k (sections_in n rows)) blank_section j (omega (arith, length_before)) (rw before d))
+          sym (any-on (λ x. same (section_name s x) (section_name s h)) (take k (sections_in n rows)) blank_section j (omega (arith, length_before))
+          (rw before d))
 
       pub among-stop : same (section_name s e) (section_name s h) ≡ true → true ≡ among s h k (sections_in n rows) j
       among-stop d =
-          sym (any-stop (λ x. same (section_name s x) (section_name s h)) (take k (sections_in n rows)) blank_section j (omega (arith, length_before)) (rw before d))
+          sym (any-stop (λ x. same (section_name s x) (section_name s h)) (take k (sections_in n rows)) blank_section j (omega (arith, length_before))
+          (rw before d))
 
     pub among-done : (j : ℕ) → k ≤ j → false ≡ among s h k (sections_in n rows) j
     among-done j c = sym (any-done (λ x. same (section_name s x) (section_name s h)) (take k (sections_in n rows)) j (omega (arith, length_before)))

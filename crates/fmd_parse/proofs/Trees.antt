@@ -92,7 +92,8 @@ module _ {s : List ℕ} {lv par : ℕ} {l : List Section} {h : Section} (r : Tre
                 d.level,
           )
 
-      by_place : (k : ℕ) → k < length (l ++ (h ∷ [])) → (b : Bool) → ltb k (length l) ≡ b → Standing s (l ++ (h ∷ [])) k (get_or (l ++ (h ∷ [])) k blank_section)
+      by_place : (k : ℕ) → k < length (l ++ (h ∷ [])) → (b : Bool) → ltb k (length l) ≡ b
+          → Standing s (l ++ (h ∷ [])) k (get_or (l ++ (h ∷ [])) k blank_section)
       by_place k q true e = let x = ltb-true k (length l) e in older k x (r.each k x)
       by_place k q false e =
           let n = one_more in
@@ -208,7 +209,8 @@ module _ {s : List ℕ} {a : ℕ} {t : Token} (w : From s a t) where
   open-facts i d = choice (Measured s) (is_kind 123 t) _ _ (λ e. (from-earlier (next-from w) (omega arith), d)) (λ e. fault-here w 51 refl)
 
 titled-on : (s : List ℕ) (P : Heading → Type 0) (p : Heading) (f : TextImage → Token → Heading) → Titled s p
-    → ((r : Refusal) (k : ℕ) → Faulty s (number_of r) k → P (FaultImage r k)) → ((i : TextImage) (u : Token) → From s 0 u → Named s i.place i.length → AddressFits i.address →
+    → ((r : Refusal) (k : ℕ) → Faulty s (number_of r) k → P (FaultImage r k))
+    → ((i : TextImage) (u : Token) → From s 0 u → Named s i.place i.length → AddressFits i.address →
     P (f i u)) → P (onward p f)
 titled-on s P (ReadImage i u) f w k g = g i u w.0 w.1 w.2
 titled-on s P (FaultImage r p) f w k g = k r p w

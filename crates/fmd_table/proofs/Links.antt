@@ -78,7 +78,8 @@ module _ (n p : ℕ) (rows : List ℕ) where
 
   linked-last : HasRows 129 rows → p ≤ image_row → last_child_at (linked_to n p rows) p ≡ n
   unfolding linked_to last_child_at
-  linked-last room b = get_or-set_same (set rows (12 * last_child_at rows p + 10) n) (12 * p + 11) n 0 (omega (arith, room, length-set rows (12 * last_child_at rows p + 10) n))
+  linked-last room b = get_or-set_same (set rows (12 * last_child_at rows p + 10) n) (12 * p + 11) n 0
+      (omega (arith, room, length-set rows (12 * last_child_at rows p + 10) n))
 
   linked-last-other : (j : ℕ) → (j ≡ p → ⊥) → last_child_at (linked_to n p rows) j ≡ last_child_at rows j
   unfolding linked_to last_child_at
@@ -198,7 +199,8 @@ module _ (n : ℕ) (h : Section) (rows new : List ℕ) (few : n < image_row) (p 
   after j (inr b) = cases (either j (last_child_at rows h.parent))
     where
       older : NextIn n rows j
-          → (next_sibling_at rows j ≡ image_row) ⊎ ((j < next_sibling_at rows j) × (next_sibling_at rows j < n + 1) × (parent_at new (next_sibling_at rows j) ≡ parent_at new j))
+          → (next_sibling_at rows j ≡ image_row) ⊎ ((j < next_sibling_at rows j) × (next_sibling_at rows j < n + 1)
+          × (parent_at new (next_sibling_at rows j) ≡ parent_at new j))
       older (inl e) = inl e
       older (inr e) = inr (e.0, omega (arith, e.1), u.old (next_sibling_at rows j) e.1 ∙ e.2 ∙ sym (u.old j b))
 
@@ -260,7 +262,8 @@ module _ (n : ℕ) (h : Section) (rows new : List ℕ) (few : n < image_row) (p 
   greatest j (inl e) = rw (e, u.own, u.child) (omega arith, omega arith)
   greatest j (inr b) = rw (u.old j b) (cases (either (parent_at rows j) h.parent))
     where
-      cases : (parent_at rows j ≡ h.parent) ⊎ (parent_at rows j ≡ h.parent → ⊥) → (j ≤ last_child_at new (parent_at rows j)) × (last_child_at new (parent_at rows j) < n + 1)
+      cases : (parent_at rows j ≡ h.parent) ⊎ (parent_at rows j ≡ h.parent → ⊥) → (j ≤ last_child_at new (parent_at rows j))
+          × (last_child_at new (parent_at rows j) < n + 1)
       cases (inl e) = rw (e, u.child) (omega arith, omega arith)
       cases (inr d) =
           let m = l.greatest j b in

@@ -28,10 +28,17 @@ pub placed-stored : (spots : List ℕ) (k : ℕ) (q : Placed) → HasSpots (k + 
     ≡ placed_in k spots ++ (q ∷ [])
 unfolding placed_in placed_at
 placed-stored spots k q room =
-    rw (stored spots (4 * k) q.offset.0 q.size q.parent q.level) (rows-put 4 placed_of spots (placed_words q) k refl (omega (arith, room)) ∙ rw (placed-back q))
+    rw (stored spots (4 * k) q.offset.0 q.size q.parent q.level) (rows-put 4 placed_of spots (placed_words q) k refl (omega (arith, room))
+    ∙ rw (placed-back q))
 
 pub placed-read : (spots : List ℕ) (k : ℕ)
-    → record { offset = record { 0 = get_or spots (4 * k) 0 }; size = get_or spots (4 * k + 1) 0; parent = get_or spots (4 * k + 2) 0; level = get_or spots (4 * k + 3) 0 }
+    → record {
+      offset = record { 0 = get_or spots (4 * k) 0 };
+      size = get_or spots (4 * k + 1) 0;
+      parent = get_or spots (4 * k + 2) 0;
+      level =
+          get_or spots (4 * k + 3) 0;
+    }
     ≡ placed_at spots k
 unfolding placed_at placed_of
 placed-read spots k =

@@ -42,7 +42,8 @@ words_back h = rebuilt h _ _ _ _ (offset-back h.offset) (size_back h.size) (mark
 
 -- ---- rows
 
-pub row_put : (rows : List ℕ) (k : ℕ) (h : Section) → HasRows (k + 1) rows → sections_in (k + 1) (put (12 * k) (words_of h) rows) ≡ sections_in k rows ++ (h ∷ [])
+pub row_put : (rows : List ℕ) (k : ℕ) (h : Section) → HasRows (k + 1) rows
+    → sections_in (k + 1) (put (12 * k) (words_of h) rows) ≡ sections_in k rows ++ (h ∷ [])
 unfolding sections_in section_at
 row_put rows k h room = rows-put 12 section_of rows (words_of h) k refl (omega (arith, room)) ∙ rw (words_back h)
 
@@ -95,7 +96,21 @@ pub row_read : (rows : List ℕ) (k : ℕ) (o : Offset) (z : Size) → o ≡ off
 unfolding section_at section_of
 row_read rows k o z p q =
     let w = word rows (12 * k) in
-    rw (p, q, w 0 (omega arith), add-zero, w 1 (omega arith), w 2 (omega arith), w 3 (omega arith), w 4 (omega arith), w 5 (omega arith), w 6 (omega arith), w 7 (omega arith), w 8 (omega arith), w 9 (omega arith))
+    rw (
+      p,
+      q,
+      w 0 (omega arith),
+      add-zero,
+      w 1 (omega arith),
+      w 2 (omega arith),
+      w 3 (omega arith),
+      w 4 (omega arith),
+      w 5 (omega arith),
+      w 6 (omega arith),
+      w 7 (omega arith),
+      w 8 (omega arith),
+      w 9 (omega arith),
+    )
 
 -- ---- the sections of the table
 

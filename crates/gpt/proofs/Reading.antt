@@ -24,7 +24,8 @@ pub entries_of_reading : EntriesOfReading
 entries_of_reading size n h t head tail r e = go (shape_of size) refl
   where
     go : (s : Option Shape) → shape_of size ≡ s → entries_by size h t head tail r ≡ handed_part size n h t head tail
-    go none q = sym (part_none size head (λ g. entries_on g h t head tail r) q [] (behind 0 head) refl refl) ∙ part_none size head (λ g. handed_on g h t head tail n) q [] (behind 0 head) refl refl
+    go none q = sym (part_none size head (λ g. entries_on g h t head tail r) q [] (behind 0 head) refl refl)
+        ∙ part_none size head (λ g. handed_on g h t head tail n) q [] (behind 0 head) refl refl
     go (some g) q =
         sym (part-on size head (λ g. entries_on g h t head tail r) g q)
         ∙ entries-of-reading g n h t head tail r (e ∙ (on_its_shape size n h t g q).0 read)

@@ -144,7 +144,8 @@ module _ (g : Shape) (n a : ℕ) (es : List ℕ) (w : WantedPartition) (final : 
       → x ≡ part_place_of g n a es w final start (rows_from72 g n a es w final start) → x ≡ part_place_of g n a es w final w.start (part_rows g n a es w final)
   spot-even start q e x z =
       z ∙ ap (λ (o : StartByte). part_place_of g n a es w final o (rows_from72 g n a es w final o)) (sym q)
-      ∙ (let b = or_zero (standing g n a es w final w.start) in ap (λ (o : Option ℕ). part_place_unless o b (blocks_from g n es w final b)) (sym (rows-even e)))
+      ∙ (let b = or_zero (standing g n a es w final w.start) in
+      ap (λ (o : Option ℕ). part_place_unless o b (blocks_from g n es w final b)) (sym (rows-even e)))
 
   -- ---- a given start
 

@@ -17,7 +17,8 @@ use Rattle.gpt_model.specs.Table.{ranges_of}
 use Rattle.gpt_model.specs.Disk.{Shape, last_usable, Side, primary, backup, lent_bytes, entries_in, used_side, state, lent, table_of, fresh_head, fresh_tail}
 use Rattle.gpt_model.specs.Attributes.{first_offending}
 use Rattle.gpt_model.specs.declared.Rule.{Rule}
-use Rattle.gpt_model.specs.Calls.{Answer, refused, accepted, Outcome, outcome, read, free_counts, repair, check, lengths_ok, lent_rows, common_rows, repaired, step, format_rows, format}
+use Rattle.gpt_model.specs.Calls.{Answer, refused, accepted, Outcome, outcome, read, free_counts, repair, check, lengths_ok, lent_rows, common_rows}
+use Rattle.gpt_model.specs.Calls.{repaired, step, format_rows, format}
 use Rattle.gpt_model.proofs.Outcomes.{step-refused, step-accepted, refused-row}
 use Rattle.gpt_model.proofs.Demand3.{format-accepted}
 use Rattle.gpt_model.proofs.States.{table-four, table-primary}
@@ -50,7 +51,8 @@ module _ (g : Shape) (n : ℕ) (h t : List ℕ) where
 
     pub found-neither : x ≡ Neither → outcome (refused 10) h t ≡ step g n h t read
     found-neither z =
-        sym (step-refused g n h t read 10 (refusal-append (lent_rows g n h t true) from10 e ∙ pick_true _ 10 _ (eq-eqb _ _ (sym state-is ∙ ap state_number z))))
+        sym (step-refused g n h t read 10 (refusal-append (lent_rows g n h t true) from10 e
+        ∙ pick_true _ 10 _ (eq-eqb _ _ (sym state-is ∙ ap state_number z))))
 
     pub found-state : state_number x ≢ 0 → outcome (accepted (state_number x ∷ [])) h t ≡ step g n h t read
     found-state f =
@@ -155,7 +157,8 @@ module _ (g : Shape) (h t : List ℕ) (hp tp : ℕ × ℕ) (r : Reading) where
   pub tail-wrong : length t ≢ lent_bytes g backup → (p : ℕ × ℕ) → p ≡ behind 0 hp → handed [] p ≡ entries_on g h t hp tp r
   tail-wrong d p e = ap (handed []) e ∙ lengths-wrong (and_false_r _ _ (ne_eqb _ _ d))
 
-  pub entries-are : length h ≡ lent_bytes g primary → length t ≡ lent_bytes g backup → (x : Reading) → r ≡ x → (a : Handed) → a ≡ entries_of g h t hp tp x → a ≡ entries_on g h t hp tp r
+  pub entries-are : length h ≡ lent_bytes g primary → length t ≡ lent_bytes g backup → (x : Reading) → r ≡ x → (a : Handed) → a ≡ entries_of g h t hp tp x
+      → a ≡ entries_on g h t hp tp r
   entries-are lh lt x e a w =
       w ∙ sym (ap (entries_of g h t hp tp) e)
       ∙ sym (ap (λ (b : Bool). cond b (entries_of g h t hp tp r) (nothing hp)) (and_i _ _ (eq-eqb _ _ lh) (eq-eqb _ _ lt)))
@@ -176,11 +179,13 @@ module _ (g : Shape) (n : ℕ) (h t : List ℕ) (hp tp : ℕ × ℕ) where
   entries-of-reading reading.BackupOnly e =
       let l = found-lent g n h t reading.BackupOnly reading.BackupOnly e refl 4 refl in
       sym (entries-are g h t hp tp reading.BackupOnly l.head l.tail reading.BackupOnly refl _ refl)
-      ∙ handed-is g n h t reading.BackupOnly reading.BackupOnly e refl 4 refl _ _ hp tp (table-in-tail g n h t reading.BackupOnly reading.BackupOnly e refl 4 refl refl) refl
+      ∙ handed-is g n h t reading.BackupOnly reading.BackupOnly e refl 4 refl _ _ hp tp
+      (table-in-tail g n h t reading.BackupOnly reading.BackupOnly e refl 4 refl refl) refl
   entries-of-reading (reading.Refused q) e = go (bool_cases (lengths_ok g h t))
     where
       nothing_is : nothing hp ≡ handed_on g h t hp tp n
-      nothing_is = handed-nothing g n h t [] (behind 0 hp) hp tp (number_of q) (refused-rows g n h t (reading.Refused q) (reading.Refused q) e refl q refl) refl refl
+      nothing_is = handed-nothing g n h t [] (behind 0 hp) hp tp (number_of q) (refused-rows g n h t (reading.Refused q) (reading.Refused q) e refl q refl)
+          refl refl
 
       go : (lengths_ok g h t ≡ true) ⊎ (lengths_ok g h t ≡ false) → entries_on g h t hp tp (reading.Refused q) ≡ handed_on g h t hp tp n
       go (inl b) = ap (λ (x : Bool). cond x (nothing hp) (nothing hp)) b ∙ nothing_is

@@ -18,7 +18,8 @@ use Rattle.gpt_model.specs.Table.{entries, ranges_of}
 use Rattle.gpt_model.specs.Disk.{Shape, most_blocks, last_usable, in_range, primary, backup, lent_bytes, entries_in, state, table_of}
 use Rattle.gpt_model.specs.declared.NewPartition.{NewPartition}
 use Rattle.gpt_model.specs.Calls.{Edit, add, delete, resize, rename, edit, bad_name, name_taken}
-use Rattle.gpt_model.specs.Calls.{slot_rows, add_rows, fits_at, start_for, table_rows, is_none, lengths_of, lengths_ok, lent_rows, open_rows, rows_of, format_rows}
+use Rattle.gpt_model.specs.Calls.{slot_rows, add_rows, fits_at, start_for, table_rows, is_none, lengths_of, lengths_ok, lent_rows, open_rows, rows_of}
+use Rattle.gpt_model.specs.Calls.{format_rows}
 use Rattle.gpt_model.proofs.Outcomes.{edit-decides, edit-stops}
 use Rattle.gpt_model.proofs.Accepts.{alignment-least}
 use Rattle.gpt_model.proofs.States.{one-primary}

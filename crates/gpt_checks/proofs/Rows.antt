@@ -68,7 +68,8 @@ unfolding row_after
 after_none [] = refl
 after_none (r ∷ rs) = go (bool_cases r.holds) (after_none rs)
   where
-    go : (r.holds ≡ true) ⊎ (r.holds ≡ false) → rows_after none rs ≡ refusal rs → rows_after (pick_row r.holds r.number none) rs ≡ pick_row r.holds r.number (refusal rs)
+    go : (r.holds ≡ true) ⊎ (r.holds ≡ false) → rows_after none rs ≡ refusal rs
+        → rows_after (pick_row r.holds r.number none) rs ≡ pick_row r.holds r.number (refusal rs)
     go (inl q) ih = rw (pick_true r.holds r.number none q, pick_true r.holds r.number (refusal rs) q) (after-some r.number rs)
     go (inr q) ih = rw (pick-false r.holds r.number none q, pick-false r.holds r.number (refusal rs) q) ih
 

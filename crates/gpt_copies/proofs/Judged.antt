@@ -36,7 +36,8 @@ module _ (g : Shape) (n : ℕ) (side : Side) (b es : List ℕ) (header table : B
   pub copy-bad : table ≡ false → good_copy g n side b ≡ false
   copy-bad h = sym copy-judged ∙ ap (λ (a : Bool). header and a) h ∙ and-false header
 
-pub bad-header : (g : Shape) (n : ℕ) (side : Side) (b : List ℕ) (header : Bool) → header ≡ good_header g n side b → header ≡ false → false ≡ good_copy g n side b
+pub bad-header : (g : Shape) (n : ℕ) (side : Side) (b : List ℕ) (header : Bool) → header ≡ good_header g n side b → header ≡ false
+    → false ≡ good_copy g n side b
 unfolding good_copy ◌and◌
 bad-header g n side b header p h = ap (λ (a : Bool). a and good_table g.first (last_usable g n) (entries_in g side b)) (sym h ∙ p)
 
@@ -48,7 +49,8 @@ module _ (g : Shape) (n : ℕ) (h t : List ℕ) where
       rw (← p, ← q, e, and-false (same (guid_in g primary h) (guid_in g backup t)))
 
   -- the tables hold the same bytes es, which are judged once
-  module _ (es : List ℕ) (table : Bool) (p : es ≡ entries_in g primary h) (q : es ≡ entries_in g backup t) (w : table ≡ good_table g.first (last_usable g n) es) where
+  module _ (es : List ℕ) (table : Bool) (p : es ≡ entries_in g primary h) (q : es ≡ entries_in g backup t)
+      (w : table ≡ good_table g.first (last_usable g n) es) where
     pub state-bad : table ≡ false → 0 ≡ state g n h t
     unfolding state
     state-bad e =

@@ -49,7 +49,8 @@ module _ (g : Shape) (ok : Legal g) (side : Side) (b : List ℕ) (lb : length b 
   block-cleared zs at p q =
       let h = block-end g ok side in
       let w : zs ≡ zeros g.block = q ∙ filled (take (at + g.block - at) (drop at b)) g.block (length_cut b at g.block (at + g.block) refl (omega arith)) in
-      ap (λ (x : List ℕ). take at b ++ (x ++ drop (at + g.block - at) (drop at b))) w ∙ back b (zeros g.block) at _ g.block _ p refl (omega arith) (length-zeros g.block)
+      ap (λ (x : List ℕ). take at b ++ (x ++ drop (at + g.block - at) (drop at b))) w
+      ∙ back b (zeros g.block) at _ g.block _ p refl (omega arith) (length-zeros g.block)
 
   -- its disk GUID, copied into an array first
   pub header-renewed : (n : ℕ) (old copied es b1 : List ℕ) (d : List ℕ) → length d ≡ 16 → old ≡ guid_in g side b → copied ≡ put 0 old d
@@ -118,7 +119,8 @@ block0-put n h h1 h2 h3 h4 p q r s =
     s ∙ ap (put 510 (0x55 ∷ 0xAA ∷ [])) (w ∙ ap (λ (v : List ℕ). put 446 v h) (append_assoc head (le 4 1) (le 4 (n - 1))))
 
 -- zeros, block 0, the header
-pub head-fresh : (g : Shape) (ok : Legal g) (n : ℕ) (guid h1 h2 h3 es : List ℕ) (crc : ℕ) → h1 ≡ zeros (lent_bytes g primary) → es ≡ entries_in g primary h1 → crc ≡ crc32 es → h2 ≡ write_all (block0 n) h1
+pub head-fresh : (g : Shape) (ok : Legal g) (n : ℕ) (guid h1 h2 h3 es : List ℕ) (crc : ℕ) → h1 ≡ zeros (lent_bytes g primary)
+    → es ≡ entries_in g primary h1 → crc ≡ crc32 es → h2 ≡ write_all (block0 n) h1
     → ((es : List ℕ) → crc ≡ crc32 es → h3 ≡ put (header_at g primary) (header g n primary guid es) h2)
     → h3 ≡ fresh_head g n guid (zeros 16384)
 head-fresh g ok n guid h1 h2 h3 es crc p r c q f =
@@ -128,7 +130,8 @@ head-fresh g ok n guid h1 h2 h3 es crc p r c q f =
     ∙ sym (fresh-head g (wide g ok) n guid (omega arith))
 
 -- zeros, the header
-pub tail-fresh : (g : Shape) (ok : Legal g) (n : ℕ) (guid t1 t2 es : List ℕ) (crc : ℕ) → t1 ≡ zeros (lent_bytes g backup) → es ≡ entries_in g backup t1 → crc ≡ crc32 es
+pub tail-fresh : (g : Shape) (ok : Legal g) (n : ℕ) (guid t1 t2 es : List ℕ) (crc : ℕ) → t1 ≡ zeros (lent_bytes g backup) → es ≡ entries_in g backup t1
+    → crc ≡ crc32 es
     → ((es : List ℕ) → crc ≡ crc32 es → t2 ≡ put (header_at g backup) (header g n backup guid es) t1)
     → t2 ≡ fresh_tail g n guid (zeros 16384)
 tail-fresh g ok n guid t1 t2 es crc p r c f =

@@ -19,7 +19,8 @@ use Rattle.octets.proofs.Tests.{find_ix-get}
 use Rattle.gpt_model.specs.Table.{first_of, name_bytes, unused, entries, ranges_of}
 use Rattle.gpt_model.specs.Disk.{Shape, last_usable, primary, backup, guid_in, entries_in, table_of, with_table}
 use Rattle.gpt_model.specs.declared.NewPartition.{NewPartition}
-use Rattle.gpt_model.specs.Calls.{Edit, add, delete, resize, rename, edit, new_entry, start_for, table_rows, or_zero, Change, change, edited, lengths_of, rows_of, accepted, outcome, step}
+use Rattle.gpt_model.specs.Calls.{Edit, add, delete, resize, rename, edit, new_entry, start_for, table_rows, or_zero, Change, change, edited, lengths_of}
+use Rattle.gpt_model.specs.Calls.{rows_of, accepted, outcome, step}
 use Rattle.gpt_model.proofs.Room.{room-get, start-some}
 use Rattle.gpt_model.proofs.States.{one-primary, one-backup}
 use Rattle.gpt_model.proofs.Outcomes.{step-accepted, edit-open, edit-table, open-common, row1, row11}
@@ -53,7 +54,9 @@ module _ (g : Shape) (n : ℕ) (h t : List ℕ) (d : Edit) (e : refusal (rows_of
       → outcome (accepted c.values) h' t' ≡ step g n h t (edit d)
   edit-made c h' t' q a b =
       rw (a, b, q)
-      (ap (λ (es : List ℕ). outcome (accepted (change g.first last es d).values) (with_table g n primary (guid_in g primary h) (edited g.first last es d) h) (with_table g n backup (guid_in g backup t) (edited g.first last es d) t)) (sym table_is)
+      (ap (λ (es : List ℕ). outcome (accepted (change g.first last es d).values)
+      (with_table g n primary (guid_in g primary h) (edited g.first last es d) h)
+      (with_table g n backup (guid_in g backup t) (edited g.first last es d) t)) (sym table_is)
       ∙ sym (step-accepted g n h t (edit d) e))
 
 -- ---- the edits of a slot

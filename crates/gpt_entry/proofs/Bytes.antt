@@ -39,7 +39,8 @@ module _ {s₀ : List ℕ} {at : ℕ} {name : List ℕ} where
         width = ap length q ∙ length-put _ _ _ ∙ p.width;
         units =
             then s₀ (name_bytes (take i name)) s (le 2 (get_or name i 0)) s' at (at + 2 * i) p.units q m
-            ∙ ap (λ (x : List ℕ). put at x s₀) (sym (ap name_bytes (ap (λ (j : ℕ). take j name) (add-one i) ∙ take-suc name i 0 k) ∙ name-snoc (take i name) (get_or name i 0)));
+            ∙ ap (λ (x : List ℕ). put at x s₀)
+            (sym (ap name_bytes (ap (λ (j : ℕ). take j name) (add-one i) ∙ take-suc name i 0 k) ∙ name-snoc (take i name) (get_or name i 0)));
       }
 
   pub named-all : {s : List ℕ} {i : ℕ} → length name ≡ 36 → 36 ≤ i → Named s₀ at name s i → s ≡ put at (name_bytes name) s₀

@@ -36,7 +36,10 @@ use Rattle.gpt_model.proofs.Outcomes.{step-refused, step-accepted, edit-decides}
 pub edit-accepted : (g : Shape) (n : ℕ) (h t : List ℕ) (d : Edit) → refusal (open_rows g n h t (lengths_of d)) ≡ none
     → {P : Type 0} → (refusal (table_rows g.first (last_usable g n) (table_of g n h t) d) ≡ none) ↔ P
     → ((step g n h t (edit d)).answer ≡ accepted (change g.first (last_usable g n) (table_of g n h t) d).values) ↔ P
-edit-accepted g n h t d e {P} w = (to (option_cases (refusal (rows_of g n h t (edit d)))), λ p. ap (λ (o : Outcome). o.answer) (step-accepted g n h t (edit d) (edit-decides g n h t d e ∙ w.1 p)))
+edit-accepted g n h t d e {P} w = (
+  to (option_cases (refusal (rows_of g n h t (edit d)))),
+  λ p. ap (λ (o : Outcome). o.answer) (step-accepted g n h t (edit d) (edit-decides g n h t d e ∙ w.1 p)),
+)
   where
     to : (refusal (rows_of g n h t (edit d)) ≡ none) ⊎ ((k : ℕ) × (refusal (rows_of g n h t (edit d)) ≡ some k))
         → (step g n h t (edit d)).answer ≡ accepted (change g.first (last_usable g n) (table_of g n h t) d).values → P
@@ -114,7 +117,8 @@ module _ (es : List ℕ) (k : ℕ) where
 
   fits-alone : (last size : ℕ) → (fits_at last es k size ≡ true) ↔ FitsAlone last es k size
   fits-alone last size = (
-    λ e. let r = room-get _ _ _ _ e in (r.0, λ b i p q h ne. ap (block_in b) (sym (other i ne)) ∙ any_none (block_in b) rest no_blocks (r.1 b p q) i (omega (arith, long))),
+    λ e. let r = room-get _ _ _ _ e in
+        (r.0, λ b i p q h ne. ap (block_in b) (sym (other i ne)) ∙ any_none (block_in b) rest no_blocks (r.1 b p q) i (omega (arith, long))),
     λ w. room-make _ _ _ _
         (w.0, λ b p q. any_false (block_in b) rest no_blocks (λ i h. each b i (omega (arith, long)) p q (w.1 b i p q) (ℕ_discrete i (k - 1)))),
   )
@@ -129,9 +133,11 @@ module _ (es : List ℕ) (k : ℕ) where
       other i ne = get_or-set_other (ranges_of es) (k - 1) i no_blocks no_blocks ne
 
       each : (b i : ℕ) → i < 128 → first_of (entry_of es k) ≤ b → b < first_of (entry_of es k) + size
-          → (i < 128 → i ≢ k - 1 → block_in b (get_or (ranges_of es) i no_blocks) ≡ false) → Dec (i ≡ k - 1) → block_in b (get_or (set (ranges_of es) (k - 1) no_blocks) i no_blocks) ≡ false
+          → (i < 128 → i ≢ k - 1 → block_in b (get_or (ranges_of es) i no_blocks) ≡ false) → Dec (i ≡ k - 1)
+          → block_in b (get_or (set (ranges_of es) (k - 1) no_blocks) i no_blocks) ≡ false
       each b i h p q f (yes z) =
-          ap (block_in b) (ap (λ (x : ℕ). get_or (set (ranges_of es) (k - 1) no_blocks) x no_blocks) z ∙ get_or-set_same (ranges_of es) (k - 1) no_blocks no_blocks (omega (arith, length-ranges_of es)))
+          ap (block_in b) (ap (λ (x : ℕ). get_or (set (ranges_of es) (k - 1) no_blocks) x no_blocks) z
+          ∙ get_or-set_same (ranges_of es) (k - 1) no_blocks no_blocks (omega (arith, length-ranges_of es)))
           ∙ not-in-none b
       each b i h p q f (no z) = ap (block_in b) (other i z) ∙ f h z
 
@@ -229,8 +235,13 @@ module _ (es : List ℕ) (p : NewPartition) where
         slot =
             let f = find_ix-get unused (entries es) [] (not_f _ (passes 24 behind v.1)) in
             let h = f.0 in
-            let at : suc (find_ix unused (entries es)) - 1 ≡ find_ix unused (entries es) = omega arith in
-            (suc (find_ix unused (entries es)), omega arith, omega (arith, length-chunks 128 128 es), ap (λ (x : ℕ). unused (get_or (entries es) x [])) at ∙ f.1);
+            let at : suc (find_ix unused (entries es)) - 1 ≡ find_ix unused (entries es) = omega arith in (
+              suc (find_ix unused (entries es)),
+              omega arith,
+              omega (arith, length-chunks 128 128 es),
+              ap (λ (x : ℕ). unused (get_or (entries es) x [])) at
+                  ∙ f.1,
+            );
       }
 
   pub new-make : NewOk es p → refusal (add_rows es p) ≡ none

@@ -76,7 +76,8 @@ module _ (rule : Rule) (x : ℕ) where
 
 pub offends_by_bits : OffendsByBits
 unfolding offends
-offends_by_bits rule x = (λ e. breaks-get rule x (not_t _ e), λ w. ⊎_elim (λ q. absurd (breaks-make rule x w q)) (λ q. ap not q) (bool_cases (all_zero rule x)))
+offends_by_bits rule x =
+    (λ e. breaks-get rule x (not_t _ e), λ w. ⊎_elim (λ q. absurd (breaks-make rule x w q)) (λ q. ap not q) (bool_cases (all_zero rule x)))
 
 pub keeps-iff : (rule : Rule) (x : ℕ) → (offends rule x ≡ false) ↔ (¬ BreaksRule rule x)
 keeps-iff rule x = (

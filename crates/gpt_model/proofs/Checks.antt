@@ -50,7 +50,8 @@ module _ (g : Shape) (n : ℕ) (h t : List ℕ) (rule : Rule) where
   answered : (k : ℕ) → ((step g n h t (check rule)).answer ≡ accepted (k ∷ [])) ↔ (Reads × (first_offending rule es ≡ k))
   answered k = (
     λ a. let e = accepted-none g n h t (check rule) (k ∷ []) a in
-        let b : accepted (first_offending rule es ∷ []) ≡ accepted (k ∷ []) = ap (λ (o : Outcome). o.answer) (sym (step-accepted g n h t (check rule) e)) ∙ a in
+        let b : accepted (first_offending rule es ∷ []) ≡ accepted (k ∷ []) = ap (λ (o : Outcome). o.answer) (sym (step-accepted g n h t (check rule) e))
+        ∙ a in
         ((_, ap (λ (o : Outcome). o.answer) (step-accepted g n h t read e)), cc),
     λ w. ap (λ (o : Outcome). o.answer) (step-accepted g n h t (check rule) (read_none g n h t w.0.0 w.0.1))
         ∙ ap (λ (x : ℕ). accepted (x ∷ [])) w.1,

@@ -13,7 +13,8 @@ use Rattle.octets.proofs.Parts.{length_part, length-zeros}
 use Rattle.octets.proofs.Puts.{length-put, part-put-out}
 use Rattle.octets.proofs.Equal.{same_refl}
 use Rattle.gpt_model.specs.Table.{good_table}
-use Rattle.gpt_model.specs.Disk.{Shape, last_usable, Side, primary, backup, lent_bytes, header_at, entries_at, header_in, guid_in, entries_in, header_fields, header_with, header_crc, header, good_copy, with_table}
+use Rattle.gpt_model.specs.Disk.{Shape, last_usable, Side, primary, backup, lent_bytes, header_at, entries_at, header_in, guid_in, entries_in}
+use Rattle.gpt_model.specs.Disk.{header_fields, header_with, header_crc, header, good_copy, with_table}
 use Rattle.gpt_model.proofs.Fields.{part-put-at, length-write_all, behind, field-reads}
 
 -- ---- the header

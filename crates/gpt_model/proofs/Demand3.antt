@@ -19,15 +19,19 @@ use Rattle.gpt_model.specs.Table.{no_blocks, apart, ranges_of, good_table}
 use Rattle.gpt_model.specs.Disk.{Shape, last_usable, in_range, state, table_of, fresh_head, fresh_tail}
 use Rattle.gpt_model.specs.Ranges.{block_in, MultipleOf, AlignedFrom, free_count, longest_free}
 use Rattle.gpt_model.specs.declared.NewPartition.{NewPartition}
-use Rattle.gpt_model.specs.Calls.{Edit, add, delete, resize, rename, Call, read, free_counts, repair, edit, refused, accepted, Outcome, outcome, unless_refused, is_none, add_rows, start_for, table_rows, change, edited, lengths_of, common_rows, open_rows, rows_of, repaired, step, format_rows, format}
+use Rattle.gpt_model.specs.Calls.{Edit, add, delete, resize, rename, Call, read, free_counts, repair, edit, refused, accepted, Outcome, outcome}
+use Rattle.gpt_model.specs.Calls.{unless_refused, is_none, add_rows, start_for, table_rows, change, edited, lengths_of, common_rows, open_rows, rows_of}
+use Rattle.gpt_model.specs.Calls.{repaired, step, format_rows, format}
 use Rattle.gpt_model.specs.Lists.{Snapshot, after_all, answers, applied, start_after, total, StartsAfresh}
-use Rattle.gpt_model.specs.Claims.{Passes, Sound, Formats, Demand3From, Demand3, RefusedStays, BooksDifference, UsedSlot, NameOk, NewOk, AcceptsNew, Serves, NotEmptyFrom, NotEmpty, EditReadsBack, RepairReadsBack}
+use Rattle.gpt_model.specs.Claims.{Passes, Sound, Formats, Demand3From, Demand3, RefusedStays, BooksDifference, UsedSlot, NameOk, NewOk, AcceptsNew, Serves}
+use Rattle.gpt_model.specs.Claims.{NotEmptyFrom, NotEmpty, EditReadsBack, RepairReadsBack}
 use Rattle.gpt_model.proofs.Room.{start_none, start-some, start-is-none}
 use Rattle.gpt_model.proofs.Counts.{apart-get, taken-total, total-zeros, taken_free}
 use Rattle.gpt_model.proofs.Longest.{room_fits, fits-room, longest-room}
 use Rattle.gpt_model.proofs.Entries.{length-ranges_of, good-bounded, good-apart, empty-sizes, empty-good}
 use Rattle.gpt_model.proofs.States.{Holds, readable-good, fresh_holds, repair-holds}
-use Rattle.gpt_model.proofs.Outcomes.{step-refused, step-accepted, repair-answer, refused-row, accepted-none, not-ten, not-eleven, row1, row10, open-common, edit-open, open_none}
+use Rattle.gpt_model.proofs.Outcomes.{step-refused, step-accepted, repair-answer, refused-row, accepted-none, not-ten, not-eleven, row1, row10, open-common}
+use Rattle.gpt_model.proofs.Outcomes.{edit-open, open_none}
 use Rattle.gpt_model.proofs.Accepts.{edit-accepted, slot-rows, OtherFree, rename-rows, resize-rows, new-get, new-make}
 use Rattle.gpt_model.proofs.Steps.{Agrees, Kept, edit-held, keeps-all}
 
@@ -39,7 +43,8 @@ module _ (g : Shape) (n : ℕ) (guid h t : List ℕ) where
   format-refused k e =
       ap (λ (q : Option ℕ). unless_refused q h t (outcome (accepted []) (fresh_head g n guid (zeros 16384)) (fresh_tail g n guid (zeros 16384)))) e
 
-  pub format-accepted : refusal (format_rows g n guid h t) ≡ none → format g n guid h t ≡ outcome (accepted []) (fresh_head g n guid (zeros 16384)) (fresh_tail g n guid (zeros 16384))
+  pub format-accepted : refusal (format_rows g n guid h t) ≡ none
+      → format g n guid h t ≡ outcome (accepted []) (fresh_head g n guid (zeros 16384)) (fresh_tail g n guid (zeros 16384))
   unfolding format
   format-accepted e =
       ap (λ (q : Option ℕ). unless_refused q h t (outcome (accepted []) (fresh_head g n guid (zeros 16384)) (fresh_tail g n guid (zeros 16384)))) e
@@ -88,7 +93,8 @@ module _ (g : Shape) (n : ℕ) (r : Snapshot) (v : Kept g n r) where
   good-tab : good_table g.first (last_usable g n) tab ≡ true
   good-tab = readable-good g n r.head r.tail (λ z. let w = v.reads in omega arith)
 
-  apart-tab : (b i j : ℕ) → i < j → j < 128 → block_in b (get_or (ranges_of tab) i no_blocks) ≡ true → block_in b (get_or (ranges_of tab) j no_blocks) ≡ true → ⊥
+  apart-tab : (b i j : ℕ) → i < j → j < 128 → block_in b (get_or (ranges_of tab) i no_blocks) ≡ true
+      → block_in b (get_or (ranges_of tab) j no_blocks) ≡ true → ⊥
   apart-tab b i j l h p q =
       let w = good-apart g.first (last_usable g n) tab good-tab in
       apart-get _ _ (pairs-get apart (ranges_of tab) no_blocks w i j l (omega (arith, length-ranges_of tab))) b p q
@@ -163,12 +169,14 @@ module _ (g : Shape) (n : ℕ) (r : Snapshot) (v : Kept g n r) where
     one = λ b i j p q hi hj x y. same-slot b i j hi hj x y (dec_lt i j) (dec_lt j i);
     counted =
         ap (λ (x : ℕ). x + r.ledger.back)
-        (taken-total g.first (last_usable g n) (ranges_of tab) (good-bounded g.first (last_usable g n) tab good-tab) (good-apart g.first (last_usable g n) tab good-tab))
+        (taken-total g.first (last_usable g n) (ranges_of tab) (good-bounded g.first (last_usable g n) tab good-tab)
+        (good-apart g.first (last_usable g n) tab good-tab))
         ∙ v.agrees.sum;
     room = room-iff;
   }
     where
-      same-slot : (b i j : ℕ) → i < 128 → j < 128 → block_in b (get_or (ranges_of tab) i no_blocks) ≡ true → block_in b (get_or (ranges_of tab) j no_blocks) ≡ true
+      same-slot : (b i j : ℕ) → i < 128 → j < 128 → block_in b (get_or (ranges_of tab) i no_blocks) ≡ true
+          → block_in b (get_or (ranges_of tab) j no_blocks) ≡ true
           → Dec (i < j) → Dec (j < i) → i ≡ j
       same-slot b i j hi hj x y (yes a) d = absurd (apart-tab b i j a hj x y)
       same-slot b i j hi hj x y (no a) (yes d) = absurd (apart-tab b j i d hi y x)
@@ -225,7 +233,8 @@ module _ (g : Shape) (n : ℕ) (r : Snapshot) (v : Kept g n r) where
           → (length name ≡ 36) × UsedSlot tab k × NameOk name × OtherFree tab k name
       named k name a =
           let e = accepted-none g n r.head r.tail (edit (rename k name)) [] a in
-          let l = (row1 g n r.head r.tail (lengths_of (rename k name)) (open-common g n r.head r.tail (rename k name) (edit-open g n r.head r.tail (rename k name) e))).2 in
+          let l = (row1 g n r.head r.tail (lengths_of (rename k name))
+          (open-common g n r.head r.tail (rename k name) (edit-open g n r.head r.tail (rename k name) e))).2 in
           let w = (accepts (rename k name) l (rename-rows tab k g.first (last_usable g n) name)).0 a in
           (eqb-true _ _ l, w.0, w.1.0, w.1.1)
 

@@ -18,13 +18,18 @@ use Rattle.octets.proofs.Tests.{find_ix-get, any_none}
 use Rattle.octets.proofs.Parts.{length-zeros}
 use Rattle.octets.proofs.Rows.{passes}
 use Rattle.octets.proofs.Chunks.{length-chunks, length-chunk}
-use Rattle.gpt_model.specs.Table.{BlockRange, no_blocks, spans, range_size, bounded, apart, unique_of, first_of, last_of, name_bytes, unused, range_of, entry_ok, entries, ranges_of, good_table}
+use Rattle.gpt_model.specs.Table.{BlockRange, no_blocks, spans, range_size, bounded, apart, unique_of, first_of, last_of, name_bytes, unused, range_of}
+use Rattle.gpt_model.specs.Table.{entry_ok, entries, ranges_of, good_table}
 use Rattle.gpt_model.specs.declared.NewPartition.{NewPartition}
-use Rattle.gpt_model.specs.Calls.{Edit, add, delete, resize, rename, carries, is_none, or_zero, lowest_unused, new_entry, start_for, table_rows, change, lengths_of}
+use Rattle.gpt_model.specs.Calls.{Edit, add, delete, resize, rename, carries, is_none, or_zero, lowest_unused, new_entry, start_for, table_rows, change}
+use Rattle.gpt_model.specs.Calls.{lengths_of}
 use Rattle.gpt_model.specs.Lists.{Ledger, book_edit}
 use Rattle.gpt_model.proofs.Room.{Room, room-get, start-some}
-use Rattle.gpt_model.proofs.Fields.{length-new, new-type, new-unique, new-first, new-last, length-sized, sized-type, sized-unique, sized-first, sized-last, length-named}
-use Rattle.gpt_model.proofs.Entries.{same-sym, Alike, ok-alike, pair-alike, behind-alike, range-unused, range-used, unused-type, typed-alike, unused-zeros, Used, ok-used, used-ok, unused-ok, ok-bounded, PairOk, get_or-range, length-ranges_of, entry_at, good-at, good-pair, room_apart}
+use Rattle.gpt_model.proofs.Fields.{length-new, new-type, new-unique, new-first, new-last, length-sized, sized-type, sized-unique, sized-first, sized-last}
+use Rattle.gpt_model.proofs.Fields.{length-named}
+use Rattle.gpt_model.proofs.Entries.{same-sym, Alike, ok-alike, pair-alike, behind-alike, range-unused, range-used, unused-type, typed-alike, unused-zeros}
+use Rattle.gpt_model.proofs.Entries.{Used, ok-used, used-ok, unused-ok, ok-bounded, PairOk, get_or-range, length-ranges_of, entry_at, good-at, good-pair}
+use Rattle.gpt_model.proofs.Entries.{room_apart}
 
 pub nonzero : (x : ℕ) → eqb x 0 ≡ false → 0 < x
 nonzero x e = let w : x ≢ 0 = eqb-false x 0 e in omega arith

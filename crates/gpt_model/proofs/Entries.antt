@@ -17,7 +17,8 @@ use Rattle.octets.proofs.Bools.{and_l, and_r, and_i, or_cases, or-il, or-ir, or-
 use Rattle.octets.proofs.Tests.{all-get, all-make, pairs-get, pairs-make, any_none}
 use Rattle.octets.proofs.Equal.{same_true, same_refl, zero-zeros}
 use Rattle.octets.proofs.Chunks.{length-chunks, chunks-put}
-use Rattle.gpt_model.specs.Table.{BlockRange, no_blocks, spans, range_size, bounded, apart, type_of, unique_of, first_of, last_of, unused, range_of, entry_ok, pair_ok, entries, ranges_of, good_table}
+use Rattle.gpt_model.specs.Table.{BlockRange, no_blocks, spans, range_size, bounded, apart, type_of, unique_of, first_of, last_of, unused, range_of}
+use Rattle.gpt_model.specs.Table.{entry_ok, pair_ok, entries, ranges_of, good_table}
 use Rattle.gpt_model.specs.Ranges.{block_in}
 use Rattle.gpt_model.proofs.Fields.{behind-type, behind-unique, behind-first, behind-last}
 use Rattle.gpt_model.proofs.Room.{Room, block_in-make}
@@ -115,7 +116,8 @@ bounded-none first last = refl
 pub ok-bounded : (first last : ℕ) (e : List ℕ) → entry_ok first last e ≡ true → bounded first last (range_of e) ≡ true
 unfolding entry_ok
 ok-bounded first last e k =
-    ⊎_elim (λ f. subst (λ (s : BlockRange). bounded first last s ≡ true) (sym (range-unused e f)) (bounded-none first last)) (λ f. and_r _ _ f) (or_cases _ _ k)
+    ⊎_elim (λ f. subst (λ (s : BlockRange). bounded first last s ≡ true) (sym (range-unused e f)) (bounded-none first last)) (λ f. and_r _ _ f)
+    (or_cases _ _ k)
 
 -- ---- two entries
 
@@ -251,7 +253,8 @@ module _ (first last : ℕ) (es : List ℕ) where
   pub good-bounded : good_table first last es ≡ true → all (bounded first last) (ranges_of es) ≡ true
   good-bounded k =
       all-make (bounded first last) (ranges_of es) no_blocks
-      (λ i h. subst (λ (s : BlockRange). bounded first last s ≡ true) (sym (get_or-range es i)) (ok-bounded first last (entry_at es i) (good-at k i (omega (arith, length-ranges_of es)))))
+      (λ i h. subst (λ (s : BlockRange). bounded first last s ≡ true) (sym (get_or-range es i))
+      (ok-bounded first last (entry_at es i) (good-at k i (omega (arith, length-ranges_of es)))))
 
   pub good-apart : good_table first last es ≡ true → pairs apart (ranges_of es) ≡ true
   good-apart k =

@@ -73,7 +73,8 @@ module _ (first last : ℕ) (es : List ℕ) (len : length es ≡ 16384) where
   -- the entry that an edit writes, and each other one
   edit-differs : (d : Edit) → lengths_of d ≡ true → refusal (table_rows first last es d) ≡ none → FitsEdit first last es d → AllDiffer es
       → (j : ℕ) → j < 128 → j ≢ (change first last es d).index → Differ (change first last es d).entry (entry_at es j)
-  edit-differs (add p) lens e f old j h ne u v q = new-differs es p (or_zero (start_for first last es p)) (eqb-true _ _ (and_r _ _ lens)) (passes 26 (table_rows first last es (add p)) e) j h u v q
+  edit-differs (add p) lens e f old j h ne u v q = new-differs es p (or_zero (start_for first last es p)) (eqb-true _ _ (and_r _ _ lens))
+      (passes 26 (table_rows first last es (add p)) e) j h u v q
   edit-differs (delete k) lens e f old j h ne u v q = absurd (clash (unused-zeros 128) u)
   edit-differs (resize k size) lens e f old j h ne u v q =
       let la = length-chunk 128 128 (k - 1) es f.index len in
@@ -85,7 +86,8 @@ module _ (first last : ℕ) (es : List ℕ) (len : length es ≡ 16384) where
       let is = named-name (entry_of es k) la (name_bytes name) (length-name name ∙ omega arith) in
       let lo = ((slot-rows es k).0 (refusal-before (slot_rows es k) (rows_from 23 (table_rows first last es (rename k name))) e).0).0 in
       ⊎_elim (λ z. ap is_zero is ∙ z) (λ n. absurd (n (j, (λ x. ne (omega arith)), h, (v, sym q ∙ is))))
-      ((free-iff (other_entries es k) name (other-carries partition_name_of (name_bytes name) es k lo)).0 (passes 26 (table_rows first last es (rename k name)) e))
+      ((free-iff (other_entries es k) name (other-carries partition_name_of (name_bytes name) es k lo)).0
+      (passes 26 (table_rows first last es (rename k name)) e))
 
   edited-differ : (d : Edit) → lengths_of d ≡ true → refusal (table_rows first last es d) ≡ none → FitsEdit first last es d → NamesDiffer es
       → NamesDiffer (edited first last es d)
@@ -174,4 +176,5 @@ module _ (g : Shape) (n : ℕ) (h t : List ℕ) where
     )
 
 pub taken_name_refused : TakenNameRefused
-taken_name_refused g n h t = (λ p. refused-iff g n h t (add p) (add-taken g n h t p), λ k name. refused-iff g n h t (rename k name) (rename-taken g n h t k name))
+taken_name_refused g n h t =
+    (λ p. refused-iff g n h t (add p) (add-taken g n h t p), λ k name. refused-iff g n h t (rename k name) (rename-taken g n h t k name))

@@ -14,7 +14,8 @@ use Rattle.octets.specs.Rows.{row, refusal}
 use Rattle.octets.proofs.Bools.{and_l, and_r, and_i, clash, not_f}
 use Rattle.octets.proofs.Rows.{rows_from, passes, pick-false, refusal-append, refusal-first, refusal-before, refusal-holds}
 use Rattle.gpt_model.specs.Disk.{Shape, last_usable, in_range, primary, backup, lent_bytes, guid_in, entries_in, state, table_of, with_copy}
-use Rattle.gpt_model.specs.Calls.{Edit, add, delete, resize, rename, Call, read, free_counts, repair, check, edit, Answer, refused, accepted, Outcome, outcome, unless_refused, table_rows, lengths_of, common_rows, open_rows, rows_of, accepted_outcome, step}
+use Rattle.gpt_model.specs.Calls.{Edit, add, delete, resize, rename, Call, read, free_counts, repair, check, edit, Answer, refused, accepted, Outcome}
+use Rattle.gpt_model.specs.Calls.{outcome, unless_refused, table_rows, lengths_of, common_rows, open_rows, rows_of, accepted_outcome, step}
 
 -- ---- the two outcomes: refused, and nothing is changed; or accepted
 
@@ -66,7 +67,8 @@ refused-row g n h t c k a = go (refusal (rows_of g n h t c)) refl
         cc
 
 -- and where it is accepted no row holds
-pub accepted-none : (g : Shape) (n : ℕ) (h t : List ℕ) (c : Call) (values : List ℕ) → (step g n h t c).answer ≡ accepted values → refusal (rows_of g n h t c) ≡ none
+pub accepted-none : (g : Shape) (n : ℕ) (h t : List ℕ) (c : Call) (values : List ℕ) → (step g n h t c).answer ≡ accepted values
+    → refusal (rows_of g n h t c) ≡ none
 accepted-none g n h t c values a = go (refusal (rows_of g n h t c)) refl
   where
     go : (q : Option ℕ) → refusal (rows_of g n h t c) ≡ q → q ≡ none
@@ -137,7 +139,8 @@ module _ (g : Shape) (n : ℕ) (h t : List ℕ) where
 
 -- an edit's own rows decide where those before them do not hold; else those before them do
 module _ (g : Shape) (n : ℕ) (h t : List ℕ) (d : Edit) where
-  pub edit-decides : refusal (open_rows g n h t (lengths_of d)) ≡ none → refusal (rows_of g n h t (edit d)) ≡ refusal (table_rows g.first (last_usable g n) (table_of g n h t) d)
+  pub edit-decides : refusal (open_rows g n h t (lengths_of d)) ≡ none
+      → refusal (rows_of g n h t (edit d)) ≡ refusal (table_rows g.first (last_usable g n) (table_of g n h t) d)
   edit-decides e = refusal-append (open_rows g n h t (lengths_of d)) (table_rows g.first (last_usable g n) (table_of g n h t) d) e
 
   pub edit-stops : (k : ℕ) → refusal (open_rows g n h t (lengths_of d)) ≡ some k → refusal (rows_of g n h t (edit d)) ≡ some k

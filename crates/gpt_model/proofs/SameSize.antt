@@ -21,7 +21,8 @@ use Rattle.octets.proofs.Parts.{length_part, get_d_part}
 use Rattle.octets.proofs.Puts.{put_self}
 use Rattle.octets.proofs.Chunks.{chunk_part, put_chunk-put}
 use Rattle.gpt_model.specs.Table.{first_of, last_of, unused, BlockRange, no_blocks, spans, range_of, apart, ranges_of, good_table}
-use Rattle.gpt_model.specs.Disk.{Shape, last_usable, Side, primary, backup, lent_bytes, header_at, entries_at, guid_in, entries_in, good_copy, table_of, with_table}
+use Rattle.gpt_model.specs.Disk.{Shape, last_usable, Side, primary, backup, lent_bytes, header_at, entries_at, guid_in, entries_in, good_copy, table_of}
+use Rattle.gpt_model.specs.Disk.{with_table}
 use Rattle.gpt_model.specs.Ranges.{block_in}
 use Rattle.gpt_model.specs.Calls.{delete, resize, edit, accepted, outcome, fits_at, edited, rows_of}
 use Rattle.gpt_model.specs.Claims.{ResizeToSame}
@@ -61,7 +62,8 @@ outside f l b (spans g m) a p q = go (bool_cases (block_in b (spans g m))) (or_c
     go (inl w) (inr c) = let r = block_in-get b g m w in absurd (omega (arith, ltb-true m f c))
 
 -- a used entry of a good table has room for its own blocks
-module _ (first last : ℕ) (es : List ℕ) (good : good_table first last es ≡ true) (k : ℕ) (lo : 1 ≤ k) (hi : k ≤ 128) (used : unused (entry_at es (k - 1)) ≡ false) where
+module _ (first last : ℕ) (es : List ℕ) (good : good_table first last es ≡ true) (k : ℕ) (lo : 1 ≤ k) (hi : k ≤ 128)
+    (used : unused (entry_at es (k - 1)) ≡ false) where
   abbrev e : List ℕ
   e = entry_at es (k - 1)
 
@@ -75,11 +77,14 @@ module _ (first last : ℕ) (es : List ℕ) (good : good_table first last es ≡
       go (inl w) = ap (block_in b) (range-unused (entry_at es j) w) ∙ not-in-none b
       go (inr w) =
           outside (first_of e) (last_of e) b (range_of (entry_at es j))
-          (subst (λ (s : BlockRange). apart s (range_of (entry_at es j)) ≡ true) (range-used e used) (good-pair first last es good (k - 1) j (omega arith) h (λ z. ne (sym z)) used w).1) p q
+          (subst (λ (s : BlockRange). apart s (range_of (entry_at es j)) ≡ true) (range-used e used)
+          (good-pair first last es good (k - 1) j (omega arith) h (λ z. ne (sym z)) used w).1) p q
 
-  range-free : (b j : ℕ) → j < 128 → first_of e ≤ b → b ≤ last_of e → Dec (j ≡ k - 1) → block_in b (get_or (set (ranges_of es) (k - 1) no_blocks) j no_blocks) ≡ false
+  range-free : (b j : ℕ) → j < 128 → first_of e ≤ b → b ≤ last_of e → Dec (j ≡ k - 1)
+      → block_in b (get_or (set (ranges_of es) (k - 1) no_blocks) j no_blocks) ≡ false
   range-free b j h p q (yes z) =
-      ap (block_in b) (ap (λ (x : ℕ). get_or (set (ranges_of es) (k - 1) no_blocks) x no_blocks) z ∙ get_or-set_same (ranges_of es) (k - 1) no_blocks no_blocks (omega (arith, length-ranges_of es)))
+      ap (block_in b) (ap (λ (x : ℕ). get_or (set (ranges_of es) (k - 1) no_blocks) x no_blocks) z
+      ∙ get_or-set_same (ranges_of es) (k - 1) no_blocks no_blocks (omega (arith, length-ranges_of es)))
       ∙ not-in-none b
   range-free b j h p q (no z) = ap (block_in b) (get_or-set_other (ranges_of es) (k - 1) j no_blocks no_blocks z ∙ get_or-range es j) ∙ other-range b j h z p q
 
@@ -88,8 +93,11 @@ module _ (first last : ℕ) (es : List ℕ) (good : good_table first last es ≡
       let u = own in
       let m = u.mid in
       let t = u.high in
-      room-make (set (ranges_of es) (k - 1) no_blocks) last (suc (last_of e) - first_of e) (first_of e)
-      (omega arith, λ b p q. any_false (block_in b) (set (ranges_of es) (k - 1) no_blocks) no_blocks (λ j h. range-free b j (omega (arith, length-set (ranges_of es) (k - 1) no_blocks, length-ranges_of es)) p (omega arith) (ℕ_discrete j (k - 1))))
+      room-make (set (ranges_of es) (k - 1) no_blocks) last (suc (last_of e) - first_of e) (first_of e) (
+        omega arith,
+        λ b p q. any_false (block_in b) (set (ranges_of es) (k - 1) no_blocks) no_blocks
+            (λ j h. range-free b j (omega (arith, length-set (ranges_of es) (k - 1) no_blocks, length-ranges_of es)) p (omega arith) (ℕ_discrete j (k - 1))),
+      )
 
   -- and its last block, written again, changes nothing
   module _ (long : length es ≡ 16384) (bytes : (i : ℕ) → get_or es i 0 < 256) where
@@ -102,7 +110,9 @@ module _ (first last : ℕ) (es : List ℕ) (good : good_table first last es ≡
     last-bytes : le 8 (last_of e) ≡ part 40 8 e
     last-bytes =
         ap (λ (w : ℕ). le w (last_of e)) (sym (length_part e 40 8 (omega (arith, length-e))))
-        ∙ le-unle (part 40 8 e) (part_bytes e 40 8 (omega (arith, length-e)) (λ i. subst (λ (x : List ℕ). get_or x i 0 < 256) (sym chunk) (part_bytes es ((k - 1) * 128) 128 (omega arith) bytes i)))
+        ∙ le-unle (part 40 8 e)
+        (part_bytes e 40 8 (omega (arith, length-e))
+        (λ i. subst (λ (x : List ℕ). get_or x i 0 < 256) (sym chunk) (part_bytes es ((k - 1) * 128) 128 (omega arith) bytes i)))
 
     pub written_same : edited first last es (resize k (suc (last_of e) - first_of e)) ≡ es
     written_same =
@@ -148,7 +158,8 @@ resize_to_same g n h t k wide bytes e =
     ∙ pick-false _ 20 _ (ne_eqb _ _ positive) ∙ pick-false _ 25 _ (ap not (own_room first last es good k lo hi used)) in
     let same : edited first last es (resize k size) ≡ es =
     written_same first last es good k lo hi used long
-    (λ i. subst (λ (x : List ℕ). get_or x i 0 < 256) (sym head-table) (part_bytes h (entries_at g primary) 16384 (omega (arith, len.0, entries-inside g wide primary)) bytes i)) in
+    (λ i. subst (λ (x : List ℕ). get_or x i 0 < 256) (sym head-table)
+    (part_bytes h (entries_at g primary) 16384 (omega (arith, len.0, entries-inside g wide primary)) bytes i)) in
     step-accepted g n h t (edit (resize k size)) rows
     ∙ ap₂ (λ (x y : List ℕ). outcome (accepted []) x y)
     (ap (λ (x : List ℕ). with_table g n primary (guid_in g primary h) x h) (same ∙ head-table) ∙ copy-again g wide n primary h len.0 both.0)

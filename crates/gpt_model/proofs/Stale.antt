@@ -96,7 +96,8 @@ module _ (es es' : List ℕ) (s : SameUsed es es') where
   same-used : (k : ℕ) → unused (entry_of es k) ≡ false → entry_of es k ≡ entry_of es' k
   same-used k u =
       let u' = sym (entry-by unused as-nil k) ∙ u in
-      sym (ap (λ (b : Bool). cond b [] (entry_of es k)) u) ∙ entry-by seen (λ e q. rw (q, unused-nil) refl) k ∙ ap (λ (b : Bool). cond b [] (entry_of es' k)) u'
+      sym (ap (λ (b : Bool). cond b [] (entry_of es k)) u) ∙ entry-by seen (λ e q. rw (q, unused-nil) refl) k
+      ∙ ap (λ (b : Bool). cond b [] (entry_of es' k)) u'
 
   same-offending : (rule : Rule) → first_offending rule es ≡ first_offending rule es'
   unfolding first_offending

@@ -14,7 +14,8 @@ use Rattle.octets.proofs.Parts.{length-zeros}
 use Rattle.octets.proofs.Puts.{length-put}
 use Rattle.octets.proofs.Equal.{same_true, same_refl}
 use Rattle.gpt_model.specs.Table.{good_table}
-use Rattle.gpt_model.specs.Disk.{Shape, last_usable, Side, primary, backup, lent_bytes, header_at, header_in, guid_in, entries_in, header, good_copy, state_of, same_copies, state, table_of, with_table, with_copy, block0, fresh_head, fresh_tail}
+use Rattle.gpt_model.specs.Disk.{Shape, last_usable, Side, primary, backup, lent_bytes, header_at, header_in, guid_in, entries_in, header, good_copy}
+use Rattle.gpt_model.specs.Disk.{state_of, same_copies, state, table_of, with_table, with_copy, block0, fresh_head, fresh_tail}
 use Rattle.gpt_model.specs.Calls.{repaired}
 use Rattle.gpt_model.proofs.Fields.{length-write_all}
 use Rattle.gpt_model.proofs.Copies.{length-guid, length-entries, length-with_table, written-entries, written-guid, written-good}
@@ -47,11 +48,13 @@ other-primary true b s p q = refl
 other-primary false true s p q = absurd (p refl)
 other-primary false false s p q = absurd (q refl)
 
-pub good-table : (g : Shape) (n : ℕ) (side : Side) (b : List ℕ) → good_copy g n side b ≡ true → good_table g.first (last_usable g n) (entries_in g side b) ≡ true
+pub good-table : (g : Shape) (n : ℕ) (side : Side) (b : List ℕ) → good_copy g n side b ≡ true
+    → good_table g.first (last_usable g n) (entries_in g side b) ≡ true
 unfolding good_copy
 good-table g n side b k = and_r _ _ k
 
-pub good-header : (g : Shape) (n : ℕ) (side : Side) (b : List ℕ) → good_copy g n side b ≡ true → header_in g side b ≡ header g n side (guid_in g side b) (entries_in g side b)
+pub good-header : (g : Shape) (n : ℕ) (side : Side) (b : List ℕ) → good_copy g n side b ≡ true
+    → header_in g side b ≡ header g n side (guid_in g side b) (entries_in g side b)
 unfolding good_copy
 good-header g n side b k = same_true _ _ (and_l _ _ k)
 
@@ -153,27 +156,32 @@ module _ (g : Shape) (wide : 92 ≤ g.block) (n : ℕ) where
     length-cleared side b l = length-put _ _ _ ∙ l
 
     -- one good copy, and the other written from it
-    pub from-backup : good_copy g n backup t ≡ true → Holds g n (with_copy g n primary (guid_in g backup t) (entries_in g backup t) h) t (entries_in g backup t)
+    pub from-backup : good_copy g n backup t ≡ true
+        → Holds g n (with_copy g n primary (guid_in g backup t) (entries_in g backup t) h) t (entries_in g backup t)
     from-backup k =
         let lg = length-guid g wide backup t lt in
         let le' = length-entries g wide backup t lt in
         let lc = length-cleared primary h lh in
-        holds g n _ t (guid_in g backup t) _ (length-with_table g wide n primary _ _ _ le' lc) lt (written-good g wide n primary _ _ _ le' lc lg (good-table g n backup t k)) k
+        holds g n _ t (guid_in g backup t) _ (length-with_table g wide n primary _ _ _ le' lc) lt
+        (written-good g wide n primary _ _ _ le' lc lg (good-table g n backup t k)) k
         (written-guid g wide n primary _ _ _ le' lc lg) refl (written-entries g wide n primary _ _ _ le' lc) refl
 
-    pub from-primary : good_copy g n primary h ≡ true → Holds g n h (with_copy g n backup (guid_in g primary h) (entries_in g primary h) t) (entries_in g primary h)
+    pub from-primary : good_copy g n primary h ≡ true
+        → Holds g n h (with_copy g n backup (guid_in g primary h) (entries_in g primary h) t) (entries_in g primary h)
     from-primary k =
         let lg = length-guid g wide primary h lh in
         let le' = length-entries g wide primary h lh in
         let lc = length-cleared backup t lt in
-        holds g n h _ (guid_in g primary h) _ lh (length-with_table g wide n backup _ _ _ le' lc) k (written-good g wide n backup _ _ _ le' lc lg (good-table g n primary h k))
+        holds g n h _ (guid_in g primary h) _ lh (length-with_table g wide n backup _ _ _ le' lc) k
+        (written-good g wide n backup _ _ _ le' lc lg (good-table g n primary h k))
         refl (written-guid g wide n backup _ _ _ le' lc lg) refl (written-entries g wide n backup _ _ _ le' lc)
 
     -- a repair: from every state that can be read, the table that was read
     pub repair-holds : state g n h t ≢ 0 → Holds g n (repaired g n h t (state g n h t)).head (repaired g n h t (state g n h t)).tail (table_of g n h t)
     repair-holds e = go (ℕ_discrete (state g n h t) 1) (ℕ_discrete (state g n h t) 4)
       where
-        go : Dec (state g n h t ≡ 1) → Dec (state g n h t ≡ 4) → Holds g n (repaired g n h t (state g n h t)).head (repaired g n h t (state g n h t)).tail (table_of g n h t)
+        go : Dec (state g n h t ≡ 1) → Dec (state g n h t ≡ 4)
+            → Holds g n (repaired g n h t (state g n h t)).head (repaired g n h t (state g n h t)).tail (table_of g n h t)
         go (yes p) q = rw (eq-eqb _ _ p) (record { len_head = lh; len_tail = lt; reads = p; table = refl })
         go (no p) (yes q) = rw (ne_eqb _ _ p, eq-eqb _ _ q, table-four g n h t q) (from-backup (four g n h t q))
         go (no p) (no q) = rw (ne_eqb _ _ p, ne_eqb _ _ q, table-primary g n h t q) (from-primary (not-four g n h t q e))

@@ -12,7 +12,8 @@ use Rattle.octets.proofs.Bools.{and_r}
 use Rattle.octets.proofs.Chunks.{length_put_chunk}
 use Rattle.gpt_model.specs.Table.{no_blocks, range_size, range_of, ranges_of, good_table}
 use Rattle.gpt_model.specs.Disk.{Shape, last_usable, primary, backup, lent_bytes, guid_in, state, table_of, with_table}
-use Rattle.gpt_model.specs.Calls.{Edit, Call, read, free_counts, repair, check, edit, refused, Outcome, outcome, table_rows, change, edited, lengths_of, rows_of, accepted_outcome, step}
+use Rattle.gpt_model.specs.Calls.{Edit, Call, read, free_counts, repair, check, edit, refused, Outcome, outcome, table_rows, change, edited, lengths_of}
+use Rattle.gpt_model.specs.Calls.{rows_of, accepted_outcome, step}
 use Rattle.gpt_model.specs.Lists.{Ledger, book_edit, book, Snapshot, after_one, after_all, answers, table_next, applied, total}
 use Rattle.gpt_model.proofs.Counts.{total-set}
 use Rattle.gpt_model.proofs.Entries.{map-set, get_or-range, length-ranges_of, entry_at, ranges-put, good-put}

@@ -14,7 +14,8 @@ use Rattle.octets.proofs.Bools.{and_l, and_r, and_i, clash}
 use Rattle.octets.proofs.Parts.{length_part, part-part}
 use Rattle.octets.proofs.Equal.{same_true, same_refl}
 use Rattle.octets.proofs.Rows.{rows_from, pick-false, pick_true}
-use Rattle.gpt_model.specs.Disk.{Shape, last_usable, Side, primary, backup, other, header_block, entries_block, lent_bytes, header_at, header_in, guid_in, entries_in, good_copy, state_of, same_copies, state}
+use Rattle.gpt_model.specs.Disk.{Shape, last_usable, Side, primary, backup, other, header_block, entries_block, lent_bytes, header_at, header_in, guid_in}
+use Rattle.gpt_model.specs.Disk.{entries_in, good_copy, state_of, same_copies, state}
 use Rattle.gpt_model.specs.Calls.{read, Answer, refused, accepted, Outcome, common_rows, step}
 use Rattle.gpt_model.specs.Stored.{TableRules, HeaderSays, HeadGood, TailGood, Alike, SizesOk}
 use Rattle.gpt_model.specs.Claims.{GoodByBytes, ReadByBytes}
@@ -29,7 +30,8 @@ use Rattle.gpt_model.proofs.StoredHeader.{says-iff}
 module _ (g : Shape) (wide : 92 ≤ g.block) (n : ℕ) (side : Side) (b : List ℕ) (lb : length b ≡ lent_bytes g side) where
   abbrev Good : Type 0
   Good =
-      HeaderSays (header_block side n) (header_block (other side) n) g.first (last_usable g n) (entries_block g side n) (entries_in g side b) (header_in g side b)
+      HeaderSays (header_block side n) (header_block (other side) n) g.first (last_usable g n) (entries_block g side n) (entries_in g side b)
+      (header_in g side b)
       × TableRules g.first (last_usable g n) (entries_in g side b)
 
   good-make : Good → good_copy g n side b ≡ true
@@ -42,7 +44,8 @@ module _ (g : Shape) (wide : 92 ≤ g.block) (n : ℕ) (side : Side) (b : List �
   pub good-iff : (good_copy g n side b ≡ true) ↔ Good
   good-iff = (
     λ k. (
-      (says-iff g n side (entries_in g side b) (header_in g side b) (length_part b (header_at g side) 92 (omega (arith, header-inside g wide side)))).0 (good-header g n side b k),
+      (says-iff g n side (entries_in g side b) (header_in g side b) (length_part b (header_at g side) 92 (omega (arith, header-inside g wide side)))).0
+          (good-header g n side b k),
       (rules-iff _ _ _).0 (good-table g n side b k),
     ),
     good-make,
@@ -165,7 +168,8 @@ read_by_bytes g n h t l =
     let good = good_by_bytes g n h t l in
     let a = read-replies g n h t l in
     let w = subst (Answers (HeadGood g n h) (TailGood g n t) (Alike g h t)) (sym a)
-    (answers (HeadGood g n h) (TailGood g n t) (Alike g h t) (good_copy g n primary h) (good_copy g n backup t) (same_copies g h t) good.0 good.1 (alike-iff g h t)) in
+    (answers (HeadGood g n h) (TailGood g n t) (Alike g h t) (good_copy g n primary h) (good_copy g n backup t) (same_copies g h t) good.0 good.1
+    (alike-iff g h t)) in
     record {
       one = w.0;
       two = w.1;

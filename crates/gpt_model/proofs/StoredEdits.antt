@@ -22,7 +22,8 @@ use Rattle.octets.proofs.Chunks.{length-chunks, put_chunk-put}
 use Rattle.gpt_model.specs.Table.{first_of, name_bytes, unused, entries, ranges_of}
 use Rattle.gpt_model.specs.Disk.{Shape, last_usable, table_of}
 use Rattle.gpt_model.specs.declared.NewPartition.{NewPartition}
-use Rattle.gpt_model.specs.Calls.{Edit, add, delete, resize, rename, edit, accepted, Outcome, or_zero, new_entry, start_for, table_rows, change, edited, lengths_of}
+use Rattle.gpt_model.specs.Calls.{Edit, add, delete, resize, rename, edit, accepted, Outcome, or_zero, new_entry, start_for, table_rows, change, edited}
+use Rattle.gpt_model.specs.Calls.{lengths_of}
 use Rattle.gpt_model.specs.Stored.{Outside, entry_first, EntryName, StaysBut, AddSays, EditSays}
 use Rattle.gpt_model.specs.Claims.{EditWrites}
 use Rattle.gpt_model.proofs.Room.{start-some}
@@ -38,7 +39,8 @@ find_ix-before : {A : Type 0} (p : A → Bool) (xs : List A) (d : A) (i : ℕ) �
 find_ix-before p [] d i h = absurd (not-suc-le-zero h)
 find_ix-before p (x ∷ xs) d i h = go (bool_cases (p x)) i h (find_ix-before p xs d)
   where
-    go : (p x ≡ true) ⊎ (p x ≡ false) → (i : ℕ) → i < find_ix p (x ∷ xs) → ((i : ℕ) → i < find_ix p xs → p (get_or xs i d) ≡ false) → p (get_or (x ∷ xs) i d) ≡ false
+    go : (p x ≡ true) ⊎ (p x ≡ false) → (i : ℕ) → i < find_ix p (x ∷ xs) → ((i : ℕ) → i < find_ix p xs → p (get_or xs i d) ≡ false)
+        → p (get_or (x ∷ xs) i d) ≡ false
     go (inl e) i h ih = absurd (not-suc-le-zero (rw (e, find_ix) at h))
     go (inr e) zero h ih = e
     go (inr e) (suc i) h ih = ih i (le_of_suc-le-suc (rw (e, find_ix) at h))
@@ -67,7 +69,8 @@ module _ (es : List ℕ) (long : length es ≡ 16384) (i : ℕ) (hi : i < 128) w
   replaced e l = put_chunk-put 128 128 i e es l hi long
 
   -- and with w of its bytes replaced
-  pub within : (v : List ℕ) (at : ℕ) → at + length v ≤ 128 → length (put at v (entry_at es i)) ≡ 128 → put_chunk 128 i (put at v (entry_at es i)) es ≡ put (i * 128 + at) v es
+  pub within : (v : List ℕ) (at : ℕ) → at + length v ≤ 128 → length (put at v (entry_at es i)) ≡ 128
+      → put_chunk 128 i (put at v (entry_at es i)) es ≡ put (i * 128 + at) v es
   within v at h l =
       replaced (put at v (entry_at es i)) l ∙ ap (λ (x : List ℕ). put (i * 128) (put at v x) es) (entry-is es i hi)
       ∙ put-inside v es (i * 128) 128 at (omega arith) h
@@ -93,15 +96,20 @@ module _ (g : Shape) (n : ℕ) (es : List ℕ) (long : length es ≡ 16384) wher
       subst (λ (x : List ℕ). (accepted [] ≡ accepted []) × (part ((k - 1) * 128) 128 x ≡ zeros 128) × StaysBut ((k - 1) * 128) 128 es x) (sym q)
       (refl, part-put-at (zeros 128) es ((k - 1) * 128) 128 (length-zeros 128) (omega arith), stays es (zeros 128) ((k - 1) * 128) 128 (length-zeros 128))
 
-  resize-says : (k size : ℕ) → (h : k - 1 < 128) → length (put 40 (le 8 (first_of (entry_at es (k - 1)) + size - 1)) (entry_at es (k - 1))) ≡ 128 → Says (resize k size)
+  resize-says : (k size : ℕ) → (h : k - 1 < 128) → length (put 40 (le 8 (first_of (entry_at es (k - 1)) + size - 1)) (entry_at es (k - 1))) ≡ 128
+      → Says (resize k size)
   resize-says k size h l =
       let v = le 8 (first_of (entry_at es (k - 1)) + size - 1) in
       let at = (k - 1) * 128 + 40 in
       let q = within es long (k - 1) h v 40 (omega (arith, length-le 8 (first_of (entry_at es (k - 1)) + size - 1))) l in
-      subst (λ (x : List ℕ). (accepted [] ≡ accepted []) × (part at 8 x ≡ le 8 (entry_first es (k - 1) + size - 1)) × StaysBut at 8 es x) (sym q)
-      (refl, part-put-at v es at 8 (length-le 8 _) (omega arith) ∙ ap (λ (f : ℕ). le 8 (f + size - 1)) (first-is es (k - 1) h), stays es v at 8 (length-le 8 _))
+      subst (λ (x : List ℕ). (accepted [] ≡ accepted []) × (part at 8 x ≡ le 8 (entry_first es (k - 1) + size - 1)) × StaysBut at 8 es x) (sym q) (
+        refl,
+        part-put-at v es at 8 (length-le 8 _) (omega arith) ∙ ap (λ (f : ℕ). le 8 (f + size - 1)) (first-is es (k - 1) h),
+        stays es v at 8 (length-le 8 _),
+      )
 
-  rename-says : (k : ℕ) (name : List ℕ) → length name ≡ 36 → (h : k - 1 < 128) → length (put 56 (name_bytes name) (entry_at es (k - 1))) ≡ 128 → Says (rename k name)
+  rename-says : (k : ℕ) (name : List ℕ) → length name ≡ 36 → (h : k - 1 < 128) → length (put 56 (name_bytes name) (entry_at es (k - 1))) ≡ 128
+      → Says (rename k name)
   rename-says k name ln h l =
       let v = name_bytes name in
       let lv : length (name_bytes name) ≡ 72 = length-name name ∙ omega arith in
@@ -122,7 +130,8 @@ module _ (g : Shape) (n : ℕ) (es : List ℕ) (long : length es ≡ 16384) wher
       let new = new_entry p s in
       let ln' = length-new p s in
       let q = replaced es long i h new ln' in
-      let at : (k w : ℕ) → k + w ≤ 128 → part (i * 128 + k) w (put (i * 128) new es) ≡ part k w new = λ k w l. inner es new (i * 128) 128 ln' k w l (omega arith) in (
+      let at : (k w : ℕ) → k + w ≤ 128 → part (i * 128 + k) w (put (i * 128) new es) ≡ part k w new =
+      λ k w l. inner es new (i * 128) 128 ln' k w l (omega arith) in (
         i,
         s,
         refl,
@@ -150,5 +159,6 @@ pub edit_writes : EditWrites
 edit_writes g n h t d wide e =
     let es = table_of g n h t in
     subst (λ (o : Outcome). EditSays g n d o.answer (table_of g n h t) (table_of g n o.head o.tail)) (sym (step-accepted g n h t (edit d) e))
-    (subst (λ (x : List ℕ). EditSays g n d (accepted (change g.first (last_usable g n) (table_of g n h t) d).values) (table_of g n h t) x) (sym (edit-held g wide n h t d e).table)
+    (subst (λ (x : List ℕ). EditSays g n d (accepted (change g.first (last_usable g n) (table_of g n h t) d).values) (table_of g n h t) x)
+    (sym (edit-held g wide n h t d e).table)
     (says g n es (len-table g wide n h t d e) d (lens g wide n h t d e).2 (edit-table g n h t d e) (edit-fits g wide n h t d e)))

@@ -77,8 +77,10 @@ module _ (g : Shape) (wide : 512 ≤ g.block) (n : ℕ) (guid : List ℕ) where
     where
       go : (a + k ≤ 446) ⊎ ((462 ≤ a) × ((a + k ≤ 510) ⊎ (512 ≤ a))) → part a k (write_all (block0 n) blank) ≡ part a k blank
       go (inl h) = part-put-above (0x55 ∷ 0xAA ∷ []) (put 446 entry blank) a k 510 (omega arith) ∙ part-put-above entry blank a k 446 h
-      go (inr (h, inl x)) = part-put-above (0x55 ∷ 0xAA ∷ []) (put 446 entry blank) a k 510 x ∙ part-put-below entry blank a k 446 (omega (arith, length-entry))
-      go (inr (h, inr x)) = part-put-below (0x55 ∷ 0xAA ∷ []) (put 446 entry blank) a k 510 x ∙ part-put-below entry blank a k 446 (omega (arith, length-entry))
+      go (inr (h, inl x)) = part-put-above (0x55 ∷ 0xAA ∷ []) (put 446 entry blank) a k 510 x
+          ∙ part-put-below entry blank a k 446 (omega (arith, length-entry))
+      go (inr (h, inr x)) = part-put-below (0x55 ∷ 0xAA ∷ []) (put 446 entry blank) a k 510 x
+          ∙ part-put-below entry blank a k 446 (omega (arith, length-entry))
 
   entry-part : (at k : ℕ) → at + k ≤ 16 → part (446 + at) k (fresh_head g n guid es) ≡ part at k entry
   entry-part at k h =
@@ -92,7 +94,8 @@ module _ (g : Shape) (wide : 512 ≤ g.block) (n : ℕ) (guid : List ℕ) where
     written h t l =
         let w = fresh_holds g l.wide n guid es lg (length-zeros 16384) (empty-good g.first (last_usable g n)) in
         let k = one-good g n _ _ w.reads in
-        let here : SizesOk g n (fresh_head g n guid es) (fresh_tail g n guid es) = record { wide = l.wide; head = w.len_head; tail = w.len_tail; low = l.low; high = l.high } in
+        let here : SizesOk g n (fresh_head g n guid es) (fresh_tail g n guid es) =
+        record { wide = l.wide; head = w.len_head; tail = w.len_tail; low = l.low; high = l.high } in
         let good = good_by_bytes g n _ _ here in
         let lh : length (write_all (block0 n) blank) ≡ lent_bytes g primary = length-write_all (block0 n) blank ∙ length-zeros _ in
         let lt : length (zeros (lent_bytes g backup)) ≡ lent_bytes g backup = length-zeros _ in
@@ -103,7 +106,10 @@ module _ (g : Shape) (wide : 512 ≤ g.block) (n : ℕ) (guid : List ℕ) where
             sym (part-part 56 16 g.block 92 _ (omega arith)) ∙ written-guid g l.wide n primary guid es _ (length-zeros 16384) lh lg,
             sym (part-part 56 16 16384 92 _ (omega arith)) ∙ written-guid g l.wide n backup guid es _ (length-zeros 16384) lt lg,
           );
-          entries = (written-entries g l.wide n primary guid es _ (length-zeros 16384) lh, written-entries g l.wide n backup guid es _ (length-zeros 16384) lt);
+          entries = (
+            written-entries g l.wide n primary guid es _ (length-zeros 16384) lh,
+            written-entries g l.wide n backup guid es _ (length-zeros 16384) lt,
+          );
           tails = (head_tail _ _ (omega arith) (omega arith), tail-tail _ _ (omega arith) (omega arith));
           block0 = zero-part 0 446 (omega arith) (inl (omega arith));
           at446 = entry-part 0 8 (omega arith) ∙ part-here lead (le 4 1 ++ le 4 (n - 1)) 8 refl;
@@ -114,18 +120,29 @@ module _ (g : Shape) (wide : 512 ≤ g.block) (n : ℕ) (guid : List ℕ) where
           at462 = zero-part 462 48 (omega arith) (inr (omega arith, inl (omega arith)));
           at510 =
               head-before 510 2 (omega arith) (omega arith)
-              ∙ part-put-at (0x55 ∷ 0xAA ∷ []) (put 446 entry blank) 510 2 refl (omega (arith, length-put 446 entry blank, length-zeros (lent_bytes g primary)));
+              ∙ part-put-at (0x55 ∷ 0xAA ∷ []) (put 446 entry blank) 510 2 refl
+              (omega (arith, length-put 446 entry blank, length-zeros (lent_bytes g primary)));
           at512 = zero-part 512 _ (omega arith) (inr (omega arith, inr (omega arith)));
         }
 
 pub format_writes : FormatWrites
-format_writes g n guid h t wide = ((to, from), λ a. let w = to a in subst (λ (o : Outcome). FormatSays g n guid o.head o.tail) (sym (done w)) (written g wide n guid w.1 h t w.0))
+format_writes g n guid h t wide =
+    ((to, from), λ a. let w = to a in subst (λ (o : Outcome). FormatSays g n guid o.head o.tail) (sym (done w)) (written g wide n guid w.1 h t w.0))
   where
     done : SizesOk g n h t × (length guid ≡ 16) × (is_zero guid ≡ false)
         → format g n guid h t ≡ outcome (accepted []) (fresh_head g n guid (zeros 16384)) (fresh_tail g n guid (zeros 16384))
     done w =
         let l = w.0 in
-        formatted g n guid h t (record { wide = l.wide; range = and_i _ _ (le-leb _ _ l.low) (le-leb _ _ l.high); len_guid = w.1; nonzero = w.2; len_head = l.head; len_tail = l.tail })
+        formatted g n guid h t
+        (record {
+          wide = l.wide;
+          range = and_i _ _ (le-leb _ _ l.low) (le-leb _ _ l.high);
+          len_guid = w.1;
+          nonzero = w.2;
+          len_head = l.head;
+          len_tail =
+              l.tail;
+        })
 
     from : SizesOk g n h t × (length guid ≡ 16) × (is_zero guid ≡ false) → (format g n guid h t).answer ≡ accepted []
     from w = ap (λ (o : Outcome). o.answer) (done w)
@@ -133,7 +150,8 @@ format_writes g n guid h t wide = ((to, from), λ a. let w = to a in subst (λ (
     to : (format g n guid h t).answer ≡ accepted [] → SizesOk g n h t × (length guid ≡ 16) × (is_zero guid ≡ false)
     to a = go (option_cases (refusal (format_rows g n guid h t)))
       where
-        go : (refusal (format_rows g n guid h t) ≡ none) ⊎ ((k : ℕ) × (refusal (format_rows g n guid h t) ≡ some k)) → SizesOk g n h t × (length guid ≡ 16) × (is_zero guid ≡ false)
+        go : (refusal (format_rows g n guid h t) ≡ none) ⊎ ((k : ℕ) × (refusal (format_rows g n guid h t) ≡ some k)) → SizesOk g n h t × (length guid ≡ 16)
+            × (is_zero guid ≡ false)
         go (inr w) =
             let b = ap (λ (o : Outcome). o.answer) (format-refused g n guid h t w.0 w.1) in
             let z : ◌≡◌ {A = ℕ} 0 1 = cc in

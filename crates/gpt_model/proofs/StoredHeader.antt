@@ -56,7 +56,8 @@ module _ (g : Shape) (n : ℕ) (side : Side) (es x : List ℕ) where
           signature = ap (part 0 8) w ∙ header-reads g n side guid es c 0 0 8 _ (omega arith) refl refl refl (omega arith);
           revision = ap (part 8 4) w ∙ header-reads g n side guid es c 1 8 4 _ (omega arith) refl refl refl (omega arith);
           header_size = ap (part 12 4) w ∙ header-reads g n side guid es c 2 12 4 _ (omega arith) refl refl (length-le 4 _) (omega arith);
-          header_crc = ap (part 16 4) w ∙ header-reads g n side guid es c 3 16 4 _ (omega arith) refl refl (length-le 4 _) (omega arith) ∙ ap (le 4) (sym (covers c w));
+          header_crc = ap (part 16 4) w ∙ header-reads g n side guid es c 3 16 4 _ (omega arith) refl refl (length-le 4 _) (omega arith)
+              ∙ ap (le 4) (sym (covers c w));
           reserved = ap (part 20 4) w ∙ header-reads g n side guid es c 4 20 4 _ (omega arith) refl refl (length-le 4 _) (omega arith) ∙ sym zero-four;
           own_block = ap (part 24 8) w ∙ header-reads g n side guid es c 5 24 8 _ (omega arith) refl refl (length-le 8 _) (omega arith);
           other_block = ap (part 32 8) w ∙ header-reads g n side guid es c 6 32 8 _ (omega arith) refl refl (length-le 8 _) (omega arith);

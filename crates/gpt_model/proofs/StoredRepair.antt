@@ -23,7 +23,8 @@ use Rattle.gpt_model.proofs.StoredEdits.{inner}
 
 -- a copy written over its cleared header block
 module _ (g : Shape) (n : ℕ) (guid es : List ℕ) where
-  head_tail : (h : List ℕ) → 92 ≤ g.block → length h ≡ 2 * g.block + 16384 → part (g.block + 92) (g.block - 92) (with_copy g n primary guid es h) ≡ zeros (g.block - 92)
+  head_tail : (h : List ℕ) → 92 ≤ g.block → length h ≡ 2 * g.block + 16384
+      → part (g.block + 92) (g.block - 92) (with_copy g n primary guid es h) ≡ zeros (g.block - 92)
   unfolding with_table
   head_tail h wide l =
       let c = put g.block (zeros g.block) h in

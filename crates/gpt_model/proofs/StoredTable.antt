@@ -18,7 +18,8 @@ use Rattle.gpt_model.specs.Stored.{EntryUsed, entry_type, entry_unique, entry_fi
 use Rattle.gpt_model.specs.Claims.{InSomeByBytes}
 use Rattle.gpt_model.proofs.Room.{block_in-make, block_in-get, block_in-none}
 use Rattle.gpt_model.proofs.Counts.{apart-get}
-use Rattle.gpt_model.proofs.Entries.{unused-type, range-unused, range-used, Used, ok-used, used-ok, unused-ok, ok-bounded, free-apart, get_or-range, length-ranges_of, entry_at, good-at, good-pair, good-make}
+use Rattle.gpt_model.proofs.Entries.{unused-type, range-unused, range-used, Used, ok-used, used-ok, unused-ok, ok-bounded, free-apart, get_or-range}
+use Rattle.gpt_model.proofs.Entries.{length-ranges_of, entry_at, good-at, good-pair, good-make}
 
 -- ---- entry i
 
@@ -99,7 +100,8 @@ module _ (first last : ℕ) (es : List ℕ) where
       own i h u = ok-used first last (entry_at es i) (good-at first last es k i h) (used-is es i h ∙ u)
 
   rules-make : TableRules first last es → good_table first last es ≡ true
-  rules-make r = good-make first last es (λ i h. each i h (bool_cases (unused (entry_at es i)))) (λ i j hi hj l u v. two i j hi hj l (sym (used-is es i hi) ∙ u) (sym (used-is es j hj) ∙ v))
+  rules-make r = good-make first last es (λ i h. each i h (bool_cases (unused (entry_at es i))))
+      (λ i j hi hj l u v. two i j hi hj l (sym (used-is es i hi) ∙ u) (sym (used-is es j hj) ∙ v))
     where
       own : (i : ℕ) → (h : i < 128) → EntryUsed es i → Used first last (entry_at es i)
       own i h u =
@@ -109,7 +111,14 @@ module _ (first last : ℕ) (es : List ℕ) where
           let c = w.2 in
           let f = first-is es i h in
           let l = last-is es i h in
-          record { used = used-is es i h ∙ u; unique = ap is_zero (unique-is es i h) ∙ r.unique i h u; low = omega arith; mid = omega arith; high = omega arith }
+          record {
+            used = used-is es i h ∙ u;
+            unique = ap is_zero (unique-is es i h) ∙ r.unique i h u;
+            low = omega arith;
+            mid = omega arith;
+            high =
+                omega arith;
+          }
 
       each : (i : ℕ) → i < 128 → (unused (entry_at es i) ≡ true) ⊎ (unused (entry_at es i) ≡ false) → entry_ok first last (entry_at es i) ≡ true
       each i h (inl u) = unused-ok first last (entry_at es i) u
@@ -120,7 +129,8 @@ module _ (first last : ℕ) (es : List ℕ) where
       two i j hi hj l u v = (
         same_false _ _ (λ e. r.differ i j hi hj (λ z. omega arith) u v (sym (unique-is es i hi) ∙ e ∙ unique-is es j hj)),
         subst (λ (s : BlockRange). apart s (range_of (entry_at es j)) ≡ true) (sym (range-is es i hi u))
-            (free-apart first last (entry_first es i) (entry_last es i) (range_of (entry_at es j)) (ok-bounded first last _ (used-ok first last _ (own j hj v))) (r.range i hi u).1
+            (free-apart first last (entry_first es i) (entry_last es i) (range_of (entry_at es j))
+            (ok-bounded first last _ (used-ok first last _ (own j hj v))) (r.range i hi u).1
             (λ b p q. clear b p q (bool_cases (block_in b (range_of (entry_at es j)))))),
       )
         where

@@ -14,7 +14,8 @@ use Rattle.octets.proofs.Puts.{length-put, put-over, put-inside, part-put-in, pa
 use Rattle.octets.proofs.Chunks.{length_put_chunk}
 use Rattle.crc_lanes.specs.Crc.{crc32}
 use Rattle.gpt_model.specs.Table.{write_all}
-use Rattle.gpt_model.specs.Disk.{Shape, last_usable, Side, primary, backup, lent_bytes, header_at, entries_at, guid_in, entries_in, header_fields, header_with, header_crc, header, good_copy, lent, state, table_of, with_table}
+use Rattle.gpt_model.specs.Disk.{Shape, last_usable, Side, primary, backup, lent_bytes, header_at, entries_at, guid_in, entries_in, header_fields}
+use Rattle.gpt_model.specs.Disk.{header_with, header_crc, header, good_copy, lent, state, table_of, with_table}
 use Rattle.gpt_model.specs.Calls.{edit, Outcome, change, lengths_of, accepted_outcome}
 use Rattle.gpt_model.specs.Claims.{EditTouches}
 use Rattle.gpt_model.specs.Stored.{Outside}
@@ -78,7 +79,8 @@ module _ (g : Shape) (wide : 92 ≤ g.block) (n : ℕ) (side : Side) (b : List �
       let c = put (entries_at g side + i * 128) e b in
       let crc = le 4 (header_crc g n side (guid_in g side b) es') in
       let new : header g n side (guid_in g side b) es' ≡ put 16 crc (put 88 (le 4 (crc32 es')) (part (header_at g side) 92 c)) =
-      header-changes g n side (guid_in g side b) (entries_in g side b) es' ∙ ap (λ (x : List ℕ). put 16 crc (put 88 (le 4 (crc32 es')) x)) (sym header-stays) in
+      header-changes g n side (guid_in g side b) (entries_in g side b) es'
+      ∙ ap (λ (x : List ℕ). put 16 crc (put 88 (le 4 (crc32 es')) x)) (sym header-stays) in
       ap₂ (put (header_at g side)) new (entry-written g wide side b lb i hi e le')
       ∙ two_fields (le 4 (header_crc g n side (guid_in g side b) es')) (le 4 (crc32 es')) c (header_at g side) 92 16 88
       (let h = header-inside g wide side in omega (arith, length-put (entries_at g side + i * 128) e b))
@@ -98,7 +100,8 @@ module _ (g : Shape) (wide : 92 ≤ g.block) (n : ℕ) (side : Side) (b : List �
 abbrev Stays : Shape → Side → ℕ → List ℕ → List ℕ → Type 0
 Stays g side i b b' =
     (length b' ≡ length b)
-    × ((k : ℕ) → Outside (entries_at g side + i * 128) 128 k → Outside (header_at g side + 16) 4 k → Outside (header_at g side + 88) 4 k → get_or b' k 0 ≡ get_or b k 0)
+    × ((k : ℕ) → Outside (entries_at g side + i * 128) 128 k → Outside (header_at g side + 16) 4 k → Outside (header_at g side + 88) 4 k
+    → get_or b' k 0 ≡ get_or b k 0)
 
 stays : (g : Shape) → 92 ≤ g.block → (n : ℕ) (side : Side) (b es : List ℕ) (i : ℕ) (e : List ℕ) → length b ≡ lent_bytes g side → good_copy g n side b ≡ true
     → es ≡ entries_in g side b → i < 128 → length e ≡ 128 → Stays g side i b (with_table g n side (guid_in g side b) (put_chunk 128 i e es) b)
@@ -110,7 +113,8 @@ stays g wide n side b es i e lb good q hi le' =
 
 pub edit_touches : EditTouches
 edit_touches g n h t d wide e =
-    subst (λ (o : Outcome). (side : Side) → Stays g side (change g.first (last_usable g n) (table_of g n h t) d).index (lent side h t) (lent side o.head o.tail))
+    subst (λ (o : Outcome). (side : Side)
+    → Stays g side (change g.first (last_usable g n) (table_of g n h t) d).index (lent side h t) (lent side o.head o.tail))
     (sym (step-accepted g n h t (edit d) e)) both
   where
     l : (length h ≡ lent_bytes g primary) × (length t ≡ lent_bytes g backup) × (lengths_of d ≡ true)
@@ -122,6 +126,7 @@ edit_touches g n h t d wide e =
     f : FitsEdit g.first (last_usable g n) (table_of g n h t) d
     f = edit-fits g wide n h t d e
 
-    both : (side : Side) → Stays g side (change g.first (last_usable g n) (table_of g n h t) d).index (lent side h t) (lent side (accepted_outcome g n h t (edit d)).head (accepted_outcome g n h t (edit d)).tail)
+    both : (side : Side) → Stays g side (change g.first (last_usable g n) (table_of g n h t) d).index (lent side h t)
+        (lent side (accepted_outcome g n h t (edit d)).head (accepted_outcome g n h t (edit d)).tail)
     both primary = stays g wide n primary h _ _ _ l.0 (one-good g n h t one).0 (one-primary g n h t one) f.index f.len
     both backup = stays g wide n backup t _ _ _ l.1 (one-good g n h t one).1 (one-backup g n h t one) f.index f.len

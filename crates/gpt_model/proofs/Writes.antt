@@ -11,7 +11,8 @@ use Rattle.octets.proofs.Parts.{length-zeros, part-zeros}
 use Rattle.octets.proofs.Puts.{put-put, put_all, put-over, put-inside, put_self, part-put-below}
 use Rattle.octets.proofs.Chunks.{put_chunk-put}
 use Rattle.gpt_model.specs.Table.{write_all}
-use Rattle.gpt_model.specs.Disk.{Shape, Side, primary, backup, lent_bytes, header_at, entries_at, entries_in, header_fields, header_with, header_crc, header, with_table, block0, fresh_head, fresh_tail}
+use Rattle.gpt_model.specs.Disk.{Shape, Side, primary, backup, lent_bytes, header_at, entries_at, entries_in, header_fields, header_with, header_crc}
+use Rattle.gpt_model.specs.Disk.{header, with_table, block0, fresh_head, fresh_tail}
 use Rattle.gpt_model.proofs.Fields.{length-write_all, put-before}
 use Rattle.gpt_model.proofs.Copies.{entries-inside, length-entries}
 
@@ -86,7 +87,8 @@ module _ (g : Shape) (wide : 92 ≤ g.block) (n : ℕ) (guid : List ℕ) where
 
   -- where block 0 and the header's block have 512 bytes together, or more
   pub fresh-head : 256 ≤ g.block
-      → fresh_head g n guid (zeros 16384) ≡ put (header_at g primary) (header g n primary guid (zeros 16384)) (write_all (block0 n) (zeros (lent_bytes g primary)))
+      → fresh_head g n guid (zeros 16384) ≡ put (header_at g primary) (header g n primary guid (zeros 16384))
+      (write_all (block0 n) (zeros (lent_bytes g primary)))
   unfolding with_table
   fresh-head h =
       let z = zeros (lent_bytes g primary) in

@@ -54,7 +54,8 @@ EntryNamed es i units = (i < 128) × EntryUsed es i × (entry_name_bytes es i �
 -- no two used entries carry the same name. a2: An empty name may repeat.
 abbrev pub NamesDiffer : List ℕ → Type 0
 NamesDiffer es =
-    (i j : ℕ) → i < 128 → j < 128 → i ≢ j → EntryUsed es i → EntryUsed es j → entry_name_bytes es i ≡ entry_name_bytes es j → is_zero (entry_name_bytes es i) ≡ true
+    (i j : ℕ) → i < 128 → j < 128 → i ≢ j → EntryUsed es i → EntryUsed es j → entry_name_bytes es i ≡ entry_name_bytes es j
+    → is_zero (entry_name_bytes es i) ≡ true
 
 -- k1: Some firmware wants attribute bits 1 to 47 zero; today only 3 to 47 are. The rule wants bit b zero
 abbrev pub WantsZero : Rule → ℕ → Type 0

@@ -19,7 +19,8 @@ module _ (g : Shape) (n : ℕ) (side : Side) (guid out a b c d : List ℕ) (crc 
   header-written p q r s t es e =
       let table = drop 9 (header_fields g n side guid es 0) in
       let blocks = take 4 (drop 5 (header_fields g n side [] [] 0)) in
-      let w : c ≡ header_with g n side guid es 0 = r es e ∙ ap (write_all table) (q ∙ ap (write_all blocks) (p g)) ∙ header-over g n side guid es lg 0 out lo in
+      let w : c ≡ header_with g n side guid es 0 = r es e ∙ ap (write_all table) (q ∙ ap (write_all blocks) (p g))
+      ∙ header-over g n side guid es lg 0 out lo in
       t ∙ ap₂ (λ (x : ℕ) (l : List ℕ). put 16 (le 4 x) l) (s ∙ ap crc32 w) w ∙ header-stored g n side guid es
 
 -- a number stored, one store after the other

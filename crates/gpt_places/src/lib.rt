@@ -7,7 +7,8 @@ pub mod header;
 
 ghost use Rattle.std.specs.Prelude.{◌≡◌, ◌≤◌, length};
 ghost use Rattle.gpt_model.specs.Table.{table_bytes};
-ghost use Rattle.gpt_model.specs.Disk.{last_usable, other as other_side, header_block, entries_block, lent_bytes, header_at, entries_at, header_in, guid_in, entries_in};
+ghost use Rattle.gpt_model.specs.Disk.{last_usable, other as other_side, header_block, entries_block, lent_bytes, header_at, entries_at, header_in};
+ghost use Rattle.gpt_model.specs.Disk.{guid_in, entries_in};
 ghost use Rattle.gpt_model.specs.Sizes.{shape_of};
 ghost use Rattle.gpt_places.specs.Invariants.{Legal, Fits};
 ghost use Rattle.gpt_places.specs.Shapes.{shape_by};

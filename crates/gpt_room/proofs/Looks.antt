@@ -56,7 +56,8 @@ pub passed_none : {s : List BlockRange} {a : ℕ} → Passed s a 0
 passed_none = record { over = λ k u. absurd (omega arith) }
 
 module _ (f l : List ℕ) (n a : ℕ) where
-  pub next-over : (i : ℕ) → i < n → Passed (ranges f l n) a i → (leb (get_or f i 0) (get_or l i 0) and leb a (get_or l i 0)) ≡ false → Passed (ranges f l n) a (i + 1)
+  pub next-over : (i : ℕ) → i < n → Passed (ranges f l n) a i → (leb (get_or f i 0) (get_or l i 0) and leb a (get_or l i 0)) ≡ false
+      → Passed (ranges f l n) a (i + 1)
   next-over i h p e =
       record {
         over = below_more (λ (k : ℕ). (c : ℕ) → a ≤ c → block_in c (get_or (ranges f l n) k no_blocks) ≡ false) i p.over

@@ -10,11 +10,13 @@ use lib.Dec.{leb, eqb}
 use lib.ListN.{set}
 use lib.Seq.{set_out}
 use Rattle.octets.specs.Tests.{◌and◌}
-use Rattle.gpt_model.specs.Ranges.{block_in, in_none, MultipleOf, all_from, lowest_from, room_at, lowest_start, count_from, free_count, run_from, longest as longest_of, longest_free}
+use Rattle.gpt_model.specs.Ranges.{block_in, in_none, MultipleOf, all_from, lowest_from, room_at, lowest_start, count_from, free_count, run_from}
+use Rattle.gpt_model.specs.Ranges.{longest as longest_of, longest_free}
 use Rattle.gpt_model.specs.Table.{BlockRange, no_blocks, range_of, entries, ranges_of}
 use Rattle.gpt_model.proofs.Entries.{map-set, length-ranges_of}
 use Rattle.gpt_model.proofs.Multiples.{Up, up_is}
-use Rattle.gpt_model.proofs.Walk.{Low, low-start, low-over, low-gap, low-found, low-none, Counted, Longest, counted_start, longest-start, counted-over, longest-over, counted-gap, longest-step, counted-end, longest-end}
+use Rattle.gpt_model.proofs.Walk.{Low, low-start, low-over, low-gap, low-found, low-none, Counted, Longest, counted_start, longest-start, counted-over}
+use Rattle.gpt_model.proofs.Walk.{longest-over, counted-gap, longest-step, counted-end, longest-end}
 use Rattle.gpt_table.specs.Invariants.{ranges, InOrder}
 use Rattle.gpt_table.proofs.Used.{lies-used, slot-nil}
 use Rattle.gpt_table.proofs.Reorders.{reordered-any}

@@ -63,7 +63,8 @@ module _ (g : Shape) (n a : ℕ) (text h t : List ℕ) where
           pub refused-part : (k : Refusal) → r ≡ Stop k → outcome (refused (number_of k)) h t ≡ build_string g n a text h t
           refused-part k p = by-table (faulty (number_of k)) (table_is ∙ ap (λ (x : Building). built_by x es) p)
 
-          pub written_all : r ≡ Pass → (guid : List ℕ) → guid ≡ disk_guid_of text → (h' t' : List ℕ) → h' ≡ fresh_head g n guid es → t' ≡ fresh_tail g n guid es
+          pub written_all : r ≡ Pass → (guid : List ℕ) → guid ≡ disk_guid_of text → (h' t' : List ℕ) → h' ≡ fresh_head g n guid es
+              → t' ≡ fresh_tail g n guid es
               → outcome (accepted []) h' t' ≡ build_string g n a text h t
           written_all p guid d h' t' x y =
               ap₂ (outcome (accepted [])) (x ∙ ap (λ (v : List ℕ). fresh_head g n v es) d) (y ∙ ap (λ (v : List ℕ). fresh_tail g n v es) d)

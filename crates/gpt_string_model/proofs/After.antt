@@ -32,16 +32,19 @@ use Rattle.gpt_string_model.specs.declared.WantedPartition.{WantedPartition}
 use Rattle.gpt_string_model.specs.Text.{disk_guid_of, wanted_in}
 use Rattle.gpt_string_model.specs.Build.{as_new, first_block, size_in_blocks, part_rows, entry_for, with_part, Built, faulty, complete, is_nil, build, grants}
 use Rattle.gpt_string_model.specs.Calls.{written_disk, string_rows, table_in, build_string, start_built, build_by}
-use Rattle.gpt_string_model.specs.Claims.{AsAsked, Builds, BuiltAsAsked, BuildReads, NeverBuiltEmpty, BuildStarts, Demand3AfterStrings, NotEmptyAfterStrings, OneByNameAfterStrings, BitsStayZeroAfterStrings, BuildRefusedStays, BuildsOnItsShape}
+use Rattle.gpt_string_model.specs.Claims.{AsAsked, Builds, BuiltAsAsked, BuildReads, NeverBuiltEmpty, BuildStarts, Demand3AfterStrings}
+use Rattle.gpt_string_model.specs.Claims.{NotEmptyAfterStrings, OneByNameAfterStrings, BitsStayZeroAfterStrings, BuildRefusedStays, BuildsOnItsShape}
 use Rattle.gpt_string_model.proofs.Parts.{formed, FitsPart}
 use Rattle.gpt_string_model.proofs.Formed.{TextFormed, layout-formed}
-use Rattle.gpt_string_model.proofs.Builds.{Open, open-on, first_passes, laid, length-laid, built-open, built-sizes, built-keeps, open-empty, total-append, front-sizes}
+use Rattle.gpt_string_model.proofs.Builds.{Open, open-on, first_passes, laid, length-laid, built-open, built-sizes, built-keeps, open-empty, total-append}
+use Rattle.gpt_string_model.proofs.Builds.{front-sizes}
 use Rattle.gpt_string_model.proofs.Stands.{as-asked}
 
 -- ---- the outcome
 
 module _ (g : Shape) (n a : ℕ) (text h t : List ℕ) where
-  pub string-is : build_string g n a text h t ≡ unless_refused (refusal (string_rows g n a text h t)) h t (written_disk g n (disk_guid_of text) h t (table_in g n a text h t))
+  pub string-is : build_string g n a text h t ≡ unless_refused (refusal (string_rows g n a text h t)) h t
+      (written_disk g n (disk_guid_of text) h t (table_in g n a text h t))
   unfolding build_string
   string-is = refl
 
@@ -136,18 +139,27 @@ module _ (g : Shape) (wide : header_bytes ≤ g.block) (n a : ℕ) (text h t : L
   fits =
       let q = ap length entries-built in
       let ls = laid g n a (zeros 16384) ws in
-      omega (arith, length-chunks 128 128 table, length-append ls (replicate (128 - length ws) (zeros 128)), length-replicate (128 - length ws) (zeros 128), length-laid g n a (zeros 16384) ws)
+      omega (
+        arith,
+        length-chunks 128 128 table,
+        length-append ls (replicate (128 - length ws) (zeros 128)),
+        length-replicate (128 - length ws) (zeros 128),
+        length-laid g n a (zeros 16384) ws,
+      )
 
   pub string-reads : BuiltAsAsked g n a text (build_string g n a text h t).head (build_string g n a text h t).tail
   string-reads = record {
     reads = ap (λ (o : Outcome). state g n o.head o.tail) outcome-is ∙ held.reads;
     guid = ap (λ (o : Outcome). guid_in g primary o.head) outcome-is
-        ∙ written-guid g wide n primary (disk_guid_of text) table _ built.len (length-write_all (block0 n) (zeros (lent_bytes g primary)) ∙ length-zeros _) text-formed.guid;
+        ∙ written-guid g wide n primary (disk_guid_of text) table _ built.len (length-write_all (block0 n) (zeros (lent_bytes g primary)) ∙ length-zeros _)
+        text-formed.guid;
     count = fits;
     partitions = λ before w after q.
         let i : 0 + length before ≡ length before = omega arith in
         subst (λ (es : List ℕ). AsAsked g n a es (length before) w (is_nil after)) (sym table_is)
-        (subst (λ (k : ℕ). AsAsked g n a table k w (is_nil after)) i (partition-from before w after (zeros 16384) [] (subst (λ (x : List WantedPartition). all formed x ≡ true) q text-formed.partitions) (open-empty g n)
+        (subst (λ (k : ℕ). AsAsked g n a table k w (is_nil after)) i
+        (partition-from before w after (zeros 16384) [] (subst (λ (x : List WantedPartition). all formed x ≡ true) q text-formed.partitions)
+        (open-empty g n)
         (subst (λ (x : List WantedPartition). build g n a (zeros 16384) x ≡ complete table) q made.1.1)));
     others = λ i l h. ap (part (i * 128) 128) table_is ∙ sym (chunk_part 128 128 i table h)
         ∙ ap (λ (x : List (List ℕ)). get_or x i []) entries-built
@@ -164,7 +176,8 @@ module _ (g : Shape) (wide : header_bytes ≤ g.block) (n a : ℕ) (text h t : L
       (built-sizes g n a small ws text-formed.partitions (zeros 16384) [] (open-empty g n) table made.1.1) in
       subst (λ (es : List ℕ). StartsAfresh g n es (start_built g n a text h t)) (sym table_is)
       (subst (λ (o : Outcome). StartsAfresh g n table
-      (record { head = o.head; tail = o.tail; ledger = record { granted = total gs; back = 0; sizes = gs ++ replicate (128 - length gs) 0 } })) (sym outcome-is)
+      (record { head = o.head; tail = o.tail; ledger = record { granted = total gs; back = 0; sizes = gs ++ replicate (128 - length gs) 0 } }))
+      (sym outcome-is)
       (record {
         len_head = held.len_head;
         len_tail = held.len_tail;
@@ -196,7 +209,9 @@ module _ (g : Shape) (wide : header_bytes ≤ g.block) (n a : ℕ) (text h t : L
   in-range : in_range g n ≡ true
   in-range = range
 
-  pub first-used : (w : WantedPartition) × ((after : List WantedPartition) × AsAsked g n a (table_of g n (build_string g n a text h t).head (build_string g n a text h t).tail) 0 w (is_nil after))
+  pub first-used : (w : WantedPartition)
+      × ((after : List WantedPartition) × AsAsked g n a (table_of g n (build_string g n a text h t).head (build_string g n a text h t).tail) 0 w
+      (is_nil after))
   first-used =
       let p = text-formed.some-partition in
       (p.0, (p.1.0, string-reads.partitions [] p.0 p.1.0 p.1.1))

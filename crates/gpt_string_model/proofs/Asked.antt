@@ -114,7 +114,8 @@ unfolding wanted_by
 fields-formed fs a = record {
   kind = found (Long 16) type_named (ascii "type=") (λ f e q. length-stored _ (sym (type-field f q) ∙ e)) fs a _ (length-stored _ data-type);
   unique = found (Long 16) stored_of (ascii "uuid=") (λ f e q. length-stored _ (sym (uuid-field f q) ∙ e)) fs a _ (length-zeros 16);
-  name = found (Long 36) name_units (ascii "name=") (λ f e q. length-units (field_value f) (name-length _ (sym (name-field f q) ∙ e))) fs a _ (length-zeros 36);
+  name = found (Long 36) name_units
+      (ascii "name=") (λ f e q. length-units (field_value f) (name-length _ (sym (name-field f q) ∙ e))) fs a _ (length-zeros 36);
   attributes = found (λ (x : ℕ). x ≤ 4) (λ v. 4) (ascii "bootable") (λ f e q. omega arith) fs a 0 (omega arith);
 }
 
@@ -158,7 +159,8 @@ no-partition text e p l h = go (bool_cases (ltb e (length text))) (bool_cases (l
     go : (ltb e (length text) ≡ true) ⊎ (ltb e (length text) ≡ false) → (ltb 0 (length text) ≡ true) ⊎ (ltb 0 (length text) ≡ false)
         → are_parts (parts_of text) ≡ false
     go (inl q) b =
-        ap are_parts (parts-on (code ";") text 0 e p (ltb-true _ _ q) ∙ ap (λ (r : List (List ℕ)). take (e - 0) text ∷ r) (parts-end (code ";") text (e + 1) h))
+        ap are_parts (parts-on
+        (code ";") text 0 e p (ltb-true _ _ q) ∙ ap (λ (r : List (List ℕ)). take (e - 0) text ∷ r) (parts-end (code ";") text (e + 1) h))
     go (inr q) (inl b) = ap are_parts (parts_last (code ";") text 0 e p (ltb-true _ _ b) (omega (arith, ltb-false e (length text) q)))
     go (inr q) (inr b) = ap are_parts (parts-end (code ";") text 0 (omega (arith, ltb-false 0 (length text) b)))
 

@@ -43,7 +43,8 @@ any_append (x ∷ xs) e u q = or-false-i _ _ (or-false-l _ _ u) (any_append xs e
 pub front-lowest : (es : List ℕ) (placed : List (List ℕ)) → Front es placed → lowest_unused es ≡ length placed
 front-lowest es placed f = ap (find_ix unused) f.entries-are ∙ find_ix-seam placed (128 - length placed) f.used
 
-front-on : (es : List ℕ) (placed : List (List ℕ)) (e : List ℕ) → length es ≡ 16384 → length e ≡ 128 → lowest_unused es < 128 → unused e ≡ false → Front es placed
+front-on : (es : List ℕ) (placed : List (List ℕ)) (e : List ℕ) → length es ≡ 16384 → length e ≡ 128 → lowest_unused es < 128 → unused e ≡ false
+    → Front es placed
     → Front (put_chunk 128 (lowest_unused es) e es) (placed ++ (e ∷ []))
 front-on es placed e len le' hi u f = record {
   entries-are =

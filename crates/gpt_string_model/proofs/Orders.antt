@@ -34,7 +34,8 @@ module _ (c : ℕ) where
   split-past b bs e = rw (e, split)
 
   -- a part more, and a byte more in the first
-  part-more : (b : ℕ) (bs : List ℕ) (ps : List (List ℕ)) → eqb b c ≡ true → (p : List ℕ) (qs : List (List ℕ)) → ps ≡ p ∷ qs → Says bs ps → Says (b ∷ bs) ([] ∷ ps)
+  part-more : (b : ℕ) (bs : List ℕ) (ps : List (List ℕ)) → eqb b c ≡ true → (p : List ℕ) (qs : List (List ℕ)) → ps ≡ p ∷ qs → Says bs ps
+      → Says (b ∷ bs) ([] ∷ ps)
   unfolding Says
   part-more b bs ps e p qs q s = (
     ap (λ (x : List (List ℕ)). joined c ([] ∷ x)) q ∙ ap (λ (x : List (List ℕ)). c ∷ joined c x) (sym q)

@@ -146,7 +146,8 @@ module _ (g : Shape) (n a : ℕ) (es : List ℕ) (w : WantedPartition) (final : 
       f + size_in_blocks g n a es w final ≤ last → in_none (ranges_of es) (f + size_in_blocks g n a es w final) ≡ false
   part-ends z h = rw (part-reaches z) (run-stops (in_none (ranges_of es)) (first_block g n a es w final) (suc last - first_block g n a es w final) short)
     where
-      short : run_from (in_none (ranges_of es)) (first_block g n a es w final) (suc last - first_block g n a es w final) < suc last - first_block g n a es w final
+      short : run_from (in_none (ranges_of es)) (first_block g n a es w final) (suc last - first_block g n a es w final) < suc last - first_block g n a es
+          w final
       short =
           let p : first_block g n a es w final + run_from (in_none (ranges_of es)) (first_block g n a es w final) (suc last - first_block g n a es w final) ≤ last
           = rw (part-reaches z) at h in

@@ -277,7 +277,8 @@ module _ (f : List ℕ) (gs : List (List ℕ)) where
       go [] q = absurd (false≢true q)
       go (x ∷ xs) q = more (or_cases _ _ q) (go xs)
         where
-          more : (has_key (key_of f) x ≡ true) ⊎ (any (has_key (key_of f)) xs ≡ true) → (any (has_key (key_of f)) xs ≡ true → pairs differ (xs ++ (f ∷ gs)) ≡ false)
+          more : (has_key (key_of f) x ≡ true) ⊎ (any (has_key (key_of f)) xs ≡ true)
+              → (any (has_key (key_of f)) xs ≡ true → pairs differ (xs ++ (f ∷ gs)) ≡ false)
               → (all (differ x) (xs ++ (f ∷ gs)) and pairs differ (xs ++ (f ∷ gs))) ≡ false
           more (inl y) ih = and-false-l _ _ (hit x xs y)
           more (inr y) ih = and_false_r _ _ (ih y)

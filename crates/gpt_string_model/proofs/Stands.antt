@@ -29,7 +29,8 @@ use Rattle.gpt_string_model.specs.declared.StartByte.TheVariants.{Lowest}
 use Rattle.gpt_string_model.specs.declared.WantedPartition.{WantedPartition}
 use Rattle.gpt_string_model.specs.Build.{needed, as_new, first_block, size_in_blocks, part_rows, entry_for}
 use Rattle.gpt_string_model.specs.Claims.{Needs, AsAsked}
-use Rattle.gpt_string_model.proofs.Parts.{formed, part_room, part-given, part-lowest, part-blocks, part-needs, part-final, part-needs-one, part-ends, part-used}
+use Rattle.gpt_string_model.proofs.Parts.{formed, part_room, part-given, part-lowest, part-blocks, part-needs, part-final, part-needs-one, part-ends}
+use Rattle.gpt_string_model.proofs.Parts.{part-used}
 use Rattle.gpt_string_model.proofs.Builds.{Open}
 
 -- ---- the first entries of a table
@@ -49,7 +50,8 @@ get_d_front (x ∷ xs) (suc i) zero d h = refl
 get_d_front (x ∷ xs) (suc i) (suc j) d h = get_d_front xs i j d (omega arith)
 
 -- unused entries hold no block
-some-front : (b : ℕ) (placed : List (List ℕ)) (k : ℕ) → any (block_in b) (map range_of (placed ++ replicate k (zeros 128))) ≡ any (block_in b) (map range_of placed)
+some-front : (b : ℕ) (placed : List (List ℕ)) (k : ℕ)
+    → any (block_in b) (map range_of (placed ++ replicate k (zeros 128))) ≡ any (block_in b) (map range_of placed)
 unfolding ◌or◌
 some-front b [] zero = refl
 some-front b [] (suc k) = rw (range-unused (zeros 128) (unused-zeros 128), not-in-none b) (some-front b [] k)
@@ -63,7 +65,8 @@ multiples (suc b) x y z ne p q =
 
 -- ---- a partition that was placed on the table es, and is entry i of the table es', of which the entries before it are those that es has
 
-module _ (g : Shape) (n a : ℕ) (small : last_usable g n < 256 ^ 8) (es : List ℕ) (placed : List (List ℕ)) (o : Open g n es placed) (w : WantedPartition) (final : Bool)
+module _ (g : Shape) (n a : ℕ) (small : last_usable g n < 256 ^ 8) (es : List ℕ) (placed : List (List ℕ)) (o : Open g n es placed) (w : WantedPartition)
+    (final : Bool)
     (fw : formed w ≡ true) (e : refusal (part_rows g n a es w final) ≡ none) (es' : List ℕ) (more : List (List ℕ))
     (seam : entries es' ≡ placed ++ (entry_for g n a es w final ∷ more)) where
   abbrev i : ℕ
@@ -89,7 +92,8 @@ module _ (g : Shape) (n a : ℕ) (small : last_usable g n < 256 ^ 8) (es : List 
 
   blocks-before : (b : ℕ) → in_some (ranges_of es) b ≡ in_some (take i (ranges_of es')) b
   blocks-before b =
-      ap (λ (x : List (List ℕ)). in_some (map range_of x) b) o.front.entries-are ∙ some-front b placed (128 - length placed) ∙ ap (λ (x : List BlockRange). in_some x b) (sym before)
+      ap (λ (x : List (List ℕ)). in_some (map range_of x) b) o.front.entries-are ∙ some-front b placed (128 - length placed)
+      ∙ ap (λ (x : List BlockRange). in_some x b) (sym before)
 
   first-block : entry_first es' i ≡ s
   first-block =
@@ -104,11 +108,16 @@ module _ (g : Shape) (n a : ℕ) (small : last_usable g n < 256 ^ 8) (es : List 
   taken-by : (b : ℕ) → in_some (ranges_of es) b ≡ true → (j : ℕ) × (j < i) × EntryHolds es' j b
   taken-by b q = go (any-get (block_in b) (take i (ranges_of es')) no_blocks (sym (blocks-before b) ∙ q))
     where
-      go : (j : ℕ) × (j < length (take i (ranges_of es'))) × (block_in b (get_or (take i (ranges_of es')) j no_blocks) ≡ true) → (j : ℕ) × (j < i) × EntryHolds es' j b
+      go : (j : ℕ) × (j < length (take i (ranges_of es'))) × (block_in b (get_or (take i (ranges_of es')) j no_blocks) ≡ true) → (j : ℕ) × (j < i)
+          × EntryHolds es' j b
       go (j, h, p) =
           let lt : j < i = omega (arith, ap length before, length-map placed range_of) in
-          let hi : j < 128 = omega (arith, low) in
-          (j, lt, (holds-is es' j hi b).0 (ap (block_in b) (sym (get_or-range es' j)) ∙ ap (block_in b) (sym (get_d_front (ranges_of es') i j no_blocks lt)) ∙ p))
+          let hi : j < 128 = omega (arith, low) in (
+            j,
+            lt,
+            (holds-is es' j hi b).0 (ap (block_in b) (sym (get_or-range es' j))
+                ∙ ap (block_in b) (sym (get_d_front (ranges_of es') i j no_blocks lt)) ∙ p),
+          )
 
   free-before : (k b : ℕ) → Start (ranges_of es) (last_usable g n) k a b → g.first ≤ b → AlignedFrom g n (take i (ranges_of es')) k a b
   free-before k b v l = (v.0, (l, v.1.0, λ c h m. sym (blocks-before c) ∙ v.1.1 c h m))

@@ -110,7 +110,8 @@ module _ (v : List ℕ) where
   pub named-on : (i : ℕ) → i < length v → set (named v i) i (get_or v i 0) ≡ named v (i + 1)
   named-on i h = sym
       (rw (add-one, take-suc v i 0 h)
-      (put-snoc (take i v) (replicate 36 0) (get_or v i 0) 0 ∙ ap (λ (k : ℕ). set (named v i) k (get_or v i 0)) (omega (arith, length-take-le i v (omega arith)))))
+      (put-snoc (take i v) (replicate 36 0) (get_or v i 0) 0
+      ∙ ap (λ (k : ℕ). set (named v i) k (get_or v i 0)) (omega (arith, length-take-le i v (omega arith)))))
 
   pub named-all : (i : ℕ) → length v ≤ 36 → length v ≤ i → named v i ≡ name_units v
   named-all i h l =

@@ -24,8 +24,10 @@ pub entry_at : (t : List ℕ) (i : ℕ) → i < 128 → length t ≡ 16384
 unfolding part
 entry_at t i h l =
     let k : 128 * i + 128 - 128 * i ≡ 128 = omega arith in
-    let c : i * 128 ≡ 128 * i = omega arith in
-    (rw k (sym (chunk_part 128 128 i t h ∙ ap (λ (m : ℕ). take 128 (drop m t)) c)), rw k (length-take-le 128 (drop (128 * i) t) (simp length-drop (omega arith))))
+    let c : i * 128 ≡ 128 * i = omega arith in (
+      rw k (sym (chunk_part 128 128 i t h ∙ ap (λ (m : ℕ). take 128 (drop m t)) c)),
+      rw k (length-take-le 128 (drop (128 * i) t) (simp length-drop (omega arith))),
+    )
 
 pub length-entries : (t : List ℕ) → length (entries t) ≡ 128
 length-entries t = length-chunks 128 128 t

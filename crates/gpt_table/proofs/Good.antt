@@ -19,7 +19,8 @@ use Rattle.octets.proofs.Tests.{pairs-get, pairs-make, all-get, all-make, all_do
 use Rattle.octets.proofs.Parts.{get_d_part, part-part}
 use Rattle.octets.proofs.Equal.{same_true, same_refl, field-same}
 use Rattle.octets.proofs.Chunks.{chunk_part, length-chunk}
-use Rattle.gpt_model.specs.Table.{BlockRange, no_blocks, spans, range_of, bounded, apart, unique_of, first_of, last_of, unused, entry_ok, pair_ok, entries, good_table}
+use Rattle.gpt_model.specs.Table.{BlockRange, no_blocks, spans, range_of, bounded, apart, unique_of, first_of, last_of, unused, entry_ok, pair_ok, entries}
+use Rattle.gpt_model.specs.Table.{good_table}
 use Rattle.gpt_model.proofs.Entries.{range-used, pair-make}
 use Rattle.gpt_table.specs.Invariants.{used, Decoded, differ, Guids, ranges, Reordered, Ascending, InOrder}
 use Rattle.gpt_table.proofs.Entries.{length-entries, all_in}
@@ -145,7 +146,8 @@ module _ {es : List (List ℕ)} {u v : List ℕ} {n : ℕ} (w : Guids es u v n) 
 -- ---- ranges in order
 
 module _ (f l : List ℕ) (n : ℕ) (asc : Ascending 1 n f) where
-  apart-at : (i j : ℕ) → i < j → j < n → get_or l i 0 < get_or f (i + 1) 0 → apart (get_or (ranges f l n) i no_blocks) (get_or (ranges f l n) j no_blocks) ≡ true
+  apart-at : (i j : ℕ) → i < j → j < n → get_or l i 0 < get_or f (i + 1) 0
+      → apart (get_or (ranges f l n) i no_blocks) (get_or (ranges f l n) j no_blocks) ≡ true
   apart-at i j h k e =
       let z = ascends n f asc (i + 1) (j - (i + 1)) (omega arith) in
       let y : i + 1 + (j - (i + 1)) ≡ j = omega arith in
@@ -163,7 +165,8 @@ module _ (f l : List ℕ) (n : ℕ) (asc : Ascending 1 n f) where
       not-apart : apart (get_or (ranges f l n) i no_blocks) (get_or (ranges f l n) (i + 1) no_blocks) ≡ false
       not-apart =
           let z = asc i h in
-          ap₂ apart (get_or-ranges f l n i (omega arith)) (get_or-ranges f l n (i + 1) h) ∙ apart-behind _ _ _ _ e ∙ le-ltb (get_or l (i + 1) 0) (get_or f i 0) (omega arith)
+          ap₂ apart (get_or-ranges f l n i (omega arith)) (get_or-ranges f l n (i + 1) h) ∙ apart-behind _ _ _ _ e
+          ∙ le-ltb (get_or l (i + 1) 0) (get_or f i 0) (omega arith)
 
       go : pairs apart (ranges f l n) ≡ true → ⊥
       go q = clash (pairs-get apart (ranges f l n) no_blocks q i (i + 1) (omega arith) (omega (arith, length-ranges f l n))) not-apart
@@ -185,7 +188,8 @@ unfolding ◌and◌
 all-used e [] = refl
 all-used e (d ∷ es) = go (bool_cases (unused d)) (all-used e es)
   where
-    go : (unused d ≡ true) ⊎ (unused d ≡ false) → all (pair_ok e) (used es) ≡ all (pair_ok e) es → all (pair_ok e) (used (d ∷ es)) ≡ (pair_ok e d and all (pair_ok e) es)
+    go : (unused d ≡ true) ⊎ (unused d ≡ false) → all (pair_ok e) (used es) ≡ all (pair_ok e) es
+        → all (pair_ok e) (used (d ∷ es)) ≡ (pair_ok e d and all (pair_ok e) es)
     go (inl q) ih = ap (all (pair_ok e)) (used-no d es q) ∙ ih ∙ sym (rw (beside-second e d q))
     go (inr q) ih = ap (all (pair_ok e)) (used-yes d es q) ∙ ap (λ (b : Bool). pair_ok e d and b) ih
 
@@ -194,7 +198,8 @@ unfolding ◌and◌
 pairs-used [] = refl
 pairs-used (e ∷ es) = go (bool_cases (unused e)) (pairs-used es)
   where
-    go : (unused e ≡ true) ⊎ (unused e ≡ false) → pairs pair_ok (used es) ≡ pairs pair_ok es → pairs pair_ok (used (e ∷ es)) ≡ (all (pair_ok e) es and pairs pair_ok es)
+    go : (unused e ≡ true) ⊎ (unused e ≡ false) → pairs pair_ok (used es) ≡ pairs pair_ok es
+        → pairs pair_ok (used (e ∷ es)) ≡ (all (pair_ok e) es and pairs pair_ok es)
     go (inl q) ih = ap (pairs pair_ok) (used-no e es q) ∙ ih ∙ sym (rw (all_first e es q))
     go (inr q) ih = ap (pairs pair_ok) (used-yes e es q) ∙ ap₂ ◌and◌ (all-used e es) ih
 
@@ -208,7 +213,8 @@ module _ (es : List (List ℕ)) (each : (i : ℕ) → i < length es → unused (
   slot_at i h = get_d_map range_of es i no_blocks [] h
 
   at : (i j : ℕ) → i < j → j < length es
-      → pair_ok (get_or es i []) (get_or es j []) ≡ (differ (get_or es i []) (get_or es j []) and apart (get_or (map range_of es) i no_blocks) (get_or (map range_of es) j no_blocks))
+      → pair_ok (get_or es i []) (get_or es j [])
+      ≡ (differ (get_or es i []) (get_or es j []) and apart (get_or (map range_of es) i no_blocks) (get_or (map range_of es) j no_blocks))
   at i j h k =
       beside-both _ _ (each i (omega arith)) (each j k)
       ∙ ap (λ (b : Bool). differ (get_or es i []) (get_or es j []) and b) (sym (ap₂ apart (slot_at i (omega arith)) (slot_at j k)))
@@ -280,7 +286,8 @@ module _ (first last : ℕ) (t : List ℕ) where
       unfolding bounded
       ranges-proper k h =
           let b = subst (λ (s : BlockRange). bounded first last s ≡ true) (get_or-ranges f l n k h)
-          (all-get (bounded first last) (ranges f l n) no_blocks (reordered-all (bounded first last) same-ranges all-bounded) k (omega (arith, length-ranges f l n))) in
+          (all-get (bounded first last) (ranges f l n) no_blocks (reordered-all (bounded first last) same-ranges all-bounded) k
+          (omega (arith, length-ranges f l n))) in
           leb-true _ _ (and_r _ _ (and_l _ _ b))
 
 -- a table's unique GUIDs decoded

@@ -119,7 +119,8 @@ module _ {es : List (List ℕ)} {at : ℕ} {x y : List ℕ} {n i : ℕ} (size : 
             });
       }
 
-pub decoding-as : {es : List (List ℕ)} {at : ℕ} {x y x' y' : List ℕ} {n n' i : ℕ} → x' ≡ x → y' ≡ y → n' ≡ n → Decoding es at x y n i → Decoding es at x' y' n' i
+pub decoding-as : {es : List (List ℕ)} {at : ℕ} {x y x' y' : List ℕ} {n n' i : ℕ} → x' ≡ x → y' ≡ y → n' ≡ n → Decoding es at x y n i
+    → Decoding es at x' y' n' i
 decoding-as p q r d = rw (p, q, r) d
 
 pub decoding-end : {es : List (List ℕ)} {at : ℕ} {x y : List ℕ} {n i : ℕ} → length es ≡ 128 → 128 ≤ i → Decoding es at x y n i → Decoded (used es) at x y n

@@ -21,7 +21,8 @@ use Rattle.guid.specs.Text.{digits_in, is_guid_text, grouped, reordered, stored_
 use Rattle.guid.specs.Calls.{unless_refused, read_text_rows, read_of, write_rows, write_of}
 use Rattle.guid.specs.Claims.{are_bytes, WrittenReadsBack, ReadWritesUpper, RefusedStays}
 use Rattle.guid.proofs.Hex.{length_digits, digits_are, bytes-digits, length-bytes, digits-bytes}
-use Rattle.guid.proofs.Text.{length-reordered, reordered-twice, digits-grouped, dashes-grouped, length-grouped, upper-grouped, length-digits_in, grouped-digits}
+use Rattle.guid.proofs.Text.{length-reordered, reordered-twice, digits-grouped, dashes-grouped, length-grouped, upper-grouped, length-digits_in}
+use Rattle.guid.proofs.Text.{grouped-digits}
 use Rattle.guid.proofs.Calls.{text-length, text-dashes, text-all, length-stored, length-text, read_done, write_done}
 
 -- ---- the text of bytes is read back

@@ -147,10 +147,12 @@ writes-text guid text = (
     λ e. (write-length guid text e, eqb-true (length text) 36 (not_f _ (or-false-r _ _ (passes 1 (write_rows guid text) (write-rows guid text e))))),
     λ w. ap (λ (o : Outcome). o.number) (sym (write_done guid text _ w.0 w.1 refl)),
   ),
-  λ e b. subst (λ (t : List ℕ). StandsFor t guid × ((i : ℕ) → ¬ ((97 ≤ get_or t i 0) × (get_or t i 0 ≤ 122)))) (sym (write-buffer guid text e)) (written (write-length guid text e) b),
+  λ e b. subst (λ (t : List ℕ). StandsFor t guid × ((i : ℕ) → ¬ ((97 ≤ get_or t i 0) × (get_or t i 0 ≤ 122)))) (sym (write-buffer guid text e))
+      (written (write-length guid text e) b),
 )
   where
-    written : length guid ≡ 16 → are_bytes guid ≡ true → StandsFor (text_of guid) guid × ((i : ℕ) → ¬ ((97 ≤ get_or (text_of guid) i 0) × (get_or (text_of guid) i 0 ≤ 122)))
+    written : length guid ≡ 16 → are_bytes guid ≡ true → StandsFor (text_of guid) guid
+        × ((i : ℕ) → ¬ ((97 ≤ get_or (text_of guid) i 0) × (get_or (text_of guid) i 0 ≤ 122)))
     written l b =
         let is = text-is guid l b in
         let back = stored-text guid l b in
@@ -169,7 +171,15 @@ writes-text guid text = (
 expand-none : (t : List ℕ) → t ≢ ascii "system" → t ≢ ascii "msft" → t ≢ ascii "data" → t ≢ ascii "linux" → t ≢ ascii "swap" → expand t ≡ t
 unfolding expand short_at
 expand-none t a b c d e =
-    rw (same_false t (ascii "system") a, same_false t (ascii "msft") b, same_false t (ascii "data") c, same_false t (ascii "linux") d, same_false t (ascii "swap") e, find_ix)
+    rw (
+      same_false t (ascii
+          "system") a,
+      same_false t (ascii "msft") b,
+      same_false t (ascii "data") c,
+      same_false t (ascii "linux") d,
+      same_false t (ascii "swap") e,
+      find_ix,
+    )
 
 pub reads-types : ReadsTypes
 unfolding expand short_at same ◌and◌

@@ -2,7 +2,8 @@
 use mathlib.Core.Path.{◌≡◌, refl, sym, ap, ap₂, subst, ◌∙◌}
 use mathlib.Core.List.{List, [], ◌∷◌, ◌++◌}
 use Prim.Native.Nat.{ℕ, zero, suc, ◌+◌, ◌*◌, ◌/◌, ◌%◌, ◌^◌, ◌<◌}
-use native.Mathlib.Nat.{add-zero, suc-add, zero-add, pow-suc, pow-succ', mul_assoc, mul-add, one-mul, mul-zero, div-div-eq-div-mul, div-one, div-lt_iff_lt-mul, suc_inj, suc-ne-zero, zero-lt-suc}
+use native.Mathlib.Nat.{add-zero, suc-add, zero-add, pow-suc, pow-succ', mul_assoc, mul-add, one-mul, mul-zero, div-div-eq-div-mul, div-one}
+use native.Mathlib.Nat.{div-lt_iff_lt-mul, suc_inj, suc-ne-zero, zero-lt-suc}
 use native.Mathlib.Omega.{arith}
 use Prim.Native.Nat.{suc-le-suc}
 use lib.Arith.{mod-mul}

@@ -5,7 +5,8 @@ use Prim.Native.Nat.{ℕ, zero, suc, ◌+◌, ◌-◌, ◌≤◌, ◌<◌}
 use native.Mathlib.Nat.{zero-add, suc-add}
 use native.Mathlib.Omega.{arith}
 use lib.ListN.{length, get_or, take, drop, length-drop, length-replicate, take-append-drop}
-use lib.Seq.{take_at, drop_at, drop-append-add, drop-append-le, take-append-le, length-take-le, take_all, take-nil, take-take, drop-drop, get_or-take, get_or-drop}
+use lib.Seq.{take_at, drop_at, drop-append-add, drop-append-le, take-append-le, length-take-le, take_all, take-nil, take-take, drop-drop, get_or-take}
+use lib.Seq.{get_or-drop}
 use Rattle.octets.specs.Bytes.{part, rest, zeros}
 
 -- ---- a part of two lists one after the other

@@ -6,7 +6,8 @@ use Prim.Native.Nat.{ℕ, suc, ◌+◌, ◌-◌, ◌/◌, ◌%◌, ◌^◌, ◌�
 use native.Mathlib.Nat.{add-zero, add-suc, suc-add}
 use native.Mathlib.Omega.{arith}
 use lib.ListN.{length, get_or, set, take, drop, drop_of_length-le, take-append-drop}
-use lib.Seq.{sets, length-sets, sets-eq, take-set-le, take-set-lt, drop-set-lt, drop-set-add, drop-drop, set_comm, set-set, get_or-set_other, take-add, take-length, length-take-le}
+use lib.Seq.{sets, length-sets, sets-eq, take-set-le, take-set-lt, drop-set-lt, drop-set-add, drop-drop, set_comm, set-set, get_or-set_other, take-add}
+use lib.Seq.{take-length, length-take-le}
 use Rattle.octets.specs.Bytes.{le, part, put}
 use Rattle.octets.proofs.Numbers.{length-le, le-add, le-mod}
 use Rattle.octets.proofs.Parts.{length_part}
@@ -161,7 +162,8 @@ put-over [] [] xs i e = refl
 put-over [] (v ∷ vs) xs i e = absurd (omega (arith, e))
 put-over (u ∷ us) [] xs i e = absurd (omega (arith, e))
 put-over (u ∷ us) (v ∷ vs) xs i e =
-    ap (λ (l : List ℕ). sets l (suc i) vs) (sym (set-put us (set xs i u) i (suc i) v (omega arith)) ∙ ap (λ (l : List ℕ). sets l (suc i) us) (set-set xs i u v))
+    ap (λ (l : List ℕ). sets l (suc i) vs) (sym (set-put us (set xs i u) i (suc i) v (omega arith))
+    ∙ ap (λ (l : List ℕ). sets l (suc i) us) (set-set xs i u v))
     ∙ put-over us vs (set xs i v) (suc i) (omega (arith, e))
 
 -- a part written back with a write in it is that write

@@ -20,7 +20,8 @@ use Rattle.gpt_model.specs.Table.{BlockRange, no_blocks, spans, unused, range_of
 use Rattle.gpt_model.specs.Disk.{Shape, disk512, last_usable, in_range, Side, primary, backup, block0, header_fields, header_in, header_crc, header, table_of}
 use Rattle.gpt_model.specs.Ranges.{block_in, all_from, room_at, lowest_from, lowest_start, count_from, taken, free_count}
 use Rattle.gpt_model.specs.Attributes.{offends}
-use Rattle.gpt_model.specs.Calls.{Edit, Call, read, free_counts, repair, check, edit, Answer, refused, accepted, Outcome, table_rows, change, lengths_of, lengths_ok, rows_of, step, format}
+use Rattle.gpt_model.specs.Calls.{Edit, Call, read, free_counts, repair, check, edit, Answer, refused, accepted, Outcome, table_rows, change, lengths_of}
+use Rattle.gpt_model.specs.Calls.{lengths_ok, rows_of, step, format}
 use Rattle.gpt_model.specs.Lists.{Ledger, book, Snapshot, after_one, after_all, answers, table_next, applied, start_after, ranges_in}
 use Rattle.gpt_model.specs.Claims.{Formats}
 use Rattle.gpt_model.proofs.Fields.{length-write_all, behind}
@@ -85,7 +86,8 @@ record Computed (n : ℕ) (ds : List Edit) (replies : List Answer) (a : List Ans
   table : ranges_in disk512 n r ≡ ranges_of (applied 34 (n - 34) (zeros 16384) (map edit ds) replies)
   ledger : r.ledger ≡ book_all (record { granted = 0; back = 0; sizes = replicate 128 0 }) (map edit ds) replies
 
-computed : (n : ℕ) (ds : List Edit) (replies : List Answer) → all lengths_of ds ≡ true → answers_t 34 (n - 34) (zeros 16384) ds ≡ replies → After n ds (Computed n ds replies)
+computed : (n : ℕ) (ds : List Edit) (replies : List Answer) → all lengths_of ds ≡ true → answers_t 34 (n - 34) (zeros 16384) ds ≡ replies
+    → After n ds (Computed n ds replies)
 computed n ds replies l q guid h t f =
     let s = format-starts disk512 n guid h t f in
     let r = start_after (format disk512 n guid h t) in
@@ -178,7 +180,8 @@ replies4 = replies2 ++ (accepted [] ∷ accepted (1 ∷ 49 ∷ []) ∷ accepted 
 abbrev replies5 : List Answer
 replies5 = replies4 ++ (refused 25 ∷ accepted [] ∷ [])
 
-answers_are : (answers_t 34 66 (zeros 16384) (take 2 edits4) ≡ replies2) × (answers_t 34 66 (zeros 16384) edits4 ≡ replies4) × (answers_t 34 66 (zeros 16384) edits5 ≡ replies5)
+answers_are : (answers_t 34 66 (zeros 16384) (take 2 edits4) ≡ replies2) × (answers_t 34 66 (zeros 16384) edits4 ≡ replies4)
+    × (answers_t 34 66 (zeros 16384) edits5 ≡ replies5)
 unfolding zeros put put_chunk chunks range_of unused part le unle same lowest_start room_at lowest_from all_from block_in pick_row offends ◌or◌ ◌and◌
 answers_are = (refl, refl, refl)
 

@@ -14,9 +14,13 @@ use Rattle.fmd_parse.specs.Layouts.{section_from, list_from, layout_of}
 use Rattle.starred.specs.Claims.{Sample7, Sample8}
 
 pub sample7 : Sample7
-unfolding layout_of image_at title_at address_at length_at open_at list_from section_from head_at named_at flags_at offset_at size_at amount_at number_in scaled capped numeral_of some_digits digits_from up_to digit_of good_name is_digit token_at token_here skip_from word_from is_blank is_sign is_word part ◌and◌ ◌or◌
+unfolding layout_of image_at title_at address_at length_at open_at list_from section_from head_at named_at flags_at offset_at size_at amount_at number_in
+    scaled capped numeral_of some_digits digits_from up_to digit_of good_name is_digit token_at token_here skip_from word_from is_blank is_sign is_word
+    part ◌and◌ ◌or◌
 sample7 = refl
 
 pub sample8 : Sample8
-unfolding layout_of image_at title_at address_at length_at open_at list_from section_from head_at named_at flags_at offset_at size_at amount_at number_in scaled capped numeral_of after_zero some_digits digits_from up_to digit_of good_name is_digit token_at token_here skip_from word_from is_blank is_sign is_word part ◌and◌ ◌or◌
+unfolding layout_of image_at title_at address_at length_at open_at list_from section_from head_at named_at flags_at offset_at size_at amount_at number_in
+    scaled capped numeral_of after_zero some_digits digits_from up_to digit_of good_name is_digit token_at token_here skip_from word_from is_blank is_sign
+    is_word part ◌and◌ ◌or◌
 sample8 = (refl, refl)

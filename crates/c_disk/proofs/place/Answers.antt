@@ -9,10 +9,12 @@ pub returns-in-Same : goal.returns-in-Same
 returns-in-Same c = gpt-accepted _ _ _ (ap (place_by c.args.shape) c.in-Same.is ∙ ap (λ (k : ℕ). accepted (0 ∷ k ∷ [])) (sym c.entries_at-at.ensures))
 
 pub returns-in-Different : goal.returns-in-Different
-returns-in-Different c = gpt-accepted _ _ _ (ap (place_by c.args.shape) c.in-Different.is ∙ ap (λ (k : ℕ). accepted (0 ∷ k ∷ [])) (sym c.entries_at-at.ensures))
+returns-in-Different c =
+    gpt-accepted _ _ _ (ap (place_by c.args.shape) c.in-Different.is ∙ ap (λ (k : ℕ). accepted (0 ∷ k ∷ [])) (sym c.entries_at-at.ensures))
 
 pub returns-in-PrimaryOnly : goal.returns-in-PrimaryOnly
-returns-in-PrimaryOnly c = gpt-accepted _ _ _ (ap (place_by c.args.shape) c.in-PrimaryOnly.is ∙ ap (λ (k : ℕ). accepted (0 ∷ k ∷ [])) (sym c.entries_at-at.ensures))
+returns-in-PrimaryOnly c =
+    gpt-accepted _ _ _ (ap (place_by c.args.shape) c.in-PrimaryOnly.is ∙ ap (λ (k : ℕ). accepted (0 ∷ k ∷ [])) (sym c.entries_at-at.ensures))
 
 pub returns-in-BackupOnly : goal.returns-in-BackupOnly
 returns-in-BackupOnly c = gpt-accepted _ _ _ (ap (place_by c.args.shape) c.in-BackupOnly.is)

@@ -9,7 +9,8 @@ place-requires c =
 pub returns-in-Known : goal.returns-in-Known
 returns-in-Known c =
     let a = c.args in
-    gpt-tells _ _ _ _ _ _ _ (place-by a.block a.n a.head.now a.tail.now _ (sized _ _ c.in-Known.is c.shape_of.ensures) _ c.read.ensures) c.place.ensures.0 c.place.ensures.1
+    gpt-tells _ _ _ _ _ _ _ (place-by a.block a.n a.head.now a.tail.now _ (sized _ _ c.in-Known.is c.shape_of.ensures) _ c.read.ensures) c.place.ensures.0
+    c.place.ensures.1
 
 pub returns-in-Other : goal.returns-in-Other
 returns-in-Other c =

@@ -16,4 +16,5 @@ pub returns-in-NoGoodMap : goal.returns-in-NoGoodMap
 returns-in-NoGoodMap c = new-stops _ _ _ _ c.requires 42 (sym (ap standing_number c.in-NoGoodMap.is) ∙ c.standing_at.ensures)
 
 pub returns-in-GoodMap : goal.returns-in-GoodMap
-returns-in-GoodMap c = rw c.carried_of.ensures (c.carry_by.ensures ∙ both-stand _ _ _ _ c.requires (sym c.standing_at.ensures ∙ ap standing_number c.in-GoodMap.is))
+returns-in-GoodMap c =
+    rw c.carried_of.ensures (c.carry_by.ensures ∙ both-stand _ _ _ _ c.requires (sym c.standing_at.ensures ∙ ap standing_number c.in-GoodMap.is))

@@ -3,7 +3,8 @@ use Prim.Native.Nat.{◌-◌}
 use native.Mathlib.Omega.{arith}
 use Rattle.fmap.specs.Find.{signed_at}
 use Rattle.fmap.proofs.Lowest.{first-from}
-use Rattle.fmap.proofs.Finding.{room, looking-starts, looking-goes, looking-hits, looking-ends, find-40, find-41, find-42, finds, too_short, too_long, in-range, some-below, none_below}
+use Rattle.fmap.proofs.Finding.{room, looking-starts, looking-goes, looking-hits, looking-ends, find-40, find-41, find-42, finds, too_short, too_long}
+use Rattle.fmap.proofs.Finding.{in-range, some-below, none_below}
 use Rattle.fmap.proofs.find.Goals as goal
 
 pub returns-then-image-lt98 : goal.returns-then-image-lt98
@@ -23,7 +24,8 @@ loop-at-init c = looking-starts _ _ c.next_signed-at.ensures.0 c.next_signed-at.
 pub returns-then-good_at : goal.returns-then-good_at
 returns-then-good_at c =
     let s = c.args.image.now in
-    finds s _ c.if-image-lt98.false c.if-image-gt16777216.false (some-below s (signed_at s) _ c.next_signed-at.ensures.0 c.if-image-at.false) c.loop-at-test.true
+    finds s _ c.if-image-lt98.false c.if-image-gt16777216.false (some-below s (signed_at s) _ c.next_signed-at.ensures.0 c.if-image-at.false)
+    c.loop-at-test.true
     (looking-hits s _ c.loop-at.invariant c.loop-at-test.true (sym c.good_at.ensures ∙ c.if-good_at.true))
 
 pub overflow_add-at : goal.overflow_add-at

@@ -10,10 +10,12 @@ pub returns-then-image-gt16777216 : goal.returns-then-image-gt16777216
 returns-then-image-gt16777216 c = place-40 c.args.image.now c.args.at.0 (too_long _ c.if-image-gt16777216.true)
 
 pub returns-then-not-is_signed_at : goal.returns-then-not-is_signed_at
-returns-then-not-is_signed_at c = place-41 _ _ (in-range _ c.if-image-lt98.false c.if-image-gt16777216.false) (sym c.is_signed_at.ensures ∙ c.if-not-is_signed_at.true)
+returns-then-not-is_signed_at c = place-41 _ _ (in-range _ c.if-image-lt98.false c.if-image-gt16777216.false) (sym c.is_signed_at.ensures
+    ∙ c.if-not-is_signed_at.true)
 
 pub returns-then-not-good_at : goal.returns-then-not-good_at
-returns-then-not-good_at c = place-42 _ _ (in-range _ c.if-image-lt98.false c.if-image-gt16777216.false) (sym c.is_signed_at.ensures ∙ c.if-not-is_signed_at.false)
+returns-then-not-good_at c = place-42 _ _ (in-range _ c.if-image-lt98.false c.if-image-gt16777216.false) (sym c.is_signed_at.ensures
+    ∙ c.if-not-is_signed_at.false)
     (sym c.good_at.ensures ∙ c.if-not-good_at.true)
 
 pub returns : goal.returns

@@ -16,7 +16,8 @@ pub image_of-image-requires : goal.image_of-image-requires
 image_of-image-requires c = named (held _ _ _ _ _ _ (search rules) (search rules) (rw c.in-Good.is at c.check.ensures))
 
 pub returns-in-Good : goal.returns-in-Good
-returns-in-Good c = records-good _ _ c.if-records-ne5376.false _ (rw c.in-Good.is at c.check.ensures) _ _ (read_is (held _ _ _ _ _ _ (search rules) (search rules) (rw c.in-Good.is at c.check.ensures)) c.image_of-image.ensures) c.put_areas.ensures
+returns-in-Good c = records-good _ _ c.if-records-ne5376.false _ (rw c.in-Good.is at c.check.ensures) _ _
+    (read_is (held _ _ _ _ _ _ (search rules) (search rules) (rw c.in-Good.is at c.check.ensures)) c.image_of-image.ensures) c.put_areas.ensures
 
 pub returns-in-Fault : goal.returns-in-Fault
 returns-in-Fault c = records-fault _ _ c.if-records-ne5376.false _ _ (rw c.in-Fault.is at c.check.ensures) _ c.unread-in-Fault.ensures

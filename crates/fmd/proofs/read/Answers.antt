@@ -9,7 +9,8 @@ image_of-image-requires c = named (held _ _ _ _ _ _ (search rules) (search rules
 
 pub returns-in-Good : goal.returns-in-Good
 unfolding read_text layout_in
-returns-in-Good c = rw (sym (rw c.in-Good.is at c.check.ensures)) (read_is (held _ _ _ _ _ _ (search rules) (search rules) (rw c.in-Good.is at c.check.ensures)) c.image_of-image.ensures)
+returns-in-Good c = rw (sym (rw c.in-Good.is at c.check.ensures))
+    (read_is (held _ _ _ _ _ _ (search rules) (search rules) (rw c.in-Good.is at c.check.ensures)) c.image_of-image.ensures)
 
 pub returns-in-Fault : goal.returns-in-Fault
 unfolding read_text layout_in

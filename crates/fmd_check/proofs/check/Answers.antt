@@ -18,7 +18,8 @@ check_list-requires c =
 
 pub returns-in-Accepted : goal.returns-in-Accepted
 unfolding check_text
-returns-in-Accepted c = rw (le-ltb _ _ c.if-text-gt32768.false, sym (rw c.in-Accepted.is at c.read_layout.ensures.rows_after)) (c.check_list.ensures ∙ whole _ _ _)
+returns-in-Accepted c = rw (le-ltb _ _ c.if-text-gt32768.false, sym (rw c.in-Accepted.is at c.read_layout.ensures.rows_after)) (c.check_list.ensures
+    ∙ whole _ _ _)
 
 pub returns-in-Refused : goal.returns-in-Refused
 unfolding check_text

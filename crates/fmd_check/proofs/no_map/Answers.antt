@@ -10,4 +10,9 @@ returns-then-has_child c = rw (sym c.has_child.ensures ∙ c.if-has_child.true)
 
 pub returns : goal.returns
 unfolding ◌or◌
-returns c = rw (sym c.has_child.ensures ∙ c.if-has_child.false, placed-in c.args.n c.args.spots.now c.args.k c.requires.3, sym c.placed_at-q.ensures, length-sections)
+returns c = rw (
+  sym c.has_child.ensures ∙ c.if-has_child.false,
+  placed-in c.args.n c.args.spots.now c.args.k c.requires.3,
+  sym c.placed_at-q.ensures,
+  length-sections,
+)

@@ -40,4 +40,5 @@ pub shape_of-rows : goal.shape_of-rows
 shape_of-rows c = simp length-set
 
 pub returns : goal.returns
-returns c = let a = c.args in row-stored a.rows.now a.k a.h _ _ _ _ _ _ c.offset_tag.ensures c.offset_word.ensures c.size_tag.ensures c.size_word.ensures c.mark_word.ensures c.mark_word-2.ensures
+returns c = let a = c.args in row-stored a.rows.now a.k a.h _ _ _ _ _ _ c.offset_tag.ensures c.offset_word.ensures c.size_tag.ensures c.size_word.ensures
+    c.mark_word.ensures c.mark_word-2.ensures

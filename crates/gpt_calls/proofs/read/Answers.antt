@@ -32,12 +32,14 @@ returns-in-Differ c =
 pub returns-in-PrimaryOnly : goal.returns-in-PrimaryOnly
 returns-in-PrimaryOnly c =
     let a = c.args in
-    found-state a.shape a.n a.head.now a.tail.now (passed _ c.in-Pass.is c.lent.ensures) _ PrimaryOnly c.in-PrimaryOnly.is c.state.ensures (λ z. omega (arith, z))
+    found-state a.shape a.n a.head.now a.tail.now (passed _ c.in-Pass.is c.lent.ensures) _ PrimaryOnly c.in-PrimaryOnly.is c.state.ensures
+    (λ z. omega (arith, z))
 
 pub returns-in-BackupOnly : goal.returns-in-BackupOnly
 returns-in-BackupOnly c =
     let a = c.args in
-    found-state a.shape a.n a.head.now a.tail.now (passed _ c.in-Pass.is c.lent.ensures) _ BackupOnly c.in-BackupOnly.is c.state.ensures (λ z. omega (arith, z))
+    found-state a.shape a.n a.head.now a.tail.now (passed _ c.in-Pass.is c.lent.ensures) _ BackupOnly c.in-BackupOnly.is c.state.ensures
+    (λ z. omega (arith, z))
 
 pub returns-in-Neither : goal.returns-in-Neither
 returns-in-Neither c =

@@ -11,19 +11,23 @@ returns-then-head-lent_bytes c =
 pub returns-then-tail-lent_bytes : goal.returns-then-tail-lent_bytes
 returns-then-tail-lent_bytes c =
     let a = c.args in
-    tail-wrong a.shape a.n a.head.now a.tail.now (c.if-head-lent_bytes.false ∙ c.lent_bytes.ensures) (λ e. c.if-tail-lent_bytes.true (e ∙ sym c.lent_bytes-2.ensures))
+    tail-wrong a.shape a.n a.head.now a.tail.now (c.if-head-lent_bytes.false ∙ c.lent_bytes.ensures)
+    (λ e. c.if-tail-lent_bytes.true (e ∙ sym c.lent_bytes-2.ensures))
 
 pub returns-then-n-shape : goal.returns-then-n-shape
 returns-then-n-shape c =
     let a = c.args in
-    n-low a.shape a.n a.head.now a.tail.now (c.if-head-lent_bytes.false ∙ c.lent_bytes.ensures) (c.if-tail-lent_bytes.false ∙ c.lent_bytes-2.ensures) (omega arith)
+    n-low a.shape a.n a.head.now a.tail.now (c.if-head-lent_bytes.false ∙ c.lent_bytes.ensures) (c.if-tail-lent_bytes.false ∙ c.lent_bytes-2.ensures)
+    (omega arith)
 
 pub returns-then-n-gt-MOST_BLOCKS : goal.returns-then-n-gt-MOST_BLOCKS
 returns-then-n-gt-MOST_BLOCKS c =
     let a = c.args in
-    n-high a.shape a.n a.head.now a.tail.now (c.if-head-lent_bytes.false ∙ c.lent_bytes.ensures) (c.if-tail-lent_bytes.false ∙ c.lent_bytes-2.ensures) (omega arith) (omega arith)
+    n-high a.shape a.n a.head.now a.tail.now (c.if-head-lent_bytes.false ∙ c.lent_bytes.ensures) (c.if-tail-lent_bytes.false ∙ c.lent_bytes-2.ensures)
+    (omega arith) (omega arith)
 
 pub returns : goal.returns
 returns c =
     let a = c.args in
-    lent-right a.shape a.n a.head.now a.tail.now (c.if-head-lent_bytes.false ∙ c.lent_bytes.ensures) (c.if-tail-lent_bytes.false ∙ c.lent_bytes-2.ensures) (omega arith) (omega arith)
+    lent-right a.shape a.n a.head.now a.tail.now (c.if-head-lent_bytes.false ∙ c.lent_bytes.ensures) (c.if-tail-lent_bytes.false ∙ c.lent_bytes-2.ensures)
+    (omega arith) (omega arith)

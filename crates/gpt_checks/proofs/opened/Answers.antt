@@ -23,17 +23,20 @@ returns-in-Both c =
 pub returns-in-Differ : goal.returns-in-Differ
 returns-in-Differ c =
     let a = c.args in
-    open-other a.shape a.n a.head.now a.tail.now (passed _ c.in-Pass.is c.lent.ensures) _ Differ c.in-Differ.is c.state.ensures (λ z. omega (arith, z)) (λ z. omega (arith, z))
+    open-other a.shape a.n a.head.now a.tail.now (passed _ c.in-Pass.is c.lent.ensures) _ Differ c.in-Differ.is c.state.ensures (λ z. omega (arith, z))
+    (λ z. omega (arith, z))
 
 pub returns-in-PrimaryOnly : goal.returns-in-PrimaryOnly
 returns-in-PrimaryOnly c =
     let a = c.args in
-    open-other a.shape a.n a.head.now a.tail.now (passed _ c.in-Pass.is c.lent.ensures) _ PrimaryOnly c.in-PrimaryOnly.is c.state.ensures (λ z. omega (arith, z)) (λ z. omega (arith, z))
+    open-other a.shape a.n a.head.now a.tail.now (passed _ c.in-Pass.is c.lent.ensures) _ PrimaryOnly c.in-PrimaryOnly.is c.state.ensures
+    (λ z. omega (arith, z)) (λ z. omega (arith, z))
 
 pub returns-in-BackupOnly : goal.returns-in-BackupOnly
 returns-in-BackupOnly c =
     let a = c.args in
-    open-other a.shape a.n a.head.now a.tail.now (passed _ c.in-Pass.is c.lent.ensures) _ BackupOnly c.in-BackupOnly.is c.state.ensures (λ z. omega (arith, z)) (λ z. omega (arith, z))
+    open-other a.shape a.n a.head.now a.tail.now (passed _ c.in-Pass.is c.lent.ensures) _ BackupOnly c.in-BackupOnly.is c.state.ensures
+    (λ z. omega (arith, z)) (λ z. omega (arith, z))
 
 pub returns-in-Neither : goal.returns-in-Neither
 returns-in-Neither c =

@@ -32,7 +32,8 @@ fits_at-requires c =
 pub returns-then-fits_at : goal.returns-then-fits_at
 returns-then-fits_at c =
     let a = c.args in
-    resize-right a.shape a.n a.head.now a.tail.now a.number a.size (passed _ c.in-Pass.is c.delete.ensures) c.if-size-eq0.false _ _ c.entries_in.ensures.0 c.last_usable.ensures _ c.fits_at.ensures c.if-fits_at.true
+    resize-right a.shape a.n a.head.now a.tail.now a.number a.size (passed _ c.in-Pass.is c.delete.ensures) c.if-size-eq0.false _ _ c.entries_in.ensures.0
+    c.last_usable.ensures _ c.fits_at.ensures c.if-fits_at.true
 
 pub returns-in-Stop : goal.returns-in-Stop
 returns-in-Stop c =
@@ -42,4 +43,5 @@ returns-in-Stop c =
 pub returns-else-fits_at : goal.returns-else-fits_at
 returns-else-fits_at c =
     let a = c.args in
-    resize-full a.shape a.n a.head.now a.tail.now a.number a.size (passed _ c.in-Pass.is c.delete.ensures) c.if-size-eq0.false _ _ c.entries_in.ensures.0 c.last_usable.ensures _ c.fits_at.ensures c.if-fits_at.false
+    resize-full a.shape a.n a.head.now a.tail.now a.number a.size (passed _ c.in-Pass.is c.delete.ensures) c.if-size-eq0.false _ _ c.entries_in.ensures.0
+    c.last_usable.ensures _ c.fits_at.ensures c.if-fits_at.false

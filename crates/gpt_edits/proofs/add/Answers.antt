@@ -16,8 +16,14 @@ added-new-requires c =
 pub put_both-requires : goal.put_both-requires
 put_both-requires c =
     let a = c.args in
-    let o = edit-facts a.shape a.n a.head.now a.tail.now (add a.p) c.requires.0 in
-    (o.head, o.tail, record { legal = c.requires.2; least = o.least }, add-index a.shape a.n a.head.now a.tail.now a.p c.requires.0 _ _ c.entries_in.ensures.0 c.first_unused-i.ensures.0, c.added-new.ensures.1, same_tables a.shape a.n a.head.now a.tail.now (add a.p) c.requires.0)
+    let o = edit-facts a.shape a.n a.head.now a.tail.now (add a.p) c.requires.0 in (
+      o.head,
+      o.tail,
+      record { legal = c.requires.2; least = o.least },
+      add-index a.shape a.n a.head.now a.tail.now a.p c.requires.0 _ _ c.entries_in.ensures.0 c.first_unused-i.ensures.0,
+      c.added-new.ensures.1,
+      same_tables a.shape a.n a.head.now a.tail.now (add a.p) c.requires.0,
+    )
 
 pub returns : goal.returns
 returns c =

@@ -16,8 +16,14 @@ pub put_both-requires : goal.put_both-requires
 put_both-requires c =
     let a = c.args in
     let o = edit-facts a.shape a.n a.head.now a.tail.now (delete a.slot) c.requires.0 in
-    let k = delete-slot a.shape a.n a.head.now a.tail.now a.slot c.requires.0 in
-    (o.head, o.tail, record { legal = c.requires.1; least = o.least }, omega arith, search rules, same_tables a.shape a.n a.head.now a.tail.now (delete a.slot) c.requires.0)
+    let k = delete-slot a.shape a.n a.head.now a.tail.now a.slot c.requires.0 in (
+      o.head,
+      o.tail,
+      record { legal = c.requires.1; least = o.least },
+      omega arith,
+      search rules,
+      same_tables a.shape a.n a.head.now a.tail.now (delete a.slot) c.requires.0,
+    )
 
 pub returns : goal.returns
 unfolding zeros

@@ -29,8 +29,14 @@ pub put_both-requires : goal.put_both-requires
 put_both-requires c =
     let a = c.args in
     let o = edit-facts a.shape a.n a.head.now a.tail.now (rename a.slot a.name.now) c.requires.0 in
-    let k = rename-slot a.shape a.n a.head.now a.tail.now a.slot a.name.now c.requires.0 in
-    (o.head, o.tail, record { legal = c.requires.1; least = o.least }, omega arith, c.renamed-new.ensures.1, same_tables a.shape a.n a.head.now a.tail.now (rename a.slot a.name.now) c.requires.0)
+    let k = rename-slot a.shape a.n a.head.now a.tail.now a.slot a.name.now c.requires.0 in (
+      o.head,
+      o.tail,
+      record { legal = c.requires.1; least = o.least },
+      omega arith,
+      c.renamed-new.ensures.1,
+      same_tables a.shape a.n a.head.now a.tail.now (rename a.slot a.name.now) c.requires.0,
+    )
 
 pub returns : goal.returns
 returns c =

@@ -22,15 +22,24 @@ entry-requires c =
 
 pub resized-new-requires : goal.resized-new-requires
 resized-new-requires c =
-    let a = c.args in
-    (c.entry.ensures.1, (resize-slot a.shape a.n a.head.now a.tail.now a.slot a.size c.requires.0).2, resize-bound a.shape a.n a.head.now a.tail.now a.slot _ _ c.entries_in.ensures.0 c.entry.ensures.0 a.size c.requires.0)
+    let a = c.args in (
+      c.entry.ensures.1,
+      (resize-slot a.shape a.n a.head.now a.tail.now a.slot a.size c.requires.0).2,
+      resize-bound a.shape a.n a.head.now a.tail.now a.slot _ _ c.entries_in.ensures.0 c.entry.ensures.0 a.size c.requires.0,
+    )
 
 pub put_both-requires : goal.put_both-requires
 put_both-requires c =
     let a = c.args in
     let o = edit-facts a.shape a.n a.head.now a.tail.now (resize a.slot a.size) c.requires.0 in
-    let k = resize-slot a.shape a.n a.head.now a.tail.now a.slot a.size c.requires.0 in
-    (o.head, o.tail, record { legal = c.requires.1; least = o.least }, omega arith, c.resized-new.ensures.1, same_tables a.shape a.n a.head.now a.tail.now (resize a.slot a.size) c.requires.0)
+    let k = resize-slot a.shape a.n a.head.now a.tail.now a.slot a.size c.requires.0 in (
+      o.head,
+      o.tail,
+      record { legal = c.requires.1; least = o.least },
+      omega arith,
+      c.resized-new.ensures.1,
+      same_tables a.shape a.n a.head.now a.tail.now (resize a.slot a.size) c.requires.0,
+    )
 
 pub returns : goal.returns
 returns c =

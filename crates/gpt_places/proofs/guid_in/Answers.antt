@@ -19,5 +19,7 @@ pub returns : goal.returns
 returns c =
     let b = c.args.b.now in
     let k = header-end c.args.shape c.requires.1 (side_of c.args.side) in
-    let w : c.header_at-at.result + 56 + 16 ≤ length b = omega arith in
-    (cut-guid c.args.shape b (side_of c.args.side) _ _ (ap (λ (k : ℕ). k + 56) c.header_at-at.ensures) refl, length_cut b (c.header_at-at.result + 56) _ _ refl w)
+    let w : c.header_at-at.result + 56 + 16 ≤ length b = omega arith in (
+      cut-guid c.args.shape b (side_of c.args.side) _ _ (ap (λ (k : ℕ). k + 56) c.header_at-at.ensures) refl,
+      length_cut b (c.header_at-at.result + 56) _ _ refl w,
+    )

@@ -5,7 +5,8 @@ use Rattle.gpt_room.proofs.Walks.{Looked}
 use Rattle.gpt_room.proofs.search.Given as goal
 
 abbrev pub invariant-loop-a : goal.invariant-loop-a
-invariant-loop-a l = Looked (ranges l.firsts l.lasts l.count) l.initial.a.0 l.last.0 l.size l.alignment l.a.0 × (l.i ≤ l.count) × Passed (ranges l.firsts l.lasts l.count) l.a.0 l.i
+invariant-loop-a l = Looked (ranges l.firsts l.lasts l.count) l.initial.a.0 l.last.0 l.size l.alignment l.a.0 × (l.i ≤ l.count)
+    × Passed (ranges l.firsts l.lasts l.count) l.a.0 l.i
 
 abbrev pub decreases-loop-a : goal.decreases-loop-a
 decreases-loop-a l = l.last.0 + 1 - l.a.0

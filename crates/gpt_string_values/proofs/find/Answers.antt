@@ -10,7 +10,11 @@ returns-then-s-i c =
     let s = c.args.s.now in
     let x = c.args.c in
     let l = c.loop-i in
-    record { value = sym (find_ix-stop (λ b. eqb b x) s 0 l.i c.loop-i-test.true (eq-eqb _ x c.if-s-i.true)) ∙ l.invariant.2; within = (l.invariant.0, l.invariant.1) }
+    record {
+      value = sym (find_ix-stop (λ b. eqb b x) s 0 l.i c.loop-i-test.true (eq-eqb _ x c.if-s-i.true)) ∙ l.invariant.2;
+      within =
+          (l.invariant.0, l.invariant.1);
+    }
 
 pub loop-i-preserved : goal.loop-i-preserved
 loop-i-preserved c =

@@ -15,7 +15,8 @@ area_at-a-requires c = (c.requires.0, c.loop-k-test.true)
 
 pub loop-k-preserved : goal.loop-k-preserved
 loop-k-preserved c =
-    let w = written_on blank_area _ (omega (arith, many c.requires.0)) (c.area_at-a.ensures ∙ sym (area-in c.requires.0 _ c.loop-k-test.true)) c.put_area.ensures.0 c.put_area.ensures.1 c.loop-k.invariant.2 in
+    let w = written_on blank_area _ (omega (arith, many c.requires.0)) (c.area_at-a.ensures ∙ sym (area-in c.requires.0 _ c.loop-k-test.true))
+    c.put_area.ensures.0 c.put_area.ensures.1 c.loop-k.invariant.2 in
     (search rules, w.same_length, w)
 
 pub shape_of-to : goal.shape_of-to

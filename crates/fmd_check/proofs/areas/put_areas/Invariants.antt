@@ -7,7 +7,8 @@ use mathlib.Core.Path.{◌≡◌}
 use Rattle.fmd_check.proofs.areas.put_areas.Given as goal
 
 abbrev pub invariant-loop-k : goal.invariant-loop-k
-invariant-loop-k l = (l.k ≤ l.n) × (length l.to ≡ length l.initial.to) × WrittenTo (layout_areas l.text (sections_in l.n l.rows) (placed_in l.n l.spots)) l.at l.initial.to l.to l.k
+invariant-loop-k l = (l.k ≤ l.n) × (length l.to ≡ length l.initial.to)
+    × WrittenTo (layout_areas l.text (sections_in l.n l.rows) (placed_in l.n l.spots)) l.at l.initial.to l.to l.k
 
 abbrev pub decreases-loop-k : goal.decreases-loop-k
 decreases-loop-k l = l.n - l.k

@@ -16,7 +16,12 @@ pub returns-in-NoSize : goal.returns-in-NoSize
 returns-in-NoSize c = resolve-unsized _ _ _ _ _ c.loop-k-test.true (sym c.place_at.ensures ∙ c.in-NoSize.is) ∙ c.loop-k.invariant.2
 
 pub loop-k-preserved : goal.loop-k-preserved
-loop-k-preserved c = (search rules, omega arith, resolve-on _ _ _ _ _ _ _ c.loop-k-test.true (sym c.place_at.ensures ∙ c.in-Fits.is) c.put_placed.ensures ∙ c.loop-k.invariant.2)
+loop-k-preserved c = (
+  search rules,
+  omega arith,
+  resolve-on _ _ _ _ _ _ _ c.loop-k-test.true (sym c.place_at.ensures ∙ c.in-Fits.is) c.put_placed.ensures
+      ∙ c.loop-k.invariant.2,
+)
 
 pub returns : goal.returns
 returns c = let e : c.loop-k.k ≡ c.args.n = omega arith in

@@ -7,7 +7,8 @@ use Rattle.fmd_head.proofs.front.open_at.Goals as goal
 
 pub returns-then-t-eq-OPEN : goal.returns-then-t-eq-OPEN
 unfolding open_at
-returns-then-t-eq-OPEN c = record { value = rw (eq-eqb _ _ c.if-t-eq-OPEN.true, sym c.next_token-u.ensures.value); within = earlier c.next_token-u.ensures.within (omega arith) }
+returns-then-t-eq-OPEN c =
+    record { value = rw (eq-eqb _ _ c.if-t-eq-OPEN.true, sym c.next_token-u.ensures.value); within = earlier c.next_token-u.ensures.within (omega arith) }
 
 pub returns : goal.returns
 unfolding open_at

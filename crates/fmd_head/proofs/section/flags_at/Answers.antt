@@ -17,7 +17,12 @@ other_at-requires c = earlier (rw c.in-Read.is at c.mark_at.ensures.within) (ome
 pub returns-in-Read : goal.returns-in-Read
 unfolding flags_at
 returns-in-Read c =
-    let w = rw c.in-Read.is at c.mark_at.ensures.within in record { value = rw (eq-eqb _ _ c.if-t-ne-LEFT.false, sym c.next_token-u.ensures.value, sym c.mark_at.ensures.value ∙ c.in-Read.is) c.other_at.ensures.value; within = part-earlier _ _ _ c.other_at.result c.other_at.ensures.within (omega arith) }
+    let w = rw c.in-Read.is at c.mark_at.ensures.within in
+    record {
+      value = rw (eq-eqb _ _ c.if-t-ne-LEFT.false, sym c.next_token-u.ensures.value, sym c.mark_at.ensures.value ∙ c.in-Read.is)
+          c.other_at.ensures.value;
+      within = part-earlier _ _ _ c.other_at.result c.other_at.ensures.within (omega arith);
+    }
 
 pub returns-in-Fault : goal.returns-in-Fault
 unfolding flags_at

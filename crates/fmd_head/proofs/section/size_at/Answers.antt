@@ -29,7 +29,10 @@ returns-in-Counted c =
 pub returns-in-Uncounted : goal.returns-in-Uncounted
 unfolding size_at
 returns-in-Uncounted c =
-    record { value = rw (eq-eqb _ _ c.if-t-ne-WORD.false, sym c.digit_at.ensures ∙ c.if-digit_at.true, sym c.amount_at.ensures.value ∙ c.in-Uncounted.is); within = tt }
+    record {
+      value = rw (eq-eqb _ _ c.if-t-ne-WORD.false, sym c.digit_at.ensures ∙ c.if-digit_at.true, sym c.amount_at.ensures.value ∙ c.in-Uncounted.is);
+      within = tt;
+    }
 
 pub returns-else-digit_at : goal.returns-else-digit_at
 unfolding size_at

@@ -17,4 +17,5 @@ returns-in-71 c = record { value = rw c.in-71.is; small = omega arith }
 
 pub returns-in_default : goal.returns-in_default
 unfolding unit_of
-returns-in_default c = let r = c.in_default.in_default-own.rest in record { value = simp (ne_eqb _ _ r.0.0.1, ne_eqb _ _ r.0.1, ne_eqb _ _ r.1); small = omega arith }
+returns-in_default c = let r = c.in_default.in_default-own.rest in
+    record { value = simp (ne_eqb _ _ r.0.0.1, ne_eqb _ _ r.0.1, ne_eqb _ _ r.1); small = omega arith }

@@ -18,7 +18,8 @@ decreases-read_section l = 2 * (length l.text.now - l.t.start)
 abbrev pub invariant-read_list-loop-k : goal.invariant-read_list-loop-k
 invariant-read_list-loop-k l =
     Within (length l.text) l.initial.now.start l.now × (length l.rows ≡ length l.initial.rows) × IsParent l.m l.parent × Linked l.m l.rows
-    × ((after : List ℕ) (r : Step) → ListRead l.text l.now l.level l.parent (sections_in l.m l.rows) after r → ListRead l.text l.initial.now l.level l.parent (sections_in l.initial.m l.initial.rows) after r)
+    × ((after : List ℕ) (r : Step) → ListRead l.text l.now l.level l.parent (sections_in l.m l.rows) after r
+    → ListRead l.text l.initial.now l.level l.parent (sections_in l.initial.m l.initial.rows) after r)
 
 abbrev pub decreases-read_list-loop-k : goal.decreases-read_list-loop-k
 decreases-read_list-loop-k l = length l.text - l.now.start

@@ -26,8 +26,12 @@ returns-then-repeats_seen c = first-stop _ _ _ c.loop-k-test.true (sym c.repeats
 
 pub loop-k-preserved : goal.loop-k-preserved
 loop-k-preserved c = let v = c.loop-k.invariant in
-    let e = c.key_at-key.ensures in
-    (search rules, search rules, seen-mark _ _ _ _ v.2 _ e.0 (omega (arith, e.1, v.1)), first_on _ _ _ c.loop-k-test.true (sym c.repeats_seen.ensures ∙ c.if-repeats_seen.false) ∙ v.3)
+    let e = c.key_at-key.ensures in (
+      search rules,
+      search rules,
+      seen-mark _ _ _ _ v.2 _ e.0 (omega (arith, e.1, v.1)),
+      first_on _ _ _ c.loop-k-test.true (sym c.repeats_seen.ensures ∙ c.if-repeats_seen.false) ∙ v.3,
+    )
 
 pub returns : goal.returns
 returns c = first_done _ _ _ c.loop-k-test.false ∙ c.loop-k.invariant.3

@@ -11,4 +11,5 @@ slice_bounds-same-end c = name-inside _ _ c.args.text.now c.requires.1 _ c.row_a
 
 pub returns : goal.returns
 unfolding is_fmap
-returns c = rw (item c.args.n c.args.rows.now c.args.k c.requires.2, sym c.row_at-h.ensures) (c.same.ensures ∙ ap (λ (w : List ℕ). same w fmap) (slice c.row_at-h.result.place c.row_at-h.result.length c.args.text.now))
+returns c = rw (item c.args.n c.args.rows.now c.args.k c.requires.2, sym c.row_at-h.ensures)
+    (c.same.ensures ∙ ap (λ (w : List ℕ). same w fmap) (slice c.row_at-h.result.place c.row_at-h.result.length c.args.text.now))

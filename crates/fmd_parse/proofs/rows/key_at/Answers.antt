@@ -7,5 +7,8 @@ pub slice_bounds-key_of-end : goal.slice_bounds-key_of-end
 slice_bounds-key_of-end c = name-inside _ _ c.args.text.now c.requires.1 _ c.row_at-h.ensures c.requires.2
 
 pub returns : goal.returns
-returns c = let h = c.row_at-h in
-    (rw (item c.args.n c.args.rows.now c.args.k c.requires.2, sym h.ensures) (c.key_of.ensures.0 ∙ ap (key_from 0) (slice h.result.place h.result.length c.args.text.now)), c.key_of.ensures.1)
+returns c = let h = c.row_at-h in (
+  rw (item c.args.n c.args.rows.now c.args.k c.requires.2, sym h.ensures)
+      (c.key_of.ensures.0 ∙ ap (key_from 0) (slice h.result.place h.result.length c.args.text.now)),
+  c.key_of.ensures.1,
+)

@@ -7,4 +7,5 @@ use mathlib.Core.Path.{sym, ap, ◌∙◌}
 use Rattle.fmd_parse.proofs.rows.repeats_seen.Goals as goal
 
 pub returns-then-seen-key-eq0 : goal.returns-then-seen-key-eq0
-returns-then-seen-key-eq0 c = unseen _ _ _ _ c.requires.5 (omega (arith, length-sections c.args.n c.args.rows.now, c.requires.2)) (ap (λ (i : ℕ). get_or c.args.seen.now i 0) (sym c.requires.3) ∙ c.if-seen-key-eq0.true)
+returns-then-seen-key-eq0 c = unseen _ _ _ _ c.requires.5 (omega (arith, length-sections c.args.n c.args.rows.now, c.requires.2))
+    (ap (λ (i : ℕ). get_or c.args.seen.now i 0) (sym c.requires.3) ∙ c.if-seen-key-eq0.true)

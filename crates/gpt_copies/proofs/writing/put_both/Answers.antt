@@ -7,8 +7,14 @@ use Rattle.gpt_model.specs.Disk.{backup, guid_in, with_table}
 use Rattle.gpt_copies.proofs.writing.put_both.Goals as goal
 
 pub put_entry-requires : goal.put_entry-requires
-put_entry-requires c =
-    (c.requires.0, c.requires.2, c.requires.3, c.requires.4, c.crc_with-crc.ensures ∙ ap (λ (es : List ℕ). crc32 (put_chunk 128 c.args.i c.args.e.now es)) c.entries_in.ensures.0)
+put_entry-requires c = (
+  c.requires.0,
+  c.requires.2,
+  c.requires.3,
+  c.requires.4,
+  c.crc_with-crc.ensures
+      ∙ ap (λ (es : List ℕ). crc32 (put_chunk 128 c.args.i c.args.e.now es)) c.entries_in.ensures.0,
+)
 
 pub put_entry-requires-2 : goal.put_entry-requires-2
 put_entry-requires-2 c = (

@@ -12,4 +12,5 @@ slice_bounds-write-end c = omega (arith, header-end c.args.shape c.requires.1.le
 
 pub returns : goal.returns
 returns c =
-    λ es p. header-back c.args.shape c.requires.1.legal (side_of c.args.side) c.args.b.now c.requires.0 c.args.n c.args.guid.now es _ _ c.header_at-at.ensures (c.write.ensures es p)
+    λ es p. header-back c.args.shape c.requires.1.legal (side_of c.args.side) c.args.b.now c.requires.0 c.args.n c.args.guid.now es _ _
+    c.header_at-at.ensures (c.write.ensures es p)

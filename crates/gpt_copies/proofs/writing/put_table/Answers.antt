@@ -9,4 +9,5 @@ copy-requires c = omega (arith, entries-end c.args.shape c.requires.1.legal (sid
 
 pub returns : goal.returns
 returns c =
-    with-table c.args.shape c.requires.1.legal (side_of c.args.side) c.args.b.now c.requires.0 c.args.n c.args.guid.now c.args.table.now _ _ _ c.entries_at.ensures c.copy.ensures (c.put_header.ensures _ c.crc32.ensures)
+    with-table c.args.shape c.requires.1.legal (side_of c.args.side) c.args.b.now c.requires.0 c.args.n c.args.guid.now c.args.table.now _ _ _
+    c.entries_at.ensures c.copy.ensures (c.put_header.ensures _ c.crc32.ensures)

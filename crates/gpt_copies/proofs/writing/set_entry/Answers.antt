@@ -13,4 +13,5 @@ copy-requires c = omega (arith, entries-end c.args.shape c.requires.3 (side_of c
 
 pub returns : goal.returns
 returns c =
-    c.copy.ensures ∙ entry-put c.args.shape c.requires.3 (side_of c.args.side) c.args.b.now c.requires.0 c.args.i _ c.args.e.now c.requires.1 c.requires.2 c.entries_at.ensures
+    c.copy.ensures ∙ entry-put c.args.shape c.requires.3 (side_of c.args.side) c.args.b.now c.requires.0 c.args.i _ c.args.e.now c.requires.1 c.requires.2
+    c.entries_at.ensures

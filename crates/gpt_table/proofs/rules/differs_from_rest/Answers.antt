@@ -21,7 +21,8 @@ loop-j-preserved c = (
       let i = c.args.i in
       let l = c.loop-j in
       let k = w.halves.count in
-      none-on (differ (get_or es i [])) es l.found l.j [] (omega arith) c.same-found.result (c.same-found.ensures.0 ∙ sym (differ-at w i l.j (omega arith) (omega arith))) ∙ l.invariant.3 es w,
+      none-on (differ (get_or es i [])) es l.found l.j [] (omega arith) c.same-found.result (c.same-found.ensures.0
+      ∙ sym (differ-at w i l.j (omega arith) (omega arith))) ∙ l.invariant.3 es w,
 )
 
 pub returns : goal.returns
