@@ -1,6 +1,7 @@
 #![tactic(auto)]
 
-// The GPT calls for C. Each contract is one equation with `format_by` or `step_by` of gpt_model, for the result, both buffers and the number answers afterwards.
+// The GPT calls for C. Each contract is one equation with `format_by` or `step_by` of gpt_model, for the result, both buffers and the number answers
+// afterwards.
 ghost use Rattle.std.specs.Prelude.{◌≡◌, [], ◌∷◌, length};
 ghost use Rattle.gpt_model.specs.Sizes.{shape_of, step_by, format_by};
 ghost use Rattle.gpt_model.specs.Calls.{read as read_call, free_counts, repair as repair_call, check as check_call, edit, delete as delete_call};

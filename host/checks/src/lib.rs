@@ -34,10 +34,11 @@ pub fn write(path: &str, text: &str) {
     fs::write(path, text).unwrap_or_else(|e| fail(&format!("{path}: {e}")));
 }
 
-/// The files below a folder with one of these endings, in order.
+/// The files below a folder with one of these endings, in order; but those that `rt` keeps in a folder `out`.
 pub fn files(folder: impl AsRef<Path>, endings: &[&str]) -> Vec<PathBuf> {
     let Ok(entries) = fs::read_dir(folder) else { return Vec::new() };
     let mut paths: Vec<PathBuf> = entries.flatten().map(|entry| entry.path()).collect();
+    paths.retain(|path| !path.ends_with("out"));
     paths.sort();
     let ends = |path: &Path| path.extension().is_some_and(|e| endings.iter().any(|ending| e == *ending));
     let below = |path: PathBuf| if path.is_dir() { files(path, endings) } else { vec![path] };
