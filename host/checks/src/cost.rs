@@ -2,19 +2,24 @@
 
 use std::collections::BTreeSet;
 
-/// Processor seconds that one check may take.
+/// Processor seconds that the check of a crate with must-fail edits may take.
 pub const MOST: u64 = 35;
 
+/// Those of a crate without, as a program, whose check ends in two builds, by two compilers: nothing repeats it.
+pub const MOST_ALONE: u64 = 70;
+
 /// All of them in one line, the dearest first; then the crates that take more than they may.
-pub fn told(costs: &[(String, u64)]) -> (String, Vec<String>) {
+pub fn told(costs: &[(String, u64)], has_edits: &dyn Fn(&str) -> bool) -> (String, Vec<String>) {
     let mut order: Vec<&(String, u64)> = costs.iter().collect();
     order.sort_by(|a, b| b.1.cmp(&a.1).then(a.0.cmp(&b.0)));
     let line = order.iter().map(|(name, cost)| format!("{name} {cost}")).collect::<Vec<_>>().join(", ");
-    let over = order.iter().filter(|(_, cost)| *cost > MOST);
+    let most = |name: &str| if has_edits(name) { MOST } else { MOST_ALONE };
     let fault = |name: &str, cost: u64| {
-        format!("{name}: its check takes {cost} processor seconds, and {MOST} are the most: make two crates of it")
+        let most = most(name);
+        let said = format!("{name}: its check takes {cost} processor seconds, and {most} are the most: make two crates of it");
+        (cost > most).then_some(said)
     };
-    (line, over.map(|(name, cost)| fault(name, *cost)).collect())
+    (line, order.iter().filter_map(|(name, cost)| fault(name, *cost)).collect())
 }
 
 /// The crates that an earlier run proved, as `rt ci` says: `rt: NAME is kept: ..`.
@@ -32,18 +37,25 @@ mod tests {
 
     #[test]
     fn tells_the_dearest_first_and_those_over_the_bound() {
-        let costs = [("low", MOST - 21), ("edge", MOST), ("high", MOST + 1)]
-            .map(|(name, cost)| (name.to_string(), cost));
-        let (line, faults) = told(&costs);
-        assert_eq!(line, format!("high {}, edge {MOST}, low {}", MOST + 1, MOST - 21));
+        let costs = [
+            ("low", 14),
+            ("edge", MOST),
+            ("high", MOST + 1),
+            ("runs", MOST_ALONE),
+            ("waits", MOST_ALONE + 1),
+        ]
+        .map(|(name, cost)| (name.to_string(), cost));
+        let has_edits = |name: &str| name != "runs" && name != "waits";
+        let (line, faults) = told(&costs, &has_edits);
+        assert_eq!(line, "waits 71, runs 70, high 36, edge 35, low 14");
         assert_eq!(
             faults,
-            [format!(
-                "high: its check takes {} processor seconds, and {MOST} are the most: make two crates of it",
-                MOST + 1
-            )]
+            [
+                "waits: its check takes 71 processor seconds, and 70 are the most: make two crates of it",
+                "high: its check takes 36 processor seconds, and 35 are the most: make two crates of it"
+            ]
         );
-        assert!(told(&costs[..2]).1.is_empty());
+        assert!(told(&costs[..2], &has_edits).1.is_empty());
     }
 
     #[test]
