@@ -32,7 +32,7 @@ shared: $(SHARED)
 # The archive of each crate, crates/NAME/out/libNAME.a, has its exported functions alone; `ar` joins them. They are built side by side: each waits for what
 # another one proves below it.
 $(ARCHIVE): $(SOURCES)
-	@echo 'proving and compiling the library: about five minutes on two processors, less where proofs are kept from before'
+	@echo 'proving and compiling the library: about ten minutes on four processors, less where proofs are kept from before'
 	builds=; for crate in $(C_CRATES); do (cd crates/$$crate && exec rt lib >/dev/null) & builds="$$builds $$!"; done; \
 	    for build in $$builds; do wait $$build || exit 1; done
 	mkdir -p target/staticlib
