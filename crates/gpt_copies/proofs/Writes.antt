@@ -16,6 +16,7 @@ use Rattle.crc_lanes.specs.Crc.{crc_update, crc32}
 use Rattle.crc_lanes.proofs.Parts.{crc-parts}
 use Rattle.gpt_model.specs.Table.{write_all}
 use Rattle.gpt_model.specs.Disk.{Shape, Side, primary, backup, lent_bytes, header_at, entries_at, guid_in, entries_in, header, with_table}
+use Rattle.gpt_model.specs.Disk.{with_copy}
 use Rattle.gpt_model.specs.Disk.{block0, fresh_head, fresh_tail}
 use Rattle.gpt_model.proofs.Copies.{length-header, places-apart, length-guid, length-entries}
 use Rattle.gpt_model.proofs.Writes.{entry-written, fresh-head, fresh-tail}
@@ -85,6 +86,12 @@ module _ (g : Shape) (ok : Legal g) (side : Side) (b : List ℕ) (lb : length b 
       q
       ∙ ap (λ (x : List ℕ). put (header_at g side) (header g n side (guid_in g side x) es) x) p
       ∙ ap (λ (d : List ℕ). put (header_at g side) (header g n side d es) (put (entries_at g side) es b)) (guid-kept es l)
+
+  pub copy-put : (n : ℕ) (guid es b1 b2 b3 : List ℕ) (at : ℕ) → b1 ≡ put (header_at g side) (zeros g.block) b → at ≡ entries_at g side
+      → b2 ≡ put at es b1 → b3 ≡ put (header_at g side) (header g n side guid es) b2 → b3 ≡ with_copy g n side guid es b
+  unfolding with_table
+  copy-put n guid es b1 b2 b3 at p a q r =
+      r ∙ ap (put (header_at g side) (header g n side guid es)) (q ∙ ap₂ (λ (k : ℕ) (x : List ℕ). put k es x) a p)
 
   pub with-table : (n : ℕ) (guid es b1 b2 : List ℕ) (at : ℕ) → at ≡ entries_at g side → b1 ≡ put at es b
       → b2 ≡ put (header_at g side) (header g n side guid es) b1 → b2 ≡ with_table g n side guid es b

@@ -5,7 +5,7 @@ use mathlib.Core.Bool.{Bool, true, false, not}
 use mathlib.Core.List.{List}
 use Prim.Native.Nat.{ℕ, suc, ◌+◌, ◌-◌, ◌≤◌, ◌<◌}
 use native.Mathlib.Nat.{le_refl}
-use native.Mathlib.Decide.{dec_lt}
+use native.Mathlib.Decide.{dec_le, dec_lt}
 use native.Mathlib.Omega.{arith}
 use lib.Dec.{leb}
 use lib.ListN.{get_or}
@@ -15,9 +15,9 @@ use Rattle.octets.specs.Tests.{◌and◌}
 use Rattle.octets.proofs.Bools.{and_l, and_r, and_i, and-f, and-t, not_t, bool_cases, clash}
 use Rattle.octets.proofs.Tests.{any-make, any_false}
 use Rattle.gpt_model.specs.declared.Block.{Block}
-use Rattle.gpt_model.specs.Ranges.{block_in, in_some, in_none, run_from}
+use Rattle.gpt_model.specs.Ranges.{block_in, in_some, in_none, room_at, run_from}
 use Rattle.gpt_model.specs.Table.{BlockRange, no_blocks, spans}
-use Rattle.gpt_model.proofs.Room.{block_in-make, block_in-get}
+use Rattle.gpt_model.proofs.Room.{Room, block_in-make, block_in-get, room-get, room-make}
 use Rattle.gpt_model.proofs.Longest.{run-gap, run_holds, run-bound}
 use Rattle.gpt_room.specs.Invariants.{Passed, Next, Full, Clear, Stands, taken, gap}
 use Rattle.gpt_table.specs.Invariants.{ranges, Ascending}
@@ -151,3 +151,30 @@ module _ (s : List BlockRange) (last a : ℕ) where
       let at : a + (g - a) ≡ g = omega arith in
       sym (ap (run_from (in_none s) a) (sym whole)
       ∙ run-gap (in_none s) a (g - a) (suc last - g) (λ c x y. ap not (p.free c x (omega arith))) (λ h. ap (in_none s) at ∙ ap not (p.stop (omega arith))))
+
+-- ---- room at a
+
+module _ (s : List BlockRange) (last size a : ℕ) where
+  no_room : (Room s last size a → ⊥) → room_at s last size a ≡ false
+  no_room f = ⊎_elim (λ e. absurd (f (room-get s last size a e))) (λ e. e) (bool_cases (room_at s last size a))
+
+  module _ (pos : 0 < size) where
+    pub room-past : last < a → false ≡ room_at s last size a
+    room-past h = sym (no_room (λ r. let w = r.0 in omega arith))
+
+    pub room-full : {x : ℕ} → Full s a x → false ≡ room_at s last size a
+    room-full p = sym (no_room (λ r. clash (p.taken a (le_refl a) p.from) (r.1 a (le_refl a) (omega arith))))
+
+  pub room-gap : {g : ℕ} → Clear s a last g → leb size (g - a) ≡ room_at s last size a
+  room-gap {g} p = go (dec_le size (g - a))
+    where
+      go : Dec (size ≤ g - a) → leb size (g - a) ≡ room_at s last size a
+      go (yes h) =
+          let u = p.past in
+          let v = p.end in
+          le-leb size (g - a) h ∙ sym (room-make s last size a (omega arith, λ b x y. p.free b x (omega arith)))
+      go (no h) =
+          let u = p.past in
+          let v = p.end in
+          lt-leb size (g - a) (omega arith)
+          ∙ sym (no_room (λ r. let w = r.0 in clash (p.stop (omega arith)) (r.1 g (omega arith) (omega arith))))

@@ -1,5 +1,4 @@
 use mathlib.Core.Path.{sym, ◌∙◌}
-use Prim.Native.Nat.{◌-◌}
 use native.Mathlib.Omega.{arith}
 use Rattle.gpt_room.proofs.Looks.{next-over, next-found, next-none}
 use Rattle.gpt_room.proofs.next.Goals as goal

@@ -1,4 +1,3 @@
-use Prim.Native.Nat.{◌-◌}
 use native.Mathlib.Omega.{arith}
 use Rattle.gpt_room.proofs.Looks.{taken_of, gap_of, passed-more, passed_none}
 use Rattle.gpt_room.proofs.Walks.{tallied-start, tallied-over, tallied-gap, tallied-end, tallied-full}
