@@ -128,7 +128,8 @@ const HEAD: &str = "# Edits that the prover refuses
 file from `crates/*/must-fail/*.edit` and what that run says of each, and `tests/80-edits` holds it to them.
 
 A row tells what the edit rules out, as its first line has it; what it changes: code, a constant or a specification, old → new; and the
-fact that failed, as the first error has it: the proof's file, the fact's name, the message up to the terms, as far as `rt` prints it.
+fact that failed, as the first error has it: the proof's file, the fact's name, the message up to the terms, as far as `rt` prints it (its words may
+differ from run to run).
 ";
 
 /// The document.

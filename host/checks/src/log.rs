@@ -19,7 +19,12 @@ pub struct Fact {
 impl Fact {
     /// The fact in one line, cut at `SHOWN` characters of the message.
     pub fn shown(&self) -> String {
-        format!("`{}`, `{}`: {}", self.file, self.name, cut(&self.message))
+        format!("{}{}", self.place(), cut(&self.message))
+    }
+
+    /// Which fact it is: how its line begins.
+    pub fn place(&self) -> String {
+        format!("`{}`, `{}`: ", self.file, self.name)
     }
 }
 

@@ -49,15 +49,17 @@ fn said_of(edit: &Edit, logs: &BTreeMap<String, (SystemTime, String)>) -> Option
     files.map(older).all(|older| older).then(|| said.clone())
 }
 
-/// The fact of an edit: that which is said of it, or else that of the document; and what is wrong with it.
+/// The fact of an edit: that which is said of it, or else that of the document; and what is wrong with it. Where both name the same fact, the document's words stand:
+/// the prover's differ with what it has loaded, in `rt ci` and in `rt must-fail`.
 fn fact(edit: &Edit, said: Option<&str>, told: Option<&String>) -> (String, Option<String>) {
     let name = edit.name();
     let Some(said) = said else { return (told.cloned().unwrap_or(UNTRIED.to_string()), None) };
     match log::first_error(said) {
         Some(error) => {
             let odd = !log::is_fact(&error.message);
+            let same = told.filter(|told| told.starts_with(&error.place()));
             (
-                error.shown(),
+                same.cloned().unwrap_or(error.shown()),
                 odd.then(|| format!("{name}: its first error is no failed fact: {}", error.message)),
             )
         }
