@@ -1,6 +1,6 @@
 //! The crates, and what their sources declare.
 
-use crate::{files, read, tables};
+use crate::{files, rattle, read, tables};
 use std::collections::BTreeMap;
 use std::path::{Path, PathBuf};
 
@@ -47,6 +47,14 @@ impl Crates {
     /// The same of one kind of thing.
     pub fn source_has_a(&self, kind: &str, name: &str, item: &str) -> bool {
         self.sources.get(name).is_some_and(|source| is_word(source, &format!("{kind} {item}")))
+    }
+
+    /// A function of that name stands there that says what it ensures, so that its proof is one.
+    pub fn proves(&self, name: &str, function: &str) -> bool {
+        let said = |source: &String| {
+            rattle::functions(source).iter().any(|made| made.name == function && !made.ensures.is_empty())
+        };
+        self.sources.get(name).is_some_and(said)
     }
 
     pub fn any_has(&self, item: &str) -> bool {

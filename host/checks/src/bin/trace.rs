@@ -132,7 +132,7 @@ impl Place<'_> {
         } else if let Some(place) = word.strip_suffix("/Proof") {
             let (modules, function) = place.rsplit_once('/').unwrap_or(("", place));
             let module = |name: &str| self.crates.source_has_a("mod", of, name);
-            return self.crates.source_has_a("fn", of, function) && modules.split_terminator('/').all(module);
+            return self.crates.proves(of, function) && modules.split_terminator('/').all(module);
         } else if let Some(name) = word.strip_suffix(':').filter(|name| name.starts_with(char::is_uppercase))
         {
             let texts = ["specs", "proofs"].map(|layer| folder.join(format!("{layer}/{name}.antt")));
@@ -209,6 +209,7 @@ mod tests {
             "`octets` Row: `refusal`",
             "`octets` copied/Proof",
             "`octets` rows/same/Proof",
+            "`samples` steps/Proof",
             "`fmd_parse` rows/Proof",
             "`octets` must-fail `low_half`",
             "`octets::load128`",
