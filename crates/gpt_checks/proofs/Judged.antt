@@ -25,8 +25,7 @@ use Rattle.gpt_model.proofs.Accepts.{alignment-least}
 use Rattle.gpt_model.proofs.States.{one-primary}
 use Rattle.gpt_room.specs.Answers.{placed}
 use Rattle.gpt_model.specs.declared.Block.{Block}
-use Rattle.gpt_room.specs.declared.Place.{Place}
-use Rattle.gpt_room.specs.declared.Place.TheVariants as found
+use Rattle.std.specs.Prelude as std
 use Rattle.gpt_copies.specs.States.{state_number}
 use Rattle.gpt_copies.specs.declared.State.{State}
 use Rattle.gpt_checks.proofs.Rows.{in_order, row_is, slot-number}
@@ -221,16 +220,16 @@ module _ (g : Shape) (n : ℕ) (es : List ℕ) (p : NewPartition) where
   start-stops k e = (sym (refusal-first before25 from25 k e), λ b q. absurd (some-none (sym q)))
 
   -- what the search for a start answers, between the usable blocks f and l
-  module _ (e : refusal before25 ≡ none) (q : Place) (f l : ℕ) (ef : f ≡ g.first) (el : l ≡ last_usable g n)
+  module _ (e : refusal before25 ≡ none) (q : std.Option Block) (f l : ℕ) (ef : f ≡ g.first) (el : l ≡ last_usable g n)
       (r : placed q ≡ lowest_start (ranges_of es) f l p.size p.alignment) where
     placed-is : placed q ≡ start
     placed-is = r ∙ rw (ef, el)
 
-    pub start-full : q ≡ found.None → (some 25 ≡ rows) × ((b : ℕ) → none ≡ some b → start ≡ some b)
+    pub start-full : q ≡ std.None → (some 25 ≡ rows) × ((b : ℕ) → none ≡ some b → start ≡ some b)
     start-full x =
         (sym (refusal-append before25 from25 e ∙ pick_true _ 25 _ (ap is_none (sym placed-is ∙ ap placed x))), λ b z. absurd (some-none (sym z)))
 
-    pub start-at : (b : Block) → q ≡ found.At b → (none ≡ rows) × ((c : ℕ) → some b.0 ≡ some c → start ≡ some c)
+    pub start-at : (b : Block) → q ≡ std.Some b → (none ≡ rows) × ((c : ℕ) → some b.0 ≡ some c → start ≡ some c)
     start-at b x =
         let w : start ≡ some b.0 = sym placed-is ∙ ap placed x in
         (sym (refusal-append before25 from25 e ∙ pick-false _ 25 _ (ap is_none w)), λ c z. w ∙ z)

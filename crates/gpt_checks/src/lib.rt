@@ -20,7 +20,6 @@ use gpt_copies::State;
 use gpt_entry::NAME_AT;
 use gpt_model::{Block, NewPartition, Shape};
 use gpt_places::{SLOTS, Side};
-use gpt_room::Place;
 use gpt_table::UNIQUE_AT;
 
 // Why a call is refused; specs/Refusals gives each its number.
@@ -279,8 +278,8 @@ pub fn place(table: &[u8], n: u64, shape: Shape, p: NewPartition) -> Start
             p.size,
             p.alignment,
         ) {
-            Place::None => Start::Stop(Refusal::NoRoom),
-            Place::At(first) => Start::At(first),
+            None => Start::Stop(Refusal::NoRoom),
+            Some(first) => Start::At(first),
         },
     }
 }

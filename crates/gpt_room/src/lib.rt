@@ -14,13 +14,6 @@ ghost use Rattle.gpt_room.specs.Invariants.{Passed, Next, Stands};
 use gpt_model::Block;
 use gpt_table::{FIRST_AT, SLOTS};
 
-// Where a partition can start.
-#[derive(Clone, Copy)]
-pub enum Place {
-    At(Block),
-    None,
-}
-
 // Usable blocks in no partition, and the longest run of such.
 #[derive(Clone, Copy)]
 pub struct Free {
@@ -116,7 +109,7 @@ fn search(
     last: Block,
     size: u64,
     alignment: u64,
-) -> Place
+) -> Option<Block>
     requires { (count ≤ slot_count) × (0 < size) × (0 < alignment) × (last.0 < 18446744073709551615) × Ascending 1 count firsts.now }
     ensures { placed result ≡ lowest_start (ranges firsts.now lasts.now count) first.0 last.0 size alignment }
 {
@@ -127,24 +120,24 @@ fn search(
         match look(firsts, lasts, count, i, a, last) {
             Ahead::Taken(x) => {
                 if last.0 <= x.0 {
-                    return Place::None;
+                    return None;
                 }
                 a = Block(x.0 + 1);
             }
             Ahead::Gap(g) => {
                 let d = padding(a, alignment);
                 if has_room(g.0 - a.0, d, size) {
-                    return Place::At(Block(a.0 + d));
+                    return Some(Block(a.0 + d));
                 }
                 a = g;
             }
         }
     }
-    Place::None
+    None
 }
 
 // The lowest multiple of the alignment with enough free blocks from it on.
-pub fn lowest(t: &[u8], first: Block, last: Block, size: u64, alignment: u64) -> Place
+pub fn lowest(t: &[u8], first: Block, last: Block, size: u64, alignment: u64) -> Option<Block>
     requires { (length t.now ≡ table_bytes) × (0 < size) × (0 < alignment) × (last.0 < 18446744073709551615) }
     ensures { placed result ≡ lowest_start (ranges_of t.now) first.0 last.0 size alignment }
 {

@@ -22,8 +22,8 @@ returns-in-None c =
     start-full a.shape a.n a.table.now a.p (passed _ c.in-Pass.is c.new.ensures) _ _ _
     c.first_usable.ensures c.last_usable.ensures c.lowest.ensures c.in-None.is
 
-pub returns-in-At : goal.returns-in-At
-returns-in-At c =
+pub returns-in-Some : goal.returns-in-Some
+returns-in-Some c =
     let a = c.args in
     start-at a.shape a.n a.table.now a.p (passed _ c.in-Pass.is c.new.ensures) _ _ _
-    c.first_usable.ensures c.last_usable.ensures c.lowest.ensures _ c.in-At.is
+    c.first_usable.ensures c.last_usable.ensures c.lowest.ensures _ c.in-Some.is
