@@ -8,3 +8,4 @@ pub mod Puts
 pub mod Equal
 pub mod Chunks
 pub mod Filled
+pub mod Chains

@@ -1,0 +1,71 @@
+-- What `std` says of a chain of iterators, in the project's tests over lists.
+use Rattle.std.proofs.Common.{◌≡◌, ◌⊎◌, ℕ, zero, suc, ◌≤◌, Bool, true, false, cond, ltb, Some, None, unwrap_or, position, List, [], ◌∷◌, map, length, refl, ap, ◌∙◌, inl, inr, arith}
+use Rattle.std.specs.List.{list_any, list_all, position_or_len}
+use Rattle.std.proofs.lemmas.Bool.{cases_lt}
+use borrow.Author.Tests.{lt-ltb, le-ltb}
+use Rattle.octets.specs.Tests.{◌and◌, ◌or◌, all, any, find_ix}
+use Rattle.octets.proofs.Bools.{bool_cases}
+
+module _ {A : Type 0} (p : A → Bool) where
+  pub any_list : (xs : List A) → list_any p xs ≡ any p xs
+  unfolding ◌or◌
+  any_list [] = refl
+  any_list (x ∷ xs) = go (bool_cases (p x)) (any_list xs)
+    where
+      go : (p x ≡ true) ⊎ (p x ≡ false) → list_any p xs ≡ any p xs → list_any p (x ∷ xs) ≡ any p (x ∷ xs)
+      go (inl h) ih = rw h
+      go (inr h) ih = rw h ih
+
+  pub all_list : (xs : List A) → list_all p xs ≡ all p xs
+  unfolding ◌and◌
+  all_list [] = refl
+  all_list (x ∷ xs) = go (bool_cases (p x)) (all_list xs)
+    where
+      go : (p x ≡ true) ⊎ (p x ≡ false) → list_all p xs ≡ all p xs → list_all p (x ∷ xs) ≡ all p (x ∷ xs)
+      go (inl h) ih = rw h ih
+      go (inr h) ih = rw h
+
+  pub place_list : (xs : List A) → position_or_len p xs ≡ find_ix p xs
+  place_list [] = refl
+  place_list (x ∷ xs) = go (bool_cases (p x)) (place_list xs)
+    where
+      go : (p x ≡ true) ⊎ (p x ≡ false) → position_or_len p xs ≡ find_ix p xs → position_or_len p (x ∷ xs) ≡ find_ix p (x ∷ xs)
+      go (inl h) ih = rw (h, find_ix)
+      go (inr h) ih = rw (h, find_ix) (omega (arith, ih))
+
+  pub place_within : (xs : List A) → find_ix p xs ≤ length xs
+  place_within [] = omega arith
+  place_within (x ∷ xs) = go (bool_cases (p x)) (place_within xs)
+    where
+      go : (p x ≡ true) ⊎ (p x ≡ false) → find_ix p xs ≤ length xs → find_ix p (x ∷ xs) ≤ length (x ∷ xs)
+      go (inl h) ih = rw (h, find_ix) (omega arith)
+      go (inr h) ih = rw (h, find_ix) (omega arith)
+
+  pub place_or : (xs : List A) → unwrap_or (position p xs) (length xs) ≡ find_ix p xs
+  place_or xs = go (position_or_len p xs) (place_list xs) (place_within xs)
+    where
+      go : (k : ℕ) → k ≡ find_ix p xs → find_ix p xs ≤ length xs → unwrap_or (cond (ltb k (length xs)) (Some k) None) (length xs) ≡ find_ix p xs
+      go k e h = elim (cases_lt k (length xs)) [ inl l ↦ rw (lt-ltb k (length xs) l) e | inr l ↦ rw (le-ltb k (length xs) l) (omega (arith, e)) ]
+
+-- a test p of what f makes of each element
+module _ {A B : Type 0} (f : A → B) (p : B → Bool) where
+  pub any_made : (xs : List A) → list_any (λ x. p (f x)) xs ≡ any p (map f xs)
+  any_made xs = any_list (λ x. p (f x)) xs ∙ made xs
+    where
+      made : (xs : List A) → any (λ x. p (f x)) xs ≡ any p (map f xs)
+      made [] = refl
+      made (x ∷ xs) = ap (λ (b : Bool). p (f x) or b) (made xs)
+
+  pub all_made : (xs : List A) → list_all (λ x. p (f x)) xs ≡ all p (map f xs)
+  all_made xs = all_list (λ x. p (f x)) xs ∙ made xs
+    where
+      made : (xs : List A) → all (λ x. p (f x)) xs ≡ all p (map f xs)
+      made [] = refl
+      made (x ∷ xs) = ap (λ (b : Bool). p (f x) and b) (made xs)
+
+  pub place_made : (xs : List A) → position_or_len (λ x. p (f x)) xs ≡ find_ix p (map f xs)
+  place_made xs = place_list (λ x. p (f x)) xs ∙ made xs
+    where
+      made : (xs : List A) → find_ix (λ x. p (f x)) xs ≡ find_ix p (map f xs)
+      made [] = refl
+      made (x ∷ xs) = ap (λ (k : ℕ). elim (p (f x)) [ true ↦ zero | false ↦ suc k ]) (made xs)
