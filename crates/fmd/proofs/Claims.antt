@@ -1,4 +1,5 @@
 -- What users rely on besides the equations of the calls.
+use Rattle.std.specs.Prelude.{Option as Optional, Some, None}
 use mathlib.Core.Path.{◌≡◌, refl, sym, ap, subst, ◌∙◌}
 use mathlib.Core.List.{List}
 use mathlib.Core.Option.{Option, none, some}
@@ -14,8 +15,6 @@ use Rattle.fmap_rules.specs.declared.ImagePosition.{ImagePosition}
 use Rattle.fmap.specs.Written.{Holds}
 use Rattle.fmap.proofs.Written.{map-holds}
 use Rattle.fmd_parse.specs.Trees.{AddressFits}
-use Rattle.fmd_head.specs.declared.Address.{Address}
-use Rattle.fmd_head.specs.declared.Address.TheVariants.{Given, Omitted}
 use Rattle.fmd_check.specs.Check.{Checked, fault, good, check_text}
 use Rattle.fmd_check.specs.Claims.{CheckedFacts}
 use Rattle.fmd_check.proofs.Facts.{check-facts}
@@ -35,9 +34,9 @@ pub record Sayable (x : Said) : Type 0 where
   pub high : x.image.size ≤ 16777216
   pub base : x.image.address < 256 ^ 8
 
-base-fits : (a : Address) → AddressFits a → address_of a < 256 ^ 8
-base-fits (Given n) h = omega arith
-base-fits Omitted h = omega arith
+base-fits : (a : Optional ℕ) → AddressFits a → address_of a < 256 ^ 8
+base-fits (Some n) h = omega arith
+base-fits None h = omega arith
 
 sayable : (s : List ℕ) (j : Checked) → CheckedFacts s j → (said_by s j).answer ≡ none → Sayable (said_by s j)
 unfolding image_of

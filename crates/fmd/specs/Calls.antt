@@ -1,5 +1,5 @@
 -- What each call answers and leaves behind.
-use Rattle.std.specs.Prelude.{cond, List, [], ◌++◌, map, ℕ, eqb, length, drop}
+use Rattle.std.specs.Prelude.{cond, List, [], ◌++◌, map, ℕ, eqb, length, drop, Option as Optional, Some, None}
 use Rattle.std.proofs.Math.Option.{Option, none, some}
 use Rattle.octets.specs.Bytes.{zeros, put, flat}
 use Rattle.fmap_rules.specs.Map.{position}
@@ -7,8 +7,6 @@ use Rattle.fmap_rules.specs.Written.{area_bytes, map_bytes}
 use Rattle.fmap_rules.specs.declared.ImagePosition.{ImagePosition}
 use Rattle.fmap_rules.specs.declared.Area.{Area}
 use Rattle.fmd_head.specs.Refusals.{number_of as refusal_number}
-use Rattle.fmd_head.specs.declared.Address.{Address}
-use Rattle.fmd_head.specs.declared.Address.TheVariants.{Given, Omitted}
 use Rattle.fmd_head.specs.declared.TextImage.{TextImage}
 use Rattle.fmd_check.specs.Check.{Checked, fault, good, check_text}
 use Rattle.fmd_check.specs.Areas.{stored_name, area_at, layout_areas}
@@ -43,9 +41,9 @@ abbrev pub refused_with : Option ℕ → Said
 refused_with n = record { answer = n; image = blank_image; areas = []; at = position 0 }
 
 -- L17: .. base the address or 0
-abbrev pub address_of : Address → ℕ
-address_of (Given a) = a
-address_of Omitted = 0
+abbrev pub address_of : Optional ℕ → ℕ
+address_of (Some a) = a
+address_of None = 0
 
 -- (R3) name, size, address and section count
 unfoldable pub image_of : List ℕ → TextImage → ℕ → Image

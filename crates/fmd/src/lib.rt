@@ -16,7 +16,7 @@ ghost use Rattle.fmd.specs.Invariants.{Held, ReadFor};
 use fmap_rules::ImagePosition;
 use fmd_check::Verdict;
 use fmd_check::areas::area_at;
-use fmd_head::{Address, Refusal, TextImage};
+use fmd_head::{Refusal, TextImage};
 use fmd_table::{ROWS, SPOTS};
 
 // What a call answers.
@@ -93,12 +93,12 @@ fn unread(answer: Answer) -> LayoutReading
     }
 }
 
-fn base_of(a: Address) -> u32
+fn base_of(a: Option<u32>) -> u32
     ensures { result ≡ address_of a }
 {
     match a {
-        Address::Given(n) => n,
-        Address::Omitted => 0,
+        Some(n) => n,
+        None => 0,
     }
 }
 

@@ -1,4 +1,5 @@
 -- Every layout text: what holds of its refusal, or of what it is accepted with.
+use Rattle.std.specs.Prelude.{Option, Some, None}
 use mathlib.Core.Path.{◌≡◌, refl, subst}
 use mathlib.Core.Bool.{Bool, true, false}
 use mathlib.Core.List.{List, [], ◌∷◌}
@@ -19,8 +20,6 @@ use Rattle.fmd_table.specs.declared.Section.{Section}
 use Rattle.fmd_head.specs.declared.TextImage.{TextImage}
 use Rattle.fmd_parse.proofs.Trees.{layout-facts}
 use Rattle.fmd_parse.specs.Rows.{found_from, repeats, first_repeat, holds_cbfs, first_cbfs, undecided, first_undecided, is_fmap, fmap_in, has_child}
-use Rattle.fmd_parse.specs.declared.rows.Found.{Found}
-use Rattle.fmd_parse.specs.declared.rows.Found.TheVariants.{At, Nowhere}
 use Rattle.fmd_parse.proofs.RowLoops.{FirstFacts, first-facts}
 use Rattle.fmd_check.specs.Plans.{Resolved, unfit, unsized, plan, resolve_from}
 use Rattle.fmd_check.specs.Fitted.{Fitted}
@@ -49,20 +48,20 @@ module _ (s : List ℕ) (i : TextImage) (l : List Section) (short : length s ≤
   here k h = let w = (tree.each k h).named.inside in omega arith
 
   -- a row over the whole list, judged as c: its fault, or what comes after it, d, with what was found not to be
-  row-facts : (p : ℕ → Bool) (n : ℕ) (c d : Checked) → LayoutNumber n → ((k : ℕ) → found_from p (length l) 0 ≡ At k → fault n (named l k) ≡ c)
-      → (found_from p (length l) 0 ≡ Nowhere → d ≡ c) → (((k : ℕ) → k < length l → p k ≡ false) → CheckedFacts s d) → CheckedFacts s c
+  row-facts : (p : ℕ → Bool) (n : ℕ) (c d : Checked) → LayoutNumber n → ((k : ℕ) → found_from p (length l) 0 ≡ Some k → fault n (named l k) ≡ c)
+      → (found_from p (length l) 0 ≡ None → d ≡ c) → (((k : ℕ) → k < length l → p k ≡ false) → CheckedFacts s d) → CheckedFacts s c
   row-facts p n c d num at on g = by-found (found_from p (length l) 0) (first-facts p (length l) 0) refl
     where
-      by-found : (f : Found) → FirstFacts p (length l) 0 f → found_from p (length l) 0 ≡ f → CheckedFacts s c
-      by-found (At k) w e = subst (CheckedFacts s) (at k e) (num, here k (omega (arith, w.0)))
-      by-found Nowhere w e = subst (CheckedFacts s) (on e) (g (λ k h. w k (omega arith) (omega arith)))
+      by-found : (f : Option ℕ) → FirstFacts p (length l) 0 f → found_from p (length l) 0 ≡ f → CheckedFacts s c
+      by-found (Some k) w e = subst (CheckedFacts s) (at k e) (num, here k (omega (arith, w.0)))
+      by-found None w e = subst (CheckedFacts s) (on e) (g (λ k h. w k (omega arith) (omega arith)))
 
   module _ (differ : (k : ℕ) → k < length l → repeats s l k ≡ false) where
     module _ (ps : List Placed) (fitted : Fitted i.size l ps) where
-      leaf-facts : (k : ℕ) → k < length l → is_fmap s l k ≡ true → fmap_in s l ≡ At k → CheckedFacts s (check_from 4 s i l (plan ps))
-      leaf-facts k h e f = by_size (no_map l ps (At k)) refl
+      leaf-facts : (k : ℕ) → k < length l → is_fmap s l k ≡ true → fmap_in s l ≡ Some k → CheckedFacts s (check_from 4 s i l (plan ps))
+      leaf-facts k h e f = by_size (no_map l ps (Some k)) refl
         where
-          by_size : (b : Bool) → no_map l ps (At k) ≡ b → CheckedFacts s (check_from 4 s i l (plan ps))
+          by_size : (b : Bool) → no_map l ps (Some k) ≡ b → CheckedFacts s (check_from 4 s i l (plan ps))
           by_size true q = subst (CheckedFacts s) (bad-map s i l ps k f q) ((omega arith, omega arith), here k h)
           by_size false q =
               subst (CheckedFacts s) (good-map s i l ps k f q)
@@ -83,10 +82,10 @@ module _ (s : List ℕ) (i : TextImage) (l : List Section) (short : length s ≤
       unfolding fmap_in
       map-facts = by-found (found_from (is_fmap s l) (length l) 0) (first-facts (is_fmap s l) (length l) 0) refl
         where
-          by-found : (f : Found) → FirstFacts (is_fmap s l) (length l) 0 f → found_from (is_fmap s l) (length l) 0 ≡ f
+          by-found : (f : Option ℕ) → FirstFacts (is_fmap s l) (length l) 0 f → found_from (is_fmap s l) (length l) 0 ≡ f
               → CheckedFacts s (check_from 4 s i l (plan ps))
-          by-found (At k) w e = leaf-facts k (omega (arith, w.0)) w.1 e
-          by-found Nowhere w e = subst (CheckedFacts s) (no-map s i l ps e) ((omega arith, omega arith), tt)
+          by-found (Some k) w e = leaf-facts k (omega (arith, w.0)) w.1 e
+          by-found None w e = subst (CheckedFacts s) (no-map s i l ps e) ((omega arith, omega arith), tt)
 
     places-facts : (r : Resolved) → ResolvedFacts i.size l r → CheckedFacts s (check_from 2 s i l r)
     unfolding first_undecided

@@ -1,4 +1,5 @@
 -- Every resolution: offsets and sizes are those of the text or follow from the siblings', sections lie in their parents, siblings ascend without overlap.
+use Rattle.std.specs.Prelude.{Option, Some, None}
 use mathlib.Core.Path.{◌≡◌, refl, sym, ap, subst, ◌∙◌}
 use mathlib.Core.Bool.{Bool, true, false}
 use mathlib.Core.Logic.{◌⊎◌, inl, inr}
@@ -15,10 +16,7 @@ use Rattle.octets.specs.Tests.{◌and◌}
 use Rattle.octets.proofs.Bools.{choice, and_l, and_r}
 use Rattle.fmd_parse.specs.Trees.{blank_section}
 use Rattle.fmd_table.specs.Table.{blank_placed}
-use Rattle.fmd_table.specs.declared.Offset.{Offset}
-use Rattle.fmd_table.specs.declared.Offset.TheVariants.{Given as GivenOffset, Omitted as OmittedOffset}
-use Rattle.fmd_table.specs.declared.Size.{Size}
-use Rattle.fmd_table.specs.declared.Size.TheVariants.{Given as GivenSize, Omitted as OmittedSize}
+use Rattle.fmd_table.specs.declared.ParentOffset.{ParentOffset}
 use Rattle.fmd_table.specs.declared.Section.{Section}
 use Rattle.fmd_table.specs.declared.Placed.{Placed}
 use Rattle.fmd_check.specs.Plans.{placed_end, end_with, sibling_end, room_of, start_of, fits, spot_of, spot_by, spot_in, spot_for, Resolved, after_spot}
@@ -28,8 +26,6 @@ use Rattle.fmd_check.specs.Claims.{ResolvedFacts}
 use Rattle.fmd_parse.specs.Rows.{sibling_in, reach_of, is_undecided, undecided}
 use Rattle.fmd_parse.specs.declared.rows.Reach.{Reach}
 use Rattle.fmd_parse.specs.declared.rows.Reach.TheVariants.{OfSize, UpTo, ToParentEnd, Undecided}
-use Rattle.fmd_parse.specs.declared.rows.Sibling.{Sibling}
-use Rattle.fmd_parse.specs.declared.rows.Sibling.TheVariants.{Next, Last}
 use Rattle.fmd_check.specs.declared.plan.Spot.{Spot}
 use Rattle.fmd_check.specs.declared.plan.Spot.TheVariants.{Fits, Unfit, NoSize}
 
@@ -128,14 +124,14 @@ end-last par e (p ∷ ps) (suc j) h q f = end-last par (end_with par e p) ps j (
 
 -- ---- the next section with a parent
 
-next-none : (par : ℕ) (xs : List Section) → ((i : ℕ) → i < length xs → (get_or xs i blank_section).parent ≡ par → ⊥) → sibling_in par xs ≡ Last
+next-none : (par : ℕ) (xs : List Section) → ((i : ℕ) → i < length xs → (get_or xs i blank_section).parent ≡ par → ⊥) → sibling_in par xs ≡ None
 unfolding sibling_in
 next-none par [] f = refl
 next-none par (x ∷ xs) f = rw (ne_eqb x.parent par (f 0 (omega arith))) (next-none par xs (λ i h. f (suc i) (omega arith)))
 
 -- section i is the first with the parent
 next-first : (par : ℕ) (xs : List Section) (i : ℕ) → i < length xs → (get_or xs i blank_section).parent ≡ par
-    → ((j : ℕ) → j < i → (get_or xs j blank_section).parent ≡ par → ⊥) → sibling_in par xs ≡ Next (get_or xs i blank_section).offset
+    → ((j : ℕ) → j < i → (get_or xs j blank_section).parent ≡ par → ⊥) → sibling_in par xs ≡ Some (get_or xs i blank_section).offset
 unfolding sibling_in
 next-first par [] i h q f = absurd (omega arith)
 next-first par (x ∷ xs) zero h q f = rw (eq-eqb x.parent par q)
@@ -146,23 +142,23 @@ next-first par (x ∷ xs) (suc i) h q f =
 
 module _ (l : List Section) (k : ℕ) where
   -- by the last end e of its parent
-  begins-at : (ps : List Placed) (o : Offset) (x e : ℕ) → x ≡ start_of o e → ((j : ℕ) → Neighbours l j k → e ≡ placed_end (get_or ps j blank_placed))
+  begins-at : (ps : List Placed) (o : Option ParentOffset) (x e : ℕ) → x ≡ start_of o e → ((j : ℕ) → Neighbours l j k → e ≡ placed_end (get_or ps j blank_placed))
       → (((j : ℕ) → j < k → Siblings l j k → ⊥) → e ≡ 0) → BeginsAt l ps k o x
-  begins-at ps (GivenOffset o) x e q f g = q
-  begins-at ps OmittedOffset x e q f g = (λ j n. q ∙ f j n, λ n. q ∙ g n)
+  begins-at ps (Some o) x e q f g = q
+  begins-at ps None x e q f g = (λ j n. q ∙ f j n, λ n. q ∙ g n)
 
-  up-to : (p : Placed) (room : ℕ) (o : Offset) → Reaches p room (reach_of OmittedSize (Next o)) → o ≡ GivenOffset (record { 0 = placed_end p })
-  up-to p room (GivenOffset o) q = ap (λ (n : ℕ). GivenOffset (record { 0 = n })) (sym q)
-  up-to p room OmittedOffset q = absurd q
+  up-to : (p : Placed) (room : ℕ) (o : Option ParentOffset) → Reaches p room (reach_of None (Some o)) → o ≡ Some (record { 0 = placed_end p })
+  up-to p room (Some o) q = ap (λ (n : ℕ). Some (record { 0 = n })) (sym q)
+  up-to p room None q = absurd q
 
   -- by its next sibling
-  ends_at : (z : ℕ) (ps : List Placed) (n : Size) (p : Placed) (next : Sibling) (room : ℕ) → Reaches p room (reach_of n next)
-      → ((i : ℕ) → i < length l → Neighbours l k i → next ≡ Next (get_or l i blank_section).offset)
-      → (((i : ℕ) → k < i → i < length l → Siblings l i k → ⊥) → next ≡ Last) → room ≡ room_of z p.parent (take k ps) → EndsAt z l ps k n p
-  ends_at z ps (GivenSize n) p next room q f g e = q
-  ends_at z ps OmittedSize p next room q f g e = (
-    λ i h n. up-to p room _ (subst (λ (s : Sibling). Reaches p room (reach_of OmittedSize s)) (f i h n) q),
-    λ n. subst (λ (s : Sibling). Reaches p room (reach_of OmittedSize s)) (g n) q ∙ e,
+  ends_at : (z : ℕ) (ps : List Placed) (n : Option ℕ) (p : Placed) (next : Option (Option ParentOffset)) (room : ℕ) → Reaches p room (reach_of n next)
+      → ((i : ℕ) → i < length l → Neighbours l k i → next ≡ Some (get_or l i blank_section).offset)
+      → (((i : ℕ) → k < i → i < length l → Siblings l i k → ⊥) → next ≡ None) → room ≡ room_of z p.parent (take k ps) → EndsAt z l ps k n p
+  ends_at z ps (Some n) p next room q f g e = q
+  ends_at z ps None p next room q f g e = (
+    λ i h n. up-to p room _ (subst (λ (s : Option (Option ParentOffset)). Reaches p room (reach_of None s)) (f i h n) q),
+    λ n. subst (λ (s : Option (Option ParentOffset)). Reaches p room (reach_of None s)) (g n) q ∙ e,
   )
 
   -- its next sibling is the first of those after it with its parent
@@ -172,7 +168,7 @@ module _ (l : List Section) (k : ℕ) where
   length-after : length (drop (suc k) l) ≡ length l - suc k
   length-after = length-drop (suc k) l
 
-  next-is : (i : ℕ) → i < length l → Neighbours l k i → sibling_in (get_or l k blank_section).parent (drop (suc k) l) ≡ Next (get_or l i blank_section).offset
+  next-is : (i : ℕ) → i < length l → Neighbours l k i → sibling_in (get_or l k blank_section).parent (drop (suc k) l) ≡ Some (get_or l i blank_section).offset
   next-is i h n =
       let a = n.before in
       let m : suc k + (i - suc k) ≡ i = omega arith in
@@ -181,9 +177,9 @@ module _ (l : List Section) (k : ℕ) where
       next-first (get_or l k blank_section).parent (drop (suc k) l) (i - suc k) (omega (arith, length-after))
       (ap (λ (y : Section). y.parent) x ∙ sym n.siblings)
       (λ j g q. n.between (suc k + j) (omega arith) (omega arith) (sym (ap (λ (y : Section). y.parent) (after-k j)) ∙ (q ∙ n.siblings)))
-      ∙ ap (λ (y : Section). Next y.offset) x
+      ∙ ap (λ (y : Section). Some y.offset) x
 
-  next_last : ((i : ℕ) → k < i → i < length l → Siblings l i k → ⊥) → sibling_in (get_or l k blank_section).parent (drop (suc k) l) ≡ Last
+  next_last : ((i : ℕ) → k < i → i < length l → Siblings l i k → ⊥) → sibling_in (get_or l k blank_section).parent (drop (suc k) l) ≡ None
   next_last f =
       next-none (get_or l k blank_section).parent (drop (suc k) l)
       (λ i h q. f (suc k + i) (omega arith) (omega (arith, length-after)) (sym (ap (λ (y : Section). y.parent) (after-k i)) ∙ q))
@@ -289,9 +285,9 @@ module _ (z : ℕ) (l : List Section) (ps : List Placed) (p : Placed)
       (λ k a. old k a (get_or l k blank_section).offset _ (f k a))
       (begins-at l (length ps) (ps ++ (p ∷ [])) h.offset p.offset.0 _ e last_end no_end)
     where
-      old : (k : ℕ) → k < length ps → (o : Offset) (x : ℕ) → BeginsAt l ps k o x → BeginsAt l (ps ++ (p ∷ [])) k o x
-      old k a (GivenOffset o) x t = t
-      old k a OmittedOffset x t = (λ j n. let b = n.before in rw (before ps p j (omega arith)) (t.0 j n), t.1)
+      old : (k : ℕ) → k < length ps → (o : Option ParentOffset) (x : ℕ) → BeginsAt l ps k o x → BeginsAt l (ps ++ (p ∷ [])) k o x
+      old k a (Some o) x t = t
+      old k a None x t = (λ j n. let b = n.before in rw (before ps p j (omega arith)) (t.0 j n), t.1)
 
   sizes-push : Reaches p (room_of z h.parent ps) (reach_in h (drop (suc (length ps)) l)) → p.parent ≡ h.parent
       → ((k : ℕ) → k < length ps → EndsAt z l ps k (get_or l k blank_section).size (get_or ps k blank_placed))
@@ -301,9 +297,9 @@ module _ (z : ℕ) (l : List Section) (ps : List Placed) (p : Placed)
       (ends_at l (length ps) z (ps ++ (p ∷ [])) h.size p _ (room_of z h.parent ps) r (next-is l (length ps)) (next_last l (length ps))
       (rw (take_at ps (p ∷ []) (length ps) refl, e)))
     where
-      old : (k : ℕ) → k < length ps → (n : Size) (q : Placed) → EndsAt z l ps k n q → EndsAt z l (ps ++ (p ∷ [])) k n q
-      old k a (GivenSize n) q t = t
-      old k a OmittedSize q t = (t.0, λ g. rw (take-append-le k ps (p ∷ []) (omega arith)) (t.1 g))
+      old : (k : ℕ) → k < length ps → (n : Option ℕ) (q : Placed) → EndsAt z l ps k n q → EndsAt z l (ps ++ (p ∷ [])) k n q
+      old k a (Some n) q t = t
+      old k a None q t = (t.0, λ g. rw (take-append-le k ps (p ∷ []) (omega arith)) (t.1 g))
 
 record Done (z : ℕ) (l : List Section) (ps : List Placed) : Type 0 where
   sized : Sized l (length ps)

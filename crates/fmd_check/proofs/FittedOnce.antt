@@ -1,4 +1,5 @@
 -- What holds of every resolution leaves no other one.
+use Rattle.std.specs.Prelude.{Option, Some, None}
 use mathlib.Core.Path.{◌≡◌, refl, sym, ap, ap₂, ◌∙◌}
 use mathlib.Core.Bool.{Bool, true, false}
 use mathlib.Core.Logic.{◌⊎◌, inl, inr}
@@ -13,10 +14,7 @@ use borrow.Author.Tests.{eqb-true, eqb-false}
 use Rattle.octets.proofs.Bools.{bool_cases}
 use Rattle.fmd_parse.specs.Trees.{blank_section}
 use Rattle.fmd_table.specs.Table.{blank_placed, offset_word}
-use Rattle.fmd_table.specs.declared.Offset.{Offset}
-use Rattle.fmd_table.specs.declared.Offset.TheVariants.{Given as GivenOffset, Omitted as OmittedOffset}
-use Rattle.fmd_table.specs.declared.Size.{Size}
-use Rattle.fmd_table.specs.declared.Size.TheVariants.{Given as GivenSize, Omitted as OmittedSize}
+use Rattle.fmd_table.specs.declared.ParentOffset.{ParentOffset}
 use Rattle.fmd_table.specs.declared.Section.{Section}
 use Rattle.fmd_table.specs.declared.Placed.{Placed}
 use Rattle.fmd_check.specs.Plans.{placed_end, room_of}
@@ -26,18 +24,18 @@ use Rattle.fmd_check.specs.Claims.{FittedOnce}
 -- ---- a section has a previous sibling or none, and a next one or none
 
 module _ (l : List Section) (k : ℕ) where
-  abbrev None : ℕ → ℕ → Type 0
-  None a b = (j : ℕ) → a ≤ j → j < b → Siblings l j k → ⊥
+  abbrev NoneAmong : ℕ → ℕ → Type 0
+  NoneAmong a b = (j : ℕ) → a ≤ j → j < b → Siblings l j k → ⊥
 
   -- one more that is none, in front or behind
-  none-front : (a b : ℕ) → None (suc a) b → (Siblings l a k → ⊥) → None a b
+  none-front : (a b : ℕ) → NoneAmong (suc a) b → (Siblings l a k → ⊥) → NoneAmong a b
   none-front a b f g j x y = by (eq-or-lt_of_le {n = a} {m = j} x)
     where
       by : (a ≡ j) ⊎ (a < j) → Siblings l j k → ⊥
       by (inl e) = rw (sym e) g
       by (inr e) = f j e y
 
-  none-behind : (a b : ℕ) → None a b → (Siblings l b k → ⊥) → None a (suc b)
+  none-behind : (a b : ℕ) → NoneAmong a b → (Siblings l b k → ⊥) → NoneAmong a (suc b)
   none-behind a b f g j x y = by (eq-or-lt_of_le {n = j} {m = b} (omega arith))
     where
       by : (j ≡ b) ⊎ (j < b) → Siblings l j k → ⊥
@@ -54,21 +52,21 @@ module _ (l : List Section) (k : ℕ) where
       by (inl q) = inl (eqb-true _ _ q)
       by (inr q) = inr (eqb-false _ _ q)
 
-  previous : (m : ℕ) → m ≤ k → None m k → ((j : ℕ) × Neighbours l j k) ⊎ None 0 k
+  previous : (m : ℕ) → m ≤ k → NoneAmong m k → ((j : ℕ) × Neighbours l j k) ⊎ NoneAmong 0 k
   previous zero h f = inr f
   previous (suc m) h f = by (previous m (omega arith)) (sibling-or-not m)
     where
-      by : (None m k → ((j : ℕ) × Neighbours l j k) ⊎ None 0 k) → Siblings l m k ⊎ (Siblings l m k → ⊥) → ((j : ℕ) × Neighbours l j k) ⊎ None 0 k
+      by : (NoneAmong m k → ((j : ℕ) × Neighbours l j k) ⊎ NoneAmong 0 k) → Siblings l m k ⊎ (Siblings l m k → ⊥) → ((j : ℕ) × Neighbours l j k) ⊎ NoneAmong 0 k
       by below (inl s) = inl (m, record { before = h; siblings = s; between = f })
       by below (inr s) = below (none-front m k f s)
 
   -- the n sections from i on are looked at
-  next : (n i : ℕ) → k < i → i + n ≡ length l → None (suc k) i → ((i : ℕ) × (i < length l) × Neighbours l k i) ⊎ None (suc k) (length l)
+  next : (n i : ℕ) → k < i → i + n ≡ length l → NoneAmong (suc k) i → ((i : ℕ) × (i < length l) × Neighbours l k i) ⊎ NoneAmong (suc k) (length l)
   next zero i h e f = let w : i ≡ length l = omega arith in inr (rw (sym w) f)
   next (suc n) i h e f = by (next n (suc i) (omega arith) (omega arith)) (sibling-or-not i)
     where
-      by : (None (suc k) (suc i) → ((i : ℕ) × (i < length l) × Neighbours l k i) ⊎ None (suc k) (length l))
-          → Siblings l i k ⊎ (Siblings l i k → ⊥) → ((i : ℕ) × (i < length l) × Neighbours l k i) ⊎ None (suc k) (length l)
+      by : (NoneAmong (suc k) (suc i) → ((i : ℕ) × (i < length l) × Neighbours l k i) ⊎ NoneAmong (suc k) (length l))
+          → Siblings l i k ⊎ (Siblings l i k → ⊥) → ((i : ℕ) × (i < length l) × Neighbours l k i) ⊎ NoneAmong (suc k) (length l)
       by above (inl s) = inl (i, omega arith, record { before = h; siblings = sym s; between = λ j x y t. f j x y (t ∙ s) })
       by above (inr s) = above (none-behind (suc k) i f s)
 
@@ -76,9 +74,9 @@ module _ (l : List Section) (k : ℕ) where
 
 module _ (z : ℕ) (l : List Section) (ps qs : List Placed) (k : ℕ) (h : k < length l) (same-before : (j : ℕ) → j < k
     → get_or ps j blank_placed ≡ get_or qs j blank_placed) where
-  begins-once : (o : Offset) (x y : ℕ) → BeginsAt l ps k o x → BeginsAt l qs k o y → x ≡ y
-  begins-once (GivenOffset o) x y a b = a ∙ sym b
-  begins-once OmittedOffset x y a b = by (previous l k k (omega arith) (λ j u v. absurd (omega arith)))
+  begins-once : (o : Option ParentOffset) (x y : ℕ) → BeginsAt l ps k o x → BeginsAt l qs k o y → x ≡ y
+  begins-once (Some o) x y a b = a ∙ sym b
+  begins-once None x y a b = by (previous l k k (omega arith) (λ j u v. absurd (omega arith)))
     where
       by : ((j : ℕ) × Neighbours l j k) ⊎ ((j : ℕ) → 0 ≤ j → j < k → Siblings l j k → ⊥) → x ≡ y
       by (inl (j, n)) = a.0 j n ∙ ap placed_end (same-before j n.before) ∙ sym (b.0 j n)
@@ -95,9 +93,9 @@ module _ (z : ℕ) (l : List Section) (ps qs : List Placed) (k : ℕ) (h : k < l
         let v : j < k = omega arith in
         get_or-take k ps j blank_placed v ∙ same-before j v ∙ sym (get_or-take k qs j blank_placed v)))
 
-    ends-once : (s : Size) (p q : Placed) → p.offset.0 ≡ q.offset.0 → p.parent ≡ q.parent → EndsAt z l ps k s p → EndsAt z l qs k s q → p.size ≡ q.size
-    ends-once (GivenSize n) p q e f a b = a ∙ sym b
-    ends-once OmittedSize p q e f a b = by (next l k (length l - suc k) (suc k) (omega arith) (omega arith) (λ j u v. absurd (omega arith)))
+    ends-once : (s : Option ℕ) (p q : Placed) → p.offset.0 ≡ q.offset.0 → p.parent ≡ q.parent → EndsAt z l ps k s p → EndsAt z l qs k s q → p.size ≡ q.size
+    ends-once (Some n) p q e f a b = a ∙ sym b
+    ends-once None p q e f a b = by (next l k (length l - suc k) (suc k) (omega arith) (omega arith) (λ j u v. absurd (omega arith)))
       where
         by : ((i : ℕ) × (i < length l) × Neighbours l k i) ⊎ ((j : ℕ) → suc k ≤ j → j < length l → Siblings l j k → ⊥) → p.size ≡ q.size
         by (inl (i, u, n)) = let w : placed_end p ≡ placed_end q = ap offset_word (sym (a.0 i u n) ∙ b.0 i u n) in omega arith

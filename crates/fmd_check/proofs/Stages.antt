@@ -1,4 +1,5 @@
 -- Laws of the rows of the whole list, one after the other.
+use Rattle.std.specs.Prelude.{Option, Some, None}
 use mathlib.Core.Path.{◌≡◌, refl, sym, ap, ◌∙◌}
 use mathlib.Core.Bool.{Bool, true, false}
 use mathlib.Core.List.{List, []}
@@ -12,8 +13,6 @@ use Rattle.fmd_table.specs.declared.Placed.{Placed}
 use Rattle.fmd_parse.specs.Trees.{blank_section}
 use Rattle.fmd_head.specs.declared.TextImage.{TextImage}
 use Rattle.fmd_parse.specs.Rows.{found_from, first_repeat, first_cbfs, undecided, first_undecided, fmap_in}
-use Rattle.fmd_parse.specs.declared.rows.Found.{Found}
-use Rattle.fmd_parse.specs.declared.rows.Found.TheVariants.{At, Nowhere}
 use Rattle.fmd_parse.proofs.RowLoops.{first-stop, first_done, first-from}
 use Rattle.fmd_check.specs.Plans.{Resolved, unfit, plan, resolve_from}
 use Rattle.fmd_check.specs.Fitted.{Sized}
@@ -31,50 +30,50 @@ module _ (s : List ℕ) (i : TextImage) (l : List Section) where
   unfolding check_from check_list
   whole = refl
 
-  at_name : (n k : ℕ) {f : Found} → f ≡ At k → fault n (named l k) ≡ fault n (fault_place l f)
+  at_name : (n k : ℕ) {f : Option ℕ} → f ≡ Some k → fault n (named l k) ≡ fault n (fault_place l f)
   at_name n k e = rw e
 
   module _ (r : Resolved) where
-    pub at-54 : (k : ℕ) → first_repeat s l ≡ At k → fault 54 (named l k) ≡ check_from 0 s i l r
+    pub at-54 : (k : ℕ) → first_repeat s l ≡ Some k → fault 54 (named l k) ≡ check_from 0 s i l r
     unfolding check_from pick_row
     at-54 k e = rw e (at_name 54 k e)
 
-    pub on-54 : first_repeat s l ≡ Nowhere → check_from 1 s i l r ≡ check_from 0 s i l r
+    pub on-54 : first_repeat s l ≡ None → check_from 1 s i l r ≡ check_from 0 s i l r
     unfolding check_from pick_row
     on-54 e = rw e
 
-    pub at-56 : (k : ℕ) → first_cbfs l ≡ At k → fault 56 (named l k) ≡ check_from 1 s i l r
+    pub at-56 : (k : ℕ) → first_cbfs l ≡ Some k → fault 56 (named l k) ≡ check_from 1 s i l r
     unfolding check_from pick_row
     at-56 k e = rw e (at_name 56 k e)
 
-    pub on-56 : first_cbfs l ≡ Nowhere → check_from 2 s i l r ≡ check_from 1 s i l r
+    pub on-56 : first_cbfs l ≡ None → check_from 2 s i l r ≡ check_from 1 s i l r
     unfolding check_from pick_row
     on-56 e = rw e
 
-    pub at-57 : (k : ℕ) → first_undecided l ≡ At k → fault 57 (named l k) ≡ check_from 2 s i l r
+    pub at-57 : (k : ℕ) → first_undecided l ≡ Some k → fault 57 (named l k) ≡ check_from 2 s i l r
     unfolding check_from pick_row
     at-57 k e = rw e (at_name 57 k e)
 
-  pub at-58 : (k : ℕ) → first_undecided l ≡ Nowhere → fault 58 (named l k) ≡ check_from 2 s i l (unfit k)
+  pub at-58 : (k : ℕ) → first_undecided l ≡ None → fault 58 (named l k) ≡ check_from 2 s i l (unfit k)
   unfolding check_from pick_row
   at-58 k e = rw e
 
   module _ (ps : List Placed) where
-    pub on-58 : first_undecided l ≡ Nowhere → check_from 4 s i l (plan ps) ≡ check_from 2 s i l (plan ps)
+    pub on-58 : first_undecided l ≡ None → check_from 4 s i l (plan ps) ≡ check_from 2 s i l (plan ps)
     unfolding check_from pick_row
     on-58 e = rw e
 
-    pub no-map : fmap_in s l ≡ Nowhere → fault 59 NoPlace ≡ check_from 4 s i l (plan ps)
+    pub no-map : fmap_in s l ≡ None → fault 59 NoPlace ≡ check_from 4 s i l (plan ps)
     unfolding check_from pick_row
-    no-map e = rw e (ap (λ (f : Found). fault 59 (fault_place l f)) (sym e))
+    no-map e = rw e (ap (λ (f : Option ℕ). fault 59 (fault_place l f)) (sym e))
 
-    pub bad-map : (k : ℕ) → fmap_in s l ≡ At k → no_map l ps (At k) ≡ true → fault 59 (named l k) ≡ check_from 4 s i l (plan ps)
+    pub bad-map : (k : ℕ) → fmap_in s l ≡ Some k → no_map l ps (Some k) ≡ true → fault 59 (named l k) ≡ check_from 4 s i l (plan ps)
     unfolding check_from pick_row
     bad-map k e q = rw (e, q) (at_name 59 k e)
 
-    pub good-map : (k : ℕ) → fmap_in s l ≡ At k → no_map l ps (At k) ≡ false → good i l ps k ≡ check_from 4 s i l (plan ps)
+    pub good-map : (k : ℕ) → fmap_in s l ≡ Some k → no_map l ps (Some k) ≡ false → good i l ps k ≡ check_from 4 s i l (plan ps)
     unfolding check_from pick_row
-    good-map k e q = rw (e, q) (ap (λ (f : Found). good i l ps (index_of f)) (sym e))
+    good-map k e q = rw (e, q) (ap (λ (f : Option ℕ). good i l ps (index_of f)) (sym e))
 
 -- ---- the first size undecided, where those below k are decided
 
@@ -83,10 +82,10 @@ module _ (l : List Section) (n k : ℕ) (m : length l ≡ n) where
   unfolding first_undecided
   from-here h d = rw m (first-from (undecided l) n k h d ∙ rw sub-zero)
 
-  pub unsized-here : k < n → Sized l k → undecided l k ≡ true → first_undecided l ≡ At k
+  pub unsized-here : k < n → Sized l k → undecided l k ≡ true → first_undecided l ≡ Some k
   unsized-here h d e = sym (first-stop (undecided l) n k h e ∙ from-here (omega arith) d)
 
-pub all-sized : (l : List Section) (n : ℕ) → length l ≡ n → Sized l n → first_undecided l ≡ Nowhere
+pub all-sized : (l : List Section) (n : ℕ) → length l ≡ n → Sized l n → first_undecided l ≡ None
 all-sized l n m d = sym (first_done (undecided l) n n (omega arith) ∙ from-here l n n m (omega arith) d)
 
 -- section k does not fit, and those up to it are decided: what is sought after it

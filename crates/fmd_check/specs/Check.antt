@@ -1,7 +1,7 @@
 -- R33: FMD: 1 (section list not 128 records), 50; then left to right, the first fault in the text; then over the whole list 54, 56, 57, 58, 59.
 -- Row 1 stands where a list is lent.
-use Rattle.std.specs.Prelude.{Bool, true, cond, List, [], ◌∷◌, ℕ, ltb, eqb, length, get_or}
-use Rattle.std.proofs.Math.Option.{Option, none, some}
+use Rattle.std.specs.Prelude.{Bool, true, cond, List, [], ◌∷◌, ℕ, ltb, eqb, length, get_or, Option, Some, None}
+use Rattle.std.proofs.Math.Option.{Option as Picked, none, some}
 use Rattle.octets.specs.Tests.{◌or◌}
 use Rattle.octets.specs.Rows.{Row, row, refusal}
 use Rattle.fmap_rules.specs.Map.{map_size}
@@ -13,8 +13,6 @@ use Rattle.fmd_parse.specs.Layouts.{Layout, layout, refused, layout_of}
 use Rattle.fmd_head.specs.Refusals.{number_of}
 use Rattle.fmd_head.specs.declared.TextImage.{TextImage}
 use Rattle.fmd_parse.specs.Rows.{is_found, first_repeat, first_cbfs, first_undecided, fmap_in, has_child}
-use Rattle.fmd_parse.specs.declared.rows.Found.{Found}
-use Rattle.fmd_parse.specs.declared.rows.Found.TheVariants.{At, Nowhere}
 use Rattle.fmd_check.specs.Plans.{Resolved, unfit, unsized, plan, resolve_from}
 use Rattle.fmd_check.specs.declared.FaultPlace.{FaultPlace}
 use Rattle.fmd_check.specs.declared.FaultPlace.TheVariants.{Byte, NoPlace}
@@ -29,10 +27,10 @@ pub data Checked : Type 0 where
 -- ---- over the whole list: the sections l of the text s, resolved as r
 
 -- R21: 58 .. section does not fit: the first
-abbrev pub first_unfit : Resolved → Found
-first_unfit (unfit k) = At k
-first_unfit (unsized k) = Nowhere
-first_unfit (plan ps) = Nowhere
+abbrev pub first_unfit : Resolved → Option ℕ
+first_unfit (unfit k) = Some k
+first_unfit (unsized k) = None
+first_unfit (plan ps) = None
 
 -- the places of the sections, where all have one
 abbrev pub places_of : Resolved → List Placed
@@ -41,9 +39,9 @@ places_of (unsized k) = []
 places_of (plan ps) = ps
 
 -- R22: 59: no section FMAP, or it has children or is too small
-abbrev pub no_map : List Section → List Placed → Found → Bool
-no_map l ps (At k) = has_child l k or ltb (get_or ps k blank_placed).size (map_size (length l))
-no_map l ps Nowhere = true
+abbrev pub no_map : List Section → List Placed → Option ℕ → Bool
+no_map l ps (Some k) = has_child l k or ltb (get_or ps k blank_placed).size (map_size (length l))
+no_map l ps None = true
 
 -- R33: .. then over the whole list 54, 56, 57, 58, 59. (R19) 54: section name used twice; (R20) 56: CBFS on a section with children; (R21) 57: size undecided
 abbrev pub list_rows : List ℕ → List Section → Resolved → List Row
@@ -56,7 +54,7 @@ list_rows s l r =
     ∷ []
 
 -- the section at fault: for 54 the first repeat of a name, for 56 to 58 the first that has the fault, for 59 section FMAP, if there is one
-abbrev pub at_fault : List ℕ → List Section → Resolved → ℕ → Found
+abbrev pub at_fault : List ℕ → List Section → Resolved → ℕ → Option ℕ
 at_fault s l r n =
     cond (eqb n 54) (first_repeat s l)
     (cond (eqb n 56) (first_cbfs l)
@@ -65,16 +63,16 @@ at_fault s l r n =
     (fmap_in s l))))
 
 -- the place of a section: its name's
-abbrev pub fault_place : List Section → Found → FaultPlace
-fault_place l (At k) = Byte (get_or l k blank_section).place
-fault_place l Nowhere = NoPlace
+abbrev pub fault_place : List Section → Option ℕ → FaultPlace
+fault_place l (Some k) = Byte (get_or l k blank_section).place
+fault_place l None = NoPlace
 
 -- the index of a section that was found
-abbrev pub index_of : Found → ℕ
-index_of (At k) = k
-index_of Nowhere = 0
+abbrev pub index_of : Option ℕ → ℕ
+index_of (Some k) = k
+index_of None = 0
 
-abbrev pub checked_by : List ℕ → TextImage → List Section → Resolved → Option ℕ → Checked
+abbrev pub checked_by : List ℕ → TextImage → List Section → Resolved → Picked ℕ → Checked
 checked_by s i l r (some n) = fault n (fault_place l (at_fault s l r n))
 checked_by s i l r none = good i l (places_of r) (index_of (fmap_in s l))
 

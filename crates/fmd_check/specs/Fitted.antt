@@ -1,11 +1,8 @@
 -- Offsets and sizes of a section list, said by siblings and parents and not by how they are found. Definitions only.
-use Rattle.std.specs.Prelude.{List, ◌≡◌, false, ℕ, ◌≤◌, ◌<◌, length, get_or, take}
-use Rattle.fmd_table.specs.declared.Offset.{Offset}
-use Rattle.fmd_table.specs.declared.Offset.TheVariants.{Given as GivenOffset, Omitted as OmittedOffset}
-use Rattle.fmd_table.specs.declared.Size.{Size}
-use Rattle.fmd_table.specs.declared.Size.TheVariants.{Given as GivenSize, Omitted as OmittedSize}
+use Rattle.std.specs.Prelude.{List, ◌≡◌, false, ℕ, ◌≤◌, ◌<◌, length, get_or, take, Option, Some, None}
 use Rattle.fmd_parse.specs.Trees.{blank_section}
 use Rattle.fmd_table.specs.Table.{blank_placed}
+use Rattle.fmd_table.specs.declared.ParentOffset.{ParentOffset}
 use Rattle.fmd_table.specs.declared.Section.{Section}
 use Rattle.fmd_table.specs.declared.Placed.{Placed}
 use Rattle.fmd_check.specs.Plans.{placed_end, room_of}
@@ -22,16 +19,16 @@ pub record Neighbours (l : List Section) (j k : ℕ) : Type 0 where
   pub between : (i : ℕ) → j < i → i < k → Siblings l i k → ⊥
 
 -- L12: A missing offset is the previous sibling's end, 0 for the first. Section k begins at x.
-abbrev pub BeginsAt : List Section → List Placed → ℕ → Offset → ℕ → Type 0
-BeginsAt l ps k (GivenOffset o) x = x ≡ o.0
-BeginsAt l ps k OmittedOffset x =
+abbrev pub BeginsAt : List Section → List Placed → ℕ → Option ParentOffset → ℕ → Type 0
+BeginsAt l ps k (Some o) x = x ≡ o.0
+BeginsAt l ps k None x =
     ((j : ℕ) → Neighbours l j k → x ≡ placed_end (get_or ps j blank_placed)) × (((j : ℕ) → j < k → Siblings l j k → ⊥) → x ≡ 0)
 
 -- L13: A missing size reaches to the next sibling's given offset, for the last sibling to the parent's end. Section k is placed as p.
-abbrev pub EndsAt : ℕ → List Section → List Placed → ℕ → Size → Placed → Type 0
-EndsAt z l ps k (GivenSize n) p = p.size ≡ n
-EndsAt z l ps k OmittedSize p =
-    ((i : ℕ) → i < length l → Neighbours l k i → (get_or l i blank_section).offset ≡ GivenOffset (record { 0 = placed_end p }))
+abbrev pub EndsAt : ℕ → List Section → List Placed → ℕ → Option ℕ → Placed → Type 0
+EndsAt z l ps k (Some n) p = p.size ≡ n
+EndsAt z l ps k None p =
+    ((i : ℕ) → i < length l → Neighbours l k i → (get_or l i blank_section).offset ≡ Some (record { 0 = placed_end p }))
     × (((i : ℕ) → k < i → i < length l → Siblings l i k → ⊥) → placed_end p ≡ room_of z p.parent (take k ps))
 
 -- L14: Sizes are at least 1, siblings ascend without overlap and end within the parent. The section p at the index k.

@@ -1,9 +1,8 @@
 -- Offsets and sizes of the sections, in the text's order, or the first section that does not fit (58).
-use Rattle.std.specs.Prelude.{Bool, cond, List, [], ◌∷◌, ◌++◌, ℕ, ◌+◌, ◌-◌, ltb, leb, eqb, length, get_or}
+use Rattle.std.specs.Prelude.{Bool, cond, List, [], ◌∷◌, ◌++◌, ℕ, ◌+◌, ◌-◌, ltb, leb, eqb, length, get_or, Option, Some, None}
 use Rattle.octets.specs.Tests.{◌and◌}
 use Rattle.fmd_table.specs.Table.{blank_placed}
-use Rattle.fmd_table.specs.declared.Offset.{Offset}
-use Rattle.fmd_table.specs.declared.Offset.TheVariants.{Given as GivenOffset, Omitted as OmittedOffset}
+use Rattle.fmd_table.specs.declared.ParentOffset.{ParentOffset}
 use Rattle.fmd_table.specs.declared.Section.{Section}
 use Rattle.fmd_table.specs.declared.Placed.{Placed}
 use Rattle.fmd_parse.specs.Rows.{sibling_in, reach_of}
@@ -32,9 +31,9 @@ unfoldable pub room_of : ℕ → ℕ → List Placed → ℕ
 room_of z par ps = cond (ltb par (length ps)) (get_or ps par blank_placed).size z
 
 -- L12: A missing offset is the previous sibling's end, 0 for the first.
-abbrev pub start_of : Offset → ℕ → ℕ
-start_of (GivenOffset o) e = o.0
-start_of OmittedOffset e = e
+abbrev pub start_of : Option ParentOffset → ℕ → ℕ
+start_of (Some o) e = o.0
+start_of None e = e
 
 -- L14: Sizes are at least 1, siblings ascend without overlap and end within the parent, else 58.
 unfoldable pub fits : ℕ → ℕ → ℕ → ℕ → Bool

@@ -16,7 +16,6 @@ ghost use Rattle.fmd_check.specs.Invariants.{check_from};
 use crate::plan::Resolution;
 use fmd_head::{Refusal, TextImage};
 use fmd_parse::LayoutAnswer;
-use fmd_parse::rows::Found;
 use fmd_table::row_at;
 
 pub mod areas; // areas.rt: the sections as areas of a map
@@ -48,7 +47,7 @@ fn fault_at(refusal: Refusal, rows: &[u32], n: usize, k: usize) -> Verdict
 // Section k has children, or is too small for a map.
 fn no_map(rows: &[u32], spots: &[u32], n: usize, k: usize) -> bool
     requires { HasRows n rows.now × HasSpots n spots.now × Linked n rows.now × (k < n) }
-    ensures { result ≡ no_map (sections_in n rows.now) (placed_in n spots.now) (Found.At k) }
+    ensures { result ≡ no_map (sections_in n rows.now) (placed_in n spots.now) (Some k) }
 {
     if fmd_parse::rows::has_child(rows, n, k) {
         return true;
@@ -64,8 +63,8 @@ fn check_map(text: &[u8], i: TextImage, rows: &[u32], spots: &[u32], n: usize) -
         ≡ check_from 4 text.now i (sections_in n rows.now) (plan (placed_in n spots.now)) }
 {
     match fmd_parse::rows::find_fmap(text, rows, n) {
-        Found::Nowhere => Verdict::Fault(Refusal::NoMapSection, FaultPlace::NoPlace),
-        Found::At(k) => {
+        None => Verdict::Fault(Refusal::NoMapSection, FaultPlace::NoPlace),
+        Some(k) => {
             if no_map(rows, spots, n, k) {
                 return fault_at(Refusal::NoMapSection, rows, n, k);
             }
@@ -81,8 +80,8 @@ fn unfit_at(rows: &[u32], n: usize, k: usize) -> Verdict
         ≡ check_from 2 s i (sections_in n rows.now) (unfit k) }
 {
     match fmd_parse::rows::first_undecided(rows, n, k + 1) {
-        Found::At(j) => fault_at(Refusal::Undecided, rows, n, j),
-        Found::Nowhere => fault_at(Refusal::Unfit, rows, n, k),
+        Some(j) => fault_at(Refusal::Undecided, rows, n, j),
+        None => fault_at(Refusal::Unfit, rows, n, k),
     }
 }
 
@@ -106,8 +105,8 @@ fn check_marks(text: &[u8], i: TextImage, rows: &[u32], spots: &mut [u32], n: us
         ≡ check_from 1 text.now i (sections_in n rows.now) (resolve_from i.size [] (sections_in n rows.now)) }
 {
     match fmd_parse::rows::first_cbfs(rows, n) {
-        Found::At(k) => fault_at(Refusal::BadFlag, rows, n, k),
-        Found::Nowhere => check_places(text, i, rows, spots, n),
+        Some(k) => fault_at(Refusal::BadFlag, rows, n, k),
+        None => check_places(text, i, rows, spots, n),
     }
 }
 
@@ -118,8 +117,8 @@ fn check_list(text: &[u8], i: TextImage, rows: &[u32], spots: &mut [u32], n: usi
         ≡ check_from 0 text.now i (sections_in n rows.now) (resolve_from i.size [] (sections_in n rows.now)) }
 {
     match fmd_parse::rows::first_repeat(text, rows, n) {
-        Found::At(k) => fault_at(Refusal::NameTwice, rows, n, k),
-        Found::Nowhere => check_marks(text, i, rows, spots, n),
+        Some(k) => fault_at(Refusal::NameTwice, rows, n, k),
+        None => check_marks(text, i, rows, spots, n),
     }
 }
 

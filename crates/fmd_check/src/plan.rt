@@ -6,7 +6,7 @@ ghost use Rattle.fmd_parse.specs.Trees.{blank_section};
 ghost use Rattle.fmd_check.specs.Plans.{sibling_end, room_of, start_of, spot_of, spot_in, spot_for, resolve_from, resolved_by};
 
 use fmd_parse::rows::Reach;
-use fmd_table::{Offset, ParentOffset, Placed, Section, placed_at, put_placed, row_at};
+use fmd_table::{ParentOffset, Placed, Section, placed_at, put_placed, row_at};
 
 // A section at its place; or that it does not fit, or has no size.
 #[derive(Clone, Copy)]
@@ -54,13 +54,13 @@ fn room_of(spots: &[u32], k: usize, parent: u32, size: u32) -> u32
     size
 }
 
-fn start_of(o: Offset, e: u64) -> u64
+fn start_of(o: Option<ParentOffset>, e: u64) -> u64
     requires { e ≤ 8589934590 }
     ensures { (result ≡ start_of o e) × (result ≤ 8589934590) }
 {
     match o {
-        Offset::Given(n) => n.0 as u64,
-        Offset::Omitted => e,
+        Some(n) => n.0 as u64,
+        None => e,
     }
 }
 

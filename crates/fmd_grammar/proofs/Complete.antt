@@ -1,4 +1,5 @@
 -- What derives is read.
+use Rattle.std.specs.Prelude.{Option, None}
 use mathlib.Core.Path.{◌≡◌, refl, ap, subst, ◌∙◌}
 use mathlib.Core.Bool.{Bool, true, false, cond}
 use mathlib.Core.List.{List, [], ◌∷◌, ◌++◌, append_assoc}
@@ -18,13 +19,8 @@ use Rattle.fmd_lex.specs.Numbers.{scaled_after, number_in}
 use Rattle.fmd_lex.specs.Names.{good_name, flag_of}
 use Rattle.fmd_lex.specs.declared.Number.{Number}
 use Rattle.fmd_lex.specs.declared.Number.TheVariants.{Value, Wrong}
-use Rattle.fmd_table.specs.declared.Offset.{Offset}
-use Rattle.fmd_table.specs.declared.Offset.TheVariants.{Omitted as OmittedOffset}
-use Rattle.fmd_table.specs.declared.Size.{Size}
-use Rattle.fmd_table.specs.declared.Size.TheVariants.{Omitted as OmittedSize}
+use Rattle.fmd_table.specs.declared.ParentOffset.{ParentOffset}
 use Rattle.fmd_table.specs.declared.Section.{Section}
-use Rattle.fmd_head.specs.declared.Address.{Address}
-use Rattle.fmd_head.specs.declared.Address.TheVariants.{Omitted}
 use Rattle.fmd_head.specs.declared.TextImage.{TextImage}
 use Rattle.fmd_grammar.specs.Grammar.{Lexeme, word, sign, OptionalFlags, no_flags, only_cbfs, only_preserve, cbfs_preserve, preserve_cbfs, OptionalOffset}
 use Rattle.fmd_grammar.specs.Grammar.{no_offset, offset, OptionalSize, no_size, size, SectionTree, section, no_braces, braces, SectionList, one, more}
@@ -125,15 +121,15 @@ ends-left [] e = e
 ends-left (word p w ∷ ts) e = tt
 ends-left (sign p k ∷ ts) e = e.0
 
-sizes-at : {zs : List Lexeme} {z : Size} → OptionalSize zs z → (us : List Lexeme) → Ends us → Lacks 64 (zs ++ us)
+sizes-at : {zs : List Lexeme} {z : Option ℕ} → OptionalSize zs z → (us : List Lexeme) → Ends us → Lacks 64 (zs ++ us)
 sizes-at no_size us e = ends_at us e
 sizes-at (size n) us e = tt
 
-sizes-left : {zs : List Lexeme} {z : Size} → OptionalSize zs z → (us : List Lexeme) → Ends us → Lacks 40 (zs ++ us)
+sizes-left : {zs : List Lexeme} {z : Option ℕ} → OptionalSize zs z → (us : List Lexeme) → Ends us → Lacks 40 (zs ++ us)
 sizes-left no_size us e = ends-left us e
 sizes-left (size n) us e = tt
 
-offsets-left : {os : List Lexeme} {o : Offset} → OptionalOffset os o → (us : List Lexeme) → Lacks 40 us → Lacks 40 (os ++ us)
+offsets-left : {os : List Lexeme} {o : Option ParentOffset} → OptionalOffset os o → (us : List Lexeme) → Lacks 40 us → Lacks 40 (os ++ us)
 offsets-left no_offset us e = e
 offsets-left (offset n) us e = refl
 
@@ -146,7 +142,7 @@ unsigned k q r (sign p j ∷ ts) e = rw e
 
 module _ (p n lv par : ℕ) where
   flags-complete : {fs : List Lexeme} {c v : Bool} → OptionalFlags fs c v → (us : List Lexeme) → Lacks 40 us
-      → flags_p (built p n lv par false false OmittedOffset OmittedSize) (fs ++ us) ≡ ok (built p n lv par c v OmittedOffset OmittedSize) us
+      → flags_p (built p n lv par false false None None) (fs ++ us) ≡ ok (built p n lv par c v None None) us
   unfolding flags_p other_p last_p flag_of same ◌and◌
   flags-complete no_flags us e = unsigned 40 _ _ us e
   flags-complete only_cbfs us e = refl
@@ -155,20 +151,20 @@ module _ (p n lv par : ℕ) where
   flags-complete preserve_cbfs us e = refl
 
   module _ (c v : Bool) where
-    offset-complete : {os : List Lexeme} {o : Offset} → OptionalOffset os o → (us : List Lexeme) → Lacks 64 us
-        → offset_p (built p n lv par c v OmittedOffset OmittedSize) (os ++ us) ≡ ok (built p n lv par c v o OmittedSize) us
+    offset-complete : {os : List Lexeme} {o : Option ParentOffset} → OptionalOffset os o → (us : List Lexeme) → Lacks 64 us
+        → offset_p (built p n lv par c v None None) (os ++ us) ≡ ok (built p n lv par c v o None) us
     unfolding offset_p
     offset-complete no_offset us e = unsigned 64 _ _ us e
     offset-complete (offset m) us e = rw m
 
-    size-complete : (o : Offset) {zs : List Lexeme} {z : Size} → OptionalSize zs z → (us : List Lexeme) → Ends us
-        → item (size_act (built p n lv par c v o OmittedSize)) (zs ++ us) ≡ ok (built p n lv par c v o z) us
+    size-complete : (o : Option ParentOffset) {zs : List Lexeme} {z : Option ℕ} → OptionalSize zs z → (us : List Lexeme) → Ends us
+        → item (size_act (built p n lv par c v o None)) (zs ++ us) ≡ ok (built p n lv par c v o z) us
     size-complete o no_size [] e = absurd e
     size-complete o no_size (word q w ∷ us) e = rw (name-digit w e)
     size-complete o no_size (sign q k ∷ us) e = refl
     size-complete o (size {w} m) us e = rw (number-digit w m, m)
 
-head-complete : (lv par k p : ℕ) (w : List ℕ) {fs os zs : List Lexeme} {c v : Bool} {o : Offset} {z : Size} → good_name w ≡ true → k < 128 → lv ≤ 8
+head-complete : (lv par k p : ℕ) (w : List ℕ) {fs os zs : List Lexeme} {c v : Bool} {o : Option ParentOffset} {z : Option ℕ} → good_name w ≡ true → k < 128 → lv ≤ 8
     → OptionalFlags fs c v → OptionalOffset os o → OptionalSize zs z → (us : List Lexeme) → Ends us
     → head_p lv par k (word p w ∷ (fs ++ (os ++ (zs ++ us)))) ≡ ok (built p (length w) lv par c v o z) us
 unfolding head_p
@@ -207,7 +203,7 @@ unfolding list_p
 list-more f lv par l m ts us s e = rw e (unsigned 125 _ _ us (starts-lack us s))
 
 -- a section up to its braces
-section-opens : (f : ℕ) (lv par k p : ℕ) (w : List ℕ) {fs os zs : List Lexeme} (bs : List Lexeme) {c v : Bool} {o : Offset} {z : Size} → good_name w ≡ true →
+section-opens : (f : ℕ) (lv par k p : ℕ) (w : List ℕ) {fs os zs : List Lexeme} (bs : List Lexeme) {c v : Bool} {o : Option ParentOffset} {z : Option ℕ} → good_name w ≡ true →
     k < 128 → lv ≤ 8
     → OptionalFlags fs c v → OptionalOffset os o → OptionalSize zs z → (l : List Section) (us : List Lexeme) → length l ≡ k → Ends (bs ++ us)
     → section_p (suc f) lv par l ((word p w ∷ (fs ++ (os ++ (zs ++ bs)))) ++ us)
@@ -255,13 +251,13 @@ mutual
 
 -- ---- the image, the whole
 
-addresses-complete : {os : List Lexeme} {d : Address} (p n : ℕ) → OptionalAddress os d → (us : List Lexeme) → Lacks 64 us
-    → address_p (record { address = Omitted; size = 0; place = p; length = n }) (os ++ us) ≡ ok (record { address = d; size = 0; place = p; length = n }) us
+addresses-complete : {os : List Lexeme} {d : Option ℕ} (p n : ℕ) → OptionalAddress os d → (us : List Lexeme) → Lacks 64 us
+    → address_p (record { address = None; size = 0; place = p; length = n }) (os ++ us) ≡ ok (record { address = d; size = 0; place = p; length = n }) us
 unfolding address_p
 addresses-complete p n no_address us e = unsigned 64 _ _ us e
 addresses-complete p n (address m) us e = rw m
 
-image-complete : {os : List Lexeme} {d : Address} (p n q a : ℕ) (w v : List ℕ) → good_name w ≡ true → OptionalAddress os d → number_in v ≡ Value n → 98 ≤ n →
+image-complete : {os : List Lexeme} {d : Option ℕ} (p n q a : ℕ) (w v : List ℕ) → good_name w ≡ true → OptionalAddress os d → number_in v ≡ Value n → 98 ≤ n →
     n ≤ 16777216
     → (us : List Lexeme) → image_p (word p w ∷ (os ++ (word q v ∷ sign a 123 ∷ us))) ≡ ok (record { address = d; size = n; place = p; length = length w }) us
 unfolding image_p

@@ -1,4 +1,5 @@
 -- The parsers of a section up to its braces are good.
+use Rattle.std.specs.Prelude.{Option, Some, None}
 use mathlib.Core.Path.{◌≡◌, refl, sym, ap, subst, ◌∙◌}
 use mathlib.Core.Logic.{◌⊎◌, inl, inr}
 use mathlib.Core.Bool.{Bool, true, false, cond, not}
@@ -21,10 +22,7 @@ use Rattle.fmd_lex.specs.declared.Number.{Number}
 use Rattle.fmd_lex.specs.declared.Number.TheVariants.{Value, Wrong}
 use Rattle.fmd_lex.specs.declared.Flag.{Flag}
 use Rattle.fmd_lex.specs.declared.Flag.TheVariants.{Cbfs, Preserve, Unknown}
-use Rattle.fmd_table.specs.declared.Offset.{Offset}
-use Rattle.fmd_table.specs.declared.Offset.TheVariants.{Given as GivenOffset, Omitted as OmittedOffset}
-use Rattle.fmd_table.specs.declared.Size.{Size}
-use Rattle.fmd_table.specs.declared.Size.TheVariants.{Given as GivenSize, Omitted as OmittedSize}
+use Rattle.fmd_table.specs.declared.ParentOffset.{ParentOffset}
 use Rattle.fmd_table.specs.declared.Section.{Section}
 use Rattle.fmd_head.specs.Heads.{set_cbfs, set_preserve, set_offset, set_size}
 use Rattle.fmd_grammar.specs.Grammar.{Lexeme, word, sign, OptionalFlags, no_flags, only_cbfs, only_preserve, cbfs_preserve, preserve_cbfs, OptionalOffset}
@@ -116,7 +114,7 @@ FlagsOn own = (us : List Lexeme) × (c : Bool) × (v : Bool) × OptionalFlags (o
 
 module _ (p n lv par : ℕ) where
   abbrev h : Bool → Bool → Section
-  h c v = built p n lv par c v OmittedOffset OmittedSize
+  h c v = built p n lv par c v None None
 
   -- after the tokens o, which are ( and both flags
   last-good : (o : List Lexeme) → ((c : ℕ) → OptionalFlags (o ++ (sign c 41 ∷ [])) true true)
@@ -186,10 +184,10 @@ module _ (p n lv par : ℕ) where
 -- an offset begins so, and a size after it
 abbrev pub OffsetsOn : List Lexeme → Type 0
 OffsetsOn own =
-    (us : List Lexeme) × (o : Offset) × (z : Size) × (os : List Lexeme) × (zs : List Lexeme) × OptionalOffset os o × OptionalSize zs z × (own ++ us ≡ os ++ zs)
+    (us : List Lexeme) × (o : Option ParentOffset) × (z : Option ℕ) × (os : List Lexeme) × (zs : List Lexeme) × OptionalOffset os o × OptionalSize zs z × (own ++ us ≡ os ++ zs)
 
 abbrev pub SizesOn : List Lexeme → Type 0
-SizesOn own = (us : List Lexeme) × (z : Size) × OptionalSize (own ++ us) z
+SizesOn own = (us : List Lexeme) × (z : Option ℕ) × OptionalSize (own ++ us) z
 
 -- L7: .. a word beginning with a digit is its size.
 size-steady : (h : Section) → Steady (size_act h)
@@ -201,45 +199,45 @@ size-steady h p w v d = go (digital w) refl (number_in w)
     go true e Wrong = λ c. rw (sym d ∙ e) (wrong-follows (λ k. eat (set_size k h)) v c)
 
 module _ (p n lv par : ℕ) (c v : Bool) where
-  pub offset-good : Good (Placed p n lv par c v) OffsetsOn (offset_p (built p n lv par c v OmittedOffset OmittedSize))
-      (λ e. offset_p (built p n lv par c v OmittedOffset OmittedSize))
+  pub offset-good : Good (Placed p n lv par c v) OffsetsOn (offset_p (built p n lv par c v None None))
+      (λ e. offset_p (built p n lv par c v None None))
   unfolding offset_p
   offset-good =
-      let h = built p n lv par c v OmittedOffset OmittedSize in
+      let h = built p n lv par c v None None in
       let q : Parser Section = bind (item number_act) (λ m. ret (set_offset m h)) in
       sign-good 64 q (λ e. q) (ret h) (λ e. ret h)
       (λ a. bind-good {F = Numbered} (item number_act) (λ e. item number_act) (λ m. ret (set_offset m h)) (λ e. λ m. ret (set_offset m h))
       (item-good number_act number-steady (number-fine (λ (us : List Lexeme). OffsetsOn (sign a 64 ∷ us))
-      (word 0 (ascii "98") ∷ [], GivenOffset (record { 0 = 98 }), OmittedSize, sign a 64 ∷ word 0 (ascii "98") ∷ [], [], offset ninety-eight, no_size, refl)
+      (word 0 (ascii "98") ∷ [], Some (record { 0 = 98 }), None, sign a 64 ∷ word 0 (ascii "98") ∷ [], [], offset ninety-eight, no_size, refl)
       (λ q. (
         [],
-        GivenOffset (record { 0 = 98 }),
-        GivenSize 98,
+        Some (record { 0 = 98 }),
+        Some 98,
         sign a 64 ∷ word q (ascii "98") ∷ [],
         word 0 (ascii "98") ∷ [],
         offset ninety-eight,
         size ninety-eight,
         refl,
       ))))
-      (λ own m f. rw f.2 (ret-good (set_offset m h) (GivenOffset (record { 0 = m }), offset f.3, refl))))
-      (ret-good h (OmittedOffset, no_offset, refl))
+      (λ own m f. rw f.2 (ret-good (set_offset m h) (Some (record { 0 = m }), offset f.3, refl))))
+      (ret-good h (None, no_offset, refl))
 
-  pub size-good : (o : Offset) → Good (Sized p n lv par c v o) SizesOn (item (size_act (built p n lv par c v o OmittedSize)))
-      (λ e. item (size_act (built p n lv par c v o OmittedSize)))
-  size-good o = item-good (size_act (built p n lv par c v o OmittedSize)) (size-steady (built p n lv par c v o OmittedSize)) fine
+  pub size-good : (o : Option ParentOffset) → Good (Sized p n lv par c v o) SizesOn (item (size_act (built p n lv par c v o None)))
+      (λ e. item (size_act (built p n lv par c v o None)))
+  size-good o = item-good (size_act (built p n lv par c v o None)) (size-steady (built p n lv par c v o None)) fine
     where
       h : Section
-      h = built p n lv par c v o OmittedSize
+      h = built p n lv par c v o None
 
       by_number : (q : ℕ) (w : List ℕ) (b : Bool) → is_digit (get_or w 0 0) ≡ b → (m : Number) → number_in w ≡ m
-          → Fine (Sized p n lv par c v o) SizesOn (word q w) (cond b (valued m (λ k. eat (set_size k (built p n lv par c v o OmittedSize))))
-          (leave (built p n lv par c v o OmittedSize)))
-      by_number q w false d m e = (OmittedSize, no_size, refl)
-      by_number q w true d (Value m) e = (GivenSize m, size e, refl)
-      by_number q w true d Wrong e = (bad_size d e ([], GivenSize 98, size ninety-eight), ([], OmittedSize, no_size))
+          → Fine (Sized p n lv par c v o) SizesOn (word q w) (cond b (valued m (λ k. eat (set_size k (built p n lv par c v o None))))
+          (leave (built p n lv par c v o None)))
+      by_number q w false d m e = (None, no_size, refl)
+      by_number q w true d (Value m) e = (Some m, size e, refl)
+      by_number q w true d Wrong e = (bad_size d e ([], Some 98, size ninety-eight), ([], None, no_size))
 
-      fine : (x : Lexeme) → Fine (Sized p n lv par c v o) SizesOn x (size_act (built p n lv par c v o OmittedSize) x)
-      fine (sign q k) = (OmittedSize, no_size, refl)
+      fine : (x : Lexeme) → Fine (Sized p n lv par c v o) SizesOn x (size_act (built p n lv par c v o None) x)
+      fine (sign q k) = (None, no_size, refl)
       fine (word q w) = by_number q w (is_digit (get_or w 0 0)) refl (number_in w) refl
 
 -- ---- the whole head
@@ -250,10 +248,10 @@ HeadOn lv par k own = (us : List Lexeme) × (x : Section) × Head 129 9 lv par k
 abbrev Named : ℕ → ℕ → ℕ → List Lexeme → Section → Type 0
 Named lv par k own x =
     (p : ℕ) × (w : List ℕ) × (own ≡ word p w ∷ []) × (good_name w ≡ true) × (k < 128) × (lv ≤ 8)
-    × (x ≡ built p (length w) lv par false false OmittedOffset OmittedSize)
+    × (x ≡ built p (length w) lv par false false None None)
 
 module _ (lv par k : ℕ) where
-  headed : {most deepest p : ℕ} {w : List ℕ} {fs os zs : List Lexeme} {c v : Bool} {o : Offset} {z : Size} → good_name w ≡ true → k < most → lv ≤ deepest
+  headed : {most deepest p : ℕ} {w : List ℕ} {fs os zs : List Lexeme} {c v : Bool} {o : Option ParentOffset} {z : Option ℕ} → good_name w ≡ true → k < most → lv ≤ deepest
       → OptionalFlags fs c v → OptionalOffset os o → OptionalSize zs z → Head most deepest lv par k (word p w ∷ (fs ++ (os ++ zs)))
       (built p (length w) lv par c v o z)
   headed {most} {deepest} {p} {w} {fs} {os} {zs} {c} {v} {o} {z} g r d x y n =
@@ -296,7 +294,7 @@ module _ (lv par k : ℕ) where
       bad z (no_name e) = rw e
 
       go : (b e f : Bool)
-          → P (cond (not b) (stop 53) (cond e (stop 55) (cond f (stop 55) (eat (built p (length w) lv par false false OmittedOffset OmittedSize)))))
+          → P (cond (not b) (stop 53) (cond e (stop 55) (cond f (stop 55) (eat (built p (length w) lv par false false None None)))))
       go false e f = bad refl
       go true true f = many
       go true false true = many
@@ -314,7 +312,7 @@ module _ (lv par k : ℕ) where
 
       go : (b e f : Bool) → good_name w ≡ b → leb 128 k ≡ e → ltb 8 lv ≡ f
           → Fine (Named lv par k) (HeadOn lv par k) (word p w)
-          (cond (not b) (stop 53) (cond e (stop 55) (cond f (stop 55) (eat (built p (length w) lv par false false OmittedOffset OmittedSize)))))
+          (cond (not b) (stop 53) (cond e (stop 55) (cond f (stop 55) (eat (built p (length w) lv par false false None None)))))
       go false e f g x y = (bad_name g any, may)
       go true true f g x y = (too_many g any, may)
       go true false true g x y = (too_many g any, may)
@@ -331,9 +329,9 @@ module _ (lv par k : ℕ) where
 
       named : (p : ℕ) (w : List ℕ) → good_name w ≡ true → k < 128 → lv ≤ 8
           → Good (λ (us : List Lexeme) (x : Section). Head 128 8 lv par k (word p w ∷ us) x) (λ (us : List Lexeme). HeadOn lv par k (word p w ∷ us))
-          (K (built p (length w) lv par false false OmittedOffset OmittedSize)) (λ e. K (built p (length w) lv par false false OmittedOffset OmittedSize))
+          (K (built p (length w) lv par false false None None)) (λ e. K (built p (length w) lv par false false None None))
       named p w g m e =
-          bind-good {F = Flagged p n lv par} (flags_p (h false false OmittedOffset)) (λ e. flags_p (h false false OmittedOffset)) _ _
+          bind-good {F = Flagged p n lv par} (flags_p (h false false None)) (λ e. flags_p (h false false None)) _ _
           (map-good _ _ (λ ts x f. f)
           (λ ts f. (f.0, _, moved (append-nil (ts ++ f.0)) (headed g r d f.3 no_offset no_size)))
           (flags-good p n lv par))
@@ -342,8 +340,8 @@ module _ (lv par k : ℕ) where
           n : ℕ
           n = length w
 
-          h : Bool → Bool → Offset → Section
-          h c v o = built p n lv par c v o OmittedSize
+          h : Bool → Bool → Option ParentOffset → Section
+          h c v o = built p n lv par c v o None
 
           moved : {xs ys : List Lexeme} {x : Section} → xs ≡ ys → Head 129 9 lv par k (word p w ∷ xs) x → Head 129 9 lv par k (word p w ∷ ys) x
           moved {xs} {ys} {x} q = subst (λ (ts : List Lexeme). Head 129 9 lv par k (word p w ∷ ts) x) q
@@ -351,9 +349,9 @@ module _ (lv par k : ℕ) where
           flagged : (fs : List Lexeme) (c v : Bool) → OptionalFlags fs c v
               → Good (λ (us : List Lexeme) (x : Section). Head 128 8 lv par k (word p w ∷ (fs ++ us)) x)
               (λ (us : List Lexeme). HeadOn lv par k (word p w ∷ (fs ++ us)))
-              (bind (offset_p (h c v OmittedOffset)) (λ j. item (size_act j))) (λ e. bind (offset_p (h c v OmittedOffset)) (λ j. item (size_act j)))
+              (bind (offset_p (h c v None)) (λ j. item (size_act j))) (λ e. bind (offset_p (h c v None)) (λ j. item (size_act j)))
           flagged fs c v x =
-              bind-good {F = Placed p n lv par c v} (offset_p (h c v OmittedOffset)) (λ e. offset_p (h c v OmittedOffset)) _ _
+              bind-good {F = Placed p n lv par c v} (offset_p (h c v None)) (λ e. offset_p (h c v None)) _ _
               (map-good _ _ (λ ts i f. f)
               (λ ts f. (
                 f.0,

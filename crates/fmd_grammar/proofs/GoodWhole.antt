@@ -1,4 +1,5 @@
 -- The parsers of the image and of the whole are good.
+use Rattle.std.specs.Prelude.{Option, Some, None}
 use mathlib.Core.Path.{◌≡◌, refl, sym, ap, subst, ◌∙◌}
 use mathlib.Core.Bool.{Bool, true, false, cond, not}
 use mathlib.Core.List.{List, [], ◌∷◌, ◌++◌, append_assoc, append-nil}
@@ -16,14 +17,10 @@ use Rattle.fmd_lex.specs.declared.Number.{Number}
 use Rattle.fmd_lex.specs.declared.Number.TheVariants.{Value, Wrong}
 use Rattle.fmd_table.specs.declared.Section.{Section}
 use Rattle.fmd_head.specs.Images.{set_address, set_length}
-use Rattle.fmd_head.specs.declared.Address.{Address}
-use Rattle.fmd_head.specs.declared.Address.TheVariants.{Given, Omitted}
 use Rattle.fmd_head.specs.declared.TextImage.{TextImage}
 use Rattle.fmd_grammar.specs.Grammar.{Lexeme, word, sign, no_flags, no_offset, no_size, section, no_braces, SectionList, one, OptionalAddress, no_address}
 use Rattle.fmd_grammar.specs.Grammar.{address, LayoutText, image}
 use Rattle.fmd_grammar.specs.Claims.{Viable, Fault, unfit_sign, word_before_braces, word_after_braces, bad_image_size, bad_length, bad_name}
-use Rattle.fmd_table.specs.declared.Offset.TheVariants.{Omitted as OmittedOffset}
-use Rattle.fmd_table.specs.declared.Size.TheVariants.{Omitted as OmittedSize}
 use Rattle.fmd_grammar.proofs.Built.{built}
 use Rattle.fmd_grammar.proofs.Built.{pictured, Addressed}
 use Rattle.fmd_grammar.proofs.Parsers.{Parser, Act, stop, eat, item, ret, bind, valued, number_act, title_act, length_act, must_be, list_p, address_p}
@@ -37,7 +34,7 @@ use Rattle.fmd_grammar.proofs.GoodLists.{plus, ListSays, ListOn, list-good}
 abbrev tail : List Lexeme
 tail = word 0 (ascii "A") ∷ sign 0 125 ∷ sign 0 0 ∷ []
 
-lone : SectionList 129 9 1 128 0 (word 0 (ascii "A") ∷ []) (built 0 1 1 128 false false OmittedOffset OmittedSize ∷ [])
+lone : SectionList 129 9 1 128 0 (word 0 (ascii "A") ∷ []) (built 0 1 1 128 false false None None ∷ [])
 lone = one (section {level = 1} {before = 0} {name = ascii "A"} (letter 0 0 0) (omega arith) (omega arith) no_flags no_offset no_size no_braces)
 
 module _ {p : ℕ} {w : List ℕ} (g : good_name w ≡ true) where
@@ -46,26 +43,26 @@ module _ {p : ℕ} {w : List ℕ} (g : good_name w ≡ true) where
       (word p w ∷ ys)
   moved {xs} {i} {l} ys us e d = (us, i, l, subst (λ (ts : List Lexeme). LayoutText 129 9 (word p w ∷ ts) i l) e d)
 
-  address_on : {os : List Lexeme} {d : Address} → OptionalAddress os d
+  address_on : {os : List Lexeme} {d : Option ℕ} → OptionalAddress os d
       → (ts us : List Lexeme) → os ≡ ts ++ us → Viable (word p w ∷ ts)
   address_on {os} o ts us e =
       moved ts (us ++ (word 0 (ascii "98") ∷ sign 0 123 ∷ tail))
       (ap (λ (r : List Lexeme). r ++ (word 0 (ascii "98") ∷ sign 0 123 ∷ tail)) e ∙ append_assoc ts us (word 0 (ascii "98") ∷ sign 0 123 ∷ tail))
       (image 0 0 0 0 (ascii "98") g o ninety-eight (omega arith) (omega arith) lone)
 
-  length-on : {os : List Lexeme} {d : Address} → OptionalAddress os d → Viable (word p w ∷ (os ++ []))
+  length-on : {os : List Lexeme} {d : Option ℕ} → OptionalAddress os d → Viable (word p w ∷ (os ++ []))
   length-on {os} o =
       moved (os ++ []) (word 0 (ascii "98") ∷ sign 0 123 ∷ tail) (ap (λ (r : List Lexeme). r ++ (word 0 (ascii "98") ∷ sign 0 123 ∷ tail))
       (sym (append-nil os)))
       (image 0 0 0 0 (ascii "98") g o ninety-eight (omega arith) (omega arith) lone)
 
-  open-on : {os : List Lexeme} {d : Address} (q n : ℕ) (v : List ℕ) → OptionalAddress os d → number_in v ≡ Value n → 98 ≤ n → n ≤ 16777216 → Viable
+  open-on : {os : List Lexeme} {d : Option ℕ} (q n : ℕ) (v : List ℕ) → OptionalAddress os d → number_in v ≡ Value n → 98 ≤ n → n ≤ 16777216 → Viable
       (word p w ∷ (os ++ (word q v ∷ [])))
   open-on {os} q n v o m a b =
       moved (os ++ (word q v ∷ [])) (sign 0 123 ∷ tail) (sym (append_assoc os (word q v ∷ []) (sign 0 123 ∷ tail)))
       (image q 0 0 0 v g o m a b lone)
 
-  braces-on : {os : List Lexeme} {d : Address} (q n : ℕ) (v : List ℕ) → OptionalAddress os d → number_in v ≡ Value n → 98 ≤ n → n ≤ 16777216
+  braces-on : {os : List Lexeme} {d : Option ℕ} (q n : ℕ) (v : List ℕ) → OptionalAddress os d → number_in v ≡ Value n → 98 ≤ n → n ≤ 16777216
       → (c : ℕ) → Viable (word p w ∷ (os ++ (word q v ∷ sign c 123 ∷ tail)))
   braces-on {os} q n v o m a b c =
       moved (os ++ (word q v ∷ sign c 123 ∷ tail)) [] (sym (append-nil (os ++ (word q v ∷ sign c 123 ∷ tail)))) (image q c 0 0 v g o m a b lone)
@@ -81,7 +78,7 @@ pub record Front (own : List Lexeme) (i : TextImage) : Type 0 where
   pub w : List ℕ
   pub v : List ℕ
   pub os : List Lexeme
-  pub d : Address
+  pub d : Option ℕ
   pub good : good_name w ≡ true
   pub addresses : OptionalAddress os d
   pub number : number_in v ≡ Value n
@@ -91,15 +88,15 @@ pub record Front (own : List Lexeme) (i : TextImage) : Type 0 where
   pub says : i ≡ pictured p (length w) d n
 
 abbrev Titled : List Lexeme → TextImage → Type 0
-Titled own i = (p : ℕ) × (w : List ℕ) × (own ≡ word p w ∷ []) × (good_name w ≡ true) × (i ≡ pictured p (length w) Omitted 0)
+Titled own i = (p : ℕ) × (w : List ℕ) × (own ≡ word p w ∷ []) × (good_name w ≡ true) × (i ≡ pictured p (length w) None 0)
 
-abbrev Long : ℕ → ℕ → Address → List Lexeme → TextImage → Type 0
+abbrev Long : ℕ → ℕ → Option ℕ → List Lexeme → TextImage → Type 0
 Long p m d own i =
     (q : ℕ) × (v : List ℕ) × (n : ℕ) × (own ≡ word q v ∷ []) × (number_in v ≡ Value n) × (98 ≤ n) × (n ≤ 16777216) × (i ≡ pictured p m d n)
 
 an-image : (p : ℕ) (v : List ℕ) → good_name v ≡ true
-    → LayoutText 129 9 (word p v ∷ word 0 (ascii "98") ∷ sign 0 123 ∷ tail) (pictured p (length v) Omitted 98)
-    (built 0 1 1 128 false false OmittedOffset OmittedSize ∷ [])
+    → LayoutText 129 9 (word p v ∷ word 0 (ascii "98") ∷ sign 0 123 ∷ tail) (pictured p (length v) None 98)
+    (built 0 1 1 128 false false None None ∷ [])
 an-image p v h = image 0 0 0 0 (ascii "98") h no_address ninety-eight (omega arith) (omega arith) lone
 
 titled : Viable []
@@ -112,7 +109,7 @@ title-steady p w v d = go (good_name w)
     bad z (no_number e) = absurd (omega arith)
     bad z (no_name e) = rw e
 
-    go : (b : Bool) → Follow (cond (not b) (stop 53) (eat (pictured p (length w) Omitted 0))) v (title_act (word p v))
+    go : (b : Bool) → Follow (cond (not b) (stop 53) (eat (pictured p (length w) None 0))) v (title_act (word p v))
     go true = tt
     go false = bad refl
 
@@ -130,16 +127,16 @@ title-fine : (x : Lexeme) → Fine Titled Viable x (title_act x)
 title-fine (sign p k) = (unfit_sign, titled)
 title-fine (word p w) = go (good_name w) refl
   where
-    go : (b : Bool) → good_name w ≡ b → Fine Titled Viable (word p w) (cond (not b) (stop 53) (eat (pictured p (length w) Omitted 0)))
+    go : (b : Bool) → good_name w ≡ b → Fine Titled Viable (word p w) (cond (not b) (stop 53) (eat (pictured p (length w) None 0)))
     go true g = (p, w, refl, g, refl)
     go false g = (bad_name g (λ v h. (word 0 (ascii "98") ∷ sign 0 123 ∷ tail, _, _, an-image p v h)), titled)
 
 module _ (p : ℕ) (w : List ℕ) (g : good_name w ≡ true) where
-  address-good : Good (Addressed p (length w)) (λ (us : List Lexeme). Viable (word p w ∷ us)) (address_p (pictured p (length w) Omitted 0))
-      (λ e. address_p (pictured p (length w) Omitted 0))
+  address-good : Good (Addressed p (length w)) (λ (us : List Lexeme). Viable (word p w ∷ us)) (address_p (pictured p (length w) None 0))
+      (λ e. address_p (pictured p (length w) None 0))
   unfolding address_p
   address-good =
-      let i = pictured p (length w) Omitted 0 in
+      let i = pictured p (length w) None 0 in
       let q : Parser TextImage = bind (item number_act) (λ m. ret (set_address m i)) in
       sign-good 64 q (λ e. q) (ret i) (λ e. ret i)
       (λ a. bind-good {F = Numbered} (item number_act) (λ e. item number_act) (λ m. ret (set_address m i)) (λ e m. ret (set_address m i))
@@ -147,10 +144,10 @@ module _ (p : ℕ) (w : List ℕ) (g : good_name w ≡ true) where
       (number-fine (λ (us : List Lexeme). Viable (word p w ∷ (sign a 64 ∷ us)))
       (address_on g (address {a = a} {b = 0} ninety-eight) (sign a 64 ∷ []) (word 0 (ascii "98") ∷ []) refl)
       (λ q. open-on g 0 98 (ascii "98") (address {a = a} {b = q} ninety-eight) ninety-eight (omega arith) (omega arith))))
-      (λ own m f. rw f.2 (ret-good (set_address m i) (Given m, address f.3, refl))))
-      (ret-good i (Omitted, no_address, refl))
+      (λ own m f. rw f.2 (ret-good (set_address m i) (Some m, address f.3, refl))))
+      (ret-good i (None, no_address, refl))
 
-  module _ {os : List Lexeme} {d : Address} (o : OptionalAddress os d) where
+  module _ {os : List Lexeme} {d : Option ℕ} (o : OptionalAddress os d) where
     length-fine : (x : Lexeme) → Fine (Long p (length w) d) (λ (us : List Lexeme). Viable (word p w ∷ (os ++ us))) x (length_act (pictured p (length w) d 0) x)
     length-fine (sign q k) = (unfit_sign, length-on g o)
     length-fine (word q v) = go (number_in v) refl
@@ -191,7 +188,7 @@ image-good =
     J : TextImage → Parser TextImage
     J j = bind (item (length_act j)) (λ k. item (must_be 123 k))
 
-    addressed : (p : ℕ) (w : List ℕ) → good_name w ≡ true → (os : List Lexeme) (d : Address) → OptionalAddress os d
+    addressed : (p : ℕ) (w : List ℕ) → good_name w ≡ true → (os : List Lexeme) (d : Option ℕ) → OptionalAddress os d
         → Good (λ (us : List Lexeme) (i : TextImage). Front (word p w ∷ (os ++ us)) i) (λ (us : List Lexeme). Viable (word p w ∷ (os ++ us)))
         (J (pictured p (length w) d 0)) (λ e. J (pictured p (length w) d 0))
     addressed p w g os d o =
@@ -223,9 +220,9 @@ image-good =
 
     titled : (p : ℕ) (w : List ℕ) → good_name w ≡ true
         → Good (λ (us : List Lexeme) (i : TextImage). Front (word p w ∷ us) i) (λ (us : List Lexeme). Viable (word p w ∷ us))
-        (bind (address_p (pictured p (length w) Omitted 0)) J) (λ e. bind (address_p (pictured p (length w) Omitted 0)) J)
+        (bind (address_p (pictured p (length w) None 0)) J) (λ e. bind (address_p (pictured p (length w) None 0)) J)
     titled p w g =
-        bind-good {F = Addressed p (length w)} (address_p (pictured p (length w) Omitted 0)) (λ e. address_p (pictured p (length w) Omitted 0)) J (λ e. J)
+        bind-good {F = Addressed p (length w)} (address_p (pictured p (length w) None 0)) (λ e. address_p (pictured p (length w) None 0)) J (λ e. J)
         (address-good p w g)
         (λ os i f. rw f.2 (addressed p w g os f.0 f.1))
 

@@ -1,4 +1,5 @@
 -- The readers of a layout text over its tokens alone. Each is made of steps that look at one token, by `bind`.
+use Rattle.std.specs.Prelude.{None}
 use mathlib.Core.Bool.{Bool, true, false, cond, not}
 use mathlib.Core.List.{List, [], ◌∷◌, ◌++◌}
 use Prim.Native.Nat.{ℕ, zero, suc, ◌+◌}
@@ -12,12 +13,9 @@ use Rattle.fmd_lex.specs.declared.Number.{Number}
 use Rattle.fmd_lex.specs.declared.Number.TheVariants.{Value, Wrong}
 use Rattle.fmd_lex.specs.declared.Flag.{Flag}
 use Rattle.fmd_lex.specs.declared.Flag.TheVariants.{Cbfs, Preserve, Unknown}
-use Rattle.fmd_table.specs.declared.Offset.TheVariants.{Omitted as OmittedOffset}
-use Rattle.fmd_table.specs.declared.Size.TheVariants.{Omitted as OmittedSize}
 use Rattle.fmd_table.specs.declared.Section.{Section}
 use Rattle.fmd_head.specs.Heads.{set_cbfs, set_preserve, set_offset, set_size}
 use Rattle.fmd_head.specs.Images.{set_address, set_length}
-use Rattle.fmd_head.specs.declared.Address.TheVariants.{Omitted}
 use Rattle.fmd_head.specs.declared.TextImage.{TextImage}
 use Rattle.fmd_grammar.specs.Grammar.{Lexeme, word, sign}
 use Rattle.fmd_grammar.specs.Claims.{lexeme_place}
@@ -78,7 +76,7 @@ name_act lv par n (word p w) =
     cond (not (good_name w)) (stop 53)
     (cond (leb 128 n) (stop 55)
     (cond (ltb 8 lv) (stop 55)
-    (eat (record { offset = OmittedOffset; size = OmittedSize; place = p; length = length w; cbfs = false; preserve = false; parent = par; level = lv }))))
+    (eat (record { offset = None; size = None; place = p; length = length w; cbfs = false; preserve = false; parent = par; level = lv }))))
 name_act lv par n (sign p k) = stop 51
 
 abbrev pub flag_act : Section → Flag → Act Section
@@ -96,7 +94,7 @@ size_act h (sign p k) = leave h
 
 abbrev pub title_act : Lexeme → Act TextImage
 title_act (word p w) =
-    cond (not (good_name w)) (stop 53) (eat (record { address = Omitted; size = 0; place = p; length = length w }))
+    cond (not (good_name w)) (stop 53) (eat (record { address = None; size = 0; place = p; length = length w }))
 title_act (sign p k) = stop 51
 
 abbrev pub length_act : TextImage → Lexeme → Act TextImage

@@ -1,4 +1,5 @@
 -- The readers of a text answer what the readers of its tokens do.
+use Rattle.std.specs.Prelude.{None}
 use mathlib.Core.Path.{◌≡◌, refl, sym, ap, ◌∙◌}
 use mathlib.Core.Bool.{Bool, true, false, cond, not}
 use mathlib.Core.List.{List, [], ◌∷◌}
@@ -28,8 +29,6 @@ use Rattle.fmd_head.specs.declared.Amount.TheVariants.{Counted, Uncounted}
 use Rattle.fmd_head.specs.declared.HeadPart.{HeadPart}
 use Rattle.fmd_head.specs.declared.HeadPart.TheVariants.{Read, Fault}
 use Rattle.fmd_head.specs.Heads.{set_cbfs, set_preserve, set_size}
-use Rattle.fmd_table.specs.declared.Offset.TheVariants.{Omitted as OmittedOffset}
-use Rattle.fmd_table.specs.declared.Size.TheVariants.{Omitted as OmittedSize}
 use Rattle.fmd_grammar.proofs.Built.{built}
 use Rattle.fmd_grammar.specs.Grammar.{Lexeme, word, sign}
 use Rattle.fmd_grammar.proofs.Views.{View, Worded, as-word, as-sign, after-sign, name-length}
@@ -113,13 +112,13 @@ same_name {s} {t} (word p w ∷ xs) v lv par n =
   where
     by_rows : Worded s t p w xs → (b c d : Bool)
         → Parts s (cond (not b) (Fault BadName t.start) (cond c (Fault TooMany t.start) (cond d (Fault TooMany t.start) (Read (bare t lv par) (next s t)))))
-        (acted (cond (not b) (stop 53) (cond c (stop 55) (cond d (stop 55) (eat (built p (length w) lv par false false OmittedOffset OmittedSize)))))
+        (acted (cond (not b) (stop 53) (cond c (stop 55) (cond d (stop 55) (eat (built p (length w) lv par false false None None)))))
         (word p w) xs)
     by_rows a false c d = (refl, a.place)
     by_rows a true true d = (refl, a.place)
     by_rows a true false true = (refl, a.place)
     by_rows a true false false =
-        (λ i. built (a.place i) ((sym (name-length s t a.within) ∙ ap length a.bytes) i) lv par false false OmittedOffset OmittedSize, a.then)
+        (λ i. built (a.place i) ((sym (name-length s t a.within) ∙ ap length a.bytes) i) lv par false false None None, a.then)
 
 -- ---- signs, and one reader after another
 

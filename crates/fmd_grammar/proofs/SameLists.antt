@@ -1,4 +1,5 @@
 -- The readers of a text answer what the readers of its tokens do: sections, the image, the whole.
+use Rattle.std.specs.Prelude.{None}
 use mathlib.Core.Path.{◌≡◌, refl, sym, ap, subst, ◌∙◌}
 use mathlib.Core.Bool.{Bool, true, false, cond, not}
 use mathlib.Core.List.{List, [], ◌∷◌, ◌++◌}
@@ -21,7 +22,6 @@ use Rattle.fmd_head.specs.Images.{onward, title_at, set_address, with_address, a
 use Rattle.fmd_parse.specs.Layouts.{Parsed, fault, parsed, after_head, after_section, section_from, list_from}
 use Rattle.fmd_parse.specs.Layouts.{Layout, layout, refused, after_image, after_list, ended_by, layout_of}
 use Rattle.fmd_head.specs.declared.Refusal.TheVariants.{BadNumber, BadName}
-use Rattle.fmd_head.specs.declared.Address.TheVariants.{Omitted}
 use Rattle.fmd_head.specs.declared.Amount.{Amount}
 use Rattle.fmd_head.specs.declared.Amount.TheVariants.{Counted, Uncounted}
 use Rattle.fmd_head.specs.declared.HeadPart.{HeadPart}
@@ -92,7 +92,7 @@ image-then (FaultImage r p) (ok i us) f k w c = absurd w
 image-then (FaultImage r p) (no m q) f k w c = w
 
 abbrev pictured : ℕ → ℕ → TextImage
-pictured p n = record { address = Omitted; size = 0; place = p; length = n }
+pictured p n = record { address = None; size = 0; place = p; length = n }
 
 module _ {s : List ℕ} where
   same-title : {t : Token} (ts : List Lexeme) → View s t ts → Imaged s (title_at s t) (item title_act ts)

@@ -1,19 +1,14 @@
 -- The grammar of a layout text: what is to be believed of its reading. Each relation stands under the sentence that it renders (docs/TRACE.md).
 -- `X ts v`: the tokens ts, all of them and in this order, are an X, and v is what they say. No rule looks ahead, none is tried before another.
-use Rattle.std.specs.Prelude.{◌≡◌, Bool, true, false, cond, List, [], ◌∷◌, ◌++◌, ℕ, zero, suc, ◌+◌, ◌≤◌, ◌<◌, eqb, length}
+use Rattle.std.specs.Prelude.{◌≡◌, Bool, true, false, cond, List, [], ◌∷◌, ◌++◌, ℕ, zero, suc, ◌+◌, ◌≤◌, ◌<◌, eqb, length, Option, Some, None}
 use Prim.Native.Char.{code}
 use Rattle.fmd_lex.specs.Tokens.{end_kind, word_kind, token_at, token_bytes}
 use Rattle.fmd_lex.specs.Numbers.{number_in}
 use Rattle.fmd_lex.specs.Names.{good_name, cbfs, preserve}
 use Rattle.fmd_lex.specs.declared.Token.{Token}
 use Rattle.fmd_lex.specs.declared.Number.TheVariants.{Value}
-use Rattle.fmd_table.specs.declared.Offset.{Offset}
-use Rattle.fmd_table.specs.declared.Offset.TheVariants.{Given as GivenOffset, Omitted as OmittedOffset}
-use Rattle.fmd_table.specs.declared.Size.{Size}
-use Rattle.fmd_table.specs.declared.Size.TheVariants.{Given as GivenSize, Omitted as OmittedSize}
+use Rattle.fmd_table.specs.declared.ParentOffset.{ParentOffset}
 use Rattle.fmd_table.specs.declared.Section.{Section}
-use Rattle.fmd_head.specs.declared.Address.{Address}
-use Rattle.fmd_head.specs.declared.Address.TheVariants.{Given, Omitted}
 use Rattle.fmd_head.specs.declared.TextImage.{TextImage}
 
 -- ---- tokens
@@ -50,16 +45,16 @@ pub data OptionalFlags : List Lexeme → Bool → Bool → Type 0 where
 
 -- L2: optional @offset from its parent
 -- `number_in` of fmd_lex is the number that a word is (L8).
-pub data OptionalOffset : List Lexeme → Offset → Type 0 where
-  no_offset : OptionalOffset [] OmittedOffset
-  offset : {a b n : ℕ} {w : List ℕ} → number_in w ≡ Value n → OptionalOffset (sign a (code "@") ∷ word b w ∷ []) (GivenOffset (record { 0 = n }))
+pub data OptionalOffset : List Lexeme → Option ParentOffset → Type 0 where
+  no_offset : OptionalOffset [] None
+  offset : {a b n : ℕ} {w : List ℕ} → number_in w ≡ Value n → OptionalOffset (sign a (code "@") ∷ word b w ∷ []) (Some (record { 0 = n }))
 
 -- L2: optional size
 -- L7: .. a word beginning with a digit is its size.
 -- (Every number begins with a digit, and no name does.)
-pub data OptionalSize : List Lexeme → Size → Type 0 where
-  no_size : OptionalSize [] OmittedSize
-  size : {a n : ℕ} {w : List ℕ} → number_in w ≡ Value n → OptionalSize (word a w ∷ []) (GivenSize n)
+pub data OptionalSize : List Lexeme → Option ℕ → Type 0 where
+  no_size : OptionalSize [] None
+  size : {a n : ℕ} {w : List ℕ} → number_in w ≡ Value n → OptionalSize (word a w ∷ []) (Some n)
 
 -- ---- sections
 
@@ -69,7 +64,7 @@ mutual
   -- L2: A section: name, optional flags .., optional @offset .., optional size, optional braces.
   -- `good_name` of fmd_lex says which words are names (L6). A section says itself and, after it, the sections in its braces.
   pub data SectionTree (most deepest : ℕ) : ℕ → ℕ → ℕ → List Lexeme → List Section → Type 0 where
-    section : {level parent before place : ℕ} {name : List ℕ} {fs os zs bs : List Lexeme} {c p : Bool} {o : Offset} {z : Size} {l : List Section}
+    section : {level parent before place : ℕ} {name : List ℕ} {fs os zs bs : List Lexeme} {c p : Bool} {o : Option ParentOffset} {z : Option ℕ} {l : List Section}
         → good_name name ≡ true → before < most → level ≤ deepest → OptionalFlags fs c p → OptionalOffset os o → OptionalSize zs z
         → OptionalBraces most deepest (level + 1) before (before + 1) bs l
         → SectionTree most deepest level parent before (word place name ∷ (fs ++ (os ++ (zs ++ bs))))
@@ -92,16 +87,16 @@ mutual
 -- ---- the image
 
 -- L1: optional @address
-pub data OptionalAddress : List Lexeme → Address → Type 0 where
-  no_address : OptionalAddress [] Omitted
-  address : {a b n : ℕ} {w : List ℕ} → number_in w ≡ Value n → OptionalAddress (sign a (code "@") ∷ word b w ∷ []) (Given n)
+pub data OptionalAddress : List Lexeme → Option ℕ → Type 0 where
+  no_address : OptionalAddress [] None
+  address : {a b n : ℕ} {w : List ℕ} → number_in w ≡ Value n → OptionalAddress (sign a (code "@") ∷ word b w ∷ []) (Some n)
 
 -- L1: An image: name, optional @address, size (an image length in range ..), braces.
 -- Q4: A flash image is 98 to 16,777,216 bytes.
 -- L10: After the last brace only blanks and comments.
 -- So the text's end is the next token.
 pub data LayoutText (most deepest : ℕ) : List Lexeme → TextImage → List Section → Type 0 where
-  image : {place n : ℕ} (a b c d : ℕ) {name : List ℕ} (w : List ℕ) {os ts : List Lexeme} {at : Address} {l : List Section}
+  image : {place n : ℕ} (a b c d : ℕ) {name : List ℕ} (w : List ℕ) {os ts : List Lexeme} {at : Option ℕ} {l : List Section}
       → good_name name ≡ true → OptionalAddress os at → number_in w ≡ Value n → 98 ≤ n → n ≤ 16777216 → SectionList most deepest 1 128 0 ts l
       → LayoutText most deepest
       (word place name ∷ (os ++ (word a w ∷ sign b (code "{") ∷ (ts ++ (sign c (code "}") ∷ sign d end_kind ∷ [])))))

@@ -1,7 +1,7 @@
 -- A section up to its braces, read token by token: means of proof, which the contracts cite. What is to be believed is the grammar (fmd_grammar).
 -- Each reader is given the token that stands there, and answers with the token after what it read, or with the first fault and its place, the
 -- token's first byte.
-use Rattle.std.specs.Prelude.{Bool, true, false, cond, not, List, ℕ, ◌-◌, ltb, leb, eqb, get_or}
+use Rattle.std.specs.Prelude.{Bool, true, false, cond, not, List, ℕ, ◌-◌, ltb, leb, eqb, get_or, Some, None}
 use Rattle.text_words.specs.Classes.{is_digit}
 use Rattle.fmd_lex.specs.Tokens.{word_kind, token_at, token_bytes}
 use Rattle.fmd_lex.specs.Numbers.{number_in}
@@ -11,8 +11,6 @@ use Rattle.fmd_lex.specs.declared.Number.{Number}
 use Rattle.fmd_lex.specs.declared.Number.TheVariants.{Value, Wrong}
 use Rattle.fmd_lex.specs.declared.Flag.{Flag}
 use Rattle.fmd_lex.specs.declared.Flag.TheVariants.{Cbfs, Preserve, Unknown}
-use Rattle.fmd_table.specs.declared.Offset.TheVariants.{Given as GivenOffset, Omitted as OmittedOffset}
-use Rattle.fmd_table.specs.declared.Size.TheVariants.{Given as GivenSize, Omitted as OmittedSize}
 use Rattle.fmd_table.specs.declared.Section.{Section}
 use Rattle.fmd_head.specs.declared.Refusal.TheVariants.{OutOfGrammar, BadNumber, BadName, TooMany, BadFlag}
 use Rattle.fmd_head.specs.declared.Amount.{Amount}
@@ -51,8 +49,8 @@ onward (Fault r p) k = Fault r p
 abbrev pub bare : Token → ℕ → ℕ → Section
 bare t lv par =
     record {
-      offset = OmittedOffset;
-      size = OmittedSize;
+      offset = None;
+      size = None;
       place = t.start;
       length = t.end - t.start;
       cbfs = false;
@@ -102,7 +100,7 @@ set_preserve h =
 abbrev pub set_offset : ℕ → Section → Section
 set_offset n h =
     record {
-      offset = GivenOffset (record { 0 = n });
+      offset = Some (record { 0 = n });
       size = h.size;
       place = h.place;
       length = h.length;
@@ -116,7 +114,7 @@ abbrev pub set_size : ℕ → Section → Section
 set_size n h =
     record {
       offset = h.offset;
-      size = GivenSize n;
+      size = Some n;
       place = h.place;
       length = h.length;
       cbfs = h.cbfs;

@@ -1,11 +1,10 @@
 -- The image of a layout text, up to its opening brace. Readers as in Heads, means of proof.
-use Rattle.std.specs.Prelude.{cond, not, List, ℕ, ◌-◌, leb}
+use Rattle.std.specs.Prelude.{cond, not, List, ℕ, ◌-◌, leb, Some, None}
 use Rattle.octets.specs.Tests.{◌and◌}
 use Rattle.fmd_lex.specs.Tokens.{word_kind, token_bytes}
 use Rattle.fmd_lex.specs.Names.{good_name}
 use Rattle.fmd_lex.specs.declared.Token.{Token}
 use Rattle.fmd_head.specs.Heads.{next, is_kind, amount_at}
-use Rattle.fmd_head.specs.declared.Address.TheVariants.{Given, Omitted}
 use Rattle.fmd_head.specs.declared.TextImage.{TextImage}
 use Rattle.fmd_head.specs.declared.Refusal.TheVariants.{OutOfGrammar, BadNumber, BadName}
 use Rattle.fmd_head.specs.declared.Amount.{Amount}
@@ -24,11 +23,11 @@ unfoldable pub title_at : List ℕ → Token → Heading
 title_at s t =
     cond (not (is_kind word_kind t)) (Fault OutOfGrammar t.start)
     (cond (not (good_name (token_bytes s t))) (Fault BadName t.start)
-    (Read (record { address = Omitted; size = 0; place = t.start; length = t.end - t.start }) (next s t)))
+    (Read (record { address = None; size = 0; place = t.start; length = t.end - t.start }) (next s t)))
 
 -- the optional @address
 abbrev pub set_address : ℕ → TextImage → TextImage
-set_address n i = record { address = Given n; size = i.size; place = i.place; length = i.length }
+set_address n i = record { address = Some n; size = i.size; place = i.place; length = i.length }
 
 abbrev pub with_address : TextImage → Amount → Heading
 with_address i (Counted n u) = Read (set_address n i) u

@@ -5,7 +5,7 @@ ghost use Rattle.fmd_head.specs.Images.{title_at, address_at, length_at, open_at
 ghost use Rattle.fmd_head.specs.Invariants.{HeadingIn};
 
 use super::section::amount_at;
-use super::{Address, Amount, Heading, Refusal, TextImage};
+use super::{Amount, Heading, Refusal, TextImage};
 use fmd_lex::{AT, OPEN, Token, WORD, next_token};
 
 // The image's name.
@@ -20,7 +20,7 @@ fn title_at(text: &[u8], t: Token) -> Heading
     if fmd_lex::name_at(text, t) {
         let u = next_token(text, t.end);
         let i = TextImage {
-            address: Address::Omitted,
+            address: None,
             size: 0,
             place: t.start as u16,
             length: (t.end - t.start) as u8,
@@ -34,7 +34,7 @@ fn with_address(i: TextImage, n: u32) -> TextImage
     ensures { result ≡ set_address n i }
 {
     TextImage {
-        address: Address::Given(n),
+        address: Some(n),
         size: i.size,
         place: i.place,
         length: i.length,

@@ -58,16 +58,10 @@ pub enum HeadPart {
     Fault(Refusal, usize),
 }
 
-#[derive(Clone, Copy)]
-pub enum Address {
-    Given(u32),
-    Omitted,
-}
-
-// The image as it stands in the text: its name by place and length.
+// The image as it stands in the text, with its address where one is given: its name by place and length.
 #[derive(Clone, Copy)]
 pub struct TextImage {
-    pub address: Address,
+    pub address: Option<u32>,
     pub size: u32,
     pub place: u16,
     pub length: u8,

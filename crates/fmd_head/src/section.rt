@@ -6,7 +6,7 @@ ghost use Rattle.fmd_head.specs.Invariants.{AmountIn, PartIn, HeadIn};
 
 use super::{Amount, HeadPart, Refusal};
 use fmd_lex::{AT, Flag, LEFT, Number, RIGHT, Token, WORD, next_token};
-use fmd_table::{Offset, ParentOffset, Section, Size};
+use fmd_table::{ParentOffset, Section};
 
 // The number that must stand at t.
 pub fn amount_at(text: &[u8], t: Token) -> Amount
@@ -44,8 +44,8 @@ fn named_at(text: &[u8], t: Token, level: u32, parent: u32, count: usize) -> Hea
         }
         let u = next_token(text, t.end);
         let h = Section {
-            offset: Offset::Omitted,
-            size: Size::Omitted,
+            offset: None,
+            size: None,
             place: t.start as u32,
             length: (t.end - t.start) as u32,
             cbfs: false,
@@ -155,7 +155,7 @@ fn with_offset(h: Section, n: u32) -> Section
 {
     let size = h.size;
     Section {
-        offset: Offset::Given(ParentOffset(n)),
+        offset: Some(ParentOffset(n)),
         size: size,
         place: h.place,
         length: h.length,
@@ -172,7 +172,7 @@ fn with_size(h: Section, n: u32) -> Section
     let offset = h.offset;
     Section {
         offset: offset,
-        size: Size::Given(n),
+        size: Some(n),
         place: h.place,
         length: h.length,
         cbfs: h.cbfs,

@@ -1,4 +1,5 @@
 -- Laws of the rows' loops over the places of a section list.
+use Rattle.std.specs.Prelude.{Option, Some, None}
 use mathlib.Core.Path.{◌≡◌, refl, sym, ap, ◌∙◌}
 use mathlib.Core.Bool.{Bool, true, false}
 use mathlib.Core.Logic.{◌⊎◌, inl, inr}
@@ -22,9 +23,6 @@ use Rattle.fmd_table.specs.Invariants.{next_sibling_at, last_child_at, parent_at
 use Rattle.fmd_table.proofs.Table.{length-sections, section-in}
 use Rattle.fmd_parse.specs.Rows.{found_from, section_name, repeats, has_child, sibling_in}
 use Rattle.fmd_parse.specs.Invariants.{Inside}
-use Rattle.fmd_parse.specs.declared.rows.Found.{Found}
-use Rattle.fmd_parse.specs.declared.rows.Found.TheVariants.{At, Nowhere}
-use Rattle.fmd_parse.specs.declared.rows.Sibling.TheVariants.{Next, Last}
 
 -- one of the sections from j on, before the index k, has the name of the section h
 abbrev pub among : List ℕ → Section → ℕ → List Section → ℕ → Bool
@@ -37,11 +35,11 @@ module _ (p : ℕ → Bool) (n k : ℕ) where
   unfolding found_from
   first_on h e = let m : n - k ≡ suc (n - (k + 1)) = omega arith in rw (m, e, add-one k)
 
-  pub first-stop : k < n → p k ≡ true → At k ≡ found_from p (n - k) k
+  pub first-stop : k < n → p k ≡ true → Some k ≡ found_from p (n - k) k
   unfolding found_from
   first-stop h e = let m : n - k ≡ suc (n - (k + 1)) = omega arith in rw (m, e)
 
-  pub first_done : n ≤ k → Nowhere ≡ found_from p (n - k) k
+  pub first_done : n ≤ k → None ≡ found_from p (n - k) k
   unfolding found_from
   first_done h = let m : n - k ≡ 0 = omega arith in rw m
 
@@ -52,13 +50,13 @@ first-from p n (suc k) h e =
     let w : suc k ≡ k + 1 = omega arith in rw w (first_on p n k (omega arith) (e k (omega arith))) ∙ first-from p n k (omega arith) (λ j q. e j (omega arith))
 
 -- of the n indices from k on, the one found passes; where none is found, none does
-abbrev pub FirstFacts : (ℕ → Bool) → ℕ → ℕ → Found → Type 0
-FirstFacts p n k (At j) = (j < k + n) × (p j ≡ true)
-FirstFacts p n k Nowhere = (j : ℕ) → k ≤ j → j < k + n → p j ≡ false
+abbrev pub FirstFacts : (ℕ → Bool) → ℕ → ℕ → Option ℕ → Type 0
+FirstFacts p n k (Some j) = (j < k + n) × (p j ≡ true)
+FirstFacts p n k None = (j : ℕ) → k ≤ j → j < k + n → p j ≡ false
 
-later : (p : ℕ → Bool) (n k : ℕ) → p k ≡ false → (r : Found) → FirstFacts p n (suc k) r → FirstFacts p (suc n) k r
-later p n k e (At j) w = (omega (arith, w.0), w.1)
-later p n k e Nowhere w = λ j a b. cases j a b (bool_cases (eqb j k))
+later : (p : ℕ → Bool) (n k : ℕ) → p k ≡ false → (r : Option ℕ) → FirstFacts p n (suc k) r → FirstFacts p (suc n) k r
+later p n k e (Some j) w = (omega (arith, w.0), w.1)
+later p n k e None w = λ j a b. cases j a b (bool_cases (eqb j k))
   where
     cases : (j : ℕ) → k ≤ j → j < k + suc n → (eqb j k ≡ true) ⊎ (eqb j k ≡ false) → p j ≡ false
     cases j a b (inl q) = rw (eqb-true j k q) e
@@ -68,7 +66,7 @@ pub first-facts : (p : ℕ → Bool) (n k : ℕ) → FirstFacts p n k (found_fro
 unfolding found_from
 first-facts p zero k = λ j a b. absurd (omega arith)
 first-facts p (suc n) k =
-    choice (FirstFacts p (suc n) k) (p k) (At k) (found_from p n (suc k)) (λ e. (omega arith, e))
+    choice (FirstFacts p (suc n) k) (p k) (Some k) (found_from p n (suc k)) (λ e. (omega arith, e))
     (λ e. later p n k e (found_from p n (suc k)) (first-facts p n (suc k)))
 
 -- ---- the first n rows of a table: the section e of row j
@@ -87,7 +85,7 @@ module _ (n : ℕ) (rows : List ℕ) where
 
     -- ---- the next sibling with the parent k
 
-    sibling-stop : (k : ℕ) → j < n → e.parent ≡ k → Next e.offset ≡ sibling_in k (drop j (sections_in n rows))
+    sibling-stop : (k : ℕ) → j < n → e.parent ≡ k → Some e.offset ≡ sibling_in k (drop j (sections_in n rows))
     unfolding sibling_in
     sibling-stop k h d = rw (here h, eq-eqb e.parent k d)
 
@@ -95,7 +93,7 @@ module _ (n : ℕ) (rows : List ℕ) where
     unfolding sibling_in
     sibling-on k h d = rw (here h, ne_eqb e.parent k d)
 
-  sibling-done : (k j : ℕ) → n ≤ j → Last ≡ sibling_in k (drop j (sections_in n rows))
+  sibling-done : (k j : ℕ) → n ≤ j → None ≡ sibling_in k (drop j (sections_in n rows))
   unfolding sibling_in
   sibling-done k j h = rw (drop_of_length-le (sections_in n rows) {i = j} (omega (arith, length-sections n rows)))
 
@@ -112,10 +110,10 @@ module _ (n : ℕ) (rows : List ℕ) where
 
   module _ (w : Linked n rows) (k : ℕ) (b : k < n) where
     pub next-is : {j : ℕ} {e : Section} → j ≡ next_sibling_at rows k → j < n → e ≡ section_at rows j
-        → Next e.offset ≡ sibling_in (parent_at rows k) (drop (k + 1) (sections_in n rows))
+        → Some e.offset ≡ sibling_in (parent_at rows k) (drop (k + 1) (sections_in n rows))
     next-is {j} {e} q h p = cases (w.after k b)
       where
-        cases : NextIn n rows k → Next e.offset ≡ sibling_in (parent_at rows k) (drop (k + 1) (sections_in n rows))
+        cases : NextIn n rows k → Some e.offset ≡ sibling_in (parent_at rows k) (drop (k + 1) (sections_in n rows))
         cases (inl x) = absurd (omega (arith, w.room))
         cases (inr x) =
             let d : k + 1 + (j - (k + 1)) ≡ j = omega (arith, x.0) in
@@ -123,7 +121,7 @@ module _ (n : ℕ) (rows : List ℕ) where
             ∙ rw d at (siblings-on (parent_at rows k) (j - (k + 1)) (k + 1) (omega arith)
             (λ i y z f. let m = w.between k i (omega arith) (omega arith) f in omega arith))
 
-    pub next-none : {j : ℕ} → j ≡ next_sibling_at rows k → n ≤ j → Last ≡ sibling_in (parent_at rows k) (drop (k + 1) (sections_in n rows))
+    pub next-none : {j : ℕ} → j ≡ next_sibling_at rows k → n ≤ j → None ≡ sibling_in (parent_at rows k) (drop (k + 1) (sections_in n rows))
     next-none {j} q h =
         let d : k + 1 + (n - (k + 1)) ≡ n = omega arith in
         sibling-done (parent_at rows k) n (omega arith)

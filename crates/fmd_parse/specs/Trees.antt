@@ -1,13 +1,9 @@
 -- What image and sections of a text are: their names lie in it, and children stand after their parents. Definitions only.
-use Rattle.std.specs.Prelude.{◌≡◌, ◌⊎◌, true, false, List, ℕ, ◌+◌, ◌≤◌, ◌<◌, length, get_or}
+use Rattle.std.specs.Prelude.{◌≡◌, ◌⊎◌, true, false, List, ℕ, ◌+◌, ◌≤◌, ◌<◌, length, get_or, Option, Some, None}
 use Rattle.octets.specs.Tests.{all}
 use Rattle.octets.specs.Bytes.{part}
 use Rattle.fmd_lex.specs.Chars.{is_word}
 use Rattle.fmd_lex.specs.Names.{good_name}
-use Rattle.fmd_table.specs.declared.Offset.TheVariants.{Given as GivenOffset}
-use Rattle.fmd_table.specs.declared.Size.TheVariants.{Given as GivenSize}
-use Rattle.fmd_head.specs.declared.Address.{Address}
-use Rattle.fmd_head.specs.declared.Address.TheVariants.{Given, Omitted}
 use Rattle.fmd_table.specs.declared.Section.{Section}
 use Rattle.fmd_head.specs.declared.TextImage.{TextImage}
 
@@ -21,8 +17,8 @@ pub record Named (s : List ℕ) (p n : ℕ) : Type 0 where
 abbrev pub blank_section : Section
 blank_section =
     record {
-      offset = GivenOffset (record { 0 = 0 });
-      size = GivenSize 0;
+      offset = Some (record { 0 = 0 });
+      size = Some 0;
       place = 0;
       length = 0;
       cbfs = false;
@@ -47,9 +43,9 @@ pub record Tree (s : List ℕ) (l : List Section) : Type 0 where
   pub each : (k : ℕ) → k < length l → Standing s l k (get_or l k blank_section)
 
 -- (L8) at most 4,294,967,295
-abbrev pub AddressFits : Address → Type 0
-AddressFits (Given a) = a ≤ 4294967295
-AddressFits Omitted = Unit {0}
+abbrev pub AddressFits : Option ℕ → Type 0
+AddressFits (Some a) = a ≤ 4294967295
+AddressFits None = Unit {0}
 
 -- L1: size (an image length in range); Q4: A flash image is 98 to 16,777,216 bytes.
 pub record Imaged (s : List ℕ) (i : TextImage) : Type 0 where

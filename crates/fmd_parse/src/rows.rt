@@ -8,21 +8,7 @@ ghost use Rattle.fmd_parse.specs.Rows.{section_name, repeats, first_repeat, is_f
 ghost use Rattle.fmd_parse.specs.Rows.{reach_of, is_undecided, undecided};
 ghost use Rattle.fmd_parse.specs.Invariants.{Inside, key_from, key_at, Seen};
 
-use fmd_table::{Offset, ParentOffset, Section, Size, last_at, next_at, row_at};
-
-// The index of a section, or that there is none.
-#[derive(Clone, Copy)]
-pub enum Found {
-    At(usize),
-    Nowhere,
-}
-
-// The next sibling's offset, or that there is no next sibling.
-#[derive(Clone, Copy)]
-pub enum Sibling {
-    Next(Offset),
-    Last,
-}
+use fmd_table::{ParentOffset, Section, last_at, next_at, row_at};
 
 // How far a section reaches: by its own size, up to its next sibling's offset, or up to its parent's end; or nothing says how far.
 #[derive(Clone, Copy)]
@@ -98,7 +84,7 @@ fn repeats_seen(text: &[u8], rows: &[u32], n: usize, k: usize, key: usize, seen:
 }
 
 // Row 54. Names are compared where a key was seen before.
-pub fn first_repeat(text: &[u8], rows: &[u32], n: usize) -> Found
+pub fn first_repeat(text: &[u8], rows: &[u32], n: usize) -> Option<usize>
     requires { HasRows n rows.now × Inside text.now (sections_in n rows.now) }
     ensures { result ≡ first_repeat text.now (sections_in n rows.now) }
 {
@@ -107,12 +93,12 @@ pub fn first_repeat(text: &[u8], rows: &[u32], n: usize) -> Found
     while k < n {
         let key = key_at(text, rows, n, k);
         if repeats_seen(text, rows, n, k, key, &seen) {
-            return Found::At(k);
+            return Some(k);
         }
         seen[key] = 1;
         k += 1;
     }
-    Found::Nowhere
+    None
 }
 
 // Section k is named FMAP.
@@ -127,18 +113,18 @@ fn is_fmap(text: &[u8], rows: &[u32], n: usize, k: usize) -> bool
 }
 
 // The section FMAP.
-pub fn find_fmap(text: &[u8], rows: &[u32], n: usize) -> Found
+pub fn find_fmap(text: &[u8], rows: &[u32], n: usize) -> Option<usize>
     requires { HasRows n rows.now × Inside text.now (sections_in n rows.now) }
     ensures { result ≡ fmap_in text.now (sections_in n rows.now) }
 {
     let mut k: usize = 0;
     while k < n {
         if is_fmap(text, rows, n, k) {
-            return Found::At(k);
+            return Some(k);
         }
         k += 1;
     }
-    Found::Nowhere
+    None
 }
 
 // Section k has children.
@@ -162,22 +148,22 @@ fn holds_cbfs(rows: &[u32], n: usize, k: usize) -> bool
 }
 
 // Row 56 of the whole list.
-pub fn first_cbfs(rows: &[u32], n: usize) -> Found
+pub fn first_cbfs(rows: &[u32], n: usize) -> Option<usize>
     requires { HasRows n rows.now × Linked n rows.now }
     ensures { result ≡ first_cbfs (sections_in n rows.now) }
 {
     let mut k: usize = 0;
     while k < n {
         if holds_cbfs(rows, n, k) {
-            return Found::At(k);
+            return Some(k);
         }
         k += 1;
     }
-    Found::Nowhere
+    None
 }
 
-// The next section with section k's parent.
-fn next_sibling(rows: &[u32], n: usize, k: usize) -> Sibling
+// The offset, where it has one, of the next section with section k's parent, where there is one.
+fn next_sibling(rows: &[u32], n: usize, k: usize) -> Option<Option<ParentOffset>>
     requires { HasRows n rows.now × (k < n) × Linked n rows.now }
     ensures { result ≡ sibling_in (parent_at rows.now k) (drop (k + 1) (sections_in n rows.now)) }
 {
@@ -185,21 +171,19 @@ fn next_sibling(rows: &[u32], n: usize, k: usize) -> Sibling
     if j < n {
         let e = row_at(rows, j);
         let o = e.offset;
-        return Sibling::Next(o);
+        return Some(o);
     }
-    Sibling::Last
+    None
 }
 
 // A section without a size, by its next sibling.
-fn reach_to(next: Sibling) -> Reach
-    ensures { result ≡ reach_of Size.Omitted next }
+fn reach_to(next: Option<Option<ParentOffset>>) -> Reach
+    ensures { result ≡ reach_of None next }
 {
     match next {
-        Sibling::Last => Reach::ToParentEnd,
-        Sibling::Next(o) => match o {
-            Offset::Given(n) => Reach::UpTo(n),
-            Offset::Omitted => Reach::Undecided,
-        },
+        None => Reach::ToParentEnd,
+        Some(None) => Reach::Undecided,
+        Some(Some(o)) => Reach::UpTo(o),
     }
 }
 
@@ -210,8 +194,8 @@ pub fn reach_of(rows: &[u32], n: usize, k: usize, h: Section) -> Reach
 {
     let size = h.size;
     match size {
-        Size::Given(z) => Reach::OfSize(z),
-        Size::Omitted => reach_to(next_sibling(rows, n, k)),
+        Some(z) => Reach::OfSize(z),
+        None => reach_to(next_sibling(rows, n, k)),
     }
 }
 
@@ -237,16 +221,16 @@ fn undecided_at(rows: &[u32], n: usize, k: usize) -> bool
 }
 
 // Row 57, from the index at on.
-pub fn first_undecided(rows: &[u32], n: usize, at: usize) -> Found
+pub fn first_undecided(rows: &[u32], n: usize, at: usize) -> Option<usize>
     requires { HasRows n rows.now × (at ≤ n) × Linked n rows.now }
     ensures { result ≡ found_from (undecided (sections_in n rows.now)) (n - at) at }
 {
     let mut k = at;
     while k < n {
         if undecided_at(rows, n, k) {
-            return Found::At(k);
+            return Some(k);
         }
         k += 1;
     }
-    Found::Nowhere
+    None
 }

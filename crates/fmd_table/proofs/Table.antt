@@ -1,4 +1,5 @@
 -- Laws of the rows of a table.
+use Rattle.std.specs.Prelude.{Option, Some, None}
 use mathlib.Core.Path.{◌≡◌, refl, ◌∙◌}
 use mathlib.Core.Bool.{Bool, true, false}
 use mathlib.Core.List.{List, [], ◌∷◌, ◌++◌}
@@ -11,28 +12,25 @@ use Rattle.octets.specs.Bytes.{part, put}
 use Rattle.octets.proofs.Parts.{get_d_part}
 use Rattle.fmd_table.specs.Table.{listed, image_row, words_of, mark_word, offset_tag, offset_word, size_tag, size_word, offset_from, size_from}
 use Rattle.fmd_table.specs.Table.{section_of, section_at, sections_in, HasRows}
-use Rattle.fmd_table.specs.declared.Offset.{Offset}
-use Rattle.fmd_table.specs.declared.Offset.TheVariants.{Given as GivenOffset, Omitted as OmittedOffset}
-use Rattle.fmd_table.specs.declared.Size.{Size}
-use Rattle.fmd_table.specs.declared.Size.TheVariants.{Given as GivenSize, Omitted as OmittedSize}
+use Rattle.fmd_table.specs.declared.ParentOffset.{ParentOffset}
 use Rattle.fmd_table.specs.declared.Section.{Section}
 use Rattle.fmd_table.proofs.Listed.{length-listed, get_or-listed, rows-put}
 
 -- ---- a section's words are that section's
 
-offset-back : (o : Offset) → offset_from (offset_tag o) (offset_word o) ≡ o
-offset-back (GivenOffset o) = refl
-offset-back OmittedOffset = refl
+offset-back : (o : Option ParentOffset) → offset_from (offset_tag o) (offset_word o) ≡ o
+offset-back (Some o) = refl
+offset-back None = refl
 
-size_back : (z : Size) → size_from (size_tag z) (size_word z) ≡ z
-size_back (GivenSize n) = refl
-size_back OmittedSize = refl
+size_back : (z : Option ℕ) → size_from (size_tag z) (size_word z) ≡ z
+size_back (Some n) = refl
+size_back None = refl
 
 mark-back : (b : Bool) → eqb (mark_word b) 1 ≡ b
 mark-back true = refl
 mark-back false = refl
 
-rebuilt : (h : Section) (o : Offset) (z : Size) (a b : Bool) → o ≡ h.offset → z ≡ h.size → a ≡ h.cbfs → b ≡ h.preserve
+rebuilt : (h : Section) (o : Option ParentOffset) (z : Option ℕ) (a b : Bool) → o ≡ h.offset → z ≡ h.size → a ≡ h.cbfs → b ≡ h.preserve
     → record { offset = o; size = z; place = h.place; length = h.length; cbfs = a; preserve = b; parent = h.parent; level = h.level } ≡ h
 rebuilt h o z a b p q r s = rw (p, q, r, s)
 
@@ -80,7 +78,7 @@ row-stored rows k s a b c d g h p q r t u v = rw (stored rows (12 * k) a b c d s
 word : (rows : List ℕ) (at i : ℕ) → i < 12 → get_or (part at 12 rows) i 0 ≡ get_or rows (at + i) 0
 word rows at i q = get_d_part rows at 12 i q
 
-pub row_read : (rows : List ℕ) (k : ℕ) (o : Offset) (z : Size) → o ≡ offset_from (get_or rows (12 * k) 0) (get_or rows (12 * k + 1) 0)
+pub row_read : (rows : List ℕ) (k : ℕ) (o : Option ParentOffset) (z : Option ℕ) → o ≡ offset_from (get_or rows (12 * k) 0) (get_or rows (12 * k + 1) 0)
     → z ≡ size_from (get_or rows (12 * k + 2) 0) (get_or rows (12 * k + 3) 0)
     → record {
       offset = o;

@@ -1,10 +1,7 @@
 -- Sections in a table of words: as they stand in the text, and with their offsets and sizes.
-use Rattle.std.specs.Prelude.{Bool, cond, List, [], ◌∷◌, ◌++◌, ℕ, zero, suc, ◌*◌, ◌≤◌, eqb, length, get_or}
+use Rattle.std.specs.Prelude.{Bool, cond, List, [], ◌∷◌, ◌++◌, ℕ, zero, suc, ◌*◌, ◌≤◌, eqb, length, get_or, Option, Some, None}
 use Rattle.octets.specs.Bytes.{part}
-use Rattle.fmd_table.specs.declared.Offset.{Offset}
-use Rattle.fmd_table.specs.declared.Offset.TheVariants.{Given as GivenOffset, Omitted as OmittedOffset}
-use Rattle.fmd_table.specs.declared.Size.{Size}
-use Rattle.fmd_table.specs.declared.Size.TheVariants.{Given as GivenSize, Omitted as OmittedSize}
+use Rattle.fmd_table.specs.declared.ParentOffset.{ParentOffset}
 use Rattle.fmd_table.specs.declared.Section.{Section}
 use Rattle.fmd_table.specs.declared.Placed.{Placed}
 
@@ -33,21 +30,21 @@ listed f (suc n) = listed f n ++ (f n ∷ [])
 
 -- ---- the words of a section
 
-abbrev pub offset_tag : Offset → ℕ
-offset_tag (GivenOffset o) = 1
-offset_tag OmittedOffset = 0
+abbrev pub offset_tag : Option ParentOffset → ℕ
+offset_tag (Some o) = 1
+offset_tag None = 0
 
-abbrev pub offset_word : Offset → ℕ
-offset_word (GivenOffset o) = o.0
-offset_word OmittedOffset = 0
+abbrev pub offset_word : Option ParentOffset → ℕ
+offset_word (Some o) = o.0
+offset_word None = 0
 
-abbrev pub size_tag : Size → ℕ
-size_tag (GivenSize n) = 1
-size_tag OmittedSize = 0
+abbrev pub size_tag : Option ℕ → ℕ
+size_tag (Some n) = 1
+size_tag None = 0
 
-abbrev pub size_word : Size → ℕ
-size_word (GivenSize n) = n
-size_word OmittedSize = 0
+abbrev pub size_word : Option ℕ → ℕ
+size_word (Some n) = n
+size_word None = 0
 
 abbrev pub mark_word : Bool → ℕ
 mark_word b = cond b 1 0
@@ -60,11 +57,11 @@ words_of h =
 
 -- ---- the section of a row's words; the last two are links (Invariants)
 
-abbrev pub offset_from : ℕ → ℕ → Offset
-offset_from tag n = cond (eqb tag 1) (GivenOffset (record { 0 = n })) OmittedOffset
+abbrev pub offset_from : ℕ → ℕ → Option ParentOffset
+offset_from tag n = cond (eqb tag 1) (Some (record { 0 = n })) None
 
-abbrev pub size_from : ℕ → ℕ → Size
-size_from tag n = cond (eqb tag 1) (GivenSize n) OmittedSize
+abbrev pub size_from : ℕ → ℕ → Option ℕ
+size_from tag n = cond (eqb tag 1) (Some n) None
 
 unfoldable pub section_of : List ℕ → Section
 section_of w =

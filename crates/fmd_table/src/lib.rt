@@ -26,23 +26,11 @@ pub const SPOTS: usize = 128 * SPOT;
 #[derive(Clone, Copy)]
 pub struct ParentOffset(pub u32);
 
-#[derive(Clone, Copy)]
-pub enum Offset {
-    Given(ParentOffset),
-    Omitted,
-}
-
-#[derive(Clone, Copy)]
-pub enum Size {
-    Given(u32),
-    Omitted,
-}
-
-// A section as it stands in the text: its name by place and length; parent is the parent's row, 128 for the image.
+// A section as it stands in the text, with its offset and size where they are given: its name by place and length; parent is the parent's row, 128 for the image.
 #[derive(Clone, Copy)]
 pub struct Section {
-    pub offset: Offset,
-    pub size: Size,
+    pub offset: Option<ParentOffset>,
+    pub size: Option<u32>,
     pub place: u32,
     pub length: u32,
     pub cbfs: bool,
@@ -60,39 +48,39 @@ pub struct Placed {
     pub level: u32,
 }
 
-fn offset_tag(o: Offset) -> u32
+fn offset_tag(o: Option<ParentOffset>) -> u32
     ensures { result ≡ offset_tag o }
 {
     match o {
-        Offset::Given(_) => 1,
-        Offset::Omitted => 0,
+        Some(_) => 1,
+        None => 0,
     }
 }
 
-fn offset_word(o: Offset) -> u32
+fn offset_word(o: Option<ParentOffset>) -> u32
     ensures { result ≡ offset_word o }
 {
     match o {
-        Offset::Given(n) => n.0,
-        Offset::Omitted => 0,
+        Some(n) => n.0,
+        None => 0,
     }
 }
 
-fn size_tag(z: Size) -> u32
+fn size_tag(z: Option<u32>) -> u32
     ensures { result ≡ size_tag z }
 {
     match z {
-        Size::Given(_) => 1,
-        Size::Omitted => 0,
+        Some(_) => 1,
+        None => 0,
     }
 }
 
-fn size_word(z: Size) -> u32
+fn size_word(z: Option<u32>) -> u32
     ensures { result ≡ size_word z }
 {
     match z {
-        Size::Given(n) => n,
-        Size::Omitted => 0,
+        Some(n) => n,
+        None => 0,
     }
 }
 
@@ -102,22 +90,22 @@ fn mark_word(b: bool) -> u32
     if b { 1 } else { 0 }
 }
 
-fn offset_from(tag: u32, n: u32) -> Offset
+fn offset_from(tag: u32, n: u32) -> Option<ParentOffset>
     ensures { result ≡ offset_from tag n }
 {
     if tag == 1 {
-        return Offset::Given(ParentOffset(n));
+        return Some(ParentOffset(n));
     }
-    Offset::Omitted
+    None
 }
 
-fn size_from(tag: u32, n: u32) -> Size
+fn size_from(tag: u32, n: u32) -> Option<u32>
     ensures { result ≡ size_from tag n }
 {
     if tag == 1 {
-        return Size::Given(n);
+        return Some(n);
     }
-    Size::Omitted
+    None
 }
 
 // Writes row k: a section without a next sibling or a child.

@@ -1,6 +1,6 @@
 -- The starred samples of the rules over the definitions, one statement each, and `Starred`, all of them.
 -- The disk samples hold whatever the disk GUID is and whatever head and tail held before.
-use Rattle.std.specs.Prelude.{◌≡◌, Bool, true, false, List, [], ◌∷◌, ◌++◌, map, ℕ, length, take, drop, replicate}
+use Rattle.std.specs.Prelude.{◌≡◌, Bool, true, false, List, [], ◌∷◌, ◌++◌, map, ℕ, length, take, drop, replicate, Option, Some, None}
 use Rattle.std.proofs.Math.Option.{none}
 use Rattle.octets.specs.Ascii.{ascii}
 use Rattle.octets.specs.Bytes.{field, zeros}
@@ -14,11 +14,7 @@ use Rattle.gpt_model.specs.Lists.{Snapshot, after_all, answers, start_after, ran
 use Rattle.gpt_model.specs.Claims.{Formats}
 use Rattle.guid.specs.Calls.{read_type_of}
 use Rattle.fmd_parse.specs.Layouts.{layout, refused as refused_text, layout_of}
-use Rattle.fmd_head.specs.declared.Address.TheVariants.{Omitted}
 use Rattle.fmd_head.specs.declared.TextImage.{TextImage}
-use Rattle.fmd_table.specs.declared.Offset.TheVariants.{Omitted as OmittedOffset}
-use Rattle.fmd_table.specs.declared.Size.{Size}
-use Rattle.fmd_table.specs.declared.Size.TheVariants.{Given as GivenSize, Omitted as OmittedSize}
 use Rattle.fmd_table.specs.declared.Section.{Section}
 
 -- what holds of the answers to a list of edits, and of what it leaves, on every freshly formatted disk of n blocks
@@ -94,20 +90,20 @@ Sample6 =
 
 -- the image I of 98 bytes, its name at the text's start
 abbrev pub image : TextImage
-image = record { address = Omitted; size = 98; place = 0; length = 1 }
+image = record { address = None; size = 98; place = 0; length = 1 }
 
 -- a section of level 1 with a name of one byte at place p
-abbrev pub section : ℕ → Size → Section
-section p z = record { offset = OmittedOffset; size = z; place = p; length = 1; cbfs = false; preserve = false; parent = 128; level = 1 }
+abbrev pub section : ℕ → Option ℕ → Section
+section p z = record { offset = None; size = z; place = p; length = 1; cbfs = false; preserve = false; parent = 128; level = 1 }
 
 -- S7: (7*) "A 10 K" is section A of size 10, then section K.
 abbrev pub Sample7 : Type 0
-Sample7 = layout_of (ascii "I 98{A 10 K}") ≡ layout image (section 5 (GivenSize 10) ∷ section 10 OmittedSize ∷ [])
+Sample7 = layout_of (ascii "I 98{A 10 K}") ≡ layout image (section 5 (Some 10) ∷ section 10 None ∷ [])
 
 -- S8: (8*) 010 is 52; 0x10 is 16.
 abbrev pub Sample8 : Type 0
 Sample8 =
-    (layout_of (ascii "I 010{A}") ≡ refused_text 52 2) × (layout_of (ascii "I 98{A 0x10}") ≡ layout image (section 5 (GivenSize 16) ∷ []))
+    (layout_of (ascii "I 010{A}") ≡ refused_text 52 2) × (layout_of (ascii "I 98{A 0x10}") ≡ layout image (section 5 (Some 16) ∷ []))
 
 -- S0: Those marked * are one proved list over the definitions.
 abbrev pub Starred : Type 0

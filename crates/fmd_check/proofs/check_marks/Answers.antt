@@ -6,10 +6,10 @@ use Rattle.fmd_check.proofs.check_marks.Goals as goal
 
 pub fault_at-requires : goal.fault_at-requires
 unfolding first_cbfs
-fault_at-requires c = (c.requires.0, found_below _ _ _ _ (sym c.first_cbfs.ensures ∙ c.in-At.is))
+fault_at-requires c = (c.requires.0, found_below _ _ _ _ (sym c.first_cbfs.ensures ∙ c.in-Some.is))
 
-pub returns-in-At : goal.returns-in-At
-returns-in-At c = rw c.fault_at.ensures (at-56 _ _ _ _ _ (sym c.first_cbfs.ensures ∙ c.in-At.is))
+pub returns-in-Some : goal.returns-in-Some
+returns-in-Some c = rw c.fault_at.ensures (at-56 _ _ _ _ _ (sym c.first_cbfs.ensures ∙ c.in-Some.is))
 
-pub returns-in-Nowhere : goal.returns-in-Nowhere
-returns-in-Nowhere c = c.check_places.ensures ∙ on-56 _ _ _ _ (sym c.first_cbfs.ensures ∙ c.in-Nowhere.is)
+pub returns-in-None : goal.returns-in-None
+returns-in-None c = c.check_places.ensures ∙ on-56 _ _ _ _ (sym c.first_cbfs.ensures ∙ c.in-None.is)

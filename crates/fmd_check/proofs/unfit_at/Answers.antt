@@ -7,13 +7,13 @@ use mathlib.Core.Path.{sym, ◌∙◌}
 use Rattle.fmd_check.proofs.unfit_at.Goals as goal
 
 pub fault_at-requires : goal.fault_at-requires
-fault_at-requires c = (c.requires.0, later-below _ c.args.rows.now _ (c.args.k + 1) _ (omega arith) (sym c.first_undecided.ensures ∙ c.in-At.is))
+fault_at-requires c = (c.requires.0, later-below _ c.args.rows.now _ (c.args.k + 1) _ (omega arith) (sym c.first_undecided.ensures ∙ c.in-Some.is))
 
-pub returns-in-At : goal.returns-in-At
-returns-in-At c = λ s i spots. rw c.fault_at.ensures
-    (at-57 s i _ _ _ (sym (after-unfit _ _ _ (length-sections _ _) c.requires.1 c.requires.2) ∙ sym c.first_undecided.ensures ∙ c.in-At.is))
+pub returns-in-Some : goal.returns-in-Some
+returns-in-Some c = λ s i spots. rw c.fault_at.ensures
+    (at-57 s i _ _ _ (sym (after-unfit _ _ _ (length-sections _ _) c.requires.1 c.requires.2) ∙ sym c.first_undecided.ensures ∙ c.in-Some.is))
 
-pub returns-in-Nowhere : goal.returns-in-Nowhere
-returns-in-Nowhere c =
-    λ s i spots. rw c.fault_at-in-Nowhere.ensures
-    (at-58 s i _ _ (sym (after-unfit _ _ _ (length-sections _ _) c.requires.1 c.requires.2) ∙ sym c.first_undecided.ensures ∙ c.in-Nowhere.is))
+pub returns-in-None : goal.returns-in-None
+returns-in-None c =
+    λ s i spots. rw c.fault_at-in-None.ensures
+    (at-58 s i _ _ (sym (after-unfit _ _ _ (length-sections _ _) c.requires.1 c.requires.2) ∙ sym c.first_undecided.ensures ∙ c.in-None.is))
