@@ -2,7 +2,7 @@
 use mathlib.Core.Path.{◌≡◌, refl, sym, ap, ap₂, ◌∙◌}
 use mathlib.Core.Logic.{◌≢◌}
 use mathlib.Core.List.{List, []}
-use mathlib.Core.Option.{Option, none, some}
+use Rattle.std.specs.Prelude.{Option, None, Some}
 use Prim.Native.Nat.{ℕ, zero, suc}
 use native.Mathlib.Omega.{arith}
 use Rattle.gpt_model.specs.Disk.{Shape}
@@ -52,14 +52,14 @@ abbrev pub place_by : Shape → Reading → Answer
 place_by g r = table_place g (reading_of r)
 
 module _ (size n : ℕ) (h t : List ℕ) where
-  pub place-by : (g : Shape) → shape_of size ≡ some g → (a : Answer) → outcome a h t ≡ step_by size n h t read
+  pub place-by : (g : Shape) → shape_of size ≡ Some g → (a : Answer) → outcome a h t ≡ step_by size n h t read
       → outcome (table_place g a) h t ≡ table_place_by size n h t
   unfolding table_place_by
   place-by g e a q =
       ap (with_table_place g) (q ∙ (on_its_shape size n h t g e).0 read)
       ∙ sym (ap (λ (s : Option Shape). on_shape s h t (λ g. with_table_place g (step g n h t read))) e)
 
-  pub place_other : (old : List ℕ) → shape_of size ≡ none
+  pub place_other : (old : List ℕ) → shape_of size ≡ None
       → ◌≡◌ {A = GptEffect} (record { result = 6; head = h; tail = t; values = old }) (gpt_effect old (table_place_by size n h t))
   unfolding table_place_by
   place_other old e = ap (λ (s : Option Shape). gpt_effect old (on_shape s h t (λ g. with_table_place g (step g n h t read)))) (sym e)

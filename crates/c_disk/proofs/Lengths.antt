@@ -3,7 +3,7 @@ use mathlib.Core.Path.{◌≡◌, refl, sym, ap, ◌∙◌}
 use mathlib.Core.Logic.{◌≢◌}
 use mathlib.Core.Bool.{false, not}
 use mathlib.Core.List.{List, []}
-use mathlib.Core.Option.{Option, none, some}
+use Rattle.std.specs.Prelude.{Option, None, Some}
 use Prim.Native.Nat.{ℕ}
 use lib.ListN.{length}
 use borrow.Author.Tests.{ne_eqb}
@@ -27,16 +27,16 @@ module _ (size n : ℕ) (h t : List ℕ) (r : ℕ) (is : r ≡ length_number (sh
   format-wrong guid q = ap (λ (k : ℕ). unmade k [] h t) is ∙ go (shape_of size)
     where
       go : (s : Option Shape) → unmade (length_number s) [] h t ≡ gpt_effect [] (on_shape s h t (λ g. format g n guid h t))
-      go none = refl
-      go (some g) = ap (gpt_effect []) (sym (format-refused g n guid h t 1 (pick_true _ 1 _ (ap not (and_false_r _ _ (ne_eqb _ _ q))))))
+      go None = refl
+      go (Some g) = ap (gpt_effect []) (sym (format-refused g n guid h t 1 (pick_true _ 1 _ (ap not (and_false_r _ _ (ne_eqb _ _ q))))))
 
   edit-wrong : (old : List ℕ) (d : Edit) → lengths_of d ≡ false → unmade r old h t ≡ gpt_effect old (step_by size n h t (edit d))
   unfolding step_by
   edit-wrong old d q = ap (λ (k : ℕ). unmade k old h t) is ∙ go (shape_of size)
     where
       go : (s : Option Shape) → unmade (length_number s) old h t ≡ gpt_effect old (on_shape s h t (λ g. step g n h t (edit d)))
-      go none = refl
-      go (some g) = ap (gpt_effect old) (sym (step-refused g n h t (edit d) 1 (pick_true _ 1 _ (ap not (and_false_r _ _ q)))))
+      go None = refl
+      go (Some g) = ap (gpt_effect old) (sym (step-refused g n h t (edit d) 1 (pick_true _ 1 _ (ap not (and_false_r _ _ q)))))
 
   pub rename-wrong : (slot : ℕ) (name : List ℕ) → length name ≢ 36 → unmade r [] h t ≡ gpt_effect [] (step_by size n h t (edit (rename slot name)))
   rename-wrong slot name q = edit-wrong [] (rename slot name) (ne_eqb _ _ q)

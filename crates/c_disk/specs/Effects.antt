@@ -1,6 +1,5 @@
 -- What C gets of a GPT call: the result, head and tail afterwards, and the number answers afterwards. Definitions only.
-use Rattle.std.specs.Prelude.{List, [], ◌∷◌, ℕ, zero, suc, get_or}
-use Rattle.std.proofs.Math.Option.{Option, none, some}
+use Rattle.std.specs.Prelude.{List, [], ◌∷◌, ℕ, zero, suc, get_or, Option, None, Some}
 use Rattle.gpt_model.specs.Disk.{Shape, Side, primary, backup, used_side, entries_at}
 use Rattle.gpt_model.specs.Calls.{Answer, refused, accepted, Outcome, outcome, read, step}
 use Rattle.gpt_model.specs.Sizes.{shape_of, on_shape}
@@ -49,5 +48,5 @@ table_place_by size n h t = on_shape (shape_of size) h t (λ g. with_table_place
 
 -- what a call answers that is lent a GUID or a name of a wrong length. l7: 6 for another block size, before all others
 abbrev pub length_number : Option Shape → ℕ
-length_number none = 6
-length_number (some g) = 1
+length_number None = 6
+length_number (Some g) = 1

@@ -12,7 +12,7 @@ ghost use Rattle.c_disk.specs.Effects.{rule_numbered, result_of, values_of, gpt_
 
 use gpt_calls::{Added, Counted, Done, Offending, Reading};
 use gpt_model::{NewPartition, Rule, Shape};
-use gpt_places::{BlockSize, Side};
+use gpt_places::Side;
 
 fn done(a: Done) -> u32
     ensures { result ≡ result_of (done_of a) }
@@ -164,8 +164,8 @@ fn wrong_length(block: u64) -> u32
     ensures { result ≡ length_number (shape_of block) }
 {
     match gpt_places::shape_of(block) {
-        BlockSize::Known(_) => 1,
-        BlockSize::Other => 6,
+        Some(_) => 1,
+        None => 6,
     }
 }
 
@@ -298,8 +298,8 @@ pub fn usi_gpt_table(
         ≡ gpt_effect (in_tail.old ∷ offset.old ∷ []) (table_place_by block n head.now tail.now) }
 {
     match gpt_places::shape_of(block) {
-        BlockSize::Known(shape) => place(gpt::read(head, tail, n, block), shape, in_tail, offset),
-        BlockSize::Other => 6,
+        Some(shape) => place(gpt::read(head, tail, n, block), shape, in_tail, offset),
+        None => 6,
     }
 }
 

@@ -1,6 +1,5 @@
 -- (W9) The part of head or tail that reading hands back, by the block size that the caller names. Definitions only.
-use Rattle.std.specs.Prelude.{List, ℕ}
-use Rattle.std.proofs.Math.Option.{Option, none, some}
+use Rattle.std.specs.Prelude.{List, ℕ, Option, None, Some}
 use Rattle.gpt_model.specs.Disk.{Shape}
 use Rattle.gpt_model.specs.Sizes.{shape_of}
 use Rattle.gpt_calls.specs.Answers.{Handed, nothing, entries_on, handed_on}
@@ -8,8 +7,8 @@ use Rattle.gpt_calls.specs.declared.Reading.{Reading}
 
 -- l7: 6 for another block size: nothing is handed back
 abbrev pub part_on : Option Shape → ℕ × ℕ → (Shape → Handed) → Handed
-part_on none head p = nothing head
-part_on (some g) head p = p g
+part_on None head p = nothing head
+part_on (Some g) head p = p g
 
 -- by what reading answered
 abbrev pub entries_by : ℕ → List ℕ → List ℕ → ℕ × ℕ → ℕ × ℕ → Reading → Handed

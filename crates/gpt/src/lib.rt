@@ -15,7 +15,6 @@ ghost use Rattle.gpt.specs.Parts.{entries_by, handed_part};
 use gpt_calls::{Added, Counted, Done, Offending, Reading};
 use gpt_checks::Refusal;
 use gpt_model::{NewPartition, Rule};
-use gpt_places::BlockSize;
 
 // The number of a refusal.
 pub fn number(a: Refusal) -> u32
@@ -48,8 +47,8 @@ pub fn format(head: &mut [u8], tail: &mut [u8], n: u64, block: u64, guid: [u8; 1
         ≡ format_by block n guid head.old tail.old }
 {
     match gpt_places::shape_of(block) {
-        BlockSize::Known(shape) => gpt_calls::format(head, tail, n, shape, guid),
-        BlockSize::Other => Done::Refused(Refusal::BlockSize),
+        Some(shape) => gpt_calls::format(head, tail, n, shape, guid),
+        None => Done::Refused(Refusal::BlockSize),
     }
 }
 
@@ -59,8 +58,8 @@ pub fn read(head: &[u8], tail: &[u8], n: u64, block: u64) -> Reading
         ≡ step_by block n head.now tail.now read_call }
 {
     match gpt_places::shape_of(block) {
-        BlockSize::Known(shape) => gpt_calls::read(head, tail, n, shape),
-        BlockSize::Other => Reading::Refused(Refusal::BlockSize),
+        Some(shape) => gpt_calls::read(head, tail, n, shape),
+        None => Reading::Refused(Refusal::BlockSize),
     }
 }
 
@@ -70,8 +69,8 @@ pub fn delete(head: &mut [u8], tail: &mut [u8], n: u64, block: u64, slot: u64) -
         ≡ step_by block n head.old tail.old (edit (delete_call slot)) }
 {
     match gpt_places::shape_of(block) {
-        BlockSize::Known(shape) => gpt_calls::delete(head, tail, n, shape, slot),
-        BlockSize::Other => Done::Refused(Refusal::BlockSize),
+        Some(shape) => gpt_calls::delete(head, tail, n, shape, slot),
+        None => Done::Refused(Refusal::BlockSize),
     }
 }
 
@@ -81,8 +80,8 @@ pub fn add(head: &mut [u8], tail: &mut [u8], n: u64, block: u64, p: NewPartition
         ≡ step_by block n head.old tail.old (edit (add_call p)) }
 {
     match gpt_places::shape_of(block) {
-        BlockSize::Known(shape) => gpt_calls::add(head, tail, n, shape, p),
-        BlockSize::Other => Added::Refused(Refusal::BlockSize),
+        Some(shape) => gpt_calls::add(head, tail, n, shape, p),
+        None => Added::Refused(Refusal::BlockSize),
     }
 }
 
@@ -92,8 +91,8 @@ pub fn resize(head: &mut [u8], tail: &mut [u8], n: u64, block: u64, slot: u64, s
         ≡ step_by block n head.old tail.old (edit (resize_call slot size)) }
 {
     match gpt_places::shape_of(block) {
-        BlockSize::Known(shape) => gpt_calls::resize(head, tail, n, shape, slot, size),
-        BlockSize::Other => Done::Refused(Refusal::BlockSize),
+        Some(shape) => gpt_calls::resize(head, tail, n, shape, slot, size),
+        None => Done::Refused(Refusal::BlockSize),
     }
 }
 
@@ -110,8 +109,8 @@ pub fn rename(
         ≡ step_by block n head.old tail.old (edit (rename_call slot name)) }
 {
     match gpt_places::shape_of(block) {
-        BlockSize::Known(shape) => gpt_calls::rename(head, tail, n, shape, slot, name),
-        BlockSize::Other => Done::Refused(Refusal::BlockSize),
+        Some(shape) => gpt_calls::rename(head, tail, n, shape, slot, name),
+        None => Done::Refused(Refusal::BlockSize),
     }
 }
 
@@ -121,8 +120,8 @@ pub fn repair(head: &mut [u8], tail: &mut [u8], n: u64, block: u64) -> Reading
         ≡ step_by block n head.old tail.old repair_call }
 {
     match gpt_places::shape_of(block) {
-        BlockSize::Known(shape) => gpt_calls::repair(head, tail, n, shape),
-        BlockSize::Other => Reading::Refused(Refusal::BlockSize),
+        Some(shape) => gpt_calls::repair(head, tail, n, shape),
+        None => Reading::Refused(Refusal::BlockSize),
     }
 }
 
@@ -132,8 +131,8 @@ pub fn entries<'a>(head: &'a [u8], tail: &'a [u8], block: u64, found: Reading) -
     ensures { handed result.now result.ref_ptr ≡ entries_by block head.now tail.now head.entry.ref_ptr tail.entry.ref_ptr found }
 {
     match gpt_places::shape_of(block) {
-        BlockSize::Known(shape) => gpt_calls::entries(head, tail, shape, found),
-        BlockSize::Other => &head[0..0],
+        Some(shape) => gpt_calls::entries(head, tail, shape, found),
+        None => &head[0..0],
     }
 }
 
@@ -150,8 +149,8 @@ pub fn free_counts(head: &[u8], tail: &[u8], n: u64, block: u64) -> Counted
         ≡ step_by block n head.now tail.now free_counts }
 {
     match gpt_places::shape_of(block) {
-        BlockSize::Known(shape) => gpt_calls::free_counts(head, tail, n, shape),
-        BlockSize::Other => Counted::Refused(Refusal::BlockSize),
+        Some(shape) => gpt_calls::free_counts(head, tail, n, shape),
+        None => Counted::Refused(Refusal::BlockSize),
     }
 }
 
@@ -161,7 +160,7 @@ pub fn check(head: &[u8], tail: &[u8], n: u64, block: u64, rule: Rule) -> Offend
         ≡ step_by block n head.now tail.now (check_call rule) }
 {
     match gpt_places::shape_of(block) {
-        BlockSize::Known(shape) => gpt_calls::check(head, tail, n, shape, rule),
-        BlockSize::Other => Offending::Refused(Refusal::BlockSize),
+        Some(shape) => gpt_calls::check(head, tail, n, shape, rule),
+        None => Offending::Refused(Refusal::BlockSize),
     }
 }

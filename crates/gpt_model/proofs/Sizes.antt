@@ -3,12 +3,12 @@ use mathlib.Core.Path.{◌≡◌, refl, sym, ap, subst, ◌∙◌}
 use mathlib.Core.Logic.{◌↔◌}
 use mathlib.Core.Bool.{Bool, true, false, cond}
 use mathlib.Core.List.{List, []}
-use mathlib.Core.Option.{Option, none, some}
+use Rattle.std.specs.Prelude.{Option, None, Some}
 use Prim.Native.Nat.{ℕ, ◌-◌, ◌*◌, ◌≤◌}
 use native.Mathlib.Omega.{arith}
 use lib.Dec.{eqb}
 use borrow.Author.Tests.{eqb-true, leb-true, le-leb, ne_eqb}
-use Rattle.octets.proofs.Bools.{and_l, and_r, and_i, some-none}
+use Rattle.octets.proofs.Bools.{and_l, and_r, and_i}
 use Rattle.gpt_model.specs.Disk.{Shape, disk512, disk4096, last_usable, usable, in_range, primary, backup, entries_block, lent_bytes, header_bytes}
 use Rattle.gpt_model.specs.Calls.{Call, refused, accepted, outcome, step, format}
 use Rattle.gpt_model.specs.Sizes.{shape_of, on_shape, step_by, format_by}
@@ -27,29 +27,29 @@ shapes_by_size = (
   refl,
   refl,
   λ size a b.
-      ap (λ (p : Bool). cond p (some disk512) (cond (eqb size 4096) (some disk4096) none)) (ne_eqb size 512 a)
-      ∙ ap (λ (p : Bool). cond p (some disk4096) none) (ne_eqb size 4096 b),
+      ap (λ (p : Bool). cond p (Some disk512) (cond (eqb size 4096) (Some disk4096) None)) (ne_eqb size 512 a)
+      ∙ ap (λ (p : Bool). cond p (Some disk4096) None) (ne_eqb size 4096 b),
 )
 
-pub at512 : (size : ℕ) → size ≡ 512 → shape_of size ≡ some disk512
+pub at512 : (size : ℕ) → size ≡ 512 → shape_of size ≡ Some disk512
 at512 size e = ap shape_of e ∙ shapes_by_size.0
 
-pub at4096 : (size : ℕ) → size ≡ 4096 → shape_of size ≡ some disk4096
+pub at4096 : (size : ℕ) → size ≡ 4096 → shape_of size ≡ Some disk4096
 at4096 size e = ap shape_of e ∙ shapes_by_size.1
 
 -- what holds of both shapes, each by its size, holds of the shape of every block size
-pub by_size : (P : ℕ → Shape → Type 0) → P 512 disk512 → P 4096 disk4096 → (size : ℕ) (g : Shape) → shape_of size ≡ some g → P size g
+pub by_size : (P : ℕ → Shape → Type 0) → P 512 disk512 → P 4096 disk4096 → (size : ℕ) (g : Shape) → shape_of size ≡ Some g → P size g
 unfolding shape_of
 by_size P a b size g e = go (eqb size 512) (eqb size 4096) refl refl e
   where
-    go : (p q : Bool) → eqb size 512 ≡ p → eqb size 4096 ≡ q → cond p (some disk512) (cond q (some disk4096) none) ≡ some g → P size g
+    go : (p q : Bool) → eqb size 512 ≡ p → eqb size 4096 ≡ q → cond p (Some disk512) (cond q (Some disk4096) None) ≡ Some g → P size g
     go true q x y r =
         let w : disk512 ≡ g = cc in
         subst (λ (s : ℕ). P s g) (sym (eqb-true size 512 x)) (subst (λ (s : Shape). P 512 s) w a)
     go false true x y r =
         let w : disk4096 ≡ g = cc in
         subst (λ (s : ℕ). P s g) (sym (eqb-true size 4096 y)) (subst (λ (s : Shape). P 4096 s) w b)
-    go false false x y r = absurd (some-none (sym r))
+    go false false x y r = absurd cc
 
 pub whole_blocks : WholeBlocks
 whole_blocks =
@@ -65,11 +65,11 @@ on_its_shape size n h t g e = (
   λ guid. ap (λ (s : Option Shape). on_shape s h t (λ g. format g n guid h t)) e,
 )
 
-pub step-none : (size n : ℕ) (h t : List ℕ) → shape_of size ≡ none → (c : Call) → step_by size n h t c ≡ outcome (refused 6) h t
+pub step-none : (size n : ℕ) (h t : List ℕ) → shape_of size ≡ None → (c : Call) → step_by size n h t c ≡ outcome (refused 6) h t
 unfolding step_by
 step-none size n h t e c = ap (λ (s : Option Shape). on_shape s h t (λ g. step g n h t c)) e
 
-pub format-none : (size n : ℕ) (h t : List ℕ) → shape_of size ≡ none → (guid : List ℕ) → format_by size n guid h t ≡ outcome (refused 6) h t
+pub format-none : (size n : ℕ) (h t : List ℕ) → shape_of size ≡ None → (guid : List ℕ) → format_by size n guid h t ≡ outcome (refused 6) h t
 unfolding format_by
 format-none size n h t e guid = ap (λ (s : Option Shape). on_shape s h t (λ g. format g n guid h t)) e
 
@@ -83,7 +83,7 @@ in-range g n = (λ e. (leb-true _ _ (and_l _ _ e), leb-true _ _ (and_r _ _ e)), 
 -- ---- what holds after every list of calls, of the calls by the block size
 
 module _ (Holds : List Call → Shape → ℕ → Snapshot → Type 0) (after : AfterLists Holds) where
-  after-by : (size : ℕ) (g : Shape) → shape_of size ≡ some g → (n : ℕ) (guid h t : List ℕ) → Formats g n guid h t → (cs : List Call)
+  after-by : (size : ℕ) (g : Shape) → shape_of size ≡ Some g → (n : ℕ) (guid h t : List ℕ) → Formats g n guid h t → (cs : List Call)
       → ((format_by size n guid h t).answer ≡ accepted []) × Holds cs g n (after_all (step_by size n) cs (start_after (format_by size n guid h t)))
   unfolding step_by format_by
   after-by size g e n guid h t f cs =
@@ -93,7 +93,7 @@ module _ (Holds : List Call → Shape → ℕ → Snapshot → Type 0) (after : 
       × Holds cs g n (after_all (λ h t c. on_shape s h t (λ g. step g n h t c)) cs (start_after (on_shape s h t (λ g. format g n guid h t)))))
       (sym e) (after g n guid h t f cs)
 
-  after-at : (size : ℕ) (g : Shape) → shape_of size ≡ some g → header_bytes ≤ g.block
+  after-at : (size : ℕ) (g : Shape) → shape_of size ≡ Some g → header_bytes ≤ g.block
       → AfterListsAt size g (2 * g.first) (lent_bytes g primary) (lent_bytes g backup) Holds
   after-at size g e wide n guid h t lo hi lg z lh lt =
       after-by size g e n guid h t

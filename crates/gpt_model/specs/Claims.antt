@@ -1,6 +1,7 @@
 -- What is claimed of the definitions: the statements of the theorems, proved under the same names in lower case. A reader relies on these.
 use Rattle.std.specs.Prelude.{◌≡◌, ◌⊎◌, ◌≢◌, ◌↔◌, true, false, List, [], ◌∷◌, ◌++◌, map, ℕ, suc, ◌+◌, ◌-◌, ◌*◌, ◌≤◌, ◌<◌, length, get_or, set}
-use Rattle.std.proofs.Math.Option.{none, some}
+use Rattle.std.specs.Prelude.{None, Some}
+use Rattle.std.proofs.Math.Option.{none}
 use Rattle.octets.specs.Rows.{refusal}
 use Rattle.octets.specs.Bytes.{le, part, put, zeros, is_zero, flat}
 use Rattle.gpt_model.specs.Table.{entry_bytes, unique_of, first_of, last_of, unused, no_blocks, slot_count, table_bytes, ranges_of, good_table}
@@ -350,11 +351,11 @@ RepairWrites =
 
 -- 512 and 4,096 have a shape, and no other number
 abbrev pub ShapesBySize : Type 0
-ShapesBySize = (shape_of 512 ≡ some disk512) × (shape_of 4096 ≡ some disk4096) × ((size : ℕ) → size ≢ 512 → size ≢ 4096 → shape_of size ≡ none)
+ShapesBySize = (shape_of 512 ≡ Some disk512) × (shape_of 4096 ≡ Some disk4096) × ((size : ℕ) → size ≢ 512 → size ≢ 4096 → shape_of size ≡ None)
 
 abbrev pub OnItsShape : Type 0
 OnItsShape =
-    (size n : ℕ) (h t : List ℕ) (g : Shape) → shape_of size ≡ some g
+    (size n : ℕ) (h t : List ℕ) (g : Shape) → shape_of size ≡ Some g
     → ((c : Call) → step_by size n h t c ≡ step g n h t c) × ((guid : List ℕ) → format_by size n guid h t ≡ format g n guid h t)
 
 -- l7: 6 for another block size, before all others: whatever the call, its lengths and N
@@ -366,7 +367,7 @@ OtherSizeRefused =
 -- head and tail are whole blocks: all before the first usable block, and one less
 abbrev pub WholeBlocks : Type 0
 WholeBlocks =
-    (size : ℕ) (g : Shape) → shape_of size ≡ some g
+    (size : ℕ) (g : Shape) → shape_of size ≡ Some g
     → (size ≡ g.block) × (lent_bytes g primary ≡ g.first * g.block) × (lent_bytes g backup ≡ (g.first - 1) * g.block)
 
 -- The numbers of a disk of 512-byte blocks. Q2: N .. is 68 to 4,294,967,296. Q3: the head .. (17,408 bytes), and the tail .. (16,896 bytes).

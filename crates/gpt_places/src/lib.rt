@@ -11,7 +11,6 @@ ghost use Rattle.gpt_model.specs.Disk.{last_usable, other as other_side, header_
 ghost use Rattle.gpt_model.specs.Disk.{guid_in, entries_in};
 ghost use Rattle.gpt_model.specs.Sizes.{shape_of};
 ghost use Rattle.gpt_places.specs.Invariants.{Legal, Fits};
-ghost use Rattle.gpt_places.specs.Shapes.{shape_by};
 ghost use Rattle.gpt_places.specs.Sides.{side_of, behind};
 
 use gpt_model::{Block, Shape};
@@ -28,30 +27,21 @@ pub const ENTRY: usize = 128;
 // D1: all 16,384 entry bytes
 pub const TABLE: usize = SLOTS * ENTRY;
 
-// The shape that a block size has, if it has one.
-#[derive(Clone, Copy)]
-pub enum BlockSize {
-    Known(Shape),
-    Other,
-}
-
 // Q1: A disk has 512-byte blocks. D1: first usable 34. l1: usable blocks run from 6 to N−6. The numbers of a shape stand here alone.
-pub fn shape_of(block: u64) -> BlockSize
-    ensures { shape_by result ≡ shape_of block }
+pub fn shape_of(block: u64) -> Option<Shape>
+    ensures { result ≡ shape_of block }
 {
-    if block == 512 {
-        return BlockSize::Known(Shape {
+    match block {
+        512 => Some(Shape {
             block: 512,
             first: 34,
-        });
-    }
-    if block == 4096 {
-        return BlockSize::Known(Shape {
+        }),
+        4096 => Some(Shape {
             block: 4096,
             first: 6,
-        });
+        }),
+        _ => None,
     }
-    BlockSize::Other
 }
 
 #[derive(Clone, Copy)]

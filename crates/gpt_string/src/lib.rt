@@ -18,7 +18,7 @@ ghost use Rattle.gpt_string.specs.Answers.{build_answer};
 use gpt_build::{Building, Refusal};
 use gpt_checks::{Check, Refusal as DiskRefusal};
 use gpt_model::Shape;
-use gpt_places::{BlockSize, TABLE};
+use gpt_places::TABLE;
 
 #[derive(Clone, Copy)]
 pub enum Answer {
@@ -114,7 +114,7 @@ pub fn build(
         ≡ build_by block n alignment text.now head.old tail.old }
 {
     match gpt_places::shape_of(block) {
-        BlockSize::Known(shape) => build_on(head, tail, n, shape, alignment, text),
-        BlockSize::Other => Answer::Refused(Refusal::Disk(DiskRefusal::BlockSize)),
+        Some(shape) => build_on(head, tail, n, shape, alignment, text),
+        None => Answer::Refused(Refusal::Disk(DiskRefusal::BlockSize)),
     }
 }

@@ -3,6 +3,7 @@ use mathlib.Core.Path.{◌≡◌, refl, sym, ap, ap₂, subst, ◌∙◌}
 use mathlib.Core.Bool.{Bool, true}
 use mathlib.Core.List.{List, [], ◌∷◌, ◌++◌, append_assoc}
 use mathlib.Core.Option.{Option, none, some}
+use Rattle.std.specs.Prelude.{Option as Found, None, Some}
 use Prim.Native.Nat.{ℕ, zero, suc, ◌+◌, ◌-◌, ◌*◌, ◌^◌, ◌≤◌, ◌<◌}
 use native.Mathlib.Omega.{arith}
 use lib.ListN.{length, get_or, replicate, length-append, length-replicate, get_or-replicate}
@@ -243,13 +244,13 @@ bits_stay_zero_after_strings g wide n a text h t v cs =
 -- ---- by the block size
 
 module _ (size n a : ℕ) (text h t : List ℕ) where
-  pub string-by : (g : Shape) → shape_of size ≡ some g → build_by size n a text h t ≡ build_string g n a text h t
+  pub string-by : (g : Shape) → shape_of size ≡ Some g → build_by size n a text h t ≡ build_string g n a text h t
   unfolding build_by
-  string-by g e = ap (λ (s : Option Shape). on_shape s h t (λ g. build_string g n a text h t)) e
+  string-by g e = ap (λ (s : Found Shape). on_shape s h t (λ g. build_string g n a text h t)) e
 
-  pub string-other : shape_of size ≡ none → build_by size n a text h t ≡ outcome (refused 6) h t
+  pub string-other : shape_of size ≡ None → build_by size n a text h t ≡ outcome (refused 6) h t
   unfolding build_by
-  string-other e = ap (λ (s : Option Shape). on_shape s h t (λ g. build_string g n a text h t)) e
+  string-other e = ap (λ (s : Found Shape). on_shape s h t (λ g. build_string g n a text h t)) e
 
 pub builds_on_its_shape : BuildsOnItsShape
 builds_on_its_shape size n a text h t = (string-by size n a text h t, λ p q. string-other size n a text h t (shapes_by_size.2 size p q))

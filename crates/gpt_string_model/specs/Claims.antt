@@ -1,6 +1,5 @@
 -- What is claimed of the definitions: the statements of the theorems, proved under the same names in lower case. A reader relies on these.
-use Rattle.std.specs.Prelude.{◌≡◌, ◌⊎◌, ◌≢◌, Bool, true, not, List, [], ◌∷◌, ◌++◌, ℕ, suc, ◌-◌, ◌*◌, ◌≤◌, ◌<◌, eqb, length, take}
-use Rattle.std.proofs.Math.Option.{some}
+use Rattle.std.specs.Prelude.{◌≡◌, ◌⊎◌, ◌≢◌, Bool, true, not, List, [], ◌∷◌, ◌++◌, ℕ, suc, ◌-◌, ◌*◌, ◌≤◌, ◌<◌, eqb, length, take, Some}
 use Rattle.octets.specs.Tests.{all, any}
 use Rattle.octets.specs.Bytes.{part, zeros}
 use Rattle.gpt_model.specs.Table.{entry_bytes, slot_count, ranges_of}
@@ -128,5 +127,5 @@ BuildRefusedStays =
 abbrev pub BuildsOnItsShape : Type 0
 BuildsOnItsShape =
     (size n alignment : ℕ) (text h t : List ℕ)
-    → ((g : Shape) → shape_of size ≡ some g → build_by size n alignment text h t ≡ build_string g n alignment text h t)
+    → ((g : Shape) → shape_of size ≡ Some g → build_by size n alignment text h t ≡ build_string g n alignment text h t)
     × (size ≢ 512 → size ≢ 4096 → build_by size n alignment text h t ≡ outcome (refused 6) h t)

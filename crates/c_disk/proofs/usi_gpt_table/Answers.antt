@@ -1,18 +1,19 @@
-use Rattle.gpt_places.proofs.Shapes.{shape-legal, sized, unsized}
+use mathlib.Core.Path.{sym, ◌∙◌}
+use Rattle.gpt_places.proofs.Shapes.{shape-legal}
 use Rattle.c_disk.proofs.Effects.{gpt-tells, place-by, place_other}
 use Rattle.c_disk.proofs.usi_gpt_table.Goals as goal
 
 pub place-requires : goal.place-requires
 place-requires c =
-    shape-legal _ _ (sized _ _ c.in-Known.is c.shape_of.ensures)
+    shape-legal _ _ (sym c.shape_of.ensures ∙ c.in-Some.is)
 
-pub returns-in-Known : goal.returns-in-Known
-returns-in-Known c =
+pub returns-in-Some : goal.returns-in-Some
+returns-in-Some c =
     let a = c.args in
-    gpt-tells _ _ _ _ _ _ _ (place-by a.block a.n a.head.now a.tail.now _ (sized _ _ c.in-Known.is c.shape_of.ensures) _ c.read.ensures) c.place.ensures.0
+    gpt-tells _ _ _ _ _ _ _ (place-by a.block a.n a.head.now a.tail.now _ (sym c.shape_of.ensures ∙ c.in-Some.is) _ c.read.ensures) c.place.ensures.0
     c.place.ensures.1
 
-pub returns-in-Other : goal.returns-in-Other
-returns-in-Other c =
+pub returns-in-None : goal.returns-in-None
+returns-in-None c =
     let a = c.args in
-    place_other a.block a.n a.head.now a.tail.now _ (unsized _ c.in-Other.is c.shape_of.ensures)
+    place_other a.block a.n a.head.now a.tail.now _ (sym c.shape_of.ensures ∙ c.in-None.is)

@@ -1,10 +1,9 @@
-use mathlib.Core.Path.{sym, ap}
-use Rattle.gpt_places.proofs.Shapes.{sized, unsized}
+use mathlib.Core.Path.{sym, ap, ◌∙◌}
 use Rattle.c_disk.specs.Effects.{length_number}
 use Rattle.c_disk.proofs.wrong_length.Goals as goal
 
-pub returns-in-Known : goal.returns-in-Known
-returns-in-Known c = sym (ap length_number (sized _ _ c.in-Known.is c.shape_of.ensures))
+pub returns-in-Some : goal.returns-in-Some
+returns-in-Some c = sym (ap length_number (sym c.shape_of.ensures ∙ c.in-Some.is))
 
-pub returns-in-Other : goal.returns-in-Other
-returns-in-Other c = sym (ap length_number (unsized _ c.in-Other.is c.shape_of.ensures))
+pub returns-in-None : goal.returns-in-None
+returns-in-None c = sym (ap length_number (sym c.shape_of.ensures ∙ c.in-None.is))

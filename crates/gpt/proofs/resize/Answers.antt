@@ -1,19 +1,19 @@
 use mathlib.Core.Path.{sym, ◌∙◌}
 use Rattle.gpt_model.specs.Calls.{edit, resize}
 use Rattle.gpt_model.proofs.Sizes.{on_its_shape, step-none}
-use Rattle.gpt_places.proofs.Shapes.{shape-legal, sized, unsized}
+use Rattle.gpt_places.proofs.Shapes.{shape-legal}
 use Rattle.gpt.proofs.resize.Goals as goal
 
 pub resize-requires : goal.resize-requires
-resize-requires c = shape-legal _ _ (sized _ _ c.in-Known.is c.shape_of.ensures)
+resize-requires c = shape-legal _ _ (sym c.shape_of.ensures ∙ c.in-Some.is)
 
-pub returns-in-Known : goal.returns-in-Known
-returns-in-Known c =
+pub returns-in-Some : goal.returns-in-Some
+returns-in-Some c =
     let a = c.args in
     c.resize.ensures ∙ sym
-    ((on_its_shape a.block a.n a.head.now a.tail.now _ (sized _ _ c.in-Known.is c.shape_of.ensures)).0 (edit (resize a.slot a.size)))
+    ((on_its_shape a.block a.n a.head.now a.tail.now _ (sym c.shape_of.ensures ∙ c.in-Some.is)).0 (edit (resize a.slot a.size)))
 
-pub returns-in-Other : goal.returns-in-Other
-returns-in-Other c =
+pub returns-in-None : goal.returns-in-None
+returns-in-None c =
     let a = c.args in
-    sym (step-none a.block a.n a.head.now a.tail.now (unsized _ c.in-Other.is c.shape_of.ensures) (edit (resize a.slot a.size)))
+    sym (step-none a.block a.n a.head.now a.tail.now (sym c.shape_of.ensures ∙ c.in-None.is) (edit (resize a.slot a.size)))
