@@ -1,9 +1,9 @@
 -- What `std` says of a chain of iterators, in the project's tests over lists.
-use Rattle.std.proofs.Common.{◌≡◌, ◌⊎◌, ℕ, zero, suc, ◌≤◌, Bool, true, false, cond, ltb, Some, None, unwrap_or, position, List, [], ◌∷◌, map, length, refl, ap, ◌∙◌, inl, inr, arith}
+use Rattle.std.proofs.Common.{◌≡◌, ◌⊎◌, ℕ, zero, suc, ◌≤◌, Bool, true, false, cond, ltb, Some, None, unwrap_or, position, List, [], ◌∷◌, map, length, refl, ap, ap₂, ◌∙◌, inl, inr, arith}
 use Rattle.std.specs.List.{list_any, list_all, position_or_len}
 use Rattle.std.proofs.lemmas.Bool.{cases_lt}
 use borrow.Author.Tests.{lt-ltb, le-ltb}
-use Rattle.octets.specs.Tests.{◌and◌, ◌or◌, all, any, find_ix}
+use Rattle.octets.specs.Tests.{◌and◌, ◌or◌, all, any, pairs, find_ix}
 use Rattle.octets.proofs.Bools.{bool_cases}
 
 module _ {A : Type 0} (p : A → Bool) where
@@ -56,12 +56,12 @@ module _ {A B : Type 0} (f : A → B) (p : B → Bool) where
       made [] = refl
       made (x ∷ xs) = ap (λ (b : Bool). p (f x) or b) (made xs)
 
+  all_of : (xs : List A) → all (λ x. p (f x)) xs ≡ all p (map f xs)
+  all_of [] = refl
+  all_of (x ∷ xs) = ap (λ (b : Bool). p (f x) and b) (all_of xs)
+
   pub all_made : (xs : List A) → list_all (λ x. p (f x)) xs ≡ all p (map f xs)
-  all_made xs = all_list (λ x. p (f x)) xs ∙ made xs
-    where
-      made : (xs : List A) → all (λ x. p (f x)) xs ≡ all p (map f xs)
-      made [] = refl
-      made (x ∷ xs) = ap (λ (b : Bool). p (f x) and b) (made xs)
+  all_made xs = all_list (λ x. p (f x)) xs ∙ all_of xs
 
   pub place_made : (xs : List A) → position_or_len (λ x. p (f x)) xs ≡ find_ix p (map f xs)
   place_made xs = place_list (λ x. p (f x)) xs ∙ made xs
@@ -69,3 +69,7 @@ module _ {A B : Type 0} (f : A → B) (p : B → Bool) where
       made : (xs : List A) → find_ix (λ x. p (f x)) xs ≡ find_ix p (map f xs)
       made [] = refl
       made (x ∷ xs) = ap (λ (k : ℕ). elim (p (f x)) [ true ↦ zero | false ↦ suc k ]) (made xs)
+
+pub pairs_made : {A B : Type 0} (f : A → B) (r : B → B → Bool) (xs : List A) → pairs (λ x y. r (f x) (f y)) xs ≡ pairs r (map f xs)
+pairs_made f r [] = refl
+pairs_made f r (x ∷ xs) = ap₂ ◌and◌ (all_of f (r (f x)) xs) (pairs_made f r xs)

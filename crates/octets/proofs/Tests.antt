@@ -138,6 +138,14 @@ module _ {A : Type 0} where
   pub pairs-done : (r : A → A → Bool) (xs : List A) (i : ℕ) → length xs ≤ i → pairs r (drop i xs) ≡ true
   pairs-done r xs i h = rw (drop_of_length-le xs {i = i} h)
 
+  pub pairs-first : (r : A → A → Bool) (x : A) (xs : List A) → all (r x) xs ≡ false → pairs r (x ∷ xs) ≡ false
+  unfolding ◌and◌
+  pairs-first r x xs e = rw e
+
+  pub pairs-past : (r : A → A → Bool) (x : A) (xs : List A) → all (r x) xs ≡ true → pairs r (x ∷ xs) ≡ pairs r xs
+  unfolding ◌and◌
+  pairs-past r x xs e = rw e
+
   -- and against `find_ix`: what a loop has counted and what the rest finds make the whole
 
   pub find_ix-on : (p : A → Bool) (xs : List A) (d : A) (i : ℕ) → i < length xs → p (get_or xs i d) ≡ false

@@ -2,7 +2,9 @@
 
 // Byte fields, copies and comparisons in byte slices, and the words of specs/ that every other crate cites.
 // An inner crate: no user calls it, so its functions may have a `requires`, which each caller meets.
-ghost use Rattle.std.specs.Prelude.{◌≡◌, ◌+◌, ◌≤◌, length, replicate, drop};
+ghost use Rattle.std.specs.Prelude.{◌≡◌, Bool, ◌+◌, ◌≤◌, length, replicate, drop};
+ghost use Rattle.std.specs.Fn.{FnReturnsAtPair};
+ghost use Rattle.octets.specs.Tests.{pairs};
 ghost use Rattle.octets.specs.Bytes.{le, field, put, is_zero, same as same_bytes};
 
 pub fn load16(s: &[u8], at: usize) -> u16
@@ -176,4 +178,23 @@ pub fn fill(s: &mut [u8], v: u8)
         s[i] = v;
         i += 1;
     }
+}
+
+// Each two elements pass, the earlier first.
+pub fn pairs<T, F: Fn(&T, &T) -> bool>(xs: &[T], passes: F) -> bool
+    ghost r: { T → T → Bool }
+    requires callable { F.IsAlwaysCallable passes }
+    requires tests { (x y : T) (b : Bool) → FnReturnsAtPair F.Fn passes x y b → b ≡ r x y }
+    ensures { result ≡ pairs r xs.now }
+{
+    let mut left = xs;
+    while let Some((x, later)) = left.split_first() {
+        for y in later {
+            if !passes(x, y) {
+                return false;
+            }
+        }
+        left = later;
+    }
+    true
 }
