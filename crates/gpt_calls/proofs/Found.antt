@@ -25,7 +25,7 @@ use Rattle.gpt_model.proofs.States.{table-four, table-primary}
 use Rattle.gpt_places.specs.Sides.{behind, entries_place}
 use Rattle.gpt_copies.specs.States.{state_number}
 use Rattle.gpt_copies.specs.declared.State.{State}
-use Rattle.gpt_copies.specs.declared.State.TheVariants.{Neither}
+use Rattle.std.specs.Prelude.{Option as Found, None}
 use Rattle.gpt_checks.proofs.Judged.{Lent, lent-facts}
 use Rattle.gpt_checks.specs.Refusals.{number_of}
 use Rattle.gpt_checks.specs.declared.Refusal.{Refusal}
@@ -45,11 +45,11 @@ module _ (g : Shape) (n : ℕ) (h t : List ℕ) where
   pub rows-lent : (k : ℕ) → refusal (lent_rows g n h t true) ≡ some k → refusal (common_rows g n h t true) ≡ some k
   rows-lent k e = refusal-first (lent_rows g n h t true) from10 k e
 
-  module _ (e : refusal (lent_rows g n h t true) ≡ none) (s x : State) (p : s ≡ x) (q : state_number s ≡ state g n h t) where
+  module _ (e : refusal (lent_rows g n h t true) ≡ none) (s x : Found State) (p : s ≡ x) (q : state_number s ≡ state g n h t) where
     state-is : state_number x ≡ state g n h t
     state-is = sym (ap state_number p) ∙ q
 
-    pub found-neither : x ≡ Neither → outcome (refused 10) h t ≡ step g n h t read
+    pub found-neither : x ≡ None → outcome (refused 10) h t ≡ step g n h t read
     found-neither z =
         sym (step-refused g n h t read 10 (refusal-append (lent_rows g n h t true) from10 e
         ∙ pick_true _ 10 _ (eq-eqb _ _ (sym state-is ∙ ap state_number z))))

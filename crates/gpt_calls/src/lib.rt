@@ -85,11 +85,11 @@ pub fn read(head: &[u8], tail: &[u8], n: u64, shape: Shape) -> Reading
     match gpt_checks::lent(head, tail, n, shape) {
         Check::Stop(r) => Reading::Refused(r),
         Check::Pass => match gpt_copies::reading::state(head, tail, n, shape) {
-            State::Both => Reading::Same,
-            State::Differ => Reading::Different,
-            State::PrimaryOnly => Reading::PrimaryOnly,
-            State::BackupOnly => Reading::BackupOnly,
-            State::Neither => Reading::Refused(Refusal::NeitherGood),
+            Some(State::Both) => Reading::Same,
+            Some(State::Differ) => Reading::Different,
+            Some(State::PrimaryOnly) => Reading::PrimaryOnly,
+            Some(State::BackupOnly) => Reading::BackupOnly,
+            None => Reading::Refused(Refusal::NeitherGood),
         },
     }
 }

@@ -27,6 +27,7 @@ use Rattle.gpt_room.specs.Answers.{placed}
 use Rattle.gpt_model.specs.declared.Block.{Block}
 use Rattle.std.specs.Prelude as std
 use Rattle.gpt_copies.specs.States.{state_number}
+use Rattle.std.specs.Prelude.{Option as Found}
 use Rattle.gpt_copies.specs.declared.State.{State}
 use Rattle.gpt_checks.proofs.Rows.{in_order, row_is, slot-number}
 use Rattle.gpt_checks.specs.Checks.{stop_of, row_after}
@@ -75,7 +76,7 @@ module _ (g : Shape) (n : ℕ) (h t : List ℕ) where
   open_lent k e = sym (refusal-first (lent_rows g n h t true) later k e)
 
   -- by the state x that the code finds
-  module _ (e : refusal (lent_rows g n h t true) ≡ none) (s x : State) (p : s ≡ x) (q : state_number s ≡ state g n h t) where
+  module _ (e : refusal (lent_rows g n h t true) ≡ none) (s x : Found State) (p : s ≡ x) (q : state_number s ≡ state g n h t) where
     abbrev opening : Option ℕ
     opening = refusal (open_rows g n h t true)
 

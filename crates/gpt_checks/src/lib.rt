@@ -116,11 +116,11 @@ fn opened(head: &[u8], tail: &[u8], n: u64, shape: Shape) -> Check
     match lent(head, tail, n, shape) {
         Check::Stop(r) => Check::Stop(r),
         Check::Pass => match gpt_copies::reading::state(head, tail, n, shape) {
-            State::Both => Check::Pass,
-            State::Differ => Check::Stop(Refusal::NotTheSame),
-            State::PrimaryOnly => Check::Stop(Refusal::NotTheSame),
-            State::BackupOnly => Check::Stop(Refusal::NotTheSame),
-            State::Neither => Check::Stop(Refusal::NeitherGood),
+            Some(State::Both) => Check::Pass,
+            Some(State::Differ) => Check::Stop(Refusal::NotTheSame),
+            Some(State::PrimaryOnly) => Check::Stop(Refusal::NotTheSame),
+            Some(State::BackupOnly) => Check::Stop(Refusal::NotTheSame),
+            None => Check::Stop(Refusal::NeitherGood),
         },
     }
 }

@@ -5,12 +5,11 @@
 pub mod reading;
 pub mod writing;
 
-// D10: both good with equal disk GUID and entries, both good but different, primary only, backup only; or neither.
-#[derive(Clone, Copy)]
+// D10: both good with equal disk GUID and entries, both good but different (primary used), primary only, backup only.
+#[derive(Clone, Copy, PartialEq, Eq)]
 pub enum State {
     Both,
     Differ,
     PrimaryOnly,
     BackupOnly,
-    Neither,
 }

@@ -10,22 +10,16 @@ use super::State;
 use gpt_model::Shape;
 use gpt_places::Side;
 
-fn state_of(first: bool, second: bool, equal: bool) -> State
+fn state_of(first: bool, second: bool, equal: bool) -> Option<State>
     ensures { state_number result ≡ state_of first second equal }
 {
-    if first {
-        if second {
-            if equal {
-                return State::Both;
-            }
-            return State::Differ;
-        }
-        return State::PrimaryOnly;
+    match (first, second, equal) {
+        (true, true, true) => Some(State::Both),
+        (true, true, false) => Some(State::Differ),
+        (true, false, _) => Some(State::PrimaryOnly),
+        (false, true, _) => Some(State::BackupOnly),
+        (false, false, _) => None,
     }
-    if second {
-        return State::BackupOnly;
-    }
-    State::Neither
 }
 
 fn good_copy(b: &[u8], side: Side, n: u64, shape: Shape) -> bool
@@ -44,7 +38,7 @@ fn good_copy(b: &[u8], side: Side, n: u64, shape: Shape) -> bool
 }
 
 // Where the tables differ, each copy is judged by itself.
-fn state_apart(head: &[u8], tail: &[u8], n: u64, shape: Shape) -> State
+fn state_apart(head: &[u8], tail: &[u8], n: u64, shape: Shape) -> Option<State>
     requires { (length head.now ≡ lent_bytes shape primary) × (length tail.now ≡ lent_bytes shape backup) × Fits shape n
         × (same (entries_in shape primary head.now) (entries_in shape backup tail.now) ≡ false) }
     ensures { state_number result ≡ state_on shape n head.now tail.now }
@@ -55,7 +49,7 @@ fn state_apart(head: &[u8], tail: &[u8], n: u64, shape: Shape) -> State
 }
 
 // Where the tables hold the same bytes, they are judged once, and one CRC serves both headers.
-fn state_alike(head: &[u8], tail: &[u8], n: u64, shape: Shape) -> State
+fn state_alike(head: &[u8], tail: &[u8], n: u64, shape: Shape) -> Option<State>
     requires { (length head.now ≡ lent_bytes shape primary) × (length tail.now ≡ lent_bytes shape backup) × Fits shape n
         × (entries_in shape primary head.now ≡ entries_in shape backup tail.now) }
     ensures { state_number result ≡ state_on shape n head.now tail.now }
@@ -66,7 +60,7 @@ fn state_alike(head: &[u8], tail: &[u8], n: u64, shape: Shape) -> State
         gpt_places::first_usable(shape),
         gpt_places::last_usable(n, shape),
     ) {
-        return State::Neither;
+        return None;
     }
     let crc = crc32::crc32(table);
     let first = gpt_places::header::good(head, Side::Primary, n, shape, crc);
@@ -78,7 +72,7 @@ fn state_alike(head: &[u8], tail: &[u8], n: u64, shape: Shape) -> State
     state_of(first, second, equal)
 }
 
-pub fn state(head: &[u8], tail: &[u8], n: u64, shape: Shape) -> State
+pub fn state(head: &[u8], tail: &[u8], n: u64, shape: Shape) -> Option<State>
     requires { (length head.now ≡ lent_bytes shape primary) × (length tail.now ≡ lent_bytes shape backup) × Fits shape n }
     ensures { state_number result ≡ state_on shape n head.now tail.now }
 {

@@ -1,6 +1,7 @@
 use Rattle.gpt_checks.proofs.Judged.{passed, stopped, lent-facts, open_lent, open-neither, open-other, open-both}
-use Rattle.gpt_copies.specs.declared.State.TheVariants.{Both, Differ, PrimaryOnly, BackupOnly, Neither}
-use mathlib.Core.Path.{refl}
+use Rattle.gpt_copies.specs.declared.State.TheVariants.{Both, Differ, PrimaryOnly, BackupOnly}
+use Rattle.std.specs.Prelude.{None, Some}
+use mathlib.Core.Path.{refl, ap, ◌∙◌}
 use native.Mathlib.Omega.{arith}
 use Rattle.gpt_checks.proofs.opened.Goals as goal
 
@@ -15,30 +16,30 @@ returns-in-Stop c =
     let a = c.args in
     open_lent a.shape a.n a.head.now a.tail.now _ (stopped _ _ c.in-Stop.is c.lent.ensures)
 
-pub returns-in-Both : goal.returns-in-Both
-returns-in-Both c =
+pub returns-in-Some-Both : goal.returns-in-Some-Both
+returns-in-Some-Both c =
     let a = c.args in
-    open-both a.shape a.n a.head.now a.tail.now (passed _ c.in-Pass.is c.lent.ensures) _ Both c.in-Both.is c.state.ensures refl
+    open-both a.shape a.n a.head.now a.tail.now (passed _ c.in-Pass.is c.lent.ensures) _ (Some Both) (c.in-Some-Both.is ∙ ap Some c.in-Some-Both.field-0-is) c.state.ensures refl
 
-pub returns-in-Differ : goal.returns-in-Differ
-returns-in-Differ c =
+pub returns-in-Some-Differ : goal.returns-in-Some-Differ
+returns-in-Some-Differ c =
     let a = c.args in
-    open-other a.shape a.n a.head.now a.tail.now (passed _ c.in-Pass.is c.lent.ensures) _ Differ c.in-Differ.is c.state.ensures (λ z. omega (arith, z))
+    open-other a.shape a.n a.head.now a.tail.now (passed _ c.in-Pass.is c.lent.ensures) _ (Some Differ) (c.in-Some-Differ.is ∙ ap Some c.in-Some-Differ.field-0-is) c.state.ensures (λ z. omega (arith, z))
     (λ z. omega (arith, z))
 
-pub returns-in-PrimaryOnly : goal.returns-in-PrimaryOnly
-returns-in-PrimaryOnly c =
+pub returns-in-Some-PrimaryOnly : goal.returns-in-Some-PrimaryOnly
+returns-in-Some-PrimaryOnly c =
     let a = c.args in
-    open-other a.shape a.n a.head.now a.tail.now (passed _ c.in-Pass.is c.lent.ensures) _ PrimaryOnly c.in-PrimaryOnly.is c.state.ensures
+    open-other a.shape a.n a.head.now a.tail.now (passed _ c.in-Pass.is c.lent.ensures) _ (Some PrimaryOnly) (c.in-Some-PrimaryOnly.is ∙ ap Some c.in-Some-PrimaryOnly.field-0-is) c.state.ensures
     (λ z. omega (arith, z)) (λ z. omega (arith, z))
 
-pub returns-in-BackupOnly : goal.returns-in-BackupOnly
-returns-in-BackupOnly c =
+pub returns-in-Some-BackupOnly : goal.returns-in-Some-BackupOnly
+returns-in-Some-BackupOnly c =
     let a = c.args in
-    open-other a.shape a.n a.head.now a.tail.now (passed _ c.in-Pass.is c.lent.ensures) _ BackupOnly c.in-BackupOnly.is c.state.ensures
+    open-other a.shape a.n a.head.now a.tail.now (passed _ c.in-Pass.is c.lent.ensures) _ (Some BackupOnly) (c.in-Some-BackupOnly.is ∙ ap Some c.in-Some-BackupOnly.field-0-is) c.state.ensures
     (λ z. omega (arith, z)) (λ z. omega (arith, z))
 
-pub returns-in-Neither : goal.returns-in-Neither
-returns-in-Neither c =
+pub returns-in-None : goal.returns-in-None
+returns-in-None c =
     let a = c.args in
-    open-neither a.shape a.n a.head.now a.tail.now (passed _ c.in-Pass.is c.lent.ensures) _ Neither c.in-Neither.is c.state.ensures refl
+    open-neither a.shape a.n a.head.now a.tail.now (passed _ c.in-Pass.is c.lent.ensures) _ None c.in-None.is c.state.ensures refl
