@@ -15,7 +15,7 @@ pub extern "C" fn usi_bench_load64(s: &[u8], at: u64) -> u64 {
     if s.len() - 8 < i {
         return 0;
     }
-    octets::load64(s, i)
+    octets::load(s, i)
 }
 
 #[unsafe(no_mangle)]
@@ -27,7 +27,7 @@ pub extern "C" fn usi_bench_store64(s: &mut [u8], at: u64, v: u64) -> u32 {
     if s.len() - 8 < i {
         return 0;
     }
-    octets::store64(s, i, v);
+    octets::store(s, i, v);
     1
 }
 

@@ -81,7 +81,7 @@ fn near_step(t: &[u32; 256], c: u32, s: &[u8], i: usize) -> u32
     requires { Near t.now × (i + 8 ≤ length s.now) }
     ensures { result ≡ bit_steps 64 (bit_xor c (field i 8 s.now)) }
 {
-    near_word(t, c as u64 ^ octets::load64(s, i))
+    near_word(t, c as u64 ^ octets::load::<u64, _>(s, i))
 }
 
 // The word at i is added to the lane, which goes on to its next word: 32 bytes on.
@@ -89,7 +89,7 @@ fn far_step(t: &[u32; 2048], c: u32, s: &[u8], i: usize) -> u32
     requires { Far t.now × (i + 8 ≤ length s.now) }
     ensures { result ≡ bit_steps 256 (bit_xor c (field i 8 s.now)) }
 {
-    far_word(t, c as u64 ^ octets::load64(s, i))
+    far_word(t, c as u64 ^ octets::load::<u64, _>(s, i))
 }
 
 fn byte_step(t: &[u32; 256], c: u32, b: u8) -> u32

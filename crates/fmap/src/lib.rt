@@ -199,7 +199,7 @@ fn read_area(a: &[u8]) -> Area
     Area {
         place: fmap_rules::extent_of(a),
         name,
-        flags: octets::load16(a, 40),
+        flags: octets::load(a, 40),
     }
 }
 

@@ -27,7 +27,7 @@ fn is_preserved(a: &[u8]) -> bool
     requires { length a.now ≡ 42 }
     ensures { result ≡ preserved (area_of a.now) }
 {
-    octets::load16(a, 40) / 8 % 2 == 1
+    octets::load::<u16, _>(a, 40) / 8 % 2 == 1
 }
 
 // Where area k lies; at 0 with no byte where there is no area k.

@@ -74,8 +74,8 @@ pub fn extent_of(a: &[u8]) -> Extent
     ensures { result ≡ (area_of a.now).place }
 {
     Extent {
-        start: ImagePosition(octets::load32(a, 0)),
-        size: octets::load32(a, 4),
+        start: ImagePosition(octets::load(a, 0)),
+        size: octets::load(a, 4),
     }
 }
 
@@ -274,7 +274,7 @@ fn count_of(m: &[u8]) -> usize
     requires { 56 ≤ length m.now }
     ensures { result ≡ count_of m.now }
 {
-    octets::load16(m, 54) as usize
+    octets::load::<u16, _>(m, 54) as usize
 }
 
 // The bytes of all areas.
@@ -291,7 +291,7 @@ pub fn is_signed(m: &[u8]) -> bool
     requires { 8 ≤ length m.now }
     ensures { result ≡ signed m.now }
 {
-    octets::load64(m, 0) == 0x5f5f50414d465f5f
+    octets::load::<u64, _>(m, 0) == 0x5f5f50414d465f5f
 }
 
 // The number of the first rule that the header breaks, or 0. The fields that are compared with a number come before the name.
@@ -313,7 +313,7 @@ fn header_rule(m: &[u8], len: usize) -> u32
     if 1 < m[9] {
         return 4;
     }
-    if octets::load32(m, 18) as u64 != len as u64 {
+    if octets::load::<u32, _>(m, 18) as u64 != len as u64 {
         return 5;
     }
     let n = count_of(m);

@@ -14,10 +14,10 @@ pub fn put_area(to: &mut [u8], at: usize, a: Area)
     ensures { (to.new ≡ put at (area_bytes a) to.old) × (length (area_bytes a) ≡ 42) }
 {
     let name = a.name;
-    octets::store32(to, at, a.place.start.0);
-    octets::store32(to, at + 4, a.place.size);
+    octets::store(to, at, a.place.start.0);
+    octets::store(to, at + 4, a.place.size);
     octets::copy(to, at + 8, &name);
-    octets::store16(to, at + 40, a.flags);
+    octets::store(to, at + 40, a.flags);
 }
 
 // The first 56 bytes of a map with that many areas, for version 1.minor and an image of size bytes.
@@ -36,8 +36,8 @@ pub fn put_header(
 {
     let start = [b'_', b'_', b'F', b'M', b'A', b'P', b'_', b'_', 1, minor];
     octets::copy(to, at, &start);
-    octets::store64(to, at + 10, base);
-    octets::store32(to, at + 18, size);
+    octets::store(to, at + 10, base);
+    octets::store(to, at + 18, size);
     octets::copy(to, at + 22, &name);
-    octets::store16(to, at + 54, count);
+    octets::store(to, at + 54, count);
 }

@@ -34,7 +34,7 @@ fn used_offends(t: &[u8], i: usize, rule: Rule) -> bool
     if gpt_table::is_unused(t, i) {
         return false;
     }
-    offends(rule, octets::load64(gpt_table::entry(t, i), ATTRIBUTES_AT))
+    offends(rule, octets::load(gpt_table::entry(t, i), ATTRIBUTES_AT))
 }
 
 // k3: the check answers the first used slot that offends, or 0.

@@ -118,8 +118,8 @@ fn put_block0(head: &mut [u8], n: u64, shape: Shape)
     ensures { head.new ≡ write_all (block0 n) head.old }
 {
     octets::copy(head, 446, b"\x00\x00\x02\x00\xee\xff\xff\xff");
-    octets::store32(head, 454, 1);
-    octets::store32(head, 458, (n - 1) as u32);
+    octets::store(head, 454, 1u32);
+    octets::store(head, 458, (n - 1) as u32);
     octets::copy(head, 510, b"\x55\xaa");
 }
 

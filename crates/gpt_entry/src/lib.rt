@@ -29,7 +29,7 @@ fn put_name(s: &mut [u8], at: usize, name: &[u16])
 {
     let mut i = 0;
     while i < NAME_UNITS {
-        octets::store16(s, at + 2 * i, name[i]);
+        octets::store(s, at + 2 * i, name[i]);
         i += 1;
     }
 }
@@ -52,9 +52,9 @@ pub fn added(p: NewPartition, first: Block) -> [u8; ENTRY]
     let mut e = [0u8; ENTRY];
     octets::copy(&mut e, 0, &p.kind);
     octets::copy(&mut e, UNIQUE_AT, &p.unique);
-    octets::store64(&mut e, FIRST_AT, first.0);
-    octets::store64(&mut e, LAST_AT, first.0 + (p.size - 1));
-    octets::store64(&mut e, ATTRIBUTES_AT, p.attributes);
+    octets::store(&mut e, FIRST_AT, first.0);
+    octets::store(&mut e, LAST_AT, first.0 + (p.size - 1));
+    octets::store(&mut e, ATTRIBUTES_AT, p.attributes);
     put_name(&mut e, NAME_AT, &p.name);
     e
 }
@@ -66,10 +66,10 @@ pub fn resized(entry: &[u8], size: u64) -> [u8; ENTRY]
 {
     let mut e = [0u8; ENTRY];
     octets::copy(&mut e, 0, entry);
-    octets::store64(
+    octets::store(
         &mut e,
         LAST_AT,
-        octets::load64(entry, FIRST_AT) + (size - 1),
+        octets::load::<u64, _>(entry, FIRST_AT) + (size - 1),
     );
     e
 }

@@ -15,10 +15,10 @@ fn start(out: &mut [u8])
     ensures { (g : AnyShape) → out.new ≡ write_all (take 5 (header_fields g 0 primary [] [] 0)) out.old }
 {
     octets::copy(out, 0, b"EFI PART");
-    octets::store32(out, 8, 0x10000);
-    octets::store32(out, 12, HEADER as u32);
-    octets::store32(out, 16, 0);
-    octets::store32(out, 20, 0);
+    octets::store(out, 8, 0x10000u32);
+    octets::store(out, 12, HEADER as u32);
+    octets::store(out, 16, 0u32);
+    octets::store(out, 20, 0u32);
 }
 
 // The next four: own block, other header's block, first and last usable block.
@@ -28,10 +28,10 @@ fn blocks(out: &mut [u8], side: Side, n: u64, shape: Shape)
 {
     let own = super::header_block(side, n);
     let other = super::header_block(super::other(side), n);
-    octets::store64(out, 24, own.0);
-    octets::store64(out, 32, other.0);
-    octets::store64(out, 40, super::first_usable(shape).0);
-    octets::store64(out, 48, super::last_usable(n, shape).0);
+    octets::store(out, 24, own.0);
+    octets::store(out, 32, other.0);
+    octets::store(out, 40, super::first_usable(shape).0);
+    octets::store(out, 48, super::last_usable(n, shape).0);
 }
 
 // The last five: disk GUID, first block of entries, count, entry size, CRC of the entries.
@@ -41,10 +41,10 @@ fn table(out: &mut [u8], side: Side, n: u64, shape: Shape, guid: &[u8], crc: u32
         → out.new ≡ write_all (drop 9 (header_fields shape n (side_of side) guid.now es 0)) out.old }
 {
     octets::copy(out, 56, guid);
-    octets::store64(out, 72, super::entries_block(side, n, shape).0);
-    octets::store32(out, 80, SLOTS as u32);
-    octets::store32(out, 84, ENTRY as u32);
-    octets::store32(out, 88, crc);
+    octets::store(out, 72, super::entries_block(side, n, shape).0);
+    octets::store(out, 80, SLOTS as u32);
+    octets::store(out, 84, ENTRY as u32);
+    octets::store(out, 88, crc);
 }
 
 // The header of a copy whose table has that CRC.
@@ -56,7 +56,7 @@ pub fn write(out: &mut [u8], side: Side, n: u64, shape: Shape, guid: &[u8], crc:
     blocks(out, side, n, shape);
     table(out, side, n, shape, guid, crc);
     let c = crc32::crc32(&out[..]);
-    octets::store32(out, 16, c);
+    octets::store(out, 16, c);
 }
 
 // D8: every named header field, both CRCs: the header of a copy is the one that N, side, its disk GUID and its entries decide, the entries by their CRC.

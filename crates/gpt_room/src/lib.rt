@@ -247,7 +247,7 @@ pub fn fits_at(t: &[u8], k: usize, last: Block, size: u64) -> bool
     ensures { result ≡ fits_at last.0 t.now k size }
 {
     let i = k - 1;
-    let a = Block(octets::load64(gpt_table::entry(t, i), FIRST_AT));
+    let a = Block(octets::load(gpt_table::entry(t, i), FIRST_AT));
     let mut firsts = [0u64; SLOTS];
     let mut lasts = [0u64; SLOTS];
     let count = gpt_table::order::ranges(t, i, &mut firsts, &mut lasts);

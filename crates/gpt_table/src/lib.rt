@@ -128,8 +128,8 @@ fn decode(t: &[u8], but: usize, at: usize, x: &mut [u64; SLOTS], y: &mut [u64; S
     let mut i = 0;
     while i < SLOTS {
         if wanted(t, but, i) {
-            x[n] = octets::load64(entry(t, i), at);
-            y[n] = octets::load64(entry(t, i), at + 8);
+            x[n] = octets::load(entry(t, i), at);
+            y[n] = octets::load(entry(t, i), at + 8);
             n += 1;
         }
         i += 1;

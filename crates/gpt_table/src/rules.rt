@@ -30,8 +30,8 @@ fn entry_ok(e: &[u8], first: Block, last: Block) -> bool
         return false;
     }
     bounded(
-        Block(octets::load64(e, FIRST_AT)),
-        Block(octets::load64(e, LAST_AT)),
+        Block(octets::load(e, FIRST_AT)),
+        Block(octets::load(e, LAST_AT)),
         first,
         last,
     )

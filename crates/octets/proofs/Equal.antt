@@ -1,13 +1,18 @@
 -- Laws of the zero test and of comparison: as facts of lists, and along a loop by any number of bytes a step.
 use mathlib.Core.Path.{◌≡◌, refl, sym, ap, ap₂, ◌∙◌}
-use mathlib.Core.Bool.{Bool, true, false, false≢true}
+use mathlib.Core.Bool.{Bool, true, false, ◌&&◌, false≢true}
 use mathlib.Core.List.{List, [], ◌∷◌, ◌++◌}
 use Prim.Native.Nat.{ℕ, zero, suc, ◌+◌, ◌≤◌, ◌<◌}
 use native.Mathlib.Omega.{arith}
-use lib.Dec.{eqb}
+use lib.Dec.{eqb, eqb-suc-zero, eqb-zero-suc}
 use lib.ListN.{length, get_or, take, drop, length-drop, drop_of_length-le, take-append-drop}
 use lib.Seq.{drop-cons, drop-drop}
 use borrow.Author.Tests.{eqb-true, eq-eqb}
+use Rattle.std.specs.Cmp.Lexicographic.{pointwise}
+use Rattle.std.specs.List.{fold}
+use Rattle.std.specs.Int.RustNames.{bit_or}
+use Rattle.std.specs.Int.Bits.{or_zero_l}
+use Rattle.std.proofs.lemmas.Nat.{le_or_l}
 use Rattle.octets.specs.Tests.{◌and◌}
 use Rattle.octets.specs.Bytes.{unle, part, field, zeros, is_zero, same}
 use Rattle.octets.proofs.Bools.{and_l, and_r, and_i}
@@ -42,6 +47,17 @@ pub same-append : (xs us vs : List ℕ) → same (xs ++ us) (xs ++ vs) ≡ same 
 unfolding same ◌and◌
 same-append [] us vs = refl
 same-append (x ∷ xs) us vs = rw (eq-eqb x x refl) (same-append xs us vs)
+
+-- what `==` of two slices computes
+pub same-pointwise : (xs ys : List ℕ) → pointwise eqb xs ys ≡ same xs ys
+unfolding same ◌and◌
+same-pointwise [] [] = refl
+same-pointwise [] (y ∷ ys) = refl
+same-pointwise (x ∷ xs) [] = refl
+same-pointwise (x ∷ xs) (y ∷ ys) = elim (eqb x y) as (λ b. (b && pointwise eqb xs ys) ≡ (b and same xs ys)) [
+  | true ↦ same-pointwise xs ys
+  | false ↦ refl
+]
 
 -- ---- along a loop: n bytes from i on
 
@@ -90,6 +106,28 @@ pub field-differ : (i n : ℕ) (xs ys : List ℕ) (x y : ℕ) → x ≡ field i 
 field-differ i n xs ys x y p q f e = f (p ∙ ap unle e ∙ sym q)
 
 -- ---- the zero test
+
+positive : (m : ℕ) → 0 < m → eqb m 0 ≡ false
+positive zero h = absurd (omega arith)
+positive (suc m) h = eqb-suc-zero m
+
+or_zero : (a x : ℕ) → eqb (bit_or a x) 0 ≡ (eqb a 0 and eqb 0 x)
+unfolding ◌and◌
+or_zero zero zero = refl
+or_zero zero (suc x) = rw or_zero_l (eqb-suc-zero x ∙ sym (eqb-zero-suc x))
+or_zero (suc a) x = positive _ (omega (arith, le_or_l (suc a) x)) ∙ sym (ap (λ (b : Bool). b and eqb 0 x) (eqb-suc-zero a))
+
+and_assoc : (p q r : Bool) → ((p and q) and r) ≡ (p and (q and r))
+unfolding ◌and◌
+and_assoc true q r = refl
+and_assoc false q r = refl
+
+-- the bytes joined by `|`
+pub zero_fold : (a : ℕ) (xs : List ℕ) → eqb (fold bit_or a xs) 0 ≡ (eqb a 0 and is_zero xs)
+unfolding ◌and◌
+zero_fold zero [] = refl
+zero_fold (suc a) [] = rw (eqb-suc-zero a)
+zero_fold a (x ∷ xs) = zero_fold (bit_or a x) xs ∙ rw or_zero (and_assoc (eqb a 0) (eqb 0 x) (is_zero xs))
 
 pub zero-zeros : (k : ℕ) → is_zero (zeros k) ≡ true
 unfolding zeros ◌and◌

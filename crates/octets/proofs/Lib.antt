@@ -3,6 +3,7 @@ pub mod Bools
 pub mod Tests
 pub mod Rows
 pub mod Numbers
+pub mod LowFirst
 pub mod Parts
 pub mod Puts
 pub mod Equal

@@ -101,11 +101,11 @@ fn header(rt: &impl Print, h: &[u8], n: u64) -> io::Result<()>
     requires { length h.now ≡ 92 }
 {
     begin(rt, n, b"header ")?;
-    print_out::decimal(rt, octets::load64(h, 24))?;
-    named(rt, b" other ", octets::load64(h, 32))?;
-    named(rt, b" usable ", octets::load64(h, 40))?;
-    named(rt, b" ", octets::load64(h, 48))?;
-    named(rt, b" entries ", octets::load64(h, 72))?;
+    print_out::decimal(rt, octets::load(h, 24))?;
+    named(rt, b" other ", octets::load(h, 32))?;
+    named(rt, b" usable ", octets::load(h, 40))?;
+    named(rt, b" ", octets::load(h, 48))?;
+    named(rt, b" entries ", octets::load(h, 72))?;
     print_out::bytes(rt, b"\n")
 }
 

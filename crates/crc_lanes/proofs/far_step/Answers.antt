@@ -5,4 +5,4 @@ use Rattle.crc_lanes.specs.Crc.{bit_steps}
 use Rattle.crc_lanes.proofs.far_step.Goals as goal
 
 pub returns : goal.returns
-returns c = c.far_word.ensures ∙ ap (λ (n : ℕ). bit_steps 256 (bit_xor c.args.c n)) c.load64.ensures
+returns c = c.far_word.ensures ∙ ap (λ (n : ℕ). bit_steps 256 (bit_xor c.args.c n)) c.load.ensures

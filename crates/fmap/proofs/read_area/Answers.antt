@@ -6,4 +6,4 @@ use Rattle.fmap.proofs.read_area.Goals as goal
 pub returns : goal.returns
 unfolding part
 returns c = area-read _ _ _ _ _ c.requires refl c.extent_of.ensures
-    c.copy.ensures c.load16.ensures
+    c.copy.ensures c.load.ensures

@@ -4,4 +4,4 @@ use Rattle.fmap_carry.proofs.is_preserved.Goals as goal
 
 pub returns : goal.returns
 unfolding preserved area_of
-returns c = rw c.load16.ensures
+returns c = rw c.load.ensures

@@ -3,4 +3,4 @@ use Rattle.fmap_rules.proofs.extent_of.Goals as goal
 
 pub returns : goal.returns
 unfolding area_of
-returns c = rw (c.load32.ensures, c.load32-2.ensures)
+returns c = rw (c.load.ensures, c.load-2.ensures)

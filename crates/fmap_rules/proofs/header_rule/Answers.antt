@@ -18,31 +18,31 @@ returns-then-m-ne1 c = rule-3 _ _ (sym c.is_signed.ensures ∙ c.if-not-is_signe
 pub returns-then-m-gt1 : goal.returns-then-m-gt1
 returns-then-m-gt1 c = rule-4 _ _ (sym c.is_signed.ensures ∙ c.if-not-is_signed.false) c.if-m-lt56.false c.if-m-ne1.false c.if-m-gt1.true
 
-pub returns-then-load32-len : goal.returns-then-load32-len
-returns-then-load32-len c = rule-5 _ _ (sym c.is_signed.ensures ∙ c.if-not-is_signed.false) c.if-m-lt56.false c.if-m-ne1.false c.if-m-gt1.false
-    (λ q. c.if-load32-len.true (c.load32.ensures ∙ q))
+pub returns-then-load-len : goal.returns-then-load-len
+returns-then-load-len c = rule-5 _ _ (sym c.is_signed.ensures ∙ c.if-not-is_signed.false) c.if-m-lt56.false c.if-m-ne1.false c.if-m-gt1.false
+    (λ q. c.if-load-len.true (c.load.ensures ∙ q))
 
 pub returns-then-n-eq0 : goal.returns-then-n-eq0
 returns-then-n-eq0 c = rule-6 _ _ (sym c.is_signed.ensures ∙ c.if-not-is_signed.false) c.if-m-lt56.false c.if-m-ne1.false c.if-m-gt1.false
-    (sym c.load32.ensures ∙ c.if-load32-len.false) (sym c.count_of-n.ensures ∙ c.if-n-eq0.true)
+    (sym c.load.ensures ∙ c.if-load-len.false) (sym c.count_of-n.ensures ∙ c.if-n-eq0.true)
 
 pub returns-then-n-gt128 : goal.returns-then-n-gt128
 returns-then-n-gt128 c = rule-7 _ _ (sym c.is_signed.ensures ∙ c.if-not-is_signed.false) c.if-m-lt56.false c.if-m-ne1.false c.if-m-gt1.false
-    (sym c.load32.ensures ∙ c.if-load32-len.false) (λ q. c.if-n-eq0.false (c.count_of-n.ensures ∙ q)) (rw (← c.count_of-n.ensures) c.if-n-gt128.true)
+    (sym c.load.ensures ∙ c.if-load-len.false) (λ q. c.if-n-eq0.false (c.count_of-n.ensures ∙ q)) (rw (← c.count_of-n.ensures) c.if-n-gt128.true)
 
 pub returns-then-m-n : goal.returns-then-m-n
 returns-then-m-n c = rule-8 _ _ (sym c.is_signed.ensures ∙ c.if-not-is_signed.false) c.if-m-lt56.false c.if-m-ne1.false c.if-m-gt1.false
-    (sym c.load32.ensures ∙ c.if-load32-len.false) (λ q. c.if-n-eq0.false (c.count_of-n.ensures ∙ q)) (rw (← c.count_of-n.ensures) c.if-n-gt128.false)
+    (sym c.load.ensures ∙ c.if-load-len.false) (λ q. c.if-n-eq0.false (c.count_of-n.ensures ∙ q)) (rw (← c.count_of-n.ensures) c.if-n-gt128.false)
     (rw (← c.count_of-n.ensures) c.if-m-n.true)
 
 pub returns-then-not-is_legal_name : goal.returns-then-not-is_legal_name
 unfolding part
 returns-then-not-is_legal_name c = rule-9 _ _ (sym c.is_signed.ensures ∙ c.if-not-is_signed.false) c.if-m-lt56.false c.if-m-ne1.false c.if-m-gt1.false
-    (sym c.load32.ensures ∙ c.if-load32-len.false) (λ q. c.if-n-eq0.false (c.count_of-n.ensures ∙ q)) (rw (← c.count_of-n.ensures) c.if-n-gt128.false)
+    (sym c.load.ensures ∙ c.if-load-len.false) (λ q. c.if-n-eq0.false (c.count_of-n.ensures ∙ q)) (rw (← c.count_of-n.ensures) c.if-n-gt128.false)
     (rw (← c.count_of-n.ensures) c.if-m-n.false) (sym c.is_legal_name.ensures ∙ c.if-not-is_legal_name.true)
 
 pub returns : goal.returns
 unfolding part
 returns c = all-kept _ _ (sym c.is_signed.ensures ∙ c.if-not-is_signed.false) c.if-m-lt56.false c.if-m-ne1.false c.if-m-gt1.false
-    (sym c.load32.ensures ∙ c.if-load32-len.false) (λ q. c.if-n-eq0.false (c.count_of-n.ensures ∙ q)) (rw (← c.count_of-n.ensures) c.if-n-gt128.false)
+    (sym c.load.ensures ∙ c.if-load-len.false) (λ q. c.if-n-eq0.false (c.count_of-n.ensures ∙ q)) (rw (← c.count_of-n.ensures) c.if-n-gt128.false)
     (rw (← c.count_of-n.ensures) c.if-m-n.false) (sym c.is_legal_name.ensures ∙ c.if-not-is_legal_name.false)

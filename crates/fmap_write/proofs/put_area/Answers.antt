@@ -14,6 +14,6 @@ copy-requires c =
 pub returns : goal.returns
 returns c =
     let long : length c.args.a.name ≡ 32 = search rules in (
-      area-written c.args.a c.args.at _ _ _ _ _ long c.store32.ensures c.store32-2.ensures c.copy.ensures c.store16.ensures,
+      area-written c.args.a c.args.at _ _ _ _ _ long c.store.ensures c.store-2.ensures c.copy.ensures c.store-3.ensures,
       length-area c.args.a long,
     )

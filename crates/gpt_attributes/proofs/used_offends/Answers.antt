@@ -11,11 +11,11 @@ use Rattle.gpt_attributes.proofs.used_offends.Goals as goal
 pub returns-then-is_unused : goal.returns-then-is_unused
 returns-then-is_unused c = and-f _ (ap not (sym c.is_unused.ensures ∙ c.if-is_unused.true))
 
-pub load64-requires : goal.load64-requires
-load64-requires c = omega (arith, c.entry.ensures.1)
+pub load-requires : goal.load-requires
+load-requires c = omega (arith, c.entry.ensures.1)
 
 pub returns : goal.returns
 returns c =
     and-t (ap not (sym c.is_unused.ensures ∙ c.if-is_unused.false))
     (c.offends.ensures
-    ∙ ap (offends c.args.rule) (c.load64.ensures ∙ ap (λ (e : List ℕ). attributes_of e) c.entry.ensures.0))
+    ∙ ap (offends c.args.rule) (c.load.ensures ∙ ap (λ (e : List ℕ). attributes_of e) c.entry.ensures.0))

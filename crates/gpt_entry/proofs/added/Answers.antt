@@ -22,5 +22,5 @@ pub returns : goal.returns
 returns c =
     let a = c.args in
     six-writes a.p a.first.0 _ _ _ _ _ _ c.requires.0 c.copy.ensures c.copy-2.ensures
-    c.store64.ensures c.store64-2.ensures c.store64-3.ensures
+    c.store.ensures c.store-2.ensures c.store-3.ensures
     c.put_name.ensures

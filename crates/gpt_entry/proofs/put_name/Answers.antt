@@ -8,7 +8,7 @@ pub loop-i-init : goal.loop-i-init
 loop-i-init c = named_none
 
 pub loop-i-preserved : goal.loop-i-preserved
-loop-i-preserved c = named-on (search rules) (omega arith) c.store16.ensures c.loop-i.invariant
+loop-i-preserved c = named-on (search rules) (omega arith) c.store.ensures c.loop-i.invariant
 
 pub shape_of-s : goal.shape_of-s
 shape_of-s c = c.loop-i.invariant.width

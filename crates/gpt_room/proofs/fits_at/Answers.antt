@@ -12,4 +12,4 @@ returns c =
     let free = free-but a.t.now (a.k - 1) c.ranges-count.ensures in
     c.room_at.ensures
     ∙ room-same _ (set (ranges_of a.t.now) (a.k - 1) no_blocks) free a.last.0 a.size
-    (c.load64.ensures ∙ ap (field 32 8) c.entry.ensures.0)
+    (c.load.ensures ∙ ap (field 32 8) c.entry.ensures.0)

@@ -25,7 +25,7 @@ loop-i-preserved c =
           let e = used-in (entries t) a.but l.i (omega arith) u in
           decoding-as w.x-is w.y-is w.n-is
           (decoding-more (length-but t a.but) (omega arith) l.invariant u
-          (w.load64.ensures ∙ ap (field a.at 8) (w.entry.ensures.0 ∙ sym e)) (w.load64-then-wanted.ensures
+          (w.load.ensures ∙ ap (field a.at 8) (w.entry.ensures.0 ∙ sym e)) (w.load-then-wanted.ensures
           ∙ ap (field (a.at + 8) 8) (w.entry-then-wanted.ensures.0 ∙ sym e)))
       | else-wanted w ↦
           decoding-as w.x-is w.y-is w.n-is

@@ -200,7 +200,7 @@ mod tests {
             "`octets` Rows: `refusal`, `row`; `crc_lanes` Crc: `crc32`",
             "`octets` same/Proof; must-fail `rest_from_start`",
             "`fmd_parse` rows/first_cbfs/Proof",
-            "`octets::load64`, `store64`; in C `usi_crc32`",
+            "`octets::load`, `store`; in C `usi_crc32`",
         ] {
             assert_eq!(row(good), [""; 0], "{good}");
         }

@@ -6,7 +6,7 @@ use Rattle.gpt_places.proofs.header.blocks.Goals as goal
 pub returns : goal.returns
 returns c =
     let other = c.header_block-other.ensures ∙ ap (λ (s : Side). header_block s c.args.n) c.other.ensures in
-    stored 48 8 c.store64-4.ensures c.last_usable.ensures
-    (stored 40 8 c.store64-3.ensures c.first_usable.ensures
-    (stored 32 8 c.store64-2.ensures other
-    (stored 24 8 c.store64.ensures c.header_block-own.ensures refl)))
+    stored 48 8 c.store-4.ensures c.last_usable.ensures
+    (stored 40 8 c.store-3.ensures c.first_usable.ensures
+    (stored 32 8 c.store-2.ensures other
+    (stored 24 8 c.store.ensures c.header_block-own.ensures refl)))

@@ -20,5 +20,5 @@ returns c =
     let a = c.args in
     let used = sym c.unused.ensures ∙ c.if-unused.false in
     let unique = sym c.is_zero.ensures ∙ c.if-is_zero.false in
-    c.bounded.ensures ∙ ap₂ (λ (x y : ℕ). bounded a.first.0 a.last.0 (spans x y)) c.load64.ensures c.load64-2.ensures
+    c.bounded.ensures ∙ ap₂ (λ (x y : ℕ). bounded a.first.0 a.last.0 (spans x y)) c.load.ensures c.load-2.ensures
     ∙ sym (ok-range a.first.0 a.last.0 a.e.now used unique)
