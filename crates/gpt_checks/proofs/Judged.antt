@@ -2,23 +2,23 @@
 use mathlib.Core.Path.{◌≡◌, refl, sym, ap, ◌∙◌}
 use mathlib.Core.Logic.{◌≢◌}
 use mathlib.Core.Bool.{Bool, true, false, not}
-use mathlib.Core.List.{List, [], ◌∷◌, ◌++◌}
+use mathlib.Core.List.{List, ◌++◌}
 use mathlib.Core.Option.{Option, none, some}
-use Prim.Native.Nat.{ℕ, ◌-◌, ◌*◌, ◌≤◌, ◌<◌}
+use Prim.Native.Nat.{ℕ, ◌*◌, ◌≤◌, ◌<◌}
 use native.Mathlib.Omega.{arith}
 use lib.Dec.{eqb}
-use lib.ListN.{length, set}
-use borrow.Author.Tests.{eqb-true, eqb-false, leb-true, eq-eqb, ne_eqb}
+use lib.ListN.{length}
+use borrow.Author.Tests.{eqb-true, eqb-false, leb-true, eq-eqb}
 use Rattle.octets.specs.Tests.{◌and◌}
-use Rattle.octets.specs.Rows.{Row, row, refusal}
-use Rattle.octets.proofs.Bools.{and_l, and_r, and_i, not_f, some-none}
-use Rattle.octets.proofs.Rows.{rows_from, passes, pick_true, pick-false, refusal-append, refusal-first, refusal-before}
+use Rattle.octets.specs.Rows.{Row, refusal}
+use Rattle.octets.proofs.Bools.{and_l, and_r, and_i, not_f}
+use Rattle.octets.proofs.Rows.{rows_from, passes, refusal-append, refusal-first, refusal-before}
 use Rattle.gpt_model.specs.Ranges.{lowest_start}
-use Rattle.gpt_model.specs.Table.{entries, ranges_of}
+use Rattle.gpt_model.specs.Table.{ranges_of}
 use Rattle.gpt_model.specs.Disk.{Shape, most_blocks, last_usable, in_range, primary, backup, lent_bytes, entries_in, state, table_of}
 use Rattle.gpt_model.specs.declared.NewPartition.{NewPartition}
-use Rattle.gpt_model.specs.Calls.{Edit, add, delete, resize, rename, edit, bad_name, name_taken}
-use Rattle.gpt_model.specs.Calls.{slot_rows, add_rows, fits_at, start_for, table_rows, is_none, lengths_of, lengths_ok, lent_rows, open_rows, rows_of}
+use Rattle.gpt_model.specs.Calls.{Edit, add, delete, resize, rename, edit}
+use Rattle.gpt_model.specs.Calls.{slot_rows, add_rows, start_for, table_rows, is_none, lengths_of, lengths_ok, lent_rows, open_rows, rows_of}
 use Rattle.gpt_model.specs.Calls.{format_rows}
 use Rattle.gpt_model.proofs.Outcomes.{edit-decides, edit-stops}
 use Rattle.gpt_model.proofs.Accepts.{alignment-least}
@@ -26,22 +26,36 @@ use Rattle.gpt_model.proofs.States.{one-primary}
 use Rattle.gpt_room.specs.Answers.{placed}
 use Rattle.gpt_model.specs.declared.Block.{Block}
 use Rattle.std.specs.Prelude as std
+use Rattle.std.specs.Prelude.{Some, None, Result, Ok, Err, ok_or}
+use denote.Enum.Bare.{sameb}
+use Rattle.gpt_copies.specs.contracts.State.{the_type}
+use Rattle.octets.specs.Rows.{pick_row}
+use Rattle.gpt_checks.specs.Refusals.{number_of}
+use Rattle.gpt_checks.specs.declared.Refusal.{Refusal}
+use Rattle.gpt_checks.specs.declared.Refusal.TheVariants.{NeitherGood, NoRoom}
 use Rattle.gpt_copies.specs.States.{state_number}
 use Rattle.std.specs.Prelude.{Option as Found}
 use Rattle.gpt_copies.specs.declared.State.{State}
-use Rattle.gpt_checks.proofs.Rows.{in_order, row_is, slot-number}
-use Rattle.gpt_checks.specs.Checks.{stop_of, row_after}
-use Rattle.gpt_checks.specs.Refusals.{number_of}
-use Rattle.gpt_checks.specs.declared.Refusal.{Refusal}
-use Rattle.gpt_checks.specs.declared.Check.{Check}
-use Rattle.gpt_checks.specs.declared.Check.TheVariants.{Pass, Stop}
+use Rattle.gpt_copies.specs.declared.State.TheVariants.{Both, Differ, PrimaryOnly, BackupOnly}
+use Rattle.gpt_checks.proofs.Rows.{slot-number}
+use Rattle.gpt_checks.specs.Checks.{stop_of}
 
--- a check that is passed: no row holds. One that stops a call: the row of its refusal
-pub passed : {q : Option ℕ} (c : Check) → c ≡ Pass → stop_of c ≡ q → q ≡ none
-passed c p q = sym q ∙ ap stop_of p
+-- 10, 11, by the state k of the two copies
+abbrev state_rows : ℕ → Option ℕ
+state_rows k = pick_row (eqb k 0) 10 (pick_row (not (eqb k 1)) 11 none)
 
-pub stopped : {q : Option ℕ} (c : Check) (r : Refusal) → c ≡ Stop r → stop_of c ≡ q → q ≡ some (number_of r)
-stopped c r p q = sym q ∙ ap stop_of p
+neither-row : (o : Found State) (r : Refusal) → Err r ≡ ok_or o NeitherGood → some (number_of r) ≡ state_rows (state_number o)
+unfolding pick_row
+neither-row None r e = let z : r ≡ NeitherGood = cc in ap (λ (x : Refusal). some (number_of x)) z
+neither-row (Some x) r e = cc
+
+differ-row : (o : Found State) (x : State) → Ok x ≡ ok_or o NeitherGood → pick_row (not (sameb the_type x Both)) 11 none ≡ state_rows (state_number o)
+unfolding pick_row
+differ-row None x e = cc
+differ-row (Some Both) x e = let z : x ≡ Both = cc in rw z
+differ-row (Some Differ) x e = let z : x ≡ Differ = cc in rw z
+differ-row (Some PrimaryOnly) x e = let z : x ≡ PrimaryOnly = cc in rw z
+differ-row (Some BackupOnly) x e = let z : x ≡ BackupOnly = cc in rw z
 
 module _ (g : Shape) (n : ℕ) (h t : List ℕ) where
   -- ---- rows 1 and 2
@@ -72,28 +86,17 @@ module _ (g : Shape) (n : ℕ) (h t : List ℕ) where
   abbrev later : List Row
   later = rows_from 10 (open_rows g n h t true)
 
-  pub open_lent : (k : ℕ) → refusal (lent_rows g n h t true) ≡ some k → some k ≡ refusal (open_rows g n h t true)
-  open_lent k e = sym (refusal-first (lent_rows g n h t true) later k e)
+  -- by the state o that the code finds
+  module _ (e : refusal (lent_rows g n h t true) ≡ none) (o : Found State) (q : state_number o ≡ state g n h t) where
+    opening : state_rows (state_number o) ≡ refusal (open_rows g n h t true)
+    opening = ap state_rows q ∙ sym (refusal-append (lent_rows g n h t true) later e)
 
-  -- by the state x that the code finds
-  module _ (e : refusal (lent_rows g n h t true) ≡ none) (s x : Found State) (p : s ≡ x) (q : state_number s ≡ state g n h t) where
-    abbrev opening : Option ℕ
-    opening = refusal (open_rows g n h t true)
+    pub open-neither : (r : Refusal) → Err r ≡ ok_or o NeitherGood → some (number_of r) ≡ refusal (open_rows g n h t true)
+    open-neither r w = neither-row o r w ∙ opening
 
-    state-is : state g n h t ≡ state_number x
-    state-is = sym q ∙ ap state_number p
-
-    pub open-neither : state_number x ≡ 0 → some 10 ≡ opening
-    open-neither z = sym (refusal-append (lent_rows g n h t true) later e ∙ pick_true _ 10 _ (eq-eqb _ _ (state-is ∙ z)))
-
-    to11 : state_number x ≢ 0 → opening ≡ refusal (rows_from 11 (open_rows g n h t true))
-    to11 f = refusal-append (lent_rows g n h t true) later e ∙ pick-false _ 10 _ (ne_eqb _ _ (λ z. f (sym state-is ∙ z)))
-
-    pub open-other : state_number x ≢ 0 → state_number x ≢ 1 → some 11 ≡ opening
-    open-other f k = sym (to11 f ∙ pick_true _ 11 _ (ap not (ne_eqb _ _ (λ z. k (sym state-is ∙ z)))))
-
-    pub open-both : state_number x ≡ 1 → none ≡ opening
-    open-both z = sym (to11 (λ w. omega (arith, w, z)) ∙ pick-false _ 11 _ (ap not (eq-eqb _ _ (state-is ∙ z))))
+    pub open-differ : (x : State) → Ok x ≡ ok_or o NeitherGood → (b : Bool) → b ≡ not (sameb the_type x Both)
+        → pick_row b 11 none ≡ refusal (open_rows g n h t true)
+    open-differ x w b z = rw z (differ-row o x w ∙ opening)
 
   -- the rows before an edit's own, where GUIDs and name have the lengths of their types
   open_is : (d : Edit) → lengths_of d ≡ true → refusal (open_rows g n h t (lengths_of d)) ≡ refusal (open_rows g n h t true)
@@ -135,37 +138,21 @@ module _ (g : Shape) (n : ℕ) (h t : List ℕ) where
     -- where the name has its length, the rows of renaming are those of a delete, then 23 and 26
     module _ (name : List ℕ) (l : length name ≡ 36) where
       abbrev named : List Row
-      named = slotted ++ (row (bad_name name) 23 ∷ [])
-
-      abbrev last26 : List Row
-      last26 = rows_from 26 (rows_of g n h t (edit (rename k name)))
+      named = rows_from 23 (rows_of g n h t (edit (rename k name)))
 
       abbrev renamed : Option ℕ
       renamed = refusal (rows_of g n h t (edit (rename k name)))
 
-      rename-is : refusal (named ++ last26) ≡ renamed
+      rename-is : refusal (slotted ++ named) ≡ renamed
       rename-is =
           sym (ap (λ (b : Bool). refusal (open_rows g n h t b ++ table_rows g.first (last_usable g n) (table_of g n h t) (rename k name)))
           (eq-eqb (length name) 36 l))
 
-      -- a row after the check of a delete
-      pub named-is : {q r : Option ℕ} {b : Bool} → r ≡ row_after q (row b 23) → q ≡ refusal slotted → b ≡ bad_name name → r ≡ refusal named
-      named-is e p f = e ∙ row_is 23 p f ∙ in_order slotted (row (bad_name name) 23 ∷ [])
+      pub rename-stops : (j : ℕ) → refusal slotted ≡ some j → some j ≡ renamed
+      rename-stops j e = sym (refusal-first slotted named j e) ∙ rename-is
 
-      pub rename-stops : (j : ℕ) → refusal named ≡ some j → some j ≡ renamed
-      rename-stops j e = sym (refusal-first named last26 j e) ∙ rename-is
-
-      pub rename-slot : refusal named ≡ none → refusal slotted ≡ none
-      rename-slot e = (refusal-before slotted (row (bad_name name) 23 ∷ []) e).0
-
-      -- the other names are asked of a part tb of the head that holds the table
-      pub rename-last : refusal named ≡ none → (tb : List ℕ) → tb ≡ entries_in g primary h → (b : Bool) → b ≡ name_taken (set (entries tb) (k - 1) []) name
-          → row_after none (row b 26) ≡ renamed
-      rename-last e tb is b q =
-          row_is 26 refl (q ∙ ap (λ (es : List ℕ). name_taken (set (entries es) (k - 1) []) name) (is ∙ table_is (delete-open (rename-slot e))))
-          ∙ in_order [] last26
-          ∙ sym (refusal-append named last26 e)
-          ∙ rename-is
+      pub rename-goes_on : refusal slotted ≡ none → refusal named ≡ renamed
+      rename-goes_on e = sym (refusal-append slotted named e) ∙ rename-is
 
     module _ (size : ℕ) where
       abbrev own : List Row
@@ -177,26 +164,19 @@ module _ (g : Shape) (n : ℕ) (h t : List ℕ) where
       pub resize-stops : (j : ℕ) → refusal slotted ≡ some j → some j ≡ resized
       resize-stops j e = sym (refusal-first slotted own j e)
 
-      module _ (e : refusal slotted ≡ none) where
-        pub resize-zero : size ≡ 0 → some 20 ≡ resized
-        resize-zero q = sym (refusal-append slotted own e ∙ pick_true _ 20 _ (eq-eqb _ _ q))
-
-        -- the room is asked of a part tb of the head that holds the table, up to block last
-        module _ (a : size ≢ 0) (tb : List ℕ) (last : ℕ) (is : tb ≡ entries_in g primary h) (l : last ≡ last_usable g n) (b : Bool)
-            (f : b ≡ fits_at last tb k size) where
-          fits-is : fits_at (last_usable g n) (table_of g n h t) k size ≡ b
-          fits-is = sym (f ∙ rw (l, is ∙ table_is (delete-open e)))
-
-          pub resize-full : b ≡ false → some 25 ≡ resized
-          resize-full q = sym (refusal-append slotted own e ∙ pick-false _ 20 _ (ne_eqb _ _ a) ∙ pick_true _ 25 _ (ap not (fits-is ∙ q)))
-
-          pub resize-right : b ≡ true → none ≡ resized
-          resize-right q = sym (refusal-append slotted own e ∙ pick-false _ 20 _ (ne_eqb _ _ a) ∙ pick-false _ 25 _ (ap not (fits-is ∙ q)))
+      pub resize-goes_on : refusal slotted ≡ none → refusal own ≡ resized
+      resize-goes_on e = sym (refusal-append slotted own e)
 
 -- ---- adding, from row 20 on, over the table es
 
 pub add-lengths : (p : NewPartition) → length p.kind ≡ 16 → length p.unique ≡ 16 → length p.name ≡ 36 → lengths_of (add p) ≡ true
 add-lengths p a b c = and_i _ _ (and_i _ _ (eq-eqb _ _ a) (eq-eqb _ _ b)) (eq-eqb _ _ c)
+
+-- 25: no start
+room-row : (o : std.Option Block) → pick_row (is_none (placed o)) 25 none ≡ stop_of (ok_or o NoRoom)
+unfolding pick_row
+room-row (Some b) = refl
+room-row None = refl
 
 module _ (g : Shape) (n : ℕ) (es : List ℕ) (p : NewPartition) where
   abbrev before25 : List Row
@@ -217,8 +197,8 @@ module _ (g : Shape) (n : ℕ) (es : List ℕ) (p : NewPartition) where
   pub add-alignment : refusal before25 ≡ none → 0 < p.alignment
   add-alignment e = alignment-least p.alignment (not_f _ (passes 27 before25 e))
 
-  pub start-stops : (k : ℕ) → refusal before25 ≡ some k → (some k ≡ rows) × ((b : ℕ) → none ≡ some b → start ≡ some b)
-  start-stops k e = (sym (refusal-first before25 from25 k e), λ b q. absurd (some-none (sym q)))
+  pub start-stops : (k : ℕ) → refusal before25 ≡ some k → some k ≡ rows
+  start-stops k e = sym (refusal-first before25 from25 k e)
 
   -- what the search for a start answers, between the usable blocks f and l
   module _ (e : refusal before25 ≡ none) (q : std.Option Block) (f l : ℕ) (ef : f ≡ g.first) (el : l ≡ last_usable g n)
@@ -226,11 +206,5 @@ module _ (g : Shape) (n : ℕ) (es : List ℕ) (p : NewPartition) where
     placed-is : placed q ≡ start
     placed-is = r ∙ rw (ef, el)
 
-    pub start-full : q ≡ std.None → (some 25 ≡ rows) × ((b : ℕ) → none ≡ some b → start ≡ some b)
-    start-full x =
-        (sym (refusal-append before25 from25 e ∙ pick_true _ 25 _ (ap is_none (sym placed-is ∙ ap placed x))), λ b z. absurd (some-none (sym z)))
-
-    pub start-at : (b : Block) → q ≡ std.Some b → (none ≡ rows) × ((c : ℕ) → some b.0 ≡ some c → start ≡ some c)
-    start-at b x =
-        let w : start ≡ some b.0 = sym placed-is ∙ ap placed x in
-        (sym (refusal-append before25 from25 e ∙ pick-false _ 25 _ (ap is_none w)), λ c z. w ∙ z)
+    pub start-found : stop_of (ok_or q NoRoom) ≡ rows
+    start-found = sym (refusal-append before25 from25 e ∙ ap (λ (o : Option ℕ). pick_row (is_none o) 25 none) (sym placed-is) ∙ room-row q)

@@ -1,35 +1,38 @@
-use Rattle.gpt_model.specs.Calls.{add}
-use Rattle.octets.proofs.Bools.{some-none}
-use Rattle.gpt_checks.proofs.Judged.{passed, stopped, open-facts, open-stops, own-rows, placed-in, add-lengths}
 use mathlib.Core.Path.{sym, ◌∙◌}
 use borrow.Author.Rules.{rules}
+use Rattle.std.proofs.lemmas.Result.{IfOk-weaker}
+use Rattle.gpt_model.specs.Calls.{add}
+use Rattle.gpt_model.specs.declared.Block.{Block}
+use Rattle.gpt_checks.proofs.Rows.{handed}
+use Rattle.gpt_checks.proofs.Judged.{open-facts, open-stops, own-rows, placed-in, add-lengths}
 use Rattle.gpt_checks.proofs.add.Goals as goal
 
-pub entries_in-requires : goal.entries_in-requires
-entries_in-requires c =
+pub returns-in_err-opened-clause-refused : goal.returns-in_err-opened-clause-refused
+returns-in_err-opened-clause-refused c =
     let a = c.args in
-    ((open-facts a.shape a.n a.head.now a.tail.now (passed _ c.in-Pass.is c.opened.ensures)).head, c.requires)
+    let l = add-lengths a.p (search rules) (search rules) (search rules) in
+    let w = c.from_residual.ensures in
+    handed _ _ w.0 w.1 ∙ open-stops a.shape a.n a.head.now a.tail.now (add a.p) l _ (sym c.in_err-opened.ensures)
+
+pub entries_in-table-requires : goal.entries_in-table-requires
+entries_in-table-requires c =
+    let a = c.args in
+    ((open-facts a.shape a.n a.head.now a.tail.now (sym c.in_ok-opened.ensures)).head, c.requires)
 
 pub place-requires : goal.place-requires
 place-requires c =
     let a = c.args in
-    let f = open-facts a.shape a.n a.head.now a.tail.now (passed _ c.in-Pass.is c.opened.ensures) in
-    (c.entries_in.ensures.1, record { legal = c.requires; least = f.least }, f.most)
+    let f = open-facts a.shape a.n a.head.now a.tail.now (sym c.in_ok-opened.ensures) in
+    (c.entries_in-table.ensures.1, record { legal = c.requires; least = f.least }, f.most)
 
-pub returns-in-Stop : goal.returns-in-Stop
-returns-in-Stop c =
-    let l = add-lengths c.args.p (search rules) (search rules) (search rules) in
-    let a = c.args in (
-      open-stops a.shape a.n a.head.now a.tail.now (add a.p) l _ (stopped _ _ c.in-Stop.is c.opened.ensures),
-      λ b q. absurd (some-none (sym q)),
-    )
-
-pub returns-in-Pass : goal.returns-in-Pass
-returns-in-Pass c =
-    let l = add-lengths c.args.p (search rules) (search rules) (search rules) in
+pub returns-clause-refused : goal.returns-clause-refused
+returns-clause-refused c =
     let a = c.args in
-    let o = passed _ c.in-Pass.is c.opened.ensures in
-    let is = c.entries_in.ensures.0 in (
-      c.place.ensures.0 ∙ own-rows a.shape a.n a.head.now a.tail.now o (add a.p) l _ is,
-      λ b q. placed-in a.shape a.n a.head.now a.tail.now o _ is a.p b (c.place.ensures.1 b q),
-    )
+    let l = add-lengths a.p (search rules) (search rules) (search rules) in
+    c.place.ensures.refused ∙ own-rows a.shape a.n a.head.now a.tail.now (sym c.in_ok-opened.ensures) (add a.p) l _ c.entries_in-table.ensures.0
+
+pub returns-clause-start : goal.returns-clause-start
+returns-clause-start c =
+    let a = c.args in
+    let o = sym c.in_ok-opened.ensures in
+    IfOk-weaker _ _ _ (λ (b : Block) q. placed-in a.shape a.n a.head.now a.tail.now o _ c.entries_in-table.ensures.0 a.p b.0 q) c.place.ensures.start

@@ -5,14 +5,15 @@ use Rattle.gpt_model.specs.Table.{entries}
 use Rattle.gpt_checks.proofs.Rows.{name-empty, name_is}
 use Rattle.gpt_checks.proofs.name_taken.Goals as goal
 
-pub returns-then-is_zero : goal.returns-then-is_zero
-returns-then-is_zero c =
+pub returns-else-not-is_zero : goal.returns-else-not-is_zero
+returns-else-not-is_zero c =
     let a = c.args in
-    name-empty (set (entries a.table.now) a.but []) a.name.now _ c.name_bytes-bytes.ensures.0 (sym c.is_zero.ensures ∙ c.if-is_zero.true)
+    rw c.if-not-is_zero.false
+    (name-empty (set (entries a.table.now) a.but []) a.name.now _ c.name_bytes-bytes.ensures.0 (sym c.is_zero.ensures ∙ c.if-not-is_zero.false))
 
-pub returns : goal.returns
-returns c =
+pub returns-then-not-is_zero : goal.returns-then-not-is_zero
+returns-then-not-is_zero c =
     let a = c.args in
     let bytes = c.name_bytes-bytes.ensures in
-    name_is (set (entries a.table.now) a.but []) a.name.now _ bytes.0 bytes.1 (sym c.is_zero.ensures ∙ c.if-is_zero.false) _
+    name_is (set (entries a.table.now) a.but []) a.name.now _ bytes.0 bytes.1 (sym c.is_zero.ensures ∙ c.if-not-is_zero.true) _
     c.carried.ensures

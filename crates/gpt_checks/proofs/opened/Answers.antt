@@ -1,45 +1,22 @@
-use Rattle.gpt_checks.proofs.Judged.{passed, stopped, lent-facts, open_lent, open-neither, open-other, open-both}
-use Rattle.gpt_copies.specs.declared.State.TheVariants.{Both, Differ, PrimaryOnly, BackupOnly}
-use Rattle.std.specs.Prelude.{None, Some}
-use mathlib.Core.Path.{refl, ap, ◌∙◌}
-use native.Mathlib.Omega.{arith}
+use mathlib.Core.Path.{sym, ◌∙◌}
+use Rattle.gpt_checks.proofs.Rows.{handed}
+use Rattle.gpt_checks.proofs.Judged.{lent-facts, open-neither, open-differ}
 use Rattle.gpt_checks.proofs.opened.Goals as goal
 
 pub state-requires : goal.state-requires
 state-requires c =
     let a = c.args in
-    let f = lent-facts a.shape a.n a.head.now a.tail.now (passed _ c.in-Pass.is c.lent.ensures) in
+    let f = lent-facts a.shape a.n a.head.now a.tail.now (sym c.in_ok-lent.ensures) in
     (f.head, f.tail, record { legal = c.requires; least = f.least })
 
-pub returns-in-Stop : goal.returns-in-Stop
-returns-in-Stop c =
+pub returns-in_err-state : goal.returns-in_err-state
+returns-in_err-state c =
     let a = c.args in
-    open_lent a.shape a.n a.head.now a.tail.now _ (stopped _ _ c.in-Stop.is c.lent.ensures)
+    let w = c.from_residual-in_err-state.ensures in
+    handed _ _ w.0 w.1 ∙ open-neither a.shape a.n a.head.now a.tail.now (sym c.in_ok-lent.ensures) _ c.state.ensures _ c.in_err-state.ensures.value
 
-pub returns-in-Some-Both : goal.returns-in-Some-Both
-returns-in-Some-Both c =
+pub returns : goal.returns
+returns c =
     let a = c.args in
-    open-both a.shape a.n a.head.now a.tail.now (passed _ c.in-Pass.is c.lent.ensures) _ (Some Both) (c.in-Some-Both.is ∙ ap Some c.in-Some-Both.field-0-is) c.state.ensures refl
-
-pub returns-in-Some-Differ : goal.returns-in-Some-Differ
-returns-in-Some-Differ c =
-    let a = c.args in
-    open-other a.shape a.n a.head.now a.tail.now (passed _ c.in-Pass.is c.lent.ensures) _ (Some Differ) (c.in-Some-Differ.is ∙ ap Some c.in-Some-Differ.field-0-is) c.state.ensures (λ z. omega (arith, z))
-    (λ z. omega (arith, z))
-
-pub returns-in-Some-PrimaryOnly : goal.returns-in-Some-PrimaryOnly
-returns-in-Some-PrimaryOnly c =
-    let a = c.args in
-    open-other a.shape a.n a.head.now a.tail.now (passed _ c.in-Pass.is c.lent.ensures) _ (Some PrimaryOnly) (c.in-Some-PrimaryOnly.is ∙ ap Some c.in-Some-PrimaryOnly.field-0-is) c.state.ensures
-    (λ z. omega (arith, z)) (λ z. omega (arith, z))
-
-pub returns-in-Some-BackupOnly : goal.returns-in-Some-BackupOnly
-returns-in-Some-BackupOnly c =
-    let a = c.args in
-    open-other a.shape a.n a.head.now a.tail.now (passed _ c.in-Pass.is c.lent.ensures) _ (Some BackupOnly) (c.in-Some-BackupOnly.is ∙ ap Some c.in-Some-BackupOnly.field-0-is) c.state.ensures
-    (λ z. omega (arith, z)) (λ z. omega (arith, z))
-
-pub returns-in-None : goal.returns-in-None
-returns-in-None c =
-    let a = c.args in
-    open-neither a.shape a.n a.head.now a.tail.now (passed _ c.in-Pass.is c.lent.ensures) _ None c.in-None.is c.state.ensures refl
+    c.refuse_if.ensures
+    ∙ open-differ a.shape a.n a.head.now a.tail.now (sym c.in_ok-lent.ensures) _ c.state.ensures _ c.in_ok-state.ensures.value _ c.ne.ensures

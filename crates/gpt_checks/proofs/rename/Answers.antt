@@ -1,42 +1,42 @@
-use mathlib.Core.Path.{◌∙◌}
+use mathlib.Core.Path.{sym, ap, ◌∙◌}
+use mathlib.Core.List.{List, []}
+use Prim.Native.Nat.{ℕ, ◌-◌}
+use lib.ListN.{set}
 use native.Mathlib.Omega.{arith}
-use Rattle.gpt_checks.proofs.Judged.{passed, stopped, open-facts, delete-open, delete-slot, named-is, rename-stops, rename-slot, rename-last}
+use Rattle.gpt_model.specs.Table.{entries}
+use Rattle.gpt_model.specs.Calls.{name_taken}
+use Rattle.gpt_checks.proofs.Rows.{handed, one_row}
+use Rattle.gpt_checks.proofs.Judged.{open-facts, delete-open, delete-slot, table_is, rename-stops, rename-goes_on}
 use Rattle.gpt_checks.proofs.rename.Goals as goal
 
-pub entries_in-requires : goal.entries_in-requires
-entries_in-requires c =
+pub returns-in_err-delete : goal.returns-in_err-delete
+returns-in_err-delete c =
     let a = c.args in
-    let e = passed _ c.in-Pass.is
-    (named-is a.shape a.n a.head.now a.tail.now a.number a.name.now c.requires.0 c.row_after.ensures
-    c.delete.ensures c.bad_name.ensures) in
-    let d = rename-slot a.shape a.n a.head.now a.tail.now a.number a.name.now c.requires.0 e in
-    let f = open-facts a.shape a.n a.head.now a.tail.now (delete-open a.shape a.n a.head.now a.tail.now a.number d) in
-    (f.head, c.requires.1)
+    let w = c.from_residual.ensures in
+    handed _ _ w.0 w.1 ∙ rename-stops a.shape a.n a.head.now a.tail.now a.number a.name.now c.requires.0 _ (sym c.in_err-delete.ensures)
 
-pub overflow_sub-number : goal.overflow_sub-number
-overflow_sub-number c =
+pub returns-in_err-refuse_if : goal.returns-in_err-refuse_if
+returns-in_err-refuse_if c =
     let a = c.args in
-    let e = passed _ c.in-Pass.is
-    (named-is a.shape a.n a.head.now a.tail.now a.number a.name.now c.requires.0 c.row_after.ensures
-    c.delete.ensures c.bad_name.ensures) in
-    let d = rename-slot a.shape a.n a.head.now a.tail.now a.number a.name.now c.requires.0 e in
-    let k = (delete-slot a.shape a.n a.head.now a.tail.now a.number d).0 in
-    omega arith
+    let next = rename-goes_on a.shape a.n a.head.now a.tail.now a.number a.name.now c.requires.0 (sym c.in_ok-delete.ensures) in
+    grind (arith, one_row)
 
-pub returns-in-Stop : goal.returns-in-Stop
-returns-in-Stop c =
+pub entries_in-table-requires : goal.entries_in-table-requires
+entries_in-table-requires c =
     let a = c.args in
-    rename-stops a.shape a.n a.head.now a.tail.now a.number a.name.now c.requires.0 _
-    (stopped _ _ c.in-Stop.is
-    (named-is a.shape a.n a.head.now a.tail.now a.number a.name.now c.requires.0 c.row_after.ensures
-    c.delete.ensures c.bad_name.ensures))
+    let o = delete-open a.shape a.n a.head.now a.tail.now a.number (sym c.in_ok-delete.ensures) in
+    ((open-facts a.shape a.n a.head.now a.tail.now o).head, c.requires.1)
 
-pub returns-in-Pass : goal.returns-in-Pass
-returns-in-Pass c =
+pub overflow_sub-own : goal.overflow_sub-own
+overflow_sub-own c =
     let a = c.args in
-    let e = passed _ c.in-Pass.is
-    (named-is a.shape a.n a.head.now a.tail.now a.number a.name.now c.requires.0 c.row_after.ensures c.delete.ensures
-    c.bad_name.ensures) in
-    c.row_after-in-Pass.ensures
-    ∙ rename-last a.shape a.n a.head.now a.tail.now a.number a.name.now c.requires.0 e _ c.entries_in.ensures.0 _
-    c.name_taken.ensures
+    (delete-slot a.shape a.n a.head.now a.tail.now a.number (sym c.in_ok-delete.ensures)).0
+
+pub returns : goal.returns
+returns c =
+    let a = c.args in
+    let next = rename-goes_on a.shape a.n a.head.now a.tail.now a.number a.name.now c.requires.0 (sym c.in_ok-delete.ensures) in
+    let o = delete-open a.shape a.n a.head.now a.tail.now a.number (sym c.in_ok-delete.ensures) in
+    let other = ap (λ (es : List ℕ). name_taken (set (entries es) (a.number - 1) []) a.name.now)
+    (c.entries_in-table.ensures.0 ∙ table_is a.shape a.n a.head.now a.tail.now o) in
+    grind (arith, one_row)

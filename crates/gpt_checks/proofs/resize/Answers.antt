@@ -1,47 +1,46 @@
+use mathlib.Core.Path.{sym, ◌∙◌}
 use native.Mathlib.Omega.{arith}
-use Rattle.gpt_checks.proofs.Judged.{passed, stopped, open-facts, delete-open, delete-slot, resize-stops, resize-zero, resize-full, resize-right}
+use Rattle.gpt_checks.proofs.Rows.{handed, one_row, size-passes}
+use Rattle.gpt_checks.proofs.Judged.{open-facts, delete-open, delete-slot, table_is, resize-stops, resize-goes_on}
 use Rattle.gpt_checks.proofs.resize.Goals as goal
 
-pub returns-then-size-eq0 : goal.returns-then-size-eq0
-returns-then-size-eq0 c =
+pub returns-in_err-delete : goal.returns-in_err-delete
+returns-in_err-delete c =
     let a = c.args in
-    resize-zero a.shape a.n a.head.now a.tail.now a.number a.size (passed _ c.in-Pass.is c.delete.ensures) c.if-size-eq0.true
+    let w = c.from_residual.ensures in
+    handed _ _ w.0 w.1 ∙ resize-stops a.shape a.n a.head.now a.tail.now a.number a.size _ (sym c.in_err-delete.ensures)
 
-pub entries_in-requires : goal.entries_in-requires
-entries_in-requires c =
+pub returns-in_err-refuse_if : goal.returns-in_err-refuse_if
+returns-in_err-refuse_if c =
     let a = c.args in
-    let d = passed _ c.in-Pass.is c.delete.ensures in
-    ((open-facts a.shape a.n a.head.now a.tail.now (delete-open a.shape a.n a.head.now a.tail.now a.number d)).head, c.requires)
+    let next = resize-goes_on a.shape a.n a.head.now a.tail.now a.number a.size (sym c.in_ok-delete.ensures) in
+    grind (arith, one_row)
 
-pub last_usable-requires : goal.last_usable-requires
-last_usable-requires c =
+pub entries_in-table-requires : goal.entries_in-table-requires
+entries_in-table-requires c =
     let a = c.args in
-    let d = passed _ c.in-Pass.is c.delete.ensures in
-    let f = open-facts a.shape a.n a.head.now a.tail.now (delete-open a.shape a.n a.head.now a.tail.now a.number d) in
-    record { legal = c.requires; least = f.least }
+    let o = delete-open a.shape a.n a.head.now a.tail.now a.number (sym c.in_ok-delete.ensures) in
+    ((open-facts a.shape a.n a.head.now a.tail.now o).head, c.requires)
+
+pub last_usable-last-requires : goal.last_usable-last-requires
+last_usable-last-requires c =
+    let a = c.args in
+    let o = delete-open a.shape a.n a.head.now a.tail.now a.number (sym c.in_ok-delete.ensures) in
+    record { legal = c.requires; least = (open-facts a.shape a.n a.head.now a.tail.now o).least }
 
 pub fits_at-requires : goal.fits_at-requires
 fits_at-requires c =
     let a = c.args in
-    let d = passed _ c.in-Pass.is c.delete.ensures in
+    let d = sym c.in_ok-delete.ensures in
     let o = open-facts a.shape a.n a.head.now a.tail.now (delete-open a.shape a.n a.head.now a.tail.now a.number d) in
     let k = delete-slot a.shape a.n a.head.now a.tail.now a.number d in
-    let e = c.last_usable.ensures in
-    (k.0, k.1, c.entries_in.ensures.1, omega arith, omega arith)
+    let e = c.last_usable-last.ensures in
+    (k.0, k.1, c.entries_in-table.ensures.1, size-passes a.size c.in_ok-refuse_if.ensures, omega arith)
 
-pub returns-then-fits_at : goal.returns-then-fits_at
-returns-then-fits_at c =
+pub returns : goal.returns
+returns c =
     let a = c.args in
-    resize-right a.shape a.n a.head.now a.tail.now a.number a.size (passed _ c.in-Pass.is c.delete.ensures) c.if-size-eq0.false _ _ c.entries_in.ensures.0
-    c.last_usable.ensures _ c.fits_at.ensures c.if-fits_at.true
-
-pub returns-in-Stop : goal.returns-in-Stop
-returns-in-Stop c =
-    let a = c.args in
-    resize-stops a.shape a.n a.head.now a.tail.now a.number a.size _ (stopped _ _ c.in-Stop.is c.delete.ensures)
-
-pub returns-else-fits_at : goal.returns-else-fits_at
-returns-else-fits_at c =
-    let a = c.args in
-    resize-full a.shape a.n a.head.now a.tail.now a.number a.size (passed _ c.in-Pass.is c.delete.ensures) c.if-size-eq0.false _ _ c.entries_in.ensures.0
-    c.last_usable.ensures _ c.fits_at.ensures c.if-fits_at.false
+    let next = resize-goes_on a.shape a.n a.head.now a.tail.now a.number a.size (sym c.in_ok-delete.ensures) in
+    let o = delete-open a.shape a.n a.head.now a.tail.now a.number (sym c.in_ok-delete.ensures) in
+    let table = c.entries_in-table.ensures.0 ∙ table_is a.shape a.n a.head.now a.tail.now o in
+    grind (arith, one_row)

@@ -1,19 +1,11 @@
-use mathlib.Core.Path.{sym, ◌∙◌}
-use Rattle.gpt_checks.proofs.Rows.{slot-low, slot-high, slot-unused, slot-used}
+use native.Mathlib.Omega.{arith}
+use Rattle.gpt_checks.proofs.Rows.{slot-passes}
 use Rattle.gpt_checks.proofs.slot.Goals as goal
 
-pub returns-then-slot-lt1 : goal.returns-then-slot-lt1
-returns-then-slot-lt1 c = let a = c.args in slot-low a.table.now a.slot c.if-slot-lt1.true
+pub overflow_sub-number : goal.overflow_sub-number
+overflow_sub-number c = (slot-passes c.args.number c.is_slot.ensures c.in_ok-refuse_if.ensures).0
 
-pub returns-then-slot : goal.returns-then-slot
-returns-then-slot c = let a = c.args in slot-high a.table.now a.slot c.if-slot-lt1.false c.if-slot.true
-
-pub returns-then-is_unused : goal.returns-then-is_unused
-returns-then-is_unused c =
-    let a = c.args in
-    slot-unused a.table.now a.slot c.if-slot-lt1.false c.if-slot.false (sym c.is_unused.ensures ∙ c.if-is_unused.true)
-
-pub returns : goal.returns
-returns c =
-    let a = c.args in
-    slot-used a.table.now a.slot c.if-slot-lt1.false c.if-slot.false (sym c.is_unused.ensures ∙ c.if-is_unused.false)
+pub is_unused-requires : goal.is_unused-requires
+is_unused-requires c =
+    let k = slot-passes c.args.number c.is_slot.ensures c.in_ok-refuse_if.ensures in
+    (omega arith, c.requires)
