@@ -32,11 +32,6 @@ use Rattle.gpt_string_model.specs.Build.{part_rows, with_part, faulty, complete,
 use Rattle.gpt_string_model.proofs.Parts.{part_room}
 use Rattle.gpt_model.specs.declared.Block.{Block}
 use Rattle.gpt_model.specs.declared.NewPartition.{NewPartition}
-use Rattle.gpt_checks.specs.declared.Refusal.{Refusal as DiskRefusal}
-use Rattle.gpt_checks.specs.declared.Start.{Start}
-use Rattle.gpt_checks.specs.declared.Start.TheVariants.{At, Stop}
-use Rattle.gpt_checks.specs.Refusals.{number_of as disk_number}
-use Rattle.gpt_checks.specs.Checks.{stop_by, start_by}
 use Rattle.gpt_build.specs.declared.Refusal.{Refusal}
 use Rattle.gpt_build.specs.declared.Placing.{Placing}
 use Rattle.gpt_build.specs.declared.Placing.TheVariants as place
@@ -242,17 +237,6 @@ module _ (g : Shape) (n a : ℕ) (es : List ℕ) (w : WantedPartition) (final : 
       let start = start_for g.first (last_usable g n) es in
       spot-from g n a es w final Lowest (rows_from72 g n a es w final Lowest) b x (lowest-is ∙ e)
       (lowest-stands g n a es w final b (ap (λ (y : ℕ). start (as_new a w y)) (sym is-s) ∙ ap start (sym is-p) ∙ q)) z
-
--- ---- what the judge of adding answers
-
-pub start-stop : (x : Start) (r : DiskRefusal) (o : Option ℕ) → x ≡ Stop r → stop_by x ≡ o → o ≡ some (disk_number r)
-start-stop x r o e q = sym q ∙ ap stop_by e
-
-pub start_none : (x : Start) (b : Block) (o : Option ℕ) → x ≡ At b → stop_by x ≡ o → o ≡ none
-start_none x b o e q = sym q ∙ ap stop_by e
-
-pub start-some : (x : Start) (b : Block) → x ≡ At b → start_by x ≡ some b.0
-start-some x b e = ap start_by e
 
 -- ---- what a spot says
 

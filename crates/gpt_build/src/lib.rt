@@ -15,7 +15,7 @@ ghost use Rattle.gpt_string_model.specs.Build.{part_rows, with_part, complete, u
 ghost use Rattle.gpt_build.specs.Answers.{built_by};
 ghost use Rattle.gpt_build.specs.Invariants.{usable_run, blocks_from, rows_from72, part_place_by, part_place_of};
 
-use gpt_checks::{Check, Refusal as DiskRefusal, Start};
+use gpt_checks::Refusal as DiskRefusal;
 use gpt_model::{Block, NewPartition, Rule, Shape};
 use gpt_places::ENTRY;
 use gpt_string_model::{StartByte, WantedPartition};
@@ -143,8 +143,8 @@ fn place_given(
     }
     let size = needed(w, last, shape);
     match gpt_checks::new(table, as_new(w, size, alignment)) {
-        Check::Stop(r) => Placing::Stop(Refusal::Disk(r)),
-        Check::Pass => {
+        Err(r) => Placing::Stop(Refusal::Disk(r)),
+        Ok(()) => {
             if run < size {
                 return Placing::Stop(Refusal::Disk(DiskRefusal::NoRoom));
             }
@@ -169,8 +169,8 @@ fn place_lowest(
 {
     let size = needed(w, last, shape);
     match gpt_checks::place(table, n, shape, as_new(w, size, alignment)) {
-        Start::Stop(r) => Placing::Stop(Refusal::Disk(r)),
-        Start::At(first) => {
+        Err(r) => Placing::Stop(Refusal::Disk(r)),
+        Ok(first) => {
             let blocks = size_from(table, n, shape, w, last, first);
             Placing::At { first, blocks }
         }

@@ -14,7 +14,7 @@ ghost use Rattle.gpt_places.specs.Invariants.{Legal, Fits};
 ghost use Rattle.gpt_calls.specs.Answers.{done_of, reading_of, added_of, counted_of, offending_of, handed, entries_on};
 ghost use Rattle.gpt_calls.specs.Invariants.{Uses};
 
-use gpt_checks::{Check, Refusal, Start};
+use gpt_checks::Refusal;
 use gpt_copies::State;
 use gpt_model::{Block, NewPartition, Rule, Shape};
 use gpt_places::Side;
@@ -68,8 +68,8 @@ pub fn format(head: &mut [u8], tail: &mut [u8], n: u64, shape: Shape, guid: [u8;
     ensures { outcome (done_of result) head.new tail.new ≡ format_on shape n guid head.old tail.old }
 {
     match gpt_checks::format(&head[..], &tail[..], n, shape, &guid) {
-        Check::Stop(r) => Done::Refused(r),
-        Check::Pass => {
+        Err(r) => Done::Refused(r),
+        Ok(()) => {
             gpt_copies::writing::fresh_head(head, n, shape, &guid);
             gpt_copies::writing::fresh_tail(tail, n, shape, &guid);
             Done::Accepted
@@ -83,8 +83,8 @@ pub fn read(head: &[u8], tail: &[u8], n: u64, shape: Shape) -> Reading
     ensures { outcome (reading_of result) head.now tail.now ≡ step shape n head.now tail.now read_call }
 {
     match gpt_checks::lent(head, tail, n, shape) {
-        Check::Stop(r) => Reading::Refused(r),
-        Check::Pass => match gpt_copies::reading::state(head, tail, n, shape) {
+        Err(r) => Reading::Refused(r),
+        Ok(()) => match gpt_copies::reading::state(head, tail, n, shape) {
             Some(State::Both) => Reading::Same,
             Some(State::Differ) => Reading::Different,
             Some(State::PrimaryOnly) => Reading::PrimaryOnly,
@@ -101,8 +101,8 @@ pub fn delete(head: &mut [u8], tail: &mut [u8], n: u64, shape: Shape, slot: u64)
         ≡ step shape n head.old tail.old (edit (delete_call slot)) }
 {
     match gpt_checks::delete(&head[..], &tail[..], n, shape, slot) {
-        Check::Stop(r) => Done::Refused(r),
-        Check::Pass => {
+        Err(r) => Done::Refused(r),
+        Ok(()) => {
             gpt_edits::delete(head, tail, n, shape, slot);
             Done::Accepted
         }
@@ -116,8 +116,8 @@ pub fn add(head: &mut [u8], tail: &mut [u8], n: u64, shape: Shape, p: NewPartiti
         ≡ step shape n head.old tail.old (edit (add_call p)) }
 {
     match gpt_checks::add(&head[..], &tail[..], n, shape, p) {
-        Start::Stop(r) => Added::Refused(r),
-        Start::At(first) => {
+        Err(r) => Added::Refused(r),
+        Ok(first) => {
             let slot = gpt_edits::add(head, tail, n, shape, p, first);
             Added::At { slot, first }
         }
@@ -131,8 +131,8 @@ pub fn resize(head: &mut [u8], tail: &mut [u8], n: u64, shape: Shape, slot: u64,
         ≡ step shape n head.old tail.old (edit (resize_call slot size)) }
 {
     match gpt_checks::resize(&head[..], &tail[..], n, shape, slot, size) {
-        Check::Stop(r) => Done::Refused(r),
-        Check::Pass => {
+        Err(r) => Done::Refused(r),
+        Ok(()) => {
             gpt_edits::resize(head, tail, n, shape, slot, size);
             Done::Accepted
         }
@@ -153,8 +153,8 @@ pub fn rename(
         ≡ step shape n head.old tail.old (edit (rename_call slot name)) }
 {
     match gpt_checks::rename(&head[..], &tail[..], n, shape, slot, &name) {
-        Check::Stop(r) => Done::Refused(r),
-        Check::Pass => {
+        Err(r) => Done::Refused(r),
+        Ok(()) => {
             gpt_edits::rename(head, tail, n, shape, slot, &name);
             Done::Accepted
         }

@@ -16,7 +16,7 @@ ghost use Rattle.gpt_build.specs.Answers.{built_by};
 ghost use Rattle.gpt_string.specs.Answers.{build_answer};
 
 use gpt_build::{Building, Refusal};
-use gpt_checks::{Check, Refusal as DiskRefusal};
+use gpt_checks::Refusal as DiskRefusal;
 use gpt_model::Shape;
 use gpt_places::TABLE;
 
@@ -96,8 +96,8 @@ fn build_on(
         ≡ build_string shape n alignment text.now head.old tail.old }
 {
     match gpt_checks::lent(&head[..], &tail[..], n, shape) {
-        Check::Stop(r) => Answer::Refused(Refusal::Disk(r)),
-        Check::Pass => write(head, tail, n, shape, alignment, text),
+        Err(r) => Answer::Refused(Refusal::Disk(r)),
+        Ok(()) => write(head, tail, n, shape, alignment, text),
     }
 }
 

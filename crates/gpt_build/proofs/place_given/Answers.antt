@@ -1,5 +1,4 @@
 use mathlib.Core.Path.{sym, ◌∙◌}
-use Rattle.gpt_checks.proofs.Judged.{passed, stopped}
 use Rattle.gpt_string_model.specs.declared.StartByte.TheVariants.{Given}
 use Rattle.gpt_build.specs.Invariants.{rows_from72}
 use Rattle.gpt_build.proofs.Places.{spot-stop, given-taken, given-says-stop, given-says-short, given-says-from}
@@ -15,16 +14,16 @@ pub returns-then-run-size : goal.returns-then-run-size
 returns-then-run-size c =
     let a = c.args in
     given-says-short a.shape a.n a.alignment a.table.now a.w a.last _ _ c.needed-size.ensures c.as_new.ensures a.at _
-    c.usable_run-run.ensures c.if-run-eq0.false (passed _ c.in-Pass.is c.new.ensures) c.if-run-size.true
+    c.usable_run-run.ensures c.if-run-eq0.false (sym c.in-Ok.ensures) c.if-run-size.true
 
-pub returns-in-Stop : goal.returns-in-Stop
-returns-in-Stop c =
+pub returns-in-Err : goal.returns-in-Err
+returns-in-Err c =
     let a = c.args in
     given-says-stop a.shape a.n a.alignment a.table.now a.w a.last _ _ c.needed-size.ensures c.as_new.ensures a.at _
-    c.usable_run-run.ensures c.if-run-eq0.false _ (stopped _ _ c.in-Stop.is c.new.ensures)
+    c.usable_run-run.ensures c.if-run-eq0.false _ (sym c.in-Err.ensures)
 
 pub returns-else-run-size : goal.returns-else-run-size
 returns-else-run-size c =
     let a = c.args in
     given-says-from a.shape a.n a.alignment a.table.now a.w a.last _ _ c.needed-size.ensures c.as_new.ensures a.at _
-    c.usable_run-run.ensures c.if-run-eq0.false (passed _ c.in-Pass.is c.new.ensures) c.if-run-size.false _ c.size_from-blocks.ensures
+    c.usable_run-run.ensures c.if-run-eq0.false (sym c.in-Ok.ensures) c.if-run-size.false _ c.size_from-blocks.ensures
