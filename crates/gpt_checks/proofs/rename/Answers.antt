@@ -30,7 +30,8 @@ entries_in-table-requires c =
 pub overflow_sub-own : goal.overflow_sub-own
 overflow_sub-own c =
     let a = c.args in
-    (delete-slot a.shape a.n a.head.now a.tail.now a.number (sym c.in_ok-delete.ensures)).0
+    let k = delete-slot a.shape a.n a.head.now a.tail.now a.number (sym c.in_ok-delete.ensures) in
+    omega arith
 
 pub returns : goal.returns
 returns c =
