@@ -15,7 +15,6 @@ ghost use Rattle.fmd_check.specs.Invariants.{check_from};
 
 use crate::plan::Resolution;
 use fmd_head::{Refusal, TextImage};
-use fmd_parse::LayoutAnswer;
 use fmd_table::row_at;
 
 pub mod areas; // areas.rt: the sections as areas of a map
@@ -131,7 +130,7 @@ pub fn check(text: &[u8], rows: &mut [u32], spots: &mut [u32]) -> Verdict
         return Verdict::Fault(Refusal::TooLong, FaultPlace::NoPlace);
     }
     match fmd_parse::read_layout(text, rows) {
-        LayoutAnswer::Accepted(i, n) => check_list(text, i, rows, spots, n),
-        LayoutAnswer::Refused(r, p) => Verdict::Fault(r, FaultPlace::Byte(p)),
+        Ok(t) => check_list(text, t.image, rows, spots, t.count),
+        Err(f) => Verdict::Fault(f.refusal, FaultPlace::Byte(f.place)),
     }
 }

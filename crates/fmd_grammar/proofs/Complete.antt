@@ -1,5 +1,5 @@
 -- What derives is read.
-use Rattle.std.specs.Prelude.{Option, None}
+use Rattle.std.specs.Prelude.{Option, None, Some}
 use mathlib.Core.Path.{◌≡◌, refl, ap, subst, ◌∙◌}
 use mathlib.Core.Bool.{Bool, true, false, cond}
 use mathlib.Core.List.{List, [], ◌∷◌, ◌++◌, append_assoc}
@@ -17,8 +17,6 @@ use Rattle.text_words.specs.Numerals.{some_digits, numeral_of}
 use Rattle.text_words.specs.declared.Numeral.{Numeral}
 use Rattle.fmd_lex.specs.Numbers.{scaled_after, number_in}
 use Rattle.fmd_lex.specs.Names.{good_name, flag_of}
-use Rattle.fmd_lex.specs.declared.Number.{Number}
-use Rattle.fmd_lex.specs.declared.Number.TheVariants.{Value, Wrong}
 use Rattle.fmd_table.specs.declared.ParentOffset.{ParentOffset}
 use Rattle.fmd_table.specs.declared.Section.{Section}
 use Rattle.fmd_head.specs.declared.TextImage.{TextImage}
@@ -31,11 +29,11 @@ use Rattle.fmd_grammar.proofs.Parsers.{image_p, layout_p}
 
 -- ---- the first byte of a number, of a name
 
-abbrev IsWrong : Number → Type 0
-IsWrong Wrong = Unit {0}
-IsWrong (Value n) = ⊥
+abbrev IsWrong : Option ℕ → Type 0
+IsWrong None = Unit {0}
+IsWrong (Some n) = ⊥
 
-wrong-value : {n : ℕ} → Wrong ≡ Value n → ⊥
+wrong-value : {n : ℕ} → None ≡ Some n → ⊥
 wrong-value e = subst IsWrong e tt
 
 digit-is : (b : ℕ) → ltb (digit_of b) 10 ≡ true → is_digit b ≡ true
@@ -50,13 +48,13 @@ digit-is b =
     (λ i. choice P (ltb b 103) _ _ (λ j z. absurd (let x = ltb-false b 97 i in let y = ltb-true (b - 87) 10 z in omega arith))
     (λ j z. absurd (clash z refl)))))))
 
-pub number-digit : (w : List ℕ) {n : ℕ} → number_in w ≡ Value n → is_digit (get_or w 0 0) ≡ true
+pub number-digit : (w : List ℕ) {n : ℕ} → number_in w ≡ Some n → is_digit (get_or w 0 0) ≡ true
 unfolding number_in numeral_of some_digits is_digit ◌and◌
 number-digit [] e = absurd (wrong-value e)
 number-digit (x ∷ xs) {n} e = go e
   where
     P : Numeral → Type 0
-    P v = scaled_after (x ∷ xs) v ≡ Value n → is_digit x ≡ true
+    P v = scaled_after (x ∷ xs) v ≡ Some n → is_digit x ≡ true
 
     go : P (numeral_of 4294967295 (x ∷ xs))
     go =
@@ -257,7 +255,7 @@ unfolding address_p
 addresses-complete p n no_address us e = unsigned 64 _ _ us e
 addresses-complete p n (address m) us e = rw m
 
-image-complete : {os : List Lexeme} {d : Option ℕ} (p n q a : ℕ) (w v : List ℕ) → good_name w ≡ true → OptionalAddress os d → number_in v ≡ Value n → 98 ≤ n →
+image-complete : {os : List Lexeme} {d : Option ℕ} (p n q a : ℕ) (w v : List ℕ) → good_name w ≡ true → OptionalAddress os d → number_in v ≡ Some n → 98 ≤ n →
     n ≤ 16777216
     → (us : List Lexeme) → image_p (word p w ∷ (os ++ (word q v ∷ sign a 123 ∷ us))) ≡ ok (record { address = d; size = n; place = p; length = length w }) us
 unfolding image_p

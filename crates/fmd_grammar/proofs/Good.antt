@@ -1,4 +1,5 @@
 -- What a parser is good for: what it passes is of a form G, and what comes before its fault can be continued, W; by the tokens up to there alone.
+use Rattle.std.specs.Prelude.{None}
 use mathlib.Core.Path.{◌≡◌, refl, sym, ap, subst, ◌∙◌}
 use mathlib.Core.Bool.{Bool, true, false, cond}
 use mathlib.Core.Logic.{inl, inr}
@@ -10,7 +11,6 @@ use borrow.Author.Tests.{eqb-true}
 use Rattle.text_words.specs.Classes.{is_digit}
 use Rattle.fmd_lex.specs.Numbers.{number_in}
 use Rattle.fmd_lex.specs.Names.{good_name}
-use Rattle.fmd_lex.specs.declared.Number.TheVariants.{Wrong}
 use Rattle.fmd_grammar.specs.Grammar.{Lexeme, word, sign}
 use Rattle.fmd_grammar.specs.Claims.{Fault, unfit_sign, word_before_braces, word_after_braces, bad_number, bad_image_size, bad_length, bad_size}
 use Rattle.fmd_grammar.specs.Claims.{bad_name, too_many, bad_flag, lexeme_place}
@@ -66,7 +66,7 @@ digital w = is_digit (get_or w 0 0)
 
 -- the word v has this fault wherever a word does that begins with a digit as v does
 pub data Exchange : ℕ → List ℕ → Type 0 where
-  no_number : {v : List ℕ} → number_in v ≡ Wrong → Exchange 52 v
+  no_number : {v : List ℕ} → number_in v ≡ None → Exchange 52 v
   no_name : {v : List ℕ} → good_name v ≡ false → Exchange 53 v
 
 module _ {A : Type 0} where

@@ -18,10 +18,8 @@ use Rattle.text_words.specs.Classes.{is_digit, digit_of}
 use Rattle.text_words.specs.Numerals.{up_to, digits_from, some_digits, numeral_of}
 use Rattle.fmd_lex.specs.Numbers.{capped, scaled, number_in}
 use Rattle.fmd_lex.specs.Names.{good_name, cbfs, preserve, flag_of}
-use Rattle.fmd_lex.specs.declared.Number.{Number}
-use Rattle.fmd_lex.specs.declared.Number.TheVariants.{Value, Wrong}
 use Rattle.fmd_lex.specs.declared.Flag.{Flag}
-use Rattle.fmd_lex.specs.declared.Flag.TheVariants.{Cbfs, Preserve, Unknown}
+use Rattle.fmd_lex.specs.declared.Flag.TheVariants.{Cbfs, Preserve}
 use Rattle.fmd_table.specs.declared.ParentOffset.{ParentOffset}
 use Rattle.fmd_table.specs.declared.Section.{Section}
 use Rattle.fmd_head.specs.Heads.{set_cbfs, set_preserve, set_offset, set_size}
@@ -35,12 +33,12 @@ use Rattle.fmd_grammar.proofs.Good.{digital, Exchange, no_number, no_name, Follo
 
 -- ---- numbers
 
-pub ninety-eight : number_in (ascii "98") ≡ Value 98
+pub ninety-eight : number_in (ascii "98") ≡ Some 98
 unfolding number_in scaled capped numeral_of some_digits digits_from up_to digit_of
 ninety-eight = refl
 
 abbrev pub Numbered : List Lexeme → ℕ → Type 0
-Numbered own n = (b : ℕ) × (w : List ℕ) × (own ≡ word b w ∷ []) × (number_in w ≡ Value n)
+Numbered own n = (b : ℕ) × (w : List ℕ) × (own ≡ word b w ∷ []) × (number_in w ≡ Some n)
 
 -- a number after @: a size may come after it
 pub number-fine : (W : List Lexeme → Type 0) → W [] → ((p : ℕ) → W (word p (ascii "98") ∷ word 0 (ascii "98") ∷ []))
@@ -48,9 +46,9 @@ pub number-fine : (W : List Lexeme → Type 0) → W [] → ((p : ℕ) → W (wo
 number-fine W g i (sign p k) = (unfit_sign, g)
 number-fine W g i (word p w) = go (number_in w) refl
   where
-    go : (n : Number) → number_in w ≡ n → Fine Numbered W (word p w) (valued n eat)
-    go (Value n) e = (p, w, refl, e)
-    go Wrong e = (bad_number e (i p), g)
+    go : (n : Option ℕ) → number_in w ≡ n → Fine Numbered W (word p w) (valued n eat)
+    go (Some n) e = (p, w, refl, e)
+    go None e = (bad_number e (i p), g)
 
 -- for a fault that no other word need have
 pub no-exchange : {n : ℕ} {v : List ℕ} {A : Type 0} → (n ≡ 52 → ⊥) → (n ≡ 53 → ⊥) → Exchange n v → A
@@ -62,15 +60,15 @@ pub wrong-follows : {A : Type 0} (f : ℕ → Act A) (v : List ℕ) → Exchange
 wrong-follows {A} f v c = go c refl
   where
     go : {n : ℕ} → Exchange n v → n ≡ 52 → valued (number_in v) f ≡ stop 52
-    go (no_number e) z = ap (λ (m : Number). valued m f) e
+    go (no_number e) z = ap (λ (m : Option ℕ). valued m f) e
     go (no_name e) z = absurd (omega arith)
 
 pub number-steady : Steady number_act
 number-steady p w v d = go (number_in w)
   where
-    go : (n : Number) → Follow (valued n eat) v (number_act (word p v))
-    go (Value n) = tt
-    go Wrong = wrong-follows eat v
+    go : (n : Option ℕ) → Follow (valued n eat) v (number_act (word p v))
+    go (Some n) = tt
+    go None = wrong-follows eat v
 
 -- ---- flags
 
@@ -83,10 +81,10 @@ mark-steady h p w v d = go (flag_of w)
     bad : P (stop 56)
     bad = no-exchange (λ e. omega arith) (λ e. omega arith)
 
-    go : (f : Flag) → P (flag_act h f)
-    go Cbfs = choice P h.cbfs _ _ (λ z. bad) (λ z. tt)
-    go Preserve = choice P h.preserve _ _ (λ z. bad) (λ z. tt)
-    go Unknown = bad
+    go : (f : Option Flag) → P (flag_act h f)
+    go (Some Cbfs) = choice P h.cbfs _ _ (λ z. bad) (λ z. tt)
+    go (Some Preserve) = choice P h.preserve _ _ (λ z. bad) (λ z. tt)
+    go None = bad
 
 mark-fine : (F : List Lexeme → Section → Type 0) (W : List Lexeme → Type 0) (h : Section)
     → W [] → ((p : ℕ) → W (sign p 41 ∷ []) ⊎ W (word p cbfs ∷ sign 0 41 ∷ [])) → (h.cbfs ≡ false → (p : ℕ) → F (word p cbfs ∷ []) (set_cbfs h))
@@ -103,9 +101,9 @@ mark-fine F W h g m c v (word p w) = go
 
     go : P (flag_act h (flag_of w))
     go =
-        choice (λ (f : Flag). P (flag_act h f)) (same w cbfs) _ _
+        choice (λ (f : Option Flag). P (flag_act h f)) (same w cbfs) _ _
         (λ e. choice P h.cbfs _ _ (λ z. bad) (λ z. subst (λ (u : List ℕ). F (word p u ∷ []) (set_cbfs h)) (sym (same_true _ _ e)) (c z p)))
-        (λ e. choice (λ (f : Flag). P (flag_act h f)) (same w preserve) _ _
+        (λ e. choice (λ (f : Option Flag). P (flag_act h f)) (same w preserve) _ _
         (λ d. choice P h.preserve _ _ (λ z. bad) (λ z. subst (λ (u : List ℕ). F (word p u ∷ []) (set_preserve h)) (sym (same_true _ _ d)) (v z p)))
         (λ d. bad))
 
@@ -193,10 +191,10 @@ SizesOn own = (us : List Lexeme) × (z : Option ℕ) × OptionalSize (own ++ us)
 size-steady : (h : Section) → Steady (size_act h)
 size-steady h p w v d = go (digital w) refl (number_in w)
   where
-    go : (b : Bool) → digital w ≡ b → (m : Number) → Follow (cond b (valued m (λ k. eat (set_size k h))) (leave h)) v (size_act h (word p v))
+    go : (b : Bool) → digital w ≡ b → (m : Option ℕ) → Follow (cond b (valued m (λ k. eat (set_size k h))) (leave h)) v (size_act h (word p v))
     go false e m = rw (sym d ∙ e)
-    go true e (Value m) = tt
-    go true e Wrong = λ c. rw (sym d ∙ e) (wrong-follows (λ k. eat (set_size k h)) v c)
+    go true e (Some m) = tt
+    go true e None = λ c. rw (sym d ∙ e) (wrong-follows (λ k. eat (set_size k h)) v c)
 
 module _ (p n lv par : ℕ) (c v : Bool) where
   pub offset-good : Good (Placed p n lv par c v) OffsetsOn (offset_p (built p n lv par c v None None))
@@ -229,12 +227,12 @@ module _ (p n lv par : ℕ) (c v : Bool) where
       h : Section
       h = built p n lv par c v o None
 
-      by_number : (q : ℕ) (w : List ℕ) (b : Bool) → is_digit (get_or w 0 0) ≡ b → (m : Number) → number_in w ≡ m
+      by_number : (q : ℕ) (w : List ℕ) (b : Bool) → is_digit (get_or w 0 0) ≡ b → (m : Option ℕ) → number_in w ≡ m
           → Fine (Sized p n lv par c v o) SizesOn (word q w) (cond b (valued m (λ k. eat (set_size k (built p n lv par c v o None))))
           (leave (built p n lv par c v o None)))
       by_number q w false d m e = (None, no_size, refl)
-      by_number q w true d (Value m) e = (Some m, size e, refl)
-      by_number q w true d Wrong e = (bad_size d e ([], Some 98, size ninety-eight), ([], None, no_size))
+      by_number q w true d (Some m) e = (Some m, size e, refl)
+      by_number q w true d None e = (bad_size d e ([], Some 98, size ninety-eight), ([], None, no_size))
 
       fine : (x : Lexeme) → Fine (Sized p n lv par c v o) SizesOn x (size_act (built p n lv par c v o None) x)
       fine (sign q k) = (None, no_size, refl)

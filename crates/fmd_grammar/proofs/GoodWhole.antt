@@ -13,8 +13,6 @@ use Rattle.octets.proofs.Bools.{and_l, and_r, clash, and_i, choice}
 use Rattle.octets.specs.Ascii.{ascii}
 use Rattle.fmd_lex.specs.Numbers.{number_in}
 use Rattle.fmd_lex.specs.Names.{good_name}
-use Rattle.fmd_lex.specs.declared.Number.{Number}
-use Rattle.fmd_lex.specs.declared.Number.TheVariants.{Value, Wrong}
 use Rattle.fmd_table.specs.declared.Section.{Section}
 use Rattle.fmd_head.specs.Images.{set_address, set_length}
 use Rattle.fmd_head.specs.declared.TextImage.{TextImage}
@@ -56,13 +54,13 @@ module _ {p : ℕ} {w : List ℕ} (g : good_name w ≡ true) where
       (sym (append-nil os)))
       (image 0 0 0 0 (ascii "98") g o ninety-eight (omega arith) (omega arith) lone)
 
-  open-on : {os : List Lexeme} {d : Option ℕ} (q n : ℕ) (v : List ℕ) → OptionalAddress os d → number_in v ≡ Value n → 98 ≤ n → n ≤ 16777216 → Viable
+  open-on : {os : List Lexeme} {d : Option ℕ} (q n : ℕ) (v : List ℕ) → OptionalAddress os d → number_in v ≡ Some n → 98 ≤ n → n ≤ 16777216 → Viable
       (word p w ∷ (os ++ (word q v ∷ [])))
   open-on {os} q n v o m a b =
       moved (os ++ (word q v ∷ [])) (sign 0 123 ∷ tail) (sym (append_assoc os (word q v ∷ []) (sign 0 123 ∷ tail)))
       (image q 0 0 0 v g o m a b lone)
 
-  braces-on : {os : List Lexeme} {d : Option ℕ} (q n : ℕ) (v : List ℕ) → OptionalAddress os d → number_in v ≡ Value n → 98 ≤ n → n ≤ 16777216
+  braces-on : {os : List Lexeme} {d : Option ℕ} (q n : ℕ) (v : List ℕ) → OptionalAddress os d → number_in v ≡ Some n → 98 ≤ n → n ≤ 16777216
       → (c : ℕ) → Viable (word p w ∷ (os ++ (word q v ∷ sign c 123 ∷ tail)))
   braces-on {os} q n v o m a b c =
       moved (os ++ (word q v ∷ sign c 123 ∷ tail)) [] (sym (append-nil (os ++ (word q v ∷ sign c 123 ∷ tail)))) (image q c 0 0 v g o m a b lone)
@@ -81,7 +79,7 @@ pub record Front (own : List Lexeme) (i : TextImage) : Type 0 where
   pub d : Option ℕ
   pub good : good_name w ≡ true
   pub addresses : OptionalAddress os d
-  pub number : number_in v ≡ Value n
+  pub number : number_in v ≡ Some n
   pub low : 98 ≤ n
   pub high : n ≤ 16777216
   pub list : own ≡ word p w ∷ (os ++ (word q v ∷ sign a 123 ∷ []))
@@ -92,7 +90,7 @@ Titled own i = (p : ℕ) × (w : List ℕ) × (own ≡ word p w ∷ []) × (good
 
 abbrev Long : ℕ → ℕ → Option ℕ → List Lexeme → TextImage → Type 0
 Long p m d own i =
-    (q : ℕ) × (v : List ℕ) × (n : ℕ) × (own ≡ word q v ∷ []) × (number_in v ≡ Value n) × (98 ≤ n) × (n ≤ 16777216) × (i ≡ pictured p m d n)
+    (q : ℕ) × (v : List ℕ) × (n : ℕ) × (own ≡ word q v ∷ []) × (number_in v ≡ Some n) × (98 ≤ n) × (n ≤ 16777216) × (i ≡ pictured p m d n)
 
 an-image : (p : ℕ) (v : List ℕ) → good_name v ≡ true
     → LayoutText 129 9 (word p v ∷ word 0 (ascii "98") ∷ sign 0 123 ∷ tail) (pictured p (length v) None 98)
@@ -119,9 +117,9 @@ length-steady i p w v d = go (number_in w)
     P : Act TextImage → Type 0
     P a = Follow a v (length_act i (word p v))
 
-    go : (n : Number) → P (valued n (λ m. cond (leb 98 m and leb m 16777216) (eat (set_length m i)) (stop 52)))
-    go (Value n) = choice P (leb 98 n and leb n 16777216) _ _ (λ e. tt) (λ e. wrong-follows _ v)
-    go Wrong = wrong-follows _ v
+    go : (n : Option ℕ) → P (valued n (λ m. cond (leb 98 m and leb m 16777216) (eat (set_length m i)) (stop 52)))
+    go (Some n) = choice P (leb 98 n and leb n 16777216) _ _ (λ e. tt) (λ e. wrong-follows _ v)
+    go None = wrong-follows _ v
 
 title-fine : (x : Lexeme) → Fine Titled Viable x (title_act x)
 title-fine (sign p k) = (unfit_sign, titled)
@@ -158,13 +156,13 @@ module _ (p : ℕ) (w : List ℕ) (g : good_name w ≡ true) where
         may : Viable (word p w ∷ (os ++ (word q (ascii "98") ∷ sign 0 123 ∷ tail)))
         may = braces-on g q 98 (ascii "98") o ninety-eight (omega arith) (omega arith) 0
 
-        in-range : (n : ℕ) → number_in v ≡ Value n → (b : Bool) → (leb 98 n and leb n 16777216) ≡ b → P (cond b (eat (pictured p (length w) d n)) (stop 52))
+        in-range : (n : ℕ) → number_in v ≡ Some n → (b : Bool) → (leb 98 n and leb n 16777216) ≡ b → P (cond b (eat (pictured p (length w) d n)) (stop 52))
         in-range n e true f = (q, v, n, refl, e, leb-true 98 n (and_l _ _ f), leb-true n 16777216 (and_r _ _ f), refl)
         in-range n e false f = (bad_length e (λ x y. clash (and_i _ _ (le-leb 98 n x) (le-leb n 16777216 y)) f) may, length-on g o)
 
-        go : (n : Number) → number_in v ≡ n → P (valued n (λ m. cond (leb 98 m and leb m 16777216) (eat (pictured p (length w) d m)) (stop 52)))
-        go (Value n) e = in-range n e (leb 98 n and leb n 16777216) refl
-        go Wrong e = (bad_image_size e may, length-on g o)
+        go : (n : Option ℕ) → number_in v ≡ n → P (valued n (λ m. cond (leb 98 m and leb m 16777216) (eat (pictured p (length w) d m)) (stop 52)))
+        go (Some n) e = in-range n e (leb 98 n and leb n 16777216) refl
+        go None e = (bad_image_size e may, length-on g o)
 
 must-fine : {A : Type 0} (F : List Lexeme → A → Type 0) (W : List Lexeme → Type 0) (k : ℕ) (a : A)
     → ((p : ℕ) → F (sign p k ∷ []) a) → ((p : ℕ) (w : List ℕ) → Fault W 51 (word p w)) → W [] → (x : Lexeme) → Fine F W x (must_be k a x)

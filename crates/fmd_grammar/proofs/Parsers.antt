@@ -1,5 +1,5 @@
 -- The readers of a layout text over its tokens alone. Each is made of steps that look at one token, by `bind`.
-use Rattle.std.specs.Prelude.{None}
+use Rattle.std.specs.Prelude.{None, Option, Some}
 use mathlib.Core.Bool.{Bool, true, false, cond, not}
 use mathlib.Core.List.{List, [], ◌∷◌, ◌++◌}
 use Prim.Native.Nat.{ℕ, zero, suc, ◌+◌}
@@ -9,12 +9,10 @@ use Rattle.octets.specs.Tests.{◌and◌}
 use Rattle.text_words.specs.Classes.{is_digit}
 use Rattle.fmd_lex.specs.Numbers.{number_in}
 use Rattle.fmd_lex.specs.Names.{good_name, flag_of}
-use Rattle.fmd_lex.specs.declared.Number.{Number}
-use Rattle.fmd_lex.specs.declared.Number.TheVariants.{Value, Wrong}
 use Rattle.fmd_lex.specs.declared.Flag.{Flag}
-use Rattle.fmd_lex.specs.declared.Flag.TheVariants.{Cbfs, Preserve, Unknown}
+use Rattle.fmd_lex.specs.declared.Flag.TheVariants.{Cbfs, Preserve}
 use Rattle.fmd_table.specs.declared.Section.{Section}
-use Rattle.fmd_head.specs.Heads.{set_cbfs, set_preserve, set_offset, set_size}
+use Rattle.fmd_head.specs.Heads.{set_cbfs, set_preserve, set_offset, set_size, read}
 use Rattle.fmd_head.specs.Images.{set_address, set_length}
 use Rattle.fmd_head.specs.declared.TextImage.{TextImage}
 use Rattle.fmd_grammar.specs.Grammar.{Lexeme, word, sign}
@@ -63,9 +61,9 @@ abbrev pub is_it : ℕ → Lexeme → Act Bool
 is_it k (word p w) = leave false
 is_it k (sign p j) = cond (eqb j k) (eat true) (leave false)
 
-abbrev pub valued : {A : Type 0} → Number → (ℕ → Act A) → Act A
-valued (Value n) f = f n
-valued Wrong f = stop 52
+abbrev pub valued : {A : Type 0} → Option ℕ → (ℕ → Act A) → Act A
+valued (Some n) f = f n
+valued None f = stop 52
 
 abbrev pub number_act : Lexeme → Act ℕ
 number_act (word p w) = valued (number_in w) eat
@@ -79,10 +77,10 @@ name_act lv par n (word p w) =
     (eat (record { offset = None; size = None; place = p; length = length w; cbfs = false; preserve = false; parent = par; level = lv }))))
 name_act lv par n (sign p k) = stop 51
 
-abbrev pub flag_act : Section → Flag → Act Section
-flag_act h Cbfs = cond h.cbfs (stop 56) (eat (set_cbfs h))
-flag_act h Preserve = cond h.preserve (stop 56) (eat (set_preserve h))
-flag_act h Unknown = stop 56
+abbrev pub flag_act : Section → Option Flag → Act Section
+flag_act h (Some Cbfs) = cond h.cbfs (stop 56) (eat (set_cbfs h))
+flag_act h (Some Preserve) = cond h.preserve (stop 56) (eat (set_preserve h))
+flag_act h None = stop 56
 
 abbrev pub mark_act : Section → Lexeme → Act Section
 mark_act h (word p w) = flag_act h (flag_of w)

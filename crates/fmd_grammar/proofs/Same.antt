@@ -1,5 +1,5 @@
 -- The readers of a text answer what the readers of its tokens do.
-use Rattle.std.specs.Prelude.{None}
+use Rattle.std.specs.Prelude.{None, Option, Some, Ok, Err}
 use mathlib.Core.Path.{◌≡◌, refl, sym, ap, ◌∙◌}
 use mathlib.Core.Bool.{Bool, true, false, cond, not}
 use mathlib.Core.List.{List, [], ◌∷◌}
@@ -11,23 +11,17 @@ use lib.Seq.{get_or-take, get_or-drop}
 use borrow.Author.Tests.{eqb-true, ne_eqb}
 use Rattle.octets.specs.Bytes.{part}
 use Rattle.text_words.specs.Classes.{is_digit}
-use Rattle.fmd_lex.specs.Tokens.{word_kind, token_bytes}
+use Rattle.fmd_lex.specs.Tokens.{word_kind, token_bytes, code_of}
 use Rattle.fmd_lex.specs.Numbers.{number_in}
 use Rattle.fmd_lex.specs.Names.{good_name, flag_of}
 use Rattle.fmd_lex.specs.declared.Token.{Token}
-use Rattle.fmd_lex.specs.declared.Number.{Number}
-use Rattle.fmd_lex.specs.declared.Number.TheVariants.{Value, Wrong}
 use Rattle.fmd_lex.specs.declared.Flag.{Flag}
-use Rattle.fmd_lex.specs.declared.Flag.TheVariants.{Cbfs, Preserve, Unknown}
+use Rattle.fmd_lex.specs.declared.Flag.TheVariants.{Cbfs, Preserve}
 use Rattle.fmd_table.specs.declared.Section.{Section}
 use Rattle.fmd_head.specs.Refusals.{number_of as refusal_number}
-use Rattle.fmd_head.specs.Heads.{next, is_kind, counted, amount_at, onward, bare, named_at, set_offset, marked, mark_at, last_at, other_at, flags_at}
+use Rattle.fmd_head.specs.Heads.{next, is_kind, counted, amount_at, onward, bare, named_at, set_offset, marked, mark_at, last_at, other_at, flags_at, Reading, read, refused_at}
 use Rattle.fmd_head.specs.Heads.{with_offset, offset_at, with_size, size_at, head_at}
 use Rattle.fmd_head.specs.declared.Refusal.TheVariants.{BadName, TooMany, BadFlag}
-use Rattle.fmd_head.specs.declared.Amount.{Amount}
-use Rattle.fmd_head.specs.declared.Amount.TheVariants.{Counted, Uncounted}
-use Rattle.fmd_head.specs.declared.HeadPart.{HeadPart}
-use Rattle.fmd_head.specs.declared.HeadPart.TheVariants.{Read, Fault}
 use Rattle.fmd_head.specs.Heads.{set_cbfs, set_preserve, set_size}
 use Rattle.fmd_grammar.proofs.Built.{built}
 use Rattle.fmd_grammar.specs.Grammar.{Lexeme, word, sign}
@@ -37,25 +31,25 @@ use Rattle.fmd_grammar.proofs.Parsers.{flag_act, mark_act, size_act, last_p, oth
 
 -- ---- one token
 
-abbrev pub Some : List Lexeme → Type 0
-Some [] = ⊥
-Some (x ∷ xs) = Unit {0}
+abbrev pub NotEmpty : List Lexeme → Type 0
+NotEmpty [] = ⊥
+NotEmpty (x ∷ xs) = Unit {0}
 
-pub view-some : {s : List ℕ} {t : Token} {ts : List Lexeme} → View s t ts → Some ts
+pub view-some : {s : List ℕ} {t : Token} {ts : List Lexeme} → View s t ts → NotEmpty ts
 view-some (View.last h e k) = tt
 view-some (View.step h e k v) = tt
 
-abbrev pub Numbers : List ℕ → Amount → Got ℕ → Type 0
-Numbers s (Counted n u) (ok m us) = (n ≡ m) × View s u us
-Numbers s (Counted n u) (no m q) = ⊥
-Numbers s (Uncounted r p) (ok m us) = ⊥
-Numbers s (Uncounted r p) (no m q) = (refusal_number r ≡ m) × (p ≡ q)
+abbrev pub Numbers : List ℕ → Reading ℕ → Got ℕ → Type 0
+Numbers s (Ok got) (ok m us) = (got.0 ≡ m) × View s got.1 us
+Numbers s (Ok got) (no m q) = ⊥
+Numbers s (Err bad) (ok m us) = ⊥
+Numbers s (Err bad) (no m q) = (refusal_number bad.refusal ≡ m) × (bad.place ≡ q)
 
-abbrev pub Parts : List ℕ → HeadPart → Got Section → Type 0
-Parts s (Read h u) (ok k us) = (h ≡ k) × View s u us
-Parts s (Read h u) (no m q) = ⊥
-Parts s (Fault r p) (ok k us) = ⊥
-Parts s (Fault r p) (no m q) = (refusal_number r ≡ m) × (p ≡ q)
+abbrev pub Parts : List ℕ → Reading Section → Got Section → Type 0
+Parts s (Ok got) (ok k us) = (got.0 ≡ k) × View s got.1 us
+Parts s (Ok got) (no m q) = ⊥
+Parts s (Err bad) (ok k us) = ⊥
+Parts s (Err bad) (no m q) = (refusal_number bad.refusal ≡ m) × (bad.place ≡ q)
 
 pub same_number : {s : List ℕ} {t : Token} (ts : List Lexeme) → View s t ts → Numbers s (amount_at s t) (item number_act ts)
 unfolding amount_at
@@ -63,12 +57,12 @@ same_number [] v = absurd (view-some v)
 same_number {s} {t} (sign p k ∷ xs) v = let a = as-sign v in rw a.wordless (refl, a.place)
 same_number {s} {t} (word p w ∷ xs) v = let a = as-word v in rw (a.kind, a.bytes) (by_number a (number_in w))
   where
-    by_number : Worded s t p w xs → (n : Number) → Numbers s (counted s t n) (acted (valued n eat) (word p w) xs)
-    by_number a (Value n) = (refl, a.then)
-    by_number a Wrong = (refl, a.place)
+    by_number : Worded s t p w xs → (n : Option ℕ) → Numbers s (counted s t n) (acted (valued n eat) (word p w) xs)
+    by_number a (Some n) = (refl, a.then)
+    by_number a None = (refl, a.place)
 
 same_flag : {s : List ℕ} {t : Token} {p : ℕ} {w : List ℕ} {xs : List Lexeme} → Worded s t p w xs → (b : Bool) (k : Section)
-    → Parts s (cond b (Fault BadFlag t.start) (Read k (next s t))) (acted (cond b (stop 56) (eat k)) (word p w) xs)
+    → Parts s (cond b (refused_at BadFlag t.start) (read k (next s t))) (acted (cond b (stop 56) (eat k)) (word p w) xs)
 same_flag a true k = (refl, a.place)
 same_flag a false k = (refl, a.then)
 
@@ -78,10 +72,10 @@ same-mark [] v h = absurd (view-some v)
 same-mark {s} {t} (sign p k ∷ xs) v h = let a = as-sign v in rw a.wordless (refl, a.place)
 same-mark {s} {t} (word p w ∷ xs) v h = let a = as-word v in rw (a.kind, a.bytes) (by_flag a (flag_of w))
   where
-    by_flag : Worded s t p w xs → (f : Flag) → Parts s (marked s t h f) (acted (flag_act h f) (word p w) xs)
-    by_flag a Cbfs = same_flag a h.cbfs (set_cbfs h)
-    by_flag a Preserve = same_flag a h.preserve (set_preserve h)
-    by_flag a Unknown = (refl, a.place)
+    by_flag : Worded s t p w xs → (f : Option Flag) → Parts s (marked s t h f) (acted (flag_act h f) (word p w) xs)
+    by_flag a (Some Cbfs) = same_flag a h.cbfs (set_cbfs h)
+    by_flag a (Some Preserve) = same_flag a h.preserve (set_preserve h)
+    by_flag a None = (refl, a.place)
 
 first_byte : (s : List ℕ) (t : Token) → t.start < t.end → get_or (token_bytes s t) 0 0 ≡ get_or s t.start 0
 unfolding part
@@ -94,13 +88,13 @@ same_size {s} {t} (sign p k ∷ xs) v h = let a = as-sign v in rw a.wordless (re
 same_size {s} {t} (word p w ∷ xs) v h =
     let a = as-word v in
     let e : get_or s t.start 0 ≡ get_or w 0 0
-    = sym (first_byte s t (a.within.filled (eqb-true t.kind word_kind a.kind))) ∙ ap (λ (r : List ℕ). get_or r 0 0) a.bytes in
+    = sym (first_byte s t (a.within.filled (eqb-true (code_of t.kind) word_kind a.kind))) ∙ ap (λ (r : List ℕ). get_or r 0 0) a.bytes in
     rw (a.kind, e, a.bytes) (by-digit a (is_digit (get_or w 0 0)) (number_in w))
   where
-    by-digit : Worded s t p w xs → (b : Bool) (n : Number)
-        → Parts s (cond b (with_size h (counted s t n)) (Read h t)) (acted (cond b (valued n (λ m. eat (set_size m h))) (leave h)) (word p w) xs)
-    by-digit a true (Value n) = (refl, a.then)
-    by-digit a true Wrong = (refl, a.place)
+    by-digit : Worded s t p w xs → (b : Bool) (n : Option ℕ)
+        → Parts s (cond b (with_size h (counted s t n)) (read h t)) (acted (cond b (valued n (λ m. eat (set_size m h))) (leave h)) (word p w) xs)
+    by-digit a true (Some n) = (refl, a.then)
+    by-digit a true None = (refl, a.place)
     by-digit a false n = (refl, v)
 
 same_name : {s : List ℕ} {t : Token} (ts : List Lexeme) → View s t ts → (lv par n : ℕ) → Parts s (named_at s t lv par n) (item (name_act lv par n) ts)
@@ -111,7 +105,7 @@ same_name {s} {t} (word p w ∷ xs) v lv par n =
     let a = as-word v in rw (a.kind, a.bytes) (by_rows a (good_name w) (leb 128 n) (ltb 8 lv))
   where
     by_rows : Worded s t p w xs → (b c d : Bool)
-        → Parts s (cond (not b) (Fault BadName t.start) (cond c (Fault TooMany t.start) (cond d (Fault TooMany t.start) (Read (bare t lv par) (next s t)))))
+        → Parts s (cond (not b) (refused_at BadName t.start) (cond c (refused_at TooMany t.start) (cond d (refused_at TooMany t.start) (read (bare t lv par) (next s t)))))
         (acted (cond (not b) (stop 53) (cond c (stop 55) (cond d (stop 55) (eat (built p (length w) lv par false false None None)))))
         (word p w) xs)
     by_rows a false c d = (refl, a.place)
@@ -127,19 +121,19 @@ pub same_sign : {A B : Type 0} (M : B → Got A → Type 0) {s : List ℕ} {t : 
     → ((xs : List Lexeme) → View s (next s t) xs → M x (q xs)) → M y (r ts) → M (cond (is_kind k t) x y) (bind (item (is_it k)) (λ b. cond b q r) ts)
 same_sign M k n m [] v x y q r f g = absurd (view-some v)
 same_sign M {t} k n m (word p w ∷ xs) v x y q r f g =
-    let a = as-word v in rw (ne_eqb t.kind k (λ e. m (sym e ∙ eqb-true t.kind word_kind a.kind))) g
+    let a = as-word v in rw (ne_eqb (code_of t.kind) k (λ e. m (sym e ∙ eqb-true (code_of t.kind) word_kind a.kind))) g
 same_sign {A} {B} M {s} {t} k n m (sign p j ∷ xs) v x y q r f g = rw (as-sign v).kind (go (eqb j k) refl)
   where
     go : (b : Bool) → eqb j k ≡ b → M (cond b x y) (after (acted (cond b (eat true) (leave false)) (sign p j) xs) (λ c. cond c q r))
     go true e = f xs (after-sign v (λ z. n (sym (eqb-true j k e) ∙ z)))
     go false e = g
 
-part_then : {s : List ℕ} (q : HeadPart) (g : Got Section) (f : Section → Token → HeadPart) (k : Section → Parser Section) → Parts s q g
+part_then : {s : List ℕ} (q : Reading Section) (g : Got Section) (f : Section → Token → Reading Section) (k : Section → Parser Section) → Parts s q g
     → ((h : Section) (u : Token) (us : List Lexeme) → View s u us → Parts s (f h u) (k h us)) → Parts s (onward q f) (after g k)
-part_then {s} (Read h u) (ok i us) f k w c = rw w.0 (c i u us w.1)
-part_then (Read h u) (no m p) f k w c = absurd w
-part_then (Fault r p) (ok i us) f k w c = absurd w
-part_then (Fault r p) (no m q) f k w c = w
+part_then {s} (Ok got) (ok i us) f k w c = rw w.0 (c i got.1 us w.1)
+part_then (Ok got) (no m p) f k w c = absurd w
+part_then (Err bad) (ok i us) f k w c = absurd w
+part_then (Err bad) (no m q) f k w c = w
 
 -- ---- a section's head
 
@@ -167,11 +161,11 @@ module _ {s : List ℕ} where
       same_sign (Parts s) 64 (λ z. omega arith) (λ z. omega arith) ts v _ _ (bind (item number_act) (λ n. ret (set_offset n h))) (ret h)
       (λ xs w. go (amount_at s (next s t)) (item number_act xs) (same_number xs w)) (refl, v)
     where
-      go : (m : Amount) (g : Got ℕ) → Numbers s m g → Parts s (with_offset h m) (after g (λ n. ret (set_offset n h)))
-      go (Counted n u) (ok k us) w = (ap (λ (i : ℕ). set_offset i h) w.0, w.1)
-      go (Counted n u) (no k p) w = absurd w
-      go (Uncounted r p) (ok k us) w = absurd w
-      go (Uncounted r p) (no k q) w = w
+      go : (m : Reading ℕ) (g : Got ℕ) → Numbers s m g → Parts s (with_offset h m) (after g (λ n. ret (set_offset n h)))
+      go (Ok got) (ok k us) w = (ap (λ (i : ℕ). set_offset i h) w.0, w.1)
+      go (Ok got) (no k p) w = absurd w
+      go (Err bad) (ok k us) w = absurd w
+      go (Err bad) (no k q) w = w
 
   pub same_head : {t : Token} (ts : List Lexeme) → View s t ts → (lv par n : ℕ) → Parts s (head_at s t lv par n) (head_p lv par n ts)
   unfolding head_at head_p

@@ -1,5 +1,5 @@
 -- The readers of a text answer what the readers of its tokens do: sections, the image, the whole.
-use Rattle.std.specs.Prelude.{None}
+use Rattle.std.specs.Prelude.{None, Option, Some, Ok, Err}
 use mathlib.Core.Path.{◌≡◌, refl, sym, ap, subst, ◌∙◌}
 use mathlib.Core.Bool.{Bool, true, false, cond, not}
 use mathlib.Core.List.{List, [], ◌∷◌, ◌++◌}
@@ -9,26 +9,18 @@ use lib.Dec.{eqb, leb}
 use lib.ListN.{length}
 use borrow.Author.Tests.{eqb-true, ne_eqb}
 use Rattle.octets.specs.Tests.{◌and◌}
-use Rattle.fmd_lex.specs.Tokens.{word_kind, token_at}
+use Rattle.fmd_lex.specs.Tokens.{word_kind, token_at, code_of}
 use Rattle.fmd_lex.specs.Numbers.{number_in}
 use Rattle.fmd_lex.specs.Names.{good_name}
 use Rattle.fmd_lex.specs.declared.Token.{Token}
-use Rattle.fmd_lex.specs.declared.Number.{Number}
-use Rattle.fmd_lex.specs.declared.Number.TheVariants.{Value, Wrong}
 use Rattle.fmd_table.specs.declared.Section.{Section}
 use Rattle.fmd_head.specs.Refusals.{number_of as refusal_number}
-use Rattle.fmd_head.specs.Heads.{next, is_kind, counted, amount_at, head_at}
-use Rattle.fmd_head.specs.Images.{onward, title_at, set_address, with_address, address_at, set_length, with_length, length_at, open_at, image_at}
+use Rattle.fmd_head.specs.Heads.{onward, next, is_kind, counted, amount_at, head_at, Reading, read, refused_at}
+use Rattle.fmd_head.specs.Images.{title_at, set_address, with_address, address_at, set_length, with_length, length_at, open_at, image_at}
 use Rattle.fmd_parse.specs.Layouts.{Parsed, fault, parsed, after_head, after_section, section_from, list_from}
 use Rattle.fmd_parse.specs.Layouts.{Layout, layout, refused, after_image, after_list, ended_by, layout_of}
 use Rattle.fmd_head.specs.declared.Refusal.TheVariants.{BadNumber, BadName}
-use Rattle.fmd_head.specs.declared.Amount.{Amount}
-use Rattle.fmd_head.specs.declared.Amount.TheVariants.{Counted, Uncounted}
-use Rattle.fmd_head.specs.declared.HeadPart.{HeadPart}
-use Rattle.fmd_head.specs.declared.HeadPart.TheVariants.{Read, Fault}
 use Rattle.fmd_head.specs.declared.TextImage.{TextImage}
-use Rattle.fmd_head.specs.declared.Heading.{Heading}
-use Rattle.fmd_head.specs.declared.Heading.TheVariants.{Read as ReadImage, Fault as FaultImage}
 use Rattle.fmd_grammar.specs.Grammar.{Lexeme, word, sign, lexemes_of}
 use Rattle.fmd_grammar.proofs.Views.{View, view_of, Worded, as-word, as-sign, after-sign, after-end, name-length}
 use Rattle.fmd_grammar.proofs.Parsers.{Got, no, ok, Parser, stop, eat, acted, item, ret, after, bind, valued, number_act, title_act, length_act}
@@ -43,12 +35,12 @@ Listed s (parsed l u) (no m q) = ⊥
 Listed s (fault n p) (ok m us) = ⊥
 Listed s (fault n p) (no m q) = (n ≡ m) × (p ≡ q)
 
-head-then : {s : List ℕ} (q : HeadPart) (g : Got Section) (f : Section → Token → Parsed) (k : Section → Parser (List Section)) → Parts s q g
+head-then : {s : List ℕ} (q : Reading Section) (g : Got Section) (f : Section → Token → Parsed) (k : Section → Parser (List Section)) → Parts s q g
     → ((h : Section) (u : Token) (us : List Lexeme) → View s u us → Listed s (f h u) (k h us)) → Listed s (after_head q f) (after g k)
-head-then (Read h u) (ok i us) f k w c = rw w.0 (c i u us w.1)
-head-then (Read h u) (no m p) f k w c = absurd w
-head-then (Fault r p) (ok i us) f k w c = absurd w
-head-then (Fault r p) (no m q) f k w c = w
+head-then (Ok got) (ok i us) f k w c = rw w.0 (c i got.1 us w.1)
+head-then (Ok got) (no m p) f k w c = absurd w
+head-then (Err bad) (ok i us) f k w c = absurd w
+head-then (Err bad) (no m q) f k w c = w
 
 list-then : {s : List ℕ} (q : Parsed) (g : Got (List Section)) (f : List Section → Token → Parsed) (k : List Section → Parser (List Section)) → Listed s q g
     → ((h : List Section) (u : Token) (us : List Lexeme) → View s u us → Listed s (f h u) (k h us)) → Listed s (after_section q f) (after g k)
@@ -78,18 +70,18 @@ mutual
 
 -- ---- the image
 
-abbrev Imaged : List ℕ → Heading → Got TextImage → Type 0
-Imaged s (ReadImage i u) (ok j us) = (i ≡ j) × View s u us
-Imaged s (ReadImage i u) (no m q) = ⊥
-Imaged s (FaultImage r p) (ok j us) = ⊥
-Imaged s (FaultImage r p) (no m q) = (refusal_number r ≡ m) × (p ≡ q)
+abbrev Imaged : List ℕ → Reading TextImage → Got TextImage → Type 0
+Imaged s (Ok got) (ok j us) = (got.0 ≡ j) × View s got.1 us
+Imaged s (Ok got) (no m q) = ⊥
+Imaged s (Err bad) (ok j us) = ⊥
+Imaged s (Err bad) (no m q) = (refusal_number bad.refusal ≡ m) × (bad.place ≡ q)
 
-image-then : {s : List ℕ} (q : Heading) (g : Got TextImage) (f : TextImage → Token → Heading) (k : TextImage → Parser TextImage) → Imaged s q g
+image-then : {s : List ℕ} (q : Reading TextImage) (g : Got TextImage) (f : TextImage → Token → Reading TextImage) (k : TextImage → Parser TextImage) → Imaged s q g
     → ((i : TextImage) (u : Token) (us : List Lexeme) → View s u us → Imaged s (f i u) (k i us)) → Imaged s (onward q f) (after g k)
-image-then (ReadImage h u) (ok i us) f k w c = rw w.0 (c i u us w.1)
-image-then (ReadImage h u) (no m p) f k w c = absurd w
-image-then (FaultImage r p) (ok i us) f k w c = absurd w
-image-then (FaultImage r p) (no m q) f k w c = w
+image-then (Ok got) (ok i us) f k w c = rw w.0 (c i got.1 us w.1)
+image-then (Ok got) (no m p) f k w c = absurd w
+image-then (Err bad) (ok i us) f k w c = absurd w
+image-then (Err bad) (no m q) f k w c = w
 
 abbrev pictured : ℕ → ℕ → TextImage
 pictured p n = record { address = None; size = 0; place = p; length = n }
@@ -102,7 +94,7 @@ module _ {s : List ℕ} where
   same-title {t} (word p w ∷ xs) v = let a = as-word v in rw (a.kind, a.bytes) (by_name a (good_name w))
     where
       by_name : Worded s t p w xs → (b : Bool)
-          → Imaged s (cond (not b) (FaultImage BadName t.start) (ReadImage (pictured t.start (t.end - t.start)) (next s t)))
+          → Imaged s (cond (not b) (refused_at BadName t.start) (read (pictured t.start (t.end - t.start)) (next s t)))
           (acted (cond (not b) (stop 53) (eat (pictured p (length w)))) (word p w) xs)
       by_name a false = (refl, a.place)
       by_name a true = (λ i. pictured (a.place i) ((sym (name-length s t a.within) ∙ ap length a.bytes) i), a.then)
@@ -113,11 +105,11 @@ module _ {s : List ℕ} where
       same_sign (Imaged s) 64 (λ z. omega arith) (λ z. omega arith) ts v _ _ (bind (item number_act) (λ n. ret (set_address n i))) (ret i)
       (λ xs w. go (amount_at s (next s t)) (item number_act xs) (same_number xs w)) (refl, v)
     where
-      go : (m : Amount) (g : Got ℕ) → Numbers s m g → Imaged s (with_address i m) (after g (λ n. ret (set_address n i)))
-      go (Counted n u) (ok k us) w = (ap (λ (j : ℕ). set_address j i) w.0, w.1)
-      go (Counted n u) (no k p) w = absurd w
-      go (Uncounted r p) (ok k us) w = absurd w
-      go (Uncounted r p) (no k q) w = w
+      go : (m : Reading ℕ) (g : Got ℕ) → Numbers s m g → Imaged s (with_address i m) (after g (λ n. ret (set_address n i)))
+      go (Ok got) (ok k us) w = (ap (λ (j : ℕ). set_address j i) w.0, w.1)
+      go (Ok got) (no k p) w = absurd w
+      go (Err bad) (ok k us) w = absurd w
+      go (Err bad) (no k q) w = w
 
   same_length : {t : Token} (ts : List Lexeme) → View s t ts → (i : TextImage) → Imaged s (length_at s t i) (item (length_act i) ts)
   unfolding length_at amount_at
@@ -126,23 +118,23 @@ module _ {s : List ℕ} where
   same_length {t} (word p w ∷ xs) v i = let a = as-word v in rw (a.kind, a.bytes) (by_number a (number_in w))
     where
       in-range : Worded s t p w xs → (n : ℕ) (b : Bool)
-          → Imaged s (cond b (ReadImage (set_length n i) (next s t)) (FaultImage BadNumber t.start))
+          → Imaged s (cond b (read (set_length n i) (next s t)) (refused_at BadNumber t.start))
           (acted (cond b (eat (set_length n i)) (stop 52)) (word p w) xs)
       in-range a n true = (refl, a.then)
       in-range a n false = (refl, a.place)
 
-      by_number : Worded s t p w xs → (n : Number)
+      by_number : Worded s t p w xs → (n : Option ℕ)
           → Imaged s (with_length i t (counted s t n))
           (acted (valued n (λ m. cond (leb 98 m and leb m 16777216) (eat (set_length m i)) (stop 52))) (word p w) xs)
-      by_number a (Value n) = in-range a n (leb 98 n and leb n 16777216)
-      by_number a Wrong = (refl, a.place)
+      by_number a (Some n) = in-range a n (leb 98 n and leb n 16777216)
+      by_number a None = (refl, a.place)
 
   same-must : {A B : Type 0} (M : B → Got A → Type 0) {t : Token} (k : ℕ) → (k ≡ 2 → ⊥) → (ts : List Lexeme) → View s t ts → (x y : B) (a : A)
       → ((p : ℕ) (xs : List Lexeme) → View s t (sign p k ∷ xs) → M x (ok a xs)) → ((p : ℕ) → t.start ≡ p → M y (no 51 p)) → M (cond (is_kind k t) x y)
       (item (must_be k a) ts)
   same-must M k m [] v x y a f g = absurd (view-some v)
   same-must M {t} k m (word p w ∷ xs) v x y a f g =
-      let b = as-word v in rw (ne_eqb t.kind k (λ e. m (sym e ∙ eqb-true t.kind word_kind b.kind))) (g p b.place)
+      let b = as-word v in rw (ne_eqb (code_of t.kind) k (λ e. m (sym e ∙ eqb-true (code_of t.kind) word_kind b.kind))) (g p b.place)
   same-must M {t} k m (sign p j ∷ xs) v x y a f g = rw (as-sign v).kind (go (eqb j k) refl)
     where
       go : (b : Bool) → eqb j k ≡ b → M (cond b x y) (acted (cond b (eat a) (stop 51)) (sign p j) xs)
@@ -182,10 +174,10 @@ same_layout s = by-image (image_at s (token_at s 0)) (image_p (lexemes_of s)) (s
     by-list i j e (fault n p) (ok m us) w = absurd w
     by-list i j e (fault n p) (no m q) w = w
 
-    by-image : (q : Heading) (g : Got TextImage) → Imaged s q g
+    by-image : (q : Reading TextImage) (g : Got TextImage) → Imaged s q g
         → Whole (after_image q (λ i t. after_list (list_from f s t 1 128 []) (ended_by i)))
         (after g (λ i. bind (list_p f 1 128 []) (λ l. item (must_be 0 (i, l)))))
-    by-image (ReadImage i u) (ok j us) w = by-list i j w.0 (list_from f s u 1 128 []) (list_p f 1 128 [] us) (same-list f us w.1 1 128 [])
-    by-image (ReadImage i u) (no m p) w = absurd w
-    by-image (FaultImage r p) (ok i us) w = absurd w
-    by-image (FaultImage r p) (no m q) w = w
+    by-image (Ok got) (ok j us) w = by-list got.0 j w.0 (list_from f s got.1 1 128 []) (list_p f 1 128 [] us) (same-list f us w.1 1 128 [])
+    by-image (Ok got) (no m p) w = absurd w
+    by-image (Err bad) (ok i us) w = absurd w
+    by-image (Err bad) (no m q) w = w

@@ -1,4 +1,5 @@
 -- The theorems.
+use Rattle.std.specs.Prelude.{Option, Some, None}
 use mathlib.Core.Path.{◌≡◌, refl, sym, ap, subst, ◌∙◌}
 use mathlib.Core.Bool.{Bool, true, false}
 use mathlib.Core.List.{List, [], ◌∷◌, ◌++◌, append-nil, append_assoc}
@@ -13,8 +14,6 @@ use Rattle.fmd_parse.proofs.Trees.{layout-facts}
 use Rattle.fmd_lex.specs.Tokens.{end_kind, token_at}
 use Rattle.fmd_lex.specs.Numbers.{number_in}
 use Rattle.fmd_lex.specs.Names.{good_name}
-use Rattle.fmd_lex.specs.declared.Number.{Number}
-use Rattle.fmd_lex.specs.declared.Number.TheVariants.{Value, Wrong}
 use Rattle.fmd_lex.specs.declared.Token.{Token}
 use Rattle.fmd_table.specs.declared.Section.{Section}
 use Rattle.fmd_head.specs.Heads.{next, is_kind}
@@ -140,12 +139,12 @@ digit-unnamed v b = go (good_name v) refl
     go false e = refl
 
 -- and a name is no number
-name-unnumbered : (v : List ℕ) → good_name v ≡ true → number_in v ≡ Wrong
+name-unnumbered : (v : List ℕ) → good_name v ≡ true → number_in v ≡ None
 name-unnumbered v g = go (number_in v) refl
   where
-    go : (m : Number) → number_in v ≡ m → m ≡ Wrong
-    go (Value m) e = absurd (clash (number-digit v e) (name-digit v g))
-    go Wrong e = refl
+    go : (m : Option ℕ) → number_in v ≡ m → m ≡ None
+    go (Some m) e = absurd (clash (number-digit v e) (name-digit v g))
+    go None e = refl
 
 -- a refused text's fault is its first
 pub first : First

@@ -1,12 +1,11 @@
 -- What is claimed of the reading of layout texts (proofs/Theorems): `layout_of`, which the reader's contract cites, is the grammar's.
-use Rattle.std.specs.Prelude.{◌≡◌, List, [], ◌∷◌, ◌++◌, ◌↔◌, ◌⊎◌, true, false, ℕ, ◌≤◌, get_or}
+use Rattle.std.specs.Prelude.{◌≡◌, List, [], ◌∷◌, ◌++◌, ◌↔◌, ◌⊎◌, true, false, ℕ, ◌≤◌, get_or, Some, None}
 use Prim.Native.Char.{code}
 use Rattle.octets.specs.Ascii.{ascii}
 use Rattle.text_words.specs.Classes.{is_digit}
 use Rattle.fmd_lex.specs.Tokens.{end_kind}
 use Rattle.fmd_lex.specs.Numbers.{number_in}
 use Rattle.fmd_lex.specs.Names.{good_name, cbfs}
-use Rattle.fmd_lex.specs.declared.Number.TheVariants.{Value, Wrong}
 use Rattle.fmd_table.specs.declared.Section.{Section}
 use Rattle.fmd_parse.specs.Layouts.{layout, refused, layout_of}
 use Rattle.fmd_head.specs.declared.TextImage.{TextImage}
@@ -48,13 +47,13 @@ pub data Fault (May : List Lexeme → Type 0) : ℕ → Lexeme → Type 0 where
   word_after_braces : {p : ℕ} {w : List ℕ} → May (sign p end_kind ∷ []) → Fault May 51 (word p w)
   -- L9: Where a number must stand (after @, the image's size), any other word is 52.
   -- After @ two numbers may stand, the second of them a size; as the image's size one, and behind it { A } and the text's end.
-  bad_number : {p : ℕ} {w : List ℕ} → number_in w ≡ Wrong → May (word p (ascii "98") ∷ word 0 (ascii "98") ∷ []) → Fault May 52 (word p w)
-  bad_image_size : {p : ℕ} {w : List ℕ} → number_in w ≡ Wrong → MayBeImageSize May p → Fault May 52 (word p w)
+  bad_number : {p : ℕ} {w : List ℕ} → number_in w ≡ None → May (word p (ascii "98") ∷ word 0 (ascii "98") ∷ []) → Fault May 52 (word p w)
+  bad_image_size : {p : ℕ} {w : List ℕ} → number_in w ≡ None → MayBeImageSize May p → Fault May 52 (word p w)
   -- L1: size (an image length in range, else 52)
-  bad_length : {p n : ℕ} {w : List ℕ} → number_in w ≡ Value n → (98 ≤ n → n ≤ 16777216 → ⊥) → MayBeImageSize May p → Fault May 52 (word p w)
+  bad_length : {p n : ℕ} {w : List ℕ} → number_in w ≡ Some n → (98 ≤ n → n ≤ 16777216 → ⊥) → MayBeImageSize May p → Fault May 52 (word p w)
   -- L7: After a section's name, flags or offset, a word beginning with a digit is its size.
   -- So it is 52 where it is no number.
-  bad_size : {p : ℕ} {w : List ℕ} → is_digit (get_or w 0 0) ≡ true → number_in w ≡ Wrong → May (word p (ascii "98") ∷ []) → Fault May 52 (word p w)
+  bad_size : {p : ℕ} {w : List ℕ} → is_digit (get_or w 0 0) ≡ true → number_in w ≡ None → May (word p (ascii "98") ∷ []) → Fault May 52 (word p w)
   -- L6: .. (else 53).
   -- Every name may stand there.
   bad_name : {p : ℕ} {w : List ℕ} → good_name w ≡ false → ((v : List ℕ) → good_name v ≡ true → May (word p v ∷ [])) → Fault May 53 (word p w)

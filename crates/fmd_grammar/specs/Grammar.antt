@@ -2,11 +2,10 @@
 -- `X ts v`: the tokens ts, all of them and in this order, are an X, and v is what they say. No rule looks ahead, none is tried before another.
 use Rattle.std.specs.Prelude.{◌≡◌, Bool, true, false, cond, List, [], ◌∷◌, ◌++◌, ℕ, zero, suc, ◌+◌, ◌≤◌, ◌<◌, eqb, length, Option, Some, None}
 use Prim.Native.Char.{code}
-use Rattle.fmd_lex.specs.Tokens.{end_kind, word_kind, token_at, token_bytes}
+use Rattle.fmd_lex.specs.Tokens.{end_kind, word_kind, token_at, token_bytes, code_of}
 use Rattle.fmd_lex.specs.Numbers.{number_in}
 use Rattle.fmd_lex.specs.Names.{good_name, cbfs, preserve}
 use Rattle.fmd_lex.specs.declared.Token.{Token}
-use Rattle.fmd_lex.specs.declared.Number.TheVariants.{Value}
 use Rattle.fmd_table.specs.declared.ParentOffset.{ParentOffset}
 use Rattle.fmd_table.specs.declared.Section.{Section}
 use Rattle.fmd_head.specs.declared.TextImage.{TextImage}
@@ -21,12 +20,12 @@ pub data Lexeme : Type 0 where
 
 -- the token t of the text s; `token_at` of fmd_lex finds it (L4, L5): past blanks and comments, as many bytes of a word as there are
 unfoldable pub lexeme_of : List ℕ → Token → Lexeme
-lexeme_of s t = cond (eqb t.kind word_kind) (word t.start (token_bytes s t)) (sign t.start t.kind)
+lexeme_of s t = cond (eqb (code_of t.kind) word_kind) (word t.start (token_bytes s t)) (sign t.start (code_of t.kind))
 
 -- the token t and those after it up to the text's end, f at most
 unfoldable pub lexemes_from : ℕ → List ℕ → Token → List Lexeme
 lexemes_from zero s t = []
-lexemes_from (suc f) s t = lexeme_of s t ∷ cond (eqb t.kind end_kind) [] (lexemes_from f s (token_at s t.end))
+lexemes_from (suc f) s t = lexeme_of s t ∷ cond (eqb (code_of t.kind) end_kind) [] (lexemes_from f s (token_at s t.end))
 
 -- the tokens of a text; each but the end has a byte of its own, so they are no more than the bytes and one
 unfoldable pub lexemes_of : List ℕ → List Lexeme
@@ -47,14 +46,14 @@ pub data OptionalFlags : List Lexeme → Bool → Bool → Type 0 where
 -- `number_in` of fmd_lex is the number that a word is (L8).
 pub data OptionalOffset : List Lexeme → Option ParentOffset → Type 0 where
   no_offset : OptionalOffset [] None
-  offset : {a b n : ℕ} {w : List ℕ} → number_in w ≡ Value n → OptionalOffset (sign a (code "@") ∷ word b w ∷ []) (Some (record { 0 = n }))
+  offset : {a b n : ℕ} {w : List ℕ} → number_in w ≡ Some n → OptionalOffset (sign a (code "@") ∷ word b w ∷ []) (Some (record { 0 = n }))
 
 -- L2: optional size
 -- L7: .. a word beginning with a digit is its size.
 -- (Every number begins with a digit, and no name does.)
 pub data OptionalSize : List Lexeme → Option ℕ → Type 0 where
   no_size : OptionalSize [] None
-  size : {a n : ℕ} {w : List ℕ} → number_in w ≡ Value n → OptionalSize (word a w ∷ []) (Some n)
+  size : {a n : ℕ} {w : List ℕ} → number_in w ≡ Some n → OptionalSize (word a w ∷ []) (Some n)
 
 -- ---- sections
 
@@ -89,7 +88,7 @@ mutual
 -- L1: optional @address
 pub data OptionalAddress : List Lexeme → Option ℕ → Type 0 where
   no_address : OptionalAddress [] None
-  address : {a b n : ℕ} {w : List ℕ} → number_in w ≡ Value n → OptionalAddress (sign a (code "@") ∷ word b w ∷ []) (Some n)
+  address : {a b n : ℕ} {w : List ℕ} → number_in w ≡ Some n → OptionalAddress (sign a (code "@") ∷ word b w ∷ []) (Some n)
 
 -- L1: An image: name, optional @address, size (an image length in range ..), braces.
 -- Q4: A flash image is 98 to 16,777,216 bytes.
@@ -97,7 +96,7 @@ pub data OptionalAddress : List Lexeme → Option ℕ → Type 0 where
 -- So the text's end is the next token.
 pub data LayoutText (most deepest : ℕ) : List Lexeme → TextImage → List Section → Type 0 where
   image : {place n : ℕ} (a b c d : ℕ) {name : List ℕ} (w : List ℕ) {os ts : List Lexeme} {at : Option ℕ} {l : List Section}
-      → good_name name ≡ true → OptionalAddress os at → number_in w ≡ Value n → 98 ≤ n → n ≤ 16777216 → SectionList most deepest 1 128 0 ts l
+      → good_name name ≡ true → OptionalAddress os at → number_in w ≡ Some n → 98 ≤ n → n ≤ 16777216 → SectionList most deepest 1 128 0 ts l
       → LayoutText most deepest
       (word place name ∷ (os ++ (word a w ∷ sign b (code "{") ∷ (ts ++ (sign c (code "}") ∷ sign d end_kind ∷ [])))))
       (record { address = at; size = n; place = place; length = length name }) l

@@ -1,22 +1,18 @@
 -- A section up to its braces, read token by token: means of proof, which the contracts cite. What is to be believed is the grammar (fmd_grammar).
 -- Each reader is given the token that stands there, and answers with the token after what it read, or with the first fault and its place, the
 -- token's first byte.
-use Rattle.std.specs.Prelude.{Bool, true, false, cond, not, List, ℕ, ◌-◌, ltb, leb, eqb, get_or, Some, None}
+use Rattle.std.specs.Prelude.{Bool, true, false, cond, not, List, ℕ, ◌-◌, ltb, leb, eqb, get_or, Option, Some, None, Result, Ok, Err}
 use Rattle.text_words.specs.Classes.{is_digit}
-use Rattle.fmd_lex.specs.Tokens.{word_kind, token_at, token_bytes}
+use Rattle.fmd_lex.specs.Tokens.{word_kind, code_of, token_at, token_bytes}
 use Rattle.fmd_lex.specs.Numbers.{number_in}
 use Rattle.fmd_lex.specs.Names.{good_name, flag_of}
 use Rattle.fmd_lex.specs.declared.Token.{Token}
-use Rattle.fmd_lex.specs.declared.Number.{Number}
-use Rattle.fmd_lex.specs.declared.Number.TheVariants.{Value, Wrong}
 use Rattle.fmd_lex.specs.declared.Flag.{Flag}
-use Rattle.fmd_lex.specs.declared.Flag.TheVariants.{Cbfs, Preserve, Unknown}
+use Rattle.fmd_lex.specs.declared.Flag.TheVariants.{Cbfs, Preserve}
 use Rattle.fmd_table.specs.declared.Section.{Section}
 use Rattle.fmd_head.specs.declared.Refusal.TheVariants.{OutOfGrammar, BadNumber, BadName, TooMany, BadFlag}
-use Rattle.fmd_head.specs.declared.Amount.{Amount}
-use Rattle.fmd_head.specs.declared.Amount.TheVariants.{Counted, Uncounted}
-use Rattle.fmd_head.specs.declared.HeadPart.{HeadPart}
-use Rattle.fmd_head.specs.declared.HeadPart.TheVariants.{Read, Fault}
+use Rattle.fmd_head.specs.declared.Refusal.{Refusal}
+use Rattle.fmd_head.specs.declared.Fault.{Fault}
 
 -- ---- tokens
 
@@ -24,26 +20,38 @@ use Rattle.fmd_head.specs.declared.HeadPart.TheVariants.{Read, Fault}
 abbrev pub next : List ℕ → Token → Token
 next s t = token_at s t.end
 
--- a sign's kind is its byte; in decimal ( is 40, ) 41, @ 64, { 123 and } 125
+-- a sign's number is its byte; in decimal ( is 40, ) 41, @ 64, { 123 and } 125
 abbrev pub is_kind : ℕ → Token → Bool
-is_kind k t = eqb t.kind k
+is_kind k t = eqb (code_of t.kind) k
+
+-- ---- what a reader answers
+
+abbrev pub Reading : Type 0 → Type 0
+Reading A = Result (A × Token) Fault
+
+module _ {A : Type 0} where
+  abbrev pub read : A → Token → Reading A
+  read a u = Ok (a, u)
+
+  abbrev pub refused_at : Refusal → ℕ → Reading A
+  refused_at r p = Err (record { refusal = r; place = p })
+
+-- goes on where there is no fault
+abbrev pub onward : {A B : Type 0} → Reading A → (A → Token → Reading B) → Reading B
+onward (Ok r) k = k r.0 r.1
+onward (Err f) k = Err f
 
 -- ---- numbers
 
 -- L9: Where a number must stand (after @, the image's size), any other word is 52. Any other token there is 51.
-abbrev pub counted : List ℕ → Token → Number → Amount
-counted s t (Value n) = Counted n (next s t)
-counted s t Wrong = Uncounted BadNumber t.start
+abbrev pub counted : List ℕ → Token → Option ℕ → Reading ℕ
+counted s t (Some n) = read n (next s t)
+counted s t None = refused_at BadNumber t.start
 
-unfoldable pub amount_at : List ℕ → Token → Amount
-amount_at s t = cond (is_kind word_kind t) (counted s t (number_in (token_bytes s t))) (Uncounted OutOfGrammar t.start)
+unfoldable pub amount_at : List ℕ → Token → Reading ℕ
+amount_at s t = cond (is_kind word_kind t) (counted s t (number_in (token_bytes s t))) (refused_at OutOfGrammar t.start)
 
 -- ---- the parts of a section, in their order; a section with what is read of it so far
-
--- goes on where there is no fault
-abbrev pub onward : HeadPart → (Section → Token → HeadPart) → HeadPart
-onward (Read h t) k = k h t
-onward (Fault r p) k = Fault r p
 
 -- the section of a name alone
 abbrev pub bare : Token → ℕ → ℕ → Section
@@ -62,13 +70,13 @@ bare t lv par =
 -- Q5: A layout text has at most .. 128 sections, 8 levels below the image. n sections stand before this one, of level lv.
 -- R33: .. the first fault in the text (..; a word's fault stands at its first byte, 55 at the name of the section too many or too deep, ..; at one
 -- place the lowest number)
-unfoldable pub named_at : List ℕ → Token → ℕ → ℕ → ℕ → HeadPart
+unfoldable pub named_at : List ℕ → Token → ℕ → ℕ → ℕ → Reading Section
 named_at s t lv par n =
-    cond (not (is_kind word_kind t)) (Fault OutOfGrammar t.start)
-    (cond (not (good_name (token_bytes s t))) (Fault BadName t.start)
-    (cond (leb 128 n) (Fault TooMany t.start)
-    (cond (ltb 8 lv) (Fault TooMany t.start)
-    (Read (bare t lv par) (next s t)))))
+    cond (not (is_kind word_kind t)) (refused_at OutOfGrammar t.start)
+    (cond (not (good_name (token_bytes s t))) (refused_at BadName t.start)
+    (cond (leb 128 n) (refused_at TooMany t.start)
+    (cond (ltb 8 lv) (refused_at TooMany t.start)
+    (read (bare t lv par) (next s t)))))
 
 -- the section with one part more
 abbrev pub set_cbfs : Section → Section
@@ -124,45 +132,45 @@ set_size n h =
     }
 
 -- R20: 56: unknown or repeated flag
-abbrev pub marked : List ℕ → Token → Section → Flag → HeadPart
-marked s t h Cbfs = cond h.cbfs (Fault BadFlag t.start) (Read (set_cbfs h) (next s t))
-marked s t h Preserve = cond h.preserve (Fault BadFlag t.start) (Read (set_preserve h) (next s t))
-marked s t h Unknown = Fault BadFlag t.start
+abbrev pub marked : List ℕ → Token → Section → Option Flag → Reading Section
+marked s t h (Some Cbfs) = cond h.cbfs (refused_at BadFlag t.start) (read (set_cbfs h) (next s t))
+marked s t h (Some Preserve) = cond h.preserve (refused_at BadFlag t.start) (read (set_preserve h) (next s t))
+marked s t h None = refused_at BadFlag t.start
 
 -- one flag, marked in the section
-unfoldable pub mark_at : List ℕ → Token → Section → HeadPart
-mark_at s t h = cond (is_kind word_kind t) (marked s t h (flag_of (token_bytes s t))) (Fault OutOfGrammar t.start)
+unfoldable pub mark_at : List ℕ → Token → Section → Reading Section
+mark_at s t h = cond (is_kind word_kind t) (marked s t h (flag_of (token_bytes s t))) (refused_at OutOfGrammar t.start)
 
 -- after both flags: the end, for a third word is unknown or repeats
-unfoldable pub last_at : List ℕ → Token → Section → HeadPart
-last_at s t h = cond (is_kind 41 t) (Read h (next s t)) (mark_at s t h)
+unfoldable pub last_at : List ℕ → Token → Section → Reading Section
+last_at s t h = cond (is_kind 41 t) (read h (next s t)) (mark_at s t h)
 
 -- after one flag: the end, or the other flag
-unfoldable pub other_at : List ℕ → Token → Section → HeadPart
-other_at s t h = cond (is_kind 41 t) (Read h (next s t)) (onward (mark_at s t h) (λ k u. last_at s u k))
+unfoldable pub other_at : List ℕ → Token → Section → Reading Section
+other_at s t h = cond (is_kind 41 t) (read h (next s t)) (onward (mark_at s t h) (λ k u. last_at s u k))
 
 -- L2: optional flags in parentheses (CBFS, PRESERVE, at least one, blanks between)
-unfoldable pub flags_at : List ℕ → Token → Section → HeadPart
-flags_at s t h = cond (is_kind 40 t) (onward (mark_at s (next s t) h) (λ k u. other_at s u k)) (Read h t)
+unfoldable pub flags_at : List ℕ → Token → Section → Reading Section
+flags_at s t h = cond (is_kind 40 t) (onward (mark_at s (next s t) h) (λ k u. other_at s u k)) (read h t)
 
 -- L2: optional @offset from its parent
-abbrev pub with_offset : Section → Amount → HeadPart
-with_offset h (Counted n u) = Read (set_offset n h) u
-with_offset h (Uncounted r p) = Fault r p
+abbrev pub with_offset : Section → Reading ℕ → Reading Section
+with_offset h (Ok r) = read (set_offset r.0 h) r.1
+with_offset h (Err f) = Err f
 
-unfoldable pub offset_at : List ℕ → Token → Section → HeadPart
-offset_at s t h = cond (is_kind 64 t) (with_offset h (amount_at s (next s t))) (Read h t)
+unfoldable pub offset_at : List ℕ → Token → Section → Reading Section
+offset_at s t h = cond (is_kind 64 t) (with_offset h (amount_at s (next s t))) (read h t)
 
 -- L7: After a section's name, flags or offset, a word beginning with a digit is its size.
-abbrev pub with_size : Section → Amount → HeadPart
-with_size h (Counted n u) = Read (set_size n h) u
-with_size h (Uncounted r p) = Fault r p
+abbrev pub with_size : Section → Reading ℕ → Reading Section
+with_size h (Ok r) = read (set_size r.0 h) r.1
+with_size h (Err f) = Err f
 
-unfoldable pub size_at : List ℕ → Token → Section → HeadPart
-size_at s t h = cond (is_kind word_kind t) (cond (is_digit (get_or s t.start 0)) (with_size h (amount_at s t)) (Read h t)) (Read h t)
+unfoldable pub size_at : List ℕ → Token → Section → Reading Section
+size_at s t h = cond (is_kind word_kind t) (cond (is_digit (get_or s t.start 0)) (with_size h (amount_at s t)) (read h t)) (read h t)
 
 -- L2: A section: name, optional flags in parentheses (..), optional @offset from its parent, optional size, ..
-unfoldable pub head_at : List ℕ → Token → ℕ → ℕ → ℕ → HeadPart
+unfoldable pub head_at : List ℕ → Token → ℕ → ℕ → ℕ → Reading Section
 head_at s t lv par n =
     onward (named_at s t lv par n)
     (λ h u. onward (flags_at s u h)

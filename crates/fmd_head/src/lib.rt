@@ -6,7 +6,6 @@ ghost use Rattle.std.specs.Prelude.{◌≡◌};
 ghost use Rattle.fmd_head.specs.Refusals.{number_of};
 
 use fmd_lex::Token;
-use fmd_table::Section;
 
 pub mod section; // section.rt: a section up to its braces
 pub mod front; // front.rt: the image up to its opening brace
@@ -44,18 +43,24 @@ pub fn number(r: Refusal) -> u32
     }
 }
 
-// A number and the token after it; or a fault and its place.
+// A fault and its place in the text.
 #[derive(Clone, Copy)]
-pub enum Amount {
-    Counted(u32, Token),
-    Uncounted(Refusal, usize),
+pub struct Fault {
+    pub refusal: Refusal,
+    pub place: usize,
 }
 
-// A section with what is read of it so far and the token after that; or a fault and its place.
-#[derive(Clone, Copy)]
-pub enum HeadPart {
-    Read(Section, Token),
-    Fault(Refusal, usize),
+// What is read and the token after it; or a fault.
+pub type Reading<T> = Result<(T, Token), Fault>;
+
+// A fault at the token t.
+pub fn fault_at(refusal: Refusal, t: Token) -> Fault
+    ensures { result ≡ record { refusal = refusal; place = t.start } }
+{
+    Fault {
+        refusal,
+        place: t.start,
+    }
 }
 
 // The image as it stands in the text, with its address where one is given: its name by place and length.
@@ -65,11 +70,4 @@ pub struct TextImage {
     pub size: u32,
     pub place: u16,
     pub length: u8,
-}
-
-// The image with what is read of it so far and the token after that; or a fault and its place.
-#[derive(Clone, Copy)]
-pub enum Heading {
-    Read(TextImage, Token),
-    Fault(Refusal, usize),
 }

@@ -12,9 +12,10 @@ use Rattle.octets.specs.Tests.{◌or◌, all}
 use Rattle.octets.specs.Bytes.{part}
 use Rattle.octets.proofs.Bools.{and_i, choice}
 use Rattle.text_words.specs.Classes.{is_blank}
-use Rattle.fmd_lex.specs.Chars.{is_sign, is_word}
-use Rattle.fmd_lex.specs.Tokens.{word_kind, skip_from, word_from, token_here, token_at, token_bytes}
+use Rattle.fmd_lex.specs.Chars.{is_word}
+use Rattle.fmd_lex.specs.Tokens.{word_kind, code_of, sign_kind, skip_from, word_from, token_here, token_at, token_bytes}
 use Rattle.fmd_lex.specs.Invariants.{Within}
+use Rattle.fmd_lex.specs.declared.Kind.{Kind}
 use Rattle.fmd_lex.specs.declared.Token.{Token}
 use Rattle.fmd_lex.proofs.Tokens.{word_in}
 
@@ -69,18 +70,23 @@ module _ (s : List ℕ) (at : ℕ) (h : at ≤ length s) where
       let w = word-bounds (drop (p + 1) s) (p + 1) in
       let k = length-drop (p + 1) s in
       record { after = omega arith; ordered = omega arith; inside = omega arith; filled = λ z. omega arith })
-      (λ f.
-      choice P (is_sign (get_or s p 0)) _ _
-      (λ g. record { after = omega arith; ordered = omega arith; inside = omega arith; filled = λ z. omega arith })
-      (λ g. record { after = omega arith; ordered = omega arith; inside = omega arith; filled = λ z. omega arith })))
+      (λ f. record { after = omega arith; ordered = omega arith; inside = omega arith; filled = λ z. omega arith }))
       (λ e. record { after = omega arith; ordered = omega arith; inside = omega arith; filled = λ z. omega arith })
 
-sign-no-word : (b : ℕ) → is_sign b ≡ true → b ≡ word_kind → ⊥
-unfolding is_sign ◌or◌
-sign-no-word b g z = false≢true (rw z at g)
+sign-no-word : (b : ℕ) → code_of (sign_kind b) ≡ word_kind → ⊥
+unfolding sign_kind
+sign-no-word b =
+    choice P (eqb b 40) _ _ (λ e z. omega arith)
+    (λ e. choice P (eqb b 41) _ _ (λ f z. omega arith)
+    (λ f. choice P (eqb b 64) _ _ (λ g z. omega arith)
+    (λ g. choice P (eqb b 123) _ _ (λ h z. omega arith)
+    (λ h. choice P (eqb b 125) _ _ (λ i z. omega arith) (λ i z. omega arith)))))
+  where
+    P : Kind → Type 0
+    P k = code_of k ≡ word_kind → ⊥
 
 -- (L5) a word has bytes of 21 to 7E hex, no sign and no #
-pub word_bytes : (s : List ℕ) (at : ℕ) → (token_at s at).kind ≡ word_kind → all is_word (token_bytes s (token_at s at)) ≡ true
+pub word_bytes : (s : List ℕ) (at : ℕ) → code_of (token_at s at).kind ≡ word_kind → all is_word (token_bytes s (token_at s at)) ≡ true
 unfolding token_at token_here part
 word_bytes s at =
     let p = skip_from false (drop at s) at in
@@ -88,8 +94,8 @@ word_bytes s at =
     (λ e.
     choice P (is_word (get_or s p 0)) _ _
     (λ f z. rw (word_in s p (ltb-true p (length s) e) f) (word-all (drop p s) p))
-    (λ f. choice P (is_sign (get_or s p 0)) _ _ (λ g z. absurd (sign-no-word (get_or s p 0) g z)) (λ g z. absurd (omega arith))))
+    (λ f z. absurd (sign-no-word (get_or s p 0) z)))
     (λ e z. absurd (omega arith))
   where
     P : Token → Type 0
-    P t = t.kind ≡ word_kind → all is_word (take (t.end - t.start) (drop t.start s)) ≡ true
+    P t = code_of t.kind ≡ word_kind → all is_word (take (t.end - t.start) (drop t.start s)) ≡ true

@@ -1,12 +1,12 @@
 -- Names and flags of a layout text.
-use Rattle.std.specs.Prelude.{Bool, cond, not, List, ℕ, get_or}
+use Rattle.std.specs.Prelude.{Bool, cond, not, List, ℕ, get_or, Option, Some, None}
 use Rattle.octets.specs.Ascii.{ascii}
 use Rattle.octets.specs.Tests.{◌and◌}
 use Rattle.octets.specs.Bytes.{same}
 use Rattle.text_words.specs.Classes.{is_digit}
 use Rattle.text_words.specs.Names.{is_sized}
 use Rattle.fmd_lex.specs.declared.Flag.{Flag}
-use Rattle.fmd_lex.specs.declared.Flag.TheVariants.{Cbfs, Preserve, Unknown}
+use Rattle.fmd_lex.specs.declared.Flag.TheVariants.{Cbfs, Preserve}
 
 -- L6: A name has 1 to 31 bytes and does not begin with a digit (else 53).
 unfoldable pub good_name : List ℕ → Bool
@@ -19,5 +19,5 @@ cbfs = ascii "CBFS"
 abbrev pub preserve : List ℕ
 preserve = ascii "PRESERVE"
 
-unfoldable pub flag_of : List ℕ → Flag
-flag_of w = cond (same w cbfs) Cbfs (cond (same w preserve) Preserve Unknown)
+unfoldable pub flag_of : List ℕ → Option Flag
+flag_of w = cond (same w cbfs) (Some Cbfs) (cond (same w preserve) (Some Preserve) None)

@@ -3,10 +3,12 @@ use Rattle.std.specs.Prelude.{Bool, true, false, cond, List, [], ◌∷◌, ℕ,
 use Prim.Native.Char.{code}
 use Rattle.octets.specs.Bytes.{part}
 use Rattle.text_words.specs.Classes.{is_blank}
-use Rattle.fmd_lex.specs.Chars.{is_sign, is_word}
+use Rattle.fmd_lex.specs.Chars.{is_word}
+use Rattle.fmd_lex.specs.declared.Kind.{Kind}
+use Rattle.fmd_lex.specs.declared.Kind.TheVariants.{End, Bad, Word, Left, Right, At, Open, Close}
 use Rattle.fmd_lex.specs.declared.Token.{Token}
 
--- the kinds of tokens; a sign's kind is its own byte
+-- the number of a kind; a sign's is its own byte
 abbrev pub end_kind : ℕ
 end_kind = 0
 
@@ -16,8 +18,27 @@ bad_kind = 1
 abbrev pub word_kind : ℕ
 word_kind = 2
 
+abbrev pub code_of : Kind → ℕ
+code_of End = end_kind
+code_of Bad = bad_kind
+code_of Word = word_kind
+code_of Left = code "("
+code_of Right = code ")"
+code_of At = code "@"
+code_of Open = code "{"
+code_of Close = code "}"
+
+-- the kind of a token of one byte: a sign's, or that of a byte that begins no token
+unfoldable pub sign_kind : ℕ → Kind
+sign_kind b =
+    cond (eqb b (code "(")) Left
+    (cond (eqb b (code ")")) Right
+    (cond (eqb b (code "@")) At
+    (cond (eqb b (code "{")) Open
+    (cond (eqb b (code "}")) Close Bad))))
+
 -- a token of a kind, from the place a up to the place e
-abbrev pub token_of : ℕ → ℕ → ℕ → Token
+abbrev pub token_of : Kind → ℕ → ℕ → Token
 token_of k a e = record { kind = k; start = a; end = e }
 
 -- L4: # runs to the line's end.
@@ -38,9 +59,9 @@ unfoldable pub token_here : List ℕ → ℕ → Token
 token_here s p =
     cond (ltb p (length s))
     (cond (is_word (get_or s p 0))
-    (token_of word_kind p (word_from (drop (p + 1) s) (p + 1)))
-    (cond (is_sign (get_or s p 0)) (token_of (get_or s p 0) p (p + 1)) (token_of bad_kind p (p + 1))))
-    (token_of end_kind p p)
+    (token_of Word p (word_from (drop (p + 1) s) (p + 1)))
+    (token_of (sign_kind (get_or s p 0)) p (p + 1)))
+    (token_of End p p)
 
 -- the first token at or after the place `at`
 unfoldable pub token_at : List ℕ → ℕ → Token

@@ -1,54 +1,52 @@
 // Numbers of a layout text.
-ghost use Rattle.std.specs.Prelude.{◌≡◌, ◌≤◌, length, drop};
-ghost use Rattle.fmd_lex.specs.Numbers.{unit_of, scaled, number_in};
+ghost use Rattle.std.specs.Prelude.{◌≡◌, ◌≤◌, IfSome};
+ghost use Rattle.fmd_lex.specs.Numbers.{unit_of, capped, scaled, number_in};
 
-use super::Number;
 use text_words::Numeral;
 
-// What K, M and G stand for, 0 for any other byte.
-fn unit(b: u8) -> u64
+// What K, M and G stand for.
+#[tactic(auto, unfolding(crate::specs::Numbers::unit_of))]
+fn unit(b: u8) -> Option<u64>
     ensures value { result ≡ unit_of b }
-    ensures small { result ≤ 1073741824 }
+    ensures small { IfSome result (λ u. u ≤ 1073741824) }
 {
     match b {
-        75 => 1024,
-        77 => 1048576,
-        71 => 1073741824,
-        _ => 0,
+        b'K' => Some(1024),
+        b'M' => Some(1048576),
+        b'G' => Some(1073741824),
+        _ => None,
     }
 }
 
-// The number n with what stands from at on: nothing, or one unit letter.
-fn with_unit(w: &[u8], at: usize, n: u64) -> Number
-    requires { (at ≤ length w.now) × (n ≤ 4294967295) }
-    ensures { result ≡ scaled n (drop at w.now) }
+// A number of at most 4,294,967,295.
+#[tactic(auto, unfolding(crate::specs::Numbers::capped))]
+fn capped(n: u64) -> Option<u32>
+    ensures { result ≡ capped n }
 {
-    let left = w.len() - at;
-    if left == 0 {
-        return Number::Value(n as u32);
-    }
-    if left != 1 {
-        return Number::Wrong;
-    }
-    let u = unit(w[at]);
-    if u == 0 {
-        return Number::Wrong;
-    }
-    let m = n * u;
-    if m <= 4294967295 {
-        Number::Value(m as u32)
-    } else {
-        Number::Wrong
+    u32::try_from(n).ok()
+}
+
+// The number n with what stands behind it: nothing, or one unit letter.
+#[tactic(auto, unfolding(crate::specs::Numbers::scaled))]
+fn scaled(n: u64, rest: &[u8]) -> Option<u32>
+    requires { n ≤ 4294967295 }
+    ensures { result ≡ scaled n rest.now }
+{
+    match rest {
+        [] => capped(n),
+        [letter] => capped(n * unit(*letter)?),
+        _ => None,
     }
 }
 
 // The number that the word w is.
-pub fn number_of(w: &[u8]) -> Number
+#[tactic(auto, unfolding(crate::specs::Numbers::number_in))]
+pub fn number_of(w: &[u8]) -> Option<u32>
     ensures { result ≡ number_in w.now }
 {
     match text_words::digits::numeral_of(w, 4294967295) {
-        Numeral::Value(n, end) => with_unit(w, end, n),
-        Numeral::Over => Number::Wrong,
-        Numeral::Missing => Number::Wrong,
+        Numeral::Value(n, end) => scaled(n, &w[end..]),
+        Numeral::Over => None,
+        Numeral::Missing => None,
     }
 }

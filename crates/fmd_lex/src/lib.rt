@@ -2,10 +2,10 @@
 
 // Tokens, numbers, names and flags of a layout text.
 // An inner crate: no user calls it, so its functions may have a `requires`, which each caller meets.
-ghost use Rattle.std.specs.Prelude.{false, ◌≡◌, ◌≤◌, ◌<◌, length, drop, get_or};
+ghost use Rattle.std.specs.Prelude.{false, ◌≡◌, ◌≤◌, ◌<◌, eqb, length, drop, get_or, take_while};
 ghost use Rattle.text_words.specs.Classes.{is_digit};
 ghost use Rattle.fmd_lex.specs.Chars.{is_sign, is_word};
-ghost use Rattle.fmd_lex.specs.Tokens.{skip_from, word_from, token_at, token_bytes};
+ghost use Rattle.fmd_lex.specs.Tokens.{code_of, sign_kind, skip_from, word_from, token_at, token_bytes};
 ghost use Rattle.fmd_lex.specs.Invariants.{Within};
 ghost use Rattle.fmd_lex.specs.Numbers.{number_in};
 ghost use Rattle.fmd_lex.specs.Names.{good_name, flag_of};
@@ -14,42 +14,40 @@ use text_words::{is_blank, is_digit, is_graphic, is_sized};
 
 mod digits; // digits.rt: the number that a word is
 
-// The kinds of tokens: the text's end, a byte that begins no token, a word; a sign's kind is its own byte: ( ) @ { }.
-pub const END: u8 = 0;
-
-pub const BAD: u8 = 1;
-
-pub const WORD: u8 = 2;
-
-pub const LEFT: u8 = 40;
-
-pub const RIGHT: u8 = 41;
-
-pub const AT: u8 = 64;
-
-pub const OPEN: u8 = 123;
-
-pub const CLOSE: u8 = 125;
+// The kinds of tokens: the text's end, a byte that begins no token, a word, and the signs ( ) @ { }.
+#[derive(Clone, Copy, PartialEq, Eq)]
+pub enum Kind {
+    End,
+    Bad,
+    Word,
+    Left,
+    Right,
+    At,
+    Open,
+    Close,
+}
 
 // A token of the text, from the place start up to the place end.
 #[derive(Clone, Copy)]
 pub struct Token {
-    pub kind: u8,
+    pub kind: Kind,
     pub start: usize,
     pub end: usize,
 }
 
-#[derive(Clone, Copy)]
-pub enum Number {
-    Value(u32),
-    Wrong,
+impl Token {
+    // It is of the kind.
+    pub fn is(self, kind: Kind) -> bool
+        ensures { result ≡ eqb (code_of self.kind) (code_of kind) }
+    {
+        self.kind == kind
+    }
 }
 
 #[derive(Clone, Copy)]
 pub enum Flag {
     Cbfs,
     Preserve,
-    Unknown,
 }
 
 // ---- bytes
@@ -57,29 +55,28 @@ pub enum Flag {
 fn is_sign(b: u8) -> bool
     ensures { result ≡ is_sign b }
 {
-    match b {
-        64 => true,
-        123 => true,
-        125 => true,
-        40 => true,
-        41 => true,
-        _ => false,
-    }
+    matches!(b, b'@' | b'{' | b'}' | b'(' | b')')
 }
 
 fn is_word(b: u8) -> bool
     ensures { result ≡ is_word b }
 {
-    if is_graphic(b) {
-        if is_sign(b) {
-            return false;
-        }
-        if b == 35 {
-            return false;
-        }
-        return true;
+    is_graphic(b) && !is_sign(b) && b != b'#'
+}
+
+// The kind of a token of one byte: a sign's, or that of a byte that begins no token.
+#[tactic(auto, unfolding(crate::specs::Tokens::sign_kind))]
+fn sign_kind(b: u8) -> Kind
+    ensures { result ≡ sign_kind b }
+{
+    match b {
+        b'(' => Kind::Left,
+        b')' => Kind::Right,
+        b'@' => Kind::At,
+        b'{' => Kind::Open,
+        b'}' => Kind::Close,
+        _ => Kind::Bad,
     }
-    false
 }
 
 // ---- tokens
@@ -90,22 +87,27 @@ fn skip(text: &[u8], at: usize) -> usize
     ensures value { result ≡ skip_from false (drop at text.now) at }
     ensures within { (at ≤ result) × (result ≤ length text.now) }
 {
-    let mut i = at;
     let mut comment = false;
-    while i < text.len() {
+    for i in at..text.len() {
         let b = text[i];
         if comment {
-            if b == 10 {
+            if b == b'\n' {
                 comment = false;
             }
-        } else if b == 35 {
+        } else if b == b'#' {
             comment = true;
-        } else if is_blank(b) {} else {
+        } else if !is_blank(b) {
             return i;
         }
-        i += 1;
     }
-    i
+    text.len()
+}
+
+// How many bytes of a word stand in front.
+fn word_len(rest: &[u8]) -> usize
+    ensures { result ≡ length (take_while is_word rest.now) }
+{
+    rest.iter().take_while(|b| is_word(**b)).count()
 }
 
 // The place after the bytes of a word.
@@ -114,52 +116,23 @@ fn word_end(text: &[u8], at: usize) -> usize
     ensures value { result ≡ word_from (drop at text.now) at }
     ensures within { (at ≤ result) × (result ≤ length text.now) }
 {
-    let mut i = at;
-    while i < text.len() {
-        if is_word(text[i]) {
-            i += 1;
-        } else {
-            return i;
-        }
-    }
-    i
+    at + word_len(&text[at..])
 }
 
 // The first token at or after the place at.
+#[tactic(auto, unfolding(crate::specs::Tokens::token_at, crate::specs::Tokens::token_here))]
 pub fn next_token(text: &[u8], at: usize) -> Token
     requires { at ≤ length text.now }
     ensures value { result ≡ token_at text.now at }
     ensures within { Within (length text.now) at result }
 {
-    let p = skip(text, at);
-    if text.len() <= p {
-        return Token {
-            kind: END,
-            start: p,
-            end: p,
-        };
-    }
-    let b = text[p];
-    if is_word(b) {
-        let e = word_end(text, p + 1);
-        return Token {
-            kind: WORD,
-            start: p,
-            end: e,
-        };
-    }
-    if is_sign(b) {
-        return Token {
-            kind: b,
-            start: p,
-            end: p + 1,
-        };
-    }
-    Token {
-        kind: BAD,
-        start: p,
-        end: p + 1,
-    }
+    let start = skip(text, at);
+    let (kind, end) = match text.get(start) {
+        None => (Kind::End, start),
+        Some(b) if is_word(*b) => (Kind::Word, word_end(text, start + 1)),
+        Some(b) => (sign_kind(*b), start + 1),
+    };
+    Token { kind, start, end }
 }
 
 // ---- names and flags
@@ -167,54 +140,46 @@ pub fn next_token(text: &[u8], at: usize) -> Token
 fn is_name(w: &[u8]) -> bool
     ensures { result ≡ good_name w.now }
 {
-    if is_sized(w, 31) {
-        if is_digit(w[0]) {
-            return false;
-        }
-        return true;
-    }
-    false
+    is_sized(w, 31) && !is_digit(w[0])
 }
 
-fn flag_of(w: &[u8]) -> Flag
+#[tactic(auto, unfolding(crate::specs::Names::flag_of))]
+fn flag_of(w: &[u8]) -> Option<Flag>
     ensures { result ≡ flag_of w.now }
 {
     if octets::same(w, b"CBFS") {
-        return Flag::Cbfs;
+        Some(Flag::Cbfs)
+    } else if octets::same(w, b"PRESERVE") {
+        Some(Flag::Preserve)
+    } else {
+        None
     }
-    if octets::same(w, b"PRESERVE") {
-        return Flag::Preserve;
-    }
-    Flag::Unknown
 }
 
 // ---- what the bytes of a token are
 
-pub fn number_at(text: &[u8], t: Token) -> Number
+#[tactic(auto, unfolding(octets::specs::Bytes::part))]
+pub fn number_at(text: &[u8], t: Token) -> Option<u32>
     requires { (t.start ≤ t.end) × (t.end ≤ length text.now) }
     ensures { result ≡ number_in (token_bytes text.now t) }
 {
-    let a = t.start;
-    let e = t.end;
-    digits::number_of(&text[a..e])
+    digits::number_of(&text[t.start..t.end])
 }
 
+#[tactic(auto, unfolding(octets::specs::Bytes::part))]
 pub fn name_at(text: &[u8], t: Token) -> bool
     requires { (t.start ≤ t.end) × (t.end ≤ length text.now) }
     ensures { result ≡ good_name (token_bytes text.now t) }
 {
-    let a = t.start;
-    let e = t.end;
-    is_name(&text[a..e])
+    is_name(&text[t.start..t.end])
 }
 
-pub fn flag_at(text: &[u8], t: Token) -> Flag
+#[tactic(auto, unfolding(octets::specs::Bytes::part))]
+pub fn flag_at(text: &[u8], t: Token) -> Option<Flag>
     requires { (t.start ≤ t.end) × (t.end ≤ length text.now) }
     ensures { result ≡ flag_of (token_bytes text.now t) }
 {
-    let a = t.start;
-    let e = t.end;
-    flag_of(&text[a..e])
+    flag_of(&text[t.start..t.end])
 }
 
 // The token's first byte is a digit.
@@ -222,6 +187,5 @@ pub fn digit_at(text: &[u8], t: Token) -> bool
     requires { t.start < length text.now }
     ensures { result ≡ is_digit (get_or text.now t.start 0) }
 {
-    let a = t.start;
-    is_digit(text[a])
+    is_digit(text[t.start])
 }

@@ -1,4 +1,5 @@
 -- What each part of a section keeps of the section read so far, and where its fault stands.
+use Rattle.std.specs.Prelude.{Option, Some, None, Ok, Err}
 use mathlib.Core.Path.{◌≡◌, refl, ◌∙◌}
 use mathlib.Core.Bool.{true, not}
 use mathlib.Core.List.{List}
@@ -11,34 +12,28 @@ use Rattle.octets.specs.Tests.{◌or◌, all}
 use Rattle.octets.proofs.Bools.{choice, not_f}
 use Rattle.text_words.specs.Classes.{is_digit}
 use Rattle.fmd_lex.specs.Chars.{is_word}
-use Rattle.fmd_lex.specs.Tokens.{word_kind, token_at, token_bytes}
+use Rattle.fmd_lex.specs.Tokens.{word_kind, token_at, token_bytes, code_of}
 use Rattle.fmd_lex.specs.Invariants.{Within}
 use Rattle.fmd_lex.specs.Numbers.{number_in}
 use Rattle.fmd_lex.specs.Names.{good_name, flag_of}
 use Rattle.fmd_lex.specs.declared.Token.{Token}
-use Rattle.fmd_lex.specs.declared.Number.{Number}
-use Rattle.fmd_lex.specs.declared.Number.TheVariants.{Value, Wrong}
 use Rattle.fmd_lex.specs.declared.Flag.{Flag}
-use Rattle.fmd_lex.specs.declared.Flag.TheVariants.{Cbfs, Preserve, Unknown}
+use Rattle.fmd_lex.specs.declared.Flag.TheVariants.{Cbfs, Preserve}
 use Rattle.fmd_lex.proofs.Numbers.{NumberFits, number_fits}
 use Rattle.fmd_lex.proofs.Tokens.{earlier}
 use Rattle.fmd_lex.proofs.Places.{token-within, word_bytes}
 use Rattle.fmd_head.specs.Refusals.{number_of as refusal_number}
-use Rattle.fmd_head.specs.Heads.{next, is_kind, counted, amount_at, onward, named_at, marked, mark_at, last_at, other_at, flags_at, with_offset}
+use Rattle.fmd_head.specs.Heads.{next, is_kind, counted, amount_at, onward, named_at, marked, mark_at, last_at, other_at, flags_at, with_offset, Reading, read}
 use Rattle.fmd_head.specs.Heads.{offset_at, with_size, size_at, head_at}
 use Rattle.fmd_parse.specs.Trees.{Named}
 use Rattle.fmd_parse.specs.Claims.{FaultNumber}
 use Rattle.fmd_table.specs.declared.Section.{Section}
-use Rattle.fmd_head.specs.declared.Amount.{Amount}
-use Rattle.fmd_head.specs.declared.Amount.TheVariants.{Counted, Uncounted}
-use Rattle.fmd_head.specs.declared.HeadPart.{HeadPart}
-use Rattle.fmd_head.specs.declared.HeadPart.TheVariants.{Read, Fault}
 
 -- ---- tokens of the text
 
 pub record From (s : List ℕ) (at : ℕ) (u : Token) : Type 0 where
   pub within : Within (length s) at u
-  pub word : u.kind ≡ word_kind → all is_word (token_bytes s u) ≡ true
+  pub word : code_of u.kind ≡ word_kind → all is_word (token_bytes s u) ≡ true
 
 pub token-from : (s : List ℕ) (at : ℕ) → at ≤ length s → From s at (token_at s at)
 token-from s at h = record { within = token-within s at h; word = word_bytes s at }
@@ -65,14 +60,14 @@ module _ {s : List ℕ} {a : ℕ} {t : Token} (w : From s a t) where
   pub fault-here : (n : ℕ) → FaultNumber n → Faulty s n t.start
   fault-here n e = (e, omega arith)
 
-  pub name-here : t.kind ≡ word_kind → good_name (token_bytes s t) ≡ true → Named s t.start (t.end - t.start)
+  pub name-here : code_of t.kind ≡ word_kind → good_name (token_bytes s t) ≡ true → Named s t.start (t.end - t.start)
   name-here k e = record { inside = omega arith; word = w.word k; good = e }
 
 -- ---- numbers
 
-abbrev pub AmountFrom : List ℕ → ℕ → Amount → Type 0
-AmountFrom s a (Counted n u) = From s a u × (n ≤ 4294967295)
-AmountFrom s a (Uncounted r p) = Faulty s (refusal_number r) p
+abbrev pub AmountFrom : List ℕ → ℕ → Reading ℕ → Type 0
+AmountFrom s a (Ok got) = From s a got.1 × (got.0 ≤ 4294967295)
+AmountFrom s a (Err bad) = Faulty s (refusal_number bad.refusal) bad.place
 
 pub amount-from : {s : List ℕ} {a : ℕ} {t : Token} → From s a t → AmountFrom s t.end (amount_at s t)
 unfolding amount_at ◌or◌
@@ -80,9 +75,9 @@ amount-from {s} {a} {t} w =
     choice (AmountFrom s t.end) (is_kind word_kind t) _ _ (λ e. by_number (number_in (token_bytes s t)) (number_fits (token_bytes s t)))
     (λ e. fault-here w 51 refl)
   where
-    by_number : (n : Number) → NumberFits n → AmountFrom s t.end (counted s t n)
-    by_number (Value n) h = (next-from w, h)
-    by_number Wrong h = fault-here w 52 refl
+    by_number : (n : Option ℕ) → NumberFits n → AmountFrom s t.end (counted s t n)
+    by_number (Some n) h = (next-from w, h)
+    by_number None h = fault-here w 52 refl
 
 -- ---- parts after the name
 
@@ -98,31 +93,31 @@ kept h = record { place = refl; length = refl; parent = refl; level = refl }
 pub kept_on : {h k l : Section} → Kept h k → Kept k l → Kept h l
 kept_on p q = record { place = q.place ∙ p.place; length = q.length ∙ p.length; parent = q.parent ∙ p.parent; level = q.level ∙ p.level }
 
-abbrev pub Keeps : List ℕ → ℕ → Section → HeadPart → Type 0
-Keeps s a h (Read k u) = From s a u × Kept h k
-Keeps s a h (Fault r p) = Faulty s (refusal_number r) p
+abbrev pub Keeps : List ℕ → ℕ → Section → Reading Section → Type 0
+Keeps s a h (Ok got) = From s a got.1 × Kept h got.0
+Keeps s a h (Err bad) = Faulty s (refusal_number bad.refusal) bad.place
 
-pub keeps : (s : List ℕ) (a b : ℕ) (h k : Section) (p : HeadPart) → Kept h k → b ≤ a → Keeps s a k p → Keeps s b h p
-keeps s a b h k (Read l u) q o w = (from-earlier w.0 o, kept_on q w.1)
-keeps s a b h k (Fault r p) q o w = w
+pub keeps : (s : List ℕ) (a b : ℕ) (h k : Section) (p : Reading Section) → Kept h k → b ≤ a → Keeps s a k p → Keeps s b h p
+keeps s a b h k (Ok got) q o w = (from-earlier w.0 o, kept_on q w.1)
+keeps s a b h k (Err bad) q o w = w
 
-pub onward-keeps : (s : List ℕ) (a b : ℕ) (h : Section) (p : HeadPart) (f : Section → Token → HeadPart) → Keeps s a h p → b ≤ a
+pub onward-keeps : (s : List ℕ) (a b : ℕ) (h : Section) (p : Reading Section) (f : Section → Token → Reading Section) → Keeps s a h p → b ≤ a
     → ((k : Section) (u : Token) → From s a u → Keeps s u.start k (f k u)) → Keeps s b h (onward p f)
-onward-keeps s a b h (Read k u) f w o g =
-    let x = w.0 in keeps s u.start b h k (f k u) w.1 (omega arith) (g k u x)
-onward-keeps s a b h (Fault r p) f w o g = w
+onward-keeps s a b h (Ok got) f w o g =
+    let x = w.0 in keeps s got.1.start b h got.0 (f got.0 got.1) w.1 (omega arith) (g got.0 got.1 x)
+onward-keeps s a b h (Err bad) f w o g = w
 
 module _ {s : List ℕ} {a : ℕ} {t : Token} (w : From s a t) (h : Section) where
   flag-keeps : Keeps s t.end h (mark_at s t h)
   unfolding mark_at ◌or◌
   flag-keeps = choice (Keeps s t.end h) (is_kind word_kind t) _ _ (λ e. by_flag (flag_of (token_bytes s t))) (λ e. fault-here w 51 refl)
     where
-      by_flag : (f : Flag) → Keeps s t.end h (marked s t h f)
-      by_flag Cbfs = choice (Keeps s t.end h) h.cbfs _ _ (λ e. fault-here w 56 refl)
+      by_flag : (f : Option Flag) → Keeps s t.end h (marked s t h f)
+      by_flag (Some Cbfs) = choice (Keeps s t.end h) h.cbfs _ _ (λ e. fault-here w 56 refl)
           (λ e. (next-from w, record { place = refl; length = refl; parent = refl; level = refl }))
-      by_flag Preserve = choice (Keeps s t.end h) h.preserve _ _ (λ e. fault-here w 56 refl)
+      by_flag (Some Preserve) = choice (Keeps s t.end h) h.preserve _ _ (λ e. fault-here w 56 refl)
           (λ e. (next-from w, record { place = refl; length = refl; parent = refl; level = refl }))
-      by_flag Unknown = fault-here w 56 refl
+      by_flag None = fault-here w 56 refl
 
   last-keeps : Keeps s t.end h (last_at s t h)
   unfolding last_at
@@ -142,11 +137,11 @@ module _ {s : List ℕ} {a : ℕ} {t : Token} (w : From s a t) (h : Section) whe
       let x = next-from w in
       choice (Keeps s t.start h) (is_kind 64 t) _ _ (λ e. by-amount (amount_at s (next s t)) (amount-from x)) (λ e. (own-from w, kept h))
     where
-      by-amount : (m : Amount) → AmountFrom s (next s t).end m → Keeps s t.start h (with_offset h m)
-      by-amount (Counted n u) v =
+      by-amount : (m : Reading ℕ) → AmountFrom s (next s t).end m → Keeps s t.start h (with_offset h m)
+      by-amount (Ok got) v =
           let x = next-from w in
           (from-earlier v.0 (omega arith), record { place = refl; length = refl; parent = refl; level = refl })
-      by-amount (Uncounted r p) v = v
+      by-amount (Err bad) v = v
 
   pub size-keeps : Keeps s t.start h (size_at s t h)
   unfolding size_at
@@ -155,9 +150,9 @@ module _ {s : List ℕ} {a : ℕ} {t : Token} (w : From s a t) (h : Section) whe
       (λ e. choice (Keeps s t.start h) (is_digit (get_or s t.start 0)) _ _ (λ f. by-amount (amount_at s t) (amount-from w)) (λ f. (own-from w, kept h)))
       (λ e. (own-from w, kept h))
     where
-      by-amount : (m : Amount) → AmountFrom s t.end m → Keeps s t.start h (with_size h m)
-      by-amount (Counted n u) v = (from-earlier v.0 (omega arith), record { place = refl; length = refl; parent = refl; level = refl })
-      by-amount (Uncounted r p) v = v
+      by-amount : (m : Reading ℕ) → AmountFrom s t.end m → Keeps s t.start h (with_size h m)
+      by-amount (Ok got) v = (from-earlier v.0 (omega arith), record { place = refl; length = refl; parent = refl; level = refl })
+      by-amount (Err bad) v = v
 
 pub flags_keeps : {s : List ℕ} {a : ℕ} {t : Token} → From s a t → (h : Section) → Keeps s t.start h (flags_at s t h)
 unfolding flags_at
@@ -178,9 +173,9 @@ pub record Headed (s : List ℕ) (lv par n : ℕ) (h : Section) : Type 0 where
   pub parent : h.parent ≡ par
   pub level : h.level ≡ lv
 
-abbrev pub Heads : List ℕ → ℕ → ℕ → ℕ → ℕ → HeadPart → Type 0
-Heads s a lv par n (Read h u) = From s a u × Headed s lv par n h
-Heads s a lv par n (Fault r p) = Faulty s (refusal_number r) p
+abbrev pub Heads : List ℕ → ℕ → ℕ → ℕ → ℕ → Reading Section → Type 0
+Heads s a lv par n (Ok got) = From s a got.1 × Headed s lv par n got.0
+Heads s a lv par n (Err bad) = Faulty s (refusal_number bad.refusal) bad.place
 
 named-heads : {s : List ℕ} {a : ℕ} {t : Token} → From s a t → (lv par n : ℕ) → Heads s (t.start + 1) lv par n (named_at s t lv par n)
 unfolding named_at ◌or◌
@@ -191,7 +186,7 @@ named-heads {s} {a} {t} w lv par n =
     (λ f. choice P (leb 128 n) _ _ (λ g. fault-here w 55 refl)
     (λ g. choice P (ltb 8 lv) _ _ (λ d. fault-here w 55 refl)
     (λ d.
-    let k : t.kind ≡ word_kind = eqb-true t.kind word_kind (not_f (is_kind word_kind t) e) in
+    let k : code_of t.kind ≡ word_kind = eqb-true (code_of t.kind) word_kind (not_f (is_kind word_kind t) e) in
     let l = w.within.filled k in (
       from-earlier (next-from w) (omega arith),
       record {
@@ -203,14 +198,14 @@ named-heads {s} {a} {t} w lv par n =
       },
     )))))
 
-onward-heads : (s : List ℕ) (a lv par n : ℕ) (p : HeadPart) (f : Section → Token → HeadPart) → Heads s a lv par n p
+onward-heads : (s : List ℕ) (a lv par n : ℕ) (p : Reading Section) (f : Section → Token → Reading Section) → Heads s a lv par n p
     → ((h : Section) (u : Token) → From s a u → Keeps s u.start h (f h u)) → Heads s a lv par n (onward p f)
-onward-heads s a lv par n (Fault r p) f w g = w
-onward-heads s a lv par n (Read h u) f w g = go (f h u) (g h u w.0)
+onward-heads s a lv par n (Err bad) f w g = w
+onward-heads s a lv par n (Ok got) f w g = go (f got.0 got.1) (g got.0 got.1 w.0)
   where
-    go : (p : HeadPart) → Keeps s u.start h p → Heads s a lv par n p
-    go (Fault r p) x = x
-    go (Read k v) x =
+    go : (p : Reading Section) → Keeps s got.1.start got.0 p → Heads s a lv par n p
+    go (Err f) x = x
+    go (Ok r) x =
         let o = w.0 in
         let q = x.1 in
         let d = w.1 in (

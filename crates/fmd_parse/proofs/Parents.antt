@@ -1,4 +1,5 @@
 -- Each part of a section keeps its parent.
+use Rattle.std.specs.Prelude.{Option, Some, None, Ok, Err}
 use mathlib.Core.Path.{◌≡◌, refl}
 use mathlib.Core.Bool.{not}
 use mathlib.Core.List.{List}
@@ -11,37 +12,33 @@ use Rattle.fmd_lex.specs.Tokens.{word_kind, token_bytes}
 use Rattle.fmd_lex.specs.Names.{good_name, flag_of}
 use Rattle.fmd_lex.specs.declared.Token.{Token}
 use Rattle.fmd_lex.specs.declared.Flag.{Flag}
-use Rattle.fmd_lex.specs.declared.Flag.TheVariants.{Cbfs, Preserve, Unknown}
-use Rattle.fmd_head.specs.Heads.{next, is_kind, amount_at, onward, named_at, marked, mark_at, last_at, other_at, flags_at, with_offset, offset_at}
+use Rattle.fmd_lex.specs.declared.Flag.TheVariants.{Cbfs, Preserve}
+use Rattle.fmd_head.specs.Heads.{next, is_kind, amount_at, onward, named_at, marked, mark_at, last_at, other_at, flags_at, with_offset, offset_at, Reading, read}
 use Rattle.fmd_head.specs.Heads.{with_size, size_at, head_at}
 use Rattle.fmd_table.specs.declared.Section.{Section}
-use Rattle.fmd_head.specs.declared.Amount.{Amount}
-use Rattle.fmd_head.specs.declared.Amount.TheVariants.{Counted, Uncounted}
-use Rattle.fmd_head.specs.declared.HeadPart.{HeadPart}
-use Rattle.fmd_head.specs.declared.HeadPart.TheVariants.{Read, Fault}
 
-abbrev Of : ℕ → HeadPart → Type 0
-Of par (Read h u) = h.parent ≡ par
-Of par (Fault r p) = Unit {0}
+abbrev Of : ℕ → Reading Section → Type 0
+Of par (Ok got) = got.0.parent ≡ par
+Of par (Err bad) = Unit {0}
 
-onward-of : (par : ℕ) (p : HeadPart) (f : Section → Token → HeadPart) → Of par p → ((h : Section) (u : Token) → h.parent ≡ par → Of par (f h u))
+onward-of : (par : ℕ) (p : Reading Section) (f : Section → Token → Reading Section) → Of par p → ((h : Section) (u : Token) → h.parent ≡ par → Of par (f h u))
     → Of par (onward p f)
-onward-of par (Read h u) f e g = g h u e
-onward-of par (Fault r p) f e g = tt
+onward-of par (Ok got) f e g = g got.0 got.1 e
+onward-of par (Err bad) f e g = tt
 
 module _ (par : ℕ) (s : List ℕ) (t : Token) where
-  offset-by : (h : Section) → h.parent ≡ par → (m : Amount) → Of par (with_offset h m)
-  offset-by h e (Counted n u) = e
-  offset-by h e (Uncounted r p) = tt
+  offset-by : (h : Section) → h.parent ≡ par → (m : Reading ℕ) → Of par (with_offset h m)
+  offset-by h e (Ok got) = e
+  offset-by h e (Err bad) = tt
 
-  size-by : (h : Section) → h.parent ≡ par → (m : Amount) → Of par (with_size h m)
-  size-by h e (Counted n u) = e
-  size-by h e (Uncounted r p) = tt
+  size-by : (h : Section) → h.parent ≡ par → (m : Reading ℕ) → Of par (with_size h m)
+  size-by h e (Ok got) = e
+  size-by h e (Err bad) = tt
 
-  mark-by : (h : Section) → h.parent ≡ par → (f : Flag) → Of par (marked s t h f)
-  mark-by h e Cbfs = choice (Of par) h.cbfs _ _ (λ q. tt) (λ q. e)
-  mark-by h e Preserve = choice (Of par) h.preserve _ _ (λ q. tt) (λ q. e)
-  mark-by h e Unknown = tt
+  mark-by : (h : Section) → h.parent ≡ par → (f : Option Flag) → Of par (marked s t h f)
+  mark-by h e (Some Cbfs) = choice (Of par) h.cbfs _ _ (λ q. tt) (λ q. e)
+  mark-by h e (Some Preserve) = choice (Of par) h.preserve _ _ (λ q. tt) (λ q. e)
+  mark-by h e None = tt
 
   mark_of : (h : Section) → h.parent ≡ par → Of par (mark_at s t h)
   unfolding mark_at
@@ -91,5 +88,5 @@ head_of s t lv par n =
     (λ j w g. size_of par s w j g)))
 
 -- a section has the parent that it is read for
-pub head-parent : (s : List ℕ) (t : Token) (lv par n : ℕ) {h : Section} {u : Token} → head_at s t lv par n ≡ Read h u → h.parent ≡ par
+pub head-parent : (s : List ℕ) (t : Token) (lv par n : ℕ) {h : Section} {u : Token} → head_at s t lv par n ≡ read h u → h.parent ≡ par
 head-parent s t lv par n e = rw e at (head_of s t lv par n)

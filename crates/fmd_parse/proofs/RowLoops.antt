@@ -1,4 +1,5 @@
 -- Laws of the rows' loops over the places of a section list.
+use Rattle.fmd_head.specs.Heads.{read}
 use Rattle.std.specs.Prelude.{Option, Some, None}
 use mathlib.Core.Path.{◌≡◌, refl, sym, ap, ◌∙◌}
 use mathlib.Core.Bool.{Bool, true, false}

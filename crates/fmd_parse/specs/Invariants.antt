@@ -1,45 +1,44 @@
 -- Invariants of the code, for its proofs: no part of what is to be believed.
-use Rattle.std.specs.Prelude.{List, [], ◌∷◌, ◌≡◌, ℕ, ◌+◌, ◌*◌, ◌-◌, ◌%◌, ◌≤◌, ◌<◌, length, get_or}
+use Rattle.std.specs.Prelude.{List, [], ◌∷◌, ◌≡◌, ℕ, ◌+◌, ◌*◌, ◌-◌, ◌%◌, ◌≤◌, ◌<◌, length, get_or, Result, Ok, Err}
 use Rattle.fmd_lex.specs.Invariants.{Within}
 use Rattle.fmd_lex.specs.declared.Token.{Token}
 use Rattle.fmd_table.specs.Table.{sections_in}
 use Rattle.fmd_table.specs.Invariants.{IsParent, Linked}
 use Rattle.fmd_table.specs.declared.Section.{Section}
 use Rattle.fmd_head.specs.Refusals.{number_of}
+use Rattle.fmd_head.specs.Heads.{Reading}
 use Rattle.fmd_parse.specs.Layouts.{Parsed, fault, parsed, section_from, list_from}
 use Rattle.fmd_parse.specs.Trees.{blank_section}
 use Rattle.fmd_parse.specs.Rows.{section_name}
-use Rattle.fmd_parse.specs.declared.Step.{Step}
-use Rattle.fmd_parse.specs.declared.Step.TheVariants.{Onward, Stopped}
-use Rattle.fmd_parse.specs.declared.LayoutAnswer.{LayoutAnswer}
-use Rattle.fmd_parse.specs.declared.LayoutAnswer.TheVariants.{Accepted, Refused}
+use Rattle.fmd_head.specs.declared.Fault.{Fault}
+use Rattle.fmd_parse.specs.declared.TextLayout.{TextLayout}
 
 -- ---- the two readers that call each other: the sections l before, the table rows after
 
 -- what a step says
-abbrev pub step_of : Step → List ℕ → Parsed
-step_of (Onward u n) rows = parsed (sections_in n rows) u
-step_of (Stopped r p) rows = fault (number_of r) p
+abbrev pub step_of : Reading ℕ → List ℕ → Parsed
+step_of (Ok r) rows = parsed (sections_in r.0 rows) r.1
+step_of (Err f) rows = fault (number_of f.refusal) f.place
 
 -- and the sections are linked; par is still a parent that a further one may have
-abbrev pub StepIn : ℕ → ℕ → ℕ → List ℕ → Step → Type 0
-StepIn n at par rows (Onward u k) = Within n at u × IsParent k par × Linked k rows
-StepIn n at par rows (Stopped r p) = Unit {0}
+abbrev pub StepIn : ℕ → ℕ → ℕ → List ℕ → Reading ℕ → Type 0
+StepIn n at par rows (Ok r) = Within n at r.1 × IsParent r.0 par × Linked r.0 rows
+StepIn n at par rows (Err f) = Unit {0}
 
-pub record SectionRead (s : List ℕ) (t : Token) (lv par : ℕ) (l : List Section) (rows : List ℕ) (r : Step) : Type 0 where
+pub record SectionRead (s : List ℕ) (t : Token) (lv par : ℕ) (l : List Section) (rows : List ℕ) (r : Reading ℕ) : Type 0 where
   pub within : StepIn (length s) (t.start + 1) par rows r
   pub same : (f : ℕ) → 2 * (length s - t.start) < f → step_of r rows ≡ section_from f s t lv par l
 
-pub record ListRead (s : List ℕ) (t : Token) (lv par : ℕ) (l : List Section) (rows : List ℕ) (r : Step) : Type 0 where
+pub record ListRead (s : List ℕ) (t : Token) (lv par : ℕ) (l : List Section) (rows : List ℕ) (r : Reading ℕ) : Type 0 where
   pub within : StepIn (length s) (t.start + 1) par rows r
   pub same : (f : ℕ) → 2 * (length s - t.start) + 1 < f → step_of r rows ≡ list_from f s t lv par l
 
 -- ---- the whole text
 
 -- the sections are linked
-abbrev pub AnswerIn : List ℕ → LayoutAnswer → Type 0
-AnswerIn rows (Accepted i n) = Linked n rows
-AnswerIn rows (Refused r p) = Unit {0}
+abbrev pub AnswerIn : List ℕ → Result TextLayout Fault → Type 0
+AnswerIn rows (Ok t) = Linked t.count rows
+AnswerIn rows (Err f) = Unit {0}
 
 -- ---- the rows of the whole list: what the list is when they are judged, and the keys of names
 

@@ -1,20 +1,16 @@
 -- Sections in braces, and a whole layout text, read token by token: means of proof, which the contracts cite.
 -- What is to be believed is the grammar: the theorem Exact of fmd_grammar says that `layout_of` accepts what derives, and nothing else.
-use Rattle.std.specs.Prelude.{cond, List, [], ◌∷◌, ◌++◌, ℕ, zero, suc, ◌+◌, ◌*◌, length}
+use Rattle.std.specs.Prelude.{cond, List, [], ◌∷◌, ◌++◌, ℕ, zero, suc, ◌+◌, ◌*◌, length, Result, Ok, Err}
 use Rattle.fmd_lex.specs.Tokens.{end_kind, token_at}
 use Rattle.fmd_lex.specs.declared.Token.{Token}
 use Rattle.fmd_table.specs.Table.{sections_in}
 use Rattle.fmd_head.specs.Refusals.{number_of}
-use Rattle.fmd_head.specs.Heads.{next, is_kind, head_at}
+use Rattle.fmd_head.specs.Heads.{Reading, next, is_kind, head_at, read}
 use Rattle.fmd_head.specs.Images.{image_at}
 use Rattle.fmd_table.specs.declared.Section.{Section}
-use Rattle.fmd_head.specs.declared.HeadPart.{HeadPart}
-use Rattle.fmd_head.specs.declared.HeadPart.TheVariants.{Read, Fault}
 use Rattle.fmd_head.specs.declared.TextImage.{TextImage}
-use Rattle.fmd_head.specs.declared.Heading.{Heading}
-use Rattle.fmd_head.specs.declared.Heading.TheVariants.{Read as ReadImage, Fault as FaultImage}
-use Rattle.fmd_parse.specs.declared.LayoutAnswer.{LayoutAnswer}
-use Rattle.fmd_parse.specs.declared.LayoutAnswer.TheVariants.{Accepted, Refused}
+use Rattle.fmd_head.specs.declared.Fault.{Fault}
+use Rattle.fmd_parse.specs.declared.TextLayout.{TextLayout}
 
 -- ---- sections
 
@@ -23,9 +19,9 @@ pub data Parsed : Type 0 where
   fault : ℕ → ℕ → Parsed
   parsed : List Section → Token → Parsed
 
-abbrev pub after_head : HeadPart → (Section → Token → Parsed) → Parsed
-after_head (Read h t) k = k h t
-after_head (Fault r p) k = fault (number_of r) p
+abbrev pub after_head : Reading Section → (Section → Token → Parsed) → Parsed
+after_head (Ok r) k = k r.0 r.1
+after_head (Err f) k = fault (number_of f.refusal) f.place
 
 abbrev pub after_section : Parsed → (List Section → Token → Parsed) → Parsed
 after_section (fault n p) k = fault n p
@@ -56,9 +52,9 @@ pub data Layout : Type 0 where
   refused : ℕ → ℕ → Layout
   layout : TextImage → List Section → Layout
 
-abbrev pub after_image : Heading → (TextImage → Token → Layout) → Layout
-after_image (ReadImage i t) k = k i t
-after_image (FaultImage r p) k = refused (number_of r) p
+abbrev pub after_image : Reading TextImage → (TextImage → Token → Layout) → Layout
+after_image (Ok r) k = k r.0 r.1
+after_image (Err f) k = refused (number_of f.refusal) f.place
 
 abbrev pub after_list : Parsed → (List Section → Token → Layout) → Layout
 after_list (fault n p) k = refused n p
@@ -76,6 +72,6 @@ layout_of s =
 
 -- ---- what the answer says, with the table that was lent
 
-abbrev pub answer_of : LayoutAnswer → List ℕ → Layout
-answer_of (Accepted i n) rows = layout i (sections_in n rows)
-answer_of (Refused r p) rows = refused (number_of r) p
+abbrev pub answer_of : Result TextLayout Fault → List ℕ → Layout
+answer_of (Ok t) rows = layout t.image (sections_in t.count rows)
+answer_of (Err f) rows = refused (number_of f.refusal) f.place

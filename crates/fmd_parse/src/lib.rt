@@ -2,60 +2,35 @@
 
 // Image and sections of a layout text, or its first fault; the rows of the whole section list that the text alone decides.
 // An inner crate: no user calls it, so its functions may have a `requires`, which each caller meets.
-ghost use Rattle.std.specs.Prelude.{List, ◌≡◌, ℕ, ◌≤◌, length};
+ghost use Rattle.std.specs.Prelude.{◌≡◌, ◌≤◌, length};
 ghost use Rattle.fmd_table.specs.Table.{HasRows};
-ghost use Rattle.fmd_parse.specs.Layouts.{answer_of, after_list, ended_by, layout_of};
-ghost use Rattle.fmd_parse.specs.Invariants.{step_of, StepIn, AnswerIn};
+ghost use Rattle.fmd_parse.specs.Layouts.{answer_of, layout_of};
+ghost use Rattle.fmd_parse.specs.Invariants.{AnswerIn};
 
-use fmd_head::{Heading, Refusal, TextImage};
-use fmd_lex::{Token, next_token};
+use fmd_head::{Fault, Refusal, TextImage, fault_at};
+use fmd_lex::{Kind, next_token};
 
 pub mod rows; // rows.rt: the rows of the whole section list
 mod braces; // braces.rt: a section, and the sections in braces
 
-// The token after what was read, and how many sections the table then has; or a fault and its place.
+// What is read of a layout text: the image, and how many sections the table has.
 #[derive(Clone, Copy)]
-pub enum Step {
-    Onward(Token, usize),
-    Stopped(Refusal, usize),
-}
-
-// The image, and how many sections the table has; or the first fault and its place.
-#[derive(Clone, Copy)]
-pub enum LayoutAnswer {
-    Accepted(TextImage, usize),
-    Refused(Refusal, usize),
-}
-
-// After the last brace.
-fn ended(i: TextImage, o: Step) -> LayoutAnswer
-    ensures by_index { (rows : List ℕ) → answer_of result rows ≡ after_list (step_of o rows) (ended_by i) }
-    ensures linked { (rows : List ℕ) (n at par : ℕ) → StepIn n at par rows o → AnswerIn rows result }
-{
-    match o {
-        Step::Onward(u, n) => {
-            if u.kind == fmd_lex::END {
-                return LayoutAnswer::Accepted(i, n);
-            }
-            LayoutAnswer::Refused(Refusal::OutOfGrammar, u.start)
-        }
-        Step::Stopped(k, p) => LayoutAnswer::Refused(k, p),
-    }
+pub struct TextLayout {
+    pub image: TextImage,
+    pub count: usize,
 }
 
 // Image and sections of a layout text, or its first fault.
-pub fn read_layout(text: &[u8], rows: &mut [u32]) -> LayoutAnswer
+pub fn read_layout(text: &[u8], rows: &mut [u32]) -> Result<TextLayout, Fault>
     requires { (length text.now ≤ 32768) × HasRows 129 rows.old }
     ensures rows_after { answer_of result rows.new ≡ layout_of text.now }
     ensures linked { AnswerIn rows.new result }
 {
-    let t = next_token(text, 0);
-    match fmd_head::front::image_at(text, t) {
-        Heading::Read(i, u) => {
-            fmd_table::clear(rows);
-            let o = braces::read_list(text, u, 1, 128, rows, 0);
-            ended(i, o)
-        }
-        Heading::Fault(k, p) => LayoutAnswer::Refused(k, p),
+    let (image, u) = fmd_head::front::image_at(text, next_token(text, 0))?;
+    fmd_table::clear(rows);
+    let (count, end) = braces::read_list(text, u, 1, 128, rows, 0)?;
+    if !end.is(Kind::End) {
+        return Err(fault_at(Refusal::OutOfGrammar, end));
     }
+    Ok(TextLayout { image, count })
 }

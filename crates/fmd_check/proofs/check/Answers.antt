@@ -12,15 +12,15 @@ returns-then-text-gt32768 c = rw (lt-ltb 32768 _ c.if-text-gt32768.true)
 
 pub check_list-requires : goal.check_list-requires
 check_list-requires c =
-    let w = ready _ _ _ _ (rw c.in-Accepted.is at c.read_layout.ensures.rows_after) in
-    let l = rw c.in-Accepted.is at c.read_layout.ensures.linked in
+    let w = ready _ _ _ _ (rw c.in-Ok.is at c.read_layout.ensures.rows_after) in
+    let l = rw c.in-Ok.is at c.read_layout.ensures.linked in
     (omega arith, omega arith, l, w)
 
-pub returns-in-Accepted : goal.returns-in-Accepted
+pub returns-in-Ok : goal.returns-in-Ok
 unfolding check_text
-returns-in-Accepted c = rw (le-ltb _ _ c.if-text-gt32768.false, sym (rw c.in-Accepted.is at c.read_layout.ensures.rows_after)) (c.check_list.ensures
+returns-in-Ok c = rw (le-ltb _ _ c.if-text-gt32768.false, sym (rw c.in-Ok.is at c.read_layout.ensures.rows_after)) (c.check_list.ensures
     ∙ whole _ _ _)
 
-pub returns-in-Refused : goal.returns-in-Refused
+pub returns-in-Err : goal.returns-in-Err
 unfolding check_text
-returns-in-Refused c = rw (le-ltb _ _ c.if-text-gt32768.false, sym (rw c.in-Refused.is at c.read_layout.ensures.rows_after))
+returns-in-Err c = rw (le-ltb _ _ c.if-text-gt32768.false, sym (rw c.in-Err.is at c.read_layout.ensures.rows_after))

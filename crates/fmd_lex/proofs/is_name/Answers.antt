@@ -1,8 +1,8 @@
+use borrow.Author.Rules.{rules}
 use mathlib.Core.Path.{sym, ◌∙◌}
 use Rattle.octets.specs.Tests.{◌and◌}
 use Rattle.text_words.proofs.Names.{sized_range}
 use Rattle.fmd_lex.specs.Names.{good_name}
-use borrow.Author.Rules.{rules}
 use Rattle.fmd_lex.proofs.is_name.Goals as goal
 
 pub bounds-w-0 : goal.bounds-w-0
@@ -10,20 +10,10 @@ bounds-w-0 c =
     let z = sized_range 31 c.args.w.now (sym c.is_sized.ensures ∙ c.if-is_sized.true) in
     search rules
 
-pub returns-then-is_digit : goal.returns-then-is_digit
-unfolding good_name ◌and◌
-returns-then-is_digit c = rw (
-  sym c.is_sized.ensures ∙ c.if-is_sized.true,
-  sym c.is_digit.ensures ∙ c.if-is_digit.true,
-)
-
 pub returns-then-is_sized : goal.returns-then-is_sized
 unfolding good_name ◌and◌
-returns-then-is_sized c = rw (
-  sym c.is_sized.ensures ∙ c.if-is_sized.true,
-  sym c.is_digit.ensures ∙ c.if-is_digit.false,
-)
+returns-then-is_sized c = search rules
 
-pub returns : goal.returns
+pub returns-else-is_sized : goal.returns-else-is_sized
 unfolding good_name ◌and◌
-returns c = rw (sym c.is_sized.ensures ∙ c.if-is_sized.false)
+returns-else-is_sized c = search rules

@@ -1,12 +1,8 @@
 use mathlib.Core.Bool.{false}
 use mathlib.Core.Path.{◌≡◌}
-use Prim.Native.Nat.{◌≤◌, ◌-◌}
-use lib.ListN.{length, drop}
+use lib.ListN.{drop}
 use Rattle.fmd_lex.specs.Tokens.{skip_from}
 use Rattle.fmd_lex.proofs.skip.Given as goal
 
 abbrev pub invariant-loop-i : goal.invariant-loop-i
-invariant-loop-i l = (l.at ≤ l.i) × (l.i ≤ length l.text) × (skip_from l.comment (drop l.i l.text) l.i ≡ skip_from false (drop l.at l.text) l.at)
-
-abbrev pub decreases-loop-i : goal.decreases-loop-i
-decreases-loop-i l = length l.text - l.i
+invariant-loop-i l = skip_from l.comment (drop l.i l.text) l.i ≡ skip_from false (drop l.at l.text) l.at

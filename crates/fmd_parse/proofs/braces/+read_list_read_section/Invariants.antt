@@ -5,7 +5,7 @@ use Rattle.fmd_lex.specs.Invariants.{Within}
 use Rattle.fmd_table.specs.Table.{sections_in}
 use Rattle.fmd_table.specs.Invariants.{IsParent, Linked}
 use Rattle.fmd_parse.specs.Invariants.{ListRead}
-use Rattle.fmd_parse.specs.declared.Step.{Step}
+use Rattle.fmd_head.specs.Heads.{Reading}
 use Prim.Native.Nat.{ℕ, ◌+◌, ◌*◌, ◌-◌}
 use Rattle.fmd_parse.proofs.braces.+read_list_read_section.Given as goal
 
@@ -15,11 +15,11 @@ decreases-read_list l = 2 * (length l.text.now - l.t.start) + 1
 abbrev pub decreases-read_section : goal.decreases-read_section
 decreases-read_section l = 2 * (length l.text.now - l.t.start)
 
-abbrev pub invariant-read_list-loop-k : goal.invariant-read_list-loop-k
-invariant-read_list-loop-k l =
+abbrev pub invariant-read_list-sections : goal.invariant-read_list-sections
+invariant-read_list-sections l =
     Within (length l.text) l.initial.now.start l.now × (length l.rows ≡ length l.initial.rows) × IsParent l.m l.parent × Linked l.m l.rows
-    × ((after : List ℕ) (r : Step) → ListRead l.text l.now l.level l.parent (sections_in l.m l.rows) after r
+    × ((after : List ℕ) (r : Reading ℕ) → ListRead l.text l.now l.level l.parent (sections_in l.m l.rows) after r
     → ListRead l.text l.initial.now l.level l.parent (sections_in l.initial.m l.initial.rows) after r)
 
-abbrev pub decreases-read_list-loop-k : goal.decreases-read_list-loop-k
-decreases-read_list-loop-k l = length l.text - l.now.start
+abbrev pub decreases-read_list-sections : goal.decreases-read_list-sections
+decreases-read_list-sections l = length l.text - l.now.start
