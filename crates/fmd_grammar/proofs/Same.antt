@@ -11,7 +11,7 @@ use lib.Seq.{get_or-take, get_or-drop}
 use borrow.Author.Tests.{eqb-true, ne_eqb}
 use Rattle.octets.specs.Bytes.{part}
 use Rattle.text_words.specs.Classes.{is_digit}
-use Rattle.fmd_lex.specs.Tokens.{word_kind, token_bytes, code_of}
+use Rattle.fmd_lex.specs.Tokens.{word_kind, token_bytes, kind_number}
 use Rattle.fmd_lex.specs.Numbers.{number_in}
 use Rattle.fmd_lex.specs.Names.{good_name, flag_of}
 use Rattle.fmd_lex.specs.declared.Token.{Token}
@@ -19,7 +19,7 @@ use Rattle.fmd_lex.specs.declared.Flag.{Flag}
 use Rattle.fmd_lex.specs.declared.Flag.TheVariants.{Cbfs, Preserve}
 use Rattle.fmd_table.specs.declared.Section.{Section}
 use Rattle.fmd_head.specs.Refusals.{number_of as refusal_number}
-use Rattle.fmd_head.specs.Heads.{next, is_kind, counted, amount_at, onward, bare, named_at, set_offset, marked, mark_at, last_at, other_at, flags_at, Reading, read, refused_at}
+use Rattle.fmd_head.specs.Heads.{next, is_kind, counted, amount_at, onward, bare, named_at, set_offset, marked, mark_at, last_at, other_at, flags_at, ReadPart, read, refused_at}
 use Rattle.fmd_head.specs.Heads.{with_offset, offset_at, with_size, size_at, head_at}
 use Rattle.fmd_head.specs.declared.Refusal.TheVariants.{BadName, TooMany, BadFlag}
 use Rattle.fmd_head.specs.Heads.{set_cbfs, set_preserve, set_size}
@@ -39,13 +39,13 @@ pub view-some : {s : List ℕ} {t : Token} {ts : List Lexeme} → View s t ts �
 view-some (View.last h e k) = tt
 view-some (View.step h e k v) = tt
 
-abbrev pub Numbers : List ℕ → Reading ℕ → Got ℕ → Type 0
+abbrev pub Numbers : List ℕ → ReadPart ℕ → Got ℕ → Type 0
 Numbers s (Ok got) (ok m us) = (got.0 ≡ m) × View s got.1 us
 Numbers s (Ok got) (no m q) = ⊥
 Numbers s (Err bad) (ok m us) = ⊥
 Numbers s (Err bad) (no m q) = (refusal_number bad.refusal ≡ m) × (bad.place ≡ q)
 
-abbrev pub Parts : List ℕ → Reading Section → Got Section → Type 0
+abbrev pub Parts : List ℕ → ReadPart Section → Got Section → Type 0
 Parts s (Ok got) (ok k us) = (got.0 ≡ k) × View s got.1 us
 Parts s (Ok got) (no m q) = ⊥
 Parts s (Err bad) (ok k us) = ⊥
@@ -88,7 +88,7 @@ same_size {s} {t} (sign p k ∷ xs) v h = let a = as-sign v in rw a.wordless (re
 same_size {s} {t} (word p w ∷ xs) v h =
     let a = as-word v in
     let e : get_or s t.start 0 ≡ get_or w 0 0
-    = sym (first_byte s t (a.within.filled (eqb-true (code_of t.kind) word_kind a.kind))) ∙ ap (λ (r : List ℕ). get_or r 0 0) a.bytes in
+    = sym (first_byte s t (a.within.filled (eqb-true (kind_number t.kind) word_kind a.kind))) ∙ ap (λ (r : List ℕ). get_or r 0 0) a.bytes in
     rw (a.kind, e, a.bytes) (by-digit a (is_digit (get_or w 0 0)) (number_in w))
   where
     by-digit : Worded s t p w xs → (b : Bool) (n : Option ℕ)
@@ -121,14 +121,14 @@ pub same_sign : {A B : Type 0} (M : B → Got A → Type 0) {s : List ℕ} {t : 
     → ((xs : List Lexeme) → View s (next s t) xs → M x (q xs)) → M y (r ts) → M (cond (is_kind k t) x y) (bind (item (is_it k)) (λ b. cond b q r) ts)
 same_sign M k n m [] v x y q r f g = absurd (view-some v)
 same_sign M {t} k n m (word p w ∷ xs) v x y q r f g =
-    let a = as-word v in rw (ne_eqb (code_of t.kind) k (λ e. m (sym e ∙ eqb-true (code_of t.kind) word_kind a.kind))) g
+    let a = as-word v in rw (ne_eqb (kind_number t.kind) k (λ e. m (sym e ∙ eqb-true (kind_number t.kind) word_kind a.kind))) g
 same_sign {A} {B} M {s} {t} k n m (sign p j ∷ xs) v x y q r f g = rw (as-sign v).kind (go (eqb j k) refl)
   where
     go : (b : Bool) → eqb j k ≡ b → M (cond b x y) (after (acted (cond b (eat true) (leave false)) (sign p j) xs) (λ c. cond c q r))
     go true e = f xs (after-sign v (λ z. n (sym (eqb-true j k e) ∙ z)))
     go false e = g
 
-part_then : {s : List ℕ} (q : Reading Section) (g : Got Section) (f : Section → Token → Reading Section) (k : Section → Parser Section) → Parts s q g
+part_then : {s : List ℕ} (q : ReadPart Section) (g : Got Section) (f : Section → Token → ReadPart Section) (k : Section → Parser Section) → Parts s q g
     → ((h : Section) (u : Token) (us : List Lexeme) → View s u us → Parts s (f h u) (k h us)) → Parts s (onward q f) (after g k)
 part_then {s} (Ok got) (ok i us) f k w c = rw w.0 (c i got.1 us w.1)
 part_then (Ok got) (no m p) f k w c = absurd w
@@ -161,7 +161,7 @@ module _ {s : List ℕ} where
       same_sign (Parts s) 64 (λ z. omega arith) (λ z. omega arith) ts v _ _ (bind (item number_act) (λ n. ret (set_offset n h))) (ret h)
       (λ xs w. go (amount_at s (next s t)) (item number_act xs) (same_number xs w)) (refl, v)
     where
-      go : (m : Reading ℕ) (g : Got ℕ) → Numbers s m g → Parts s (with_offset h m) (after g (λ n. ret (set_offset n h)))
+      go : (m : ReadPart ℕ) (g : Got ℕ) → Numbers s m g → Parts s (with_offset h m) (after g (λ n. ret (set_offset n h)))
       go (Ok got) (ok k us) w = (ap (λ (i : ℕ). set_offset i h) w.0, w.1)
       go (Ok got) (no k p) w = absurd w
       go (Err bad) (ok k us) w = absurd w

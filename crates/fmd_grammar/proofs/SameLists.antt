@@ -9,13 +9,13 @@ use lib.Dec.{eqb, leb}
 use lib.ListN.{length}
 use borrow.Author.Tests.{eqb-true, ne_eqb}
 use Rattle.octets.specs.Tests.{◌and◌}
-use Rattle.fmd_lex.specs.Tokens.{word_kind, token_at, code_of}
+use Rattle.fmd_lex.specs.Tokens.{word_kind, token_at, kind_number}
 use Rattle.fmd_lex.specs.Numbers.{number_in}
 use Rattle.fmd_lex.specs.Names.{good_name}
 use Rattle.fmd_lex.specs.declared.Token.{Token}
 use Rattle.fmd_table.specs.declared.Section.{Section}
 use Rattle.fmd_head.specs.Refusals.{number_of as refusal_number}
-use Rattle.fmd_head.specs.Heads.{onward, next, is_kind, counted, amount_at, head_at, Reading, read, refused_at}
+use Rattle.fmd_head.specs.Heads.{onward, next, is_kind, counted, amount_at, head_at, ReadPart, read, refused_at}
 use Rattle.fmd_head.specs.Images.{title_at, set_address, with_address, address_at, set_length, with_length, length_at, open_at, image_at}
 use Rattle.fmd_parse.specs.Layouts.{Parsed, fault, parsed, after_head, after_section, section_from, list_from}
 use Rattle.fmd_parse.specs.Layouts.{Layout, layout, refused, after_image, after_list, ended_by, layout_of}
@@ -35,7 +35,7 @@ Listed s (parsed l u) (no m q) = ⊥
 Listed s (fault n p) (ok m us) = ⊥
 Listed s (fault n p) (no m q) = (n ≡ m) × (p ≡ q)
 
-head-then : {s : List ℕ} (q : Reading Section) (g : Got Section) (f : Section → Token → Parsed) (k : Section → Parser (List Section)) → Parts s q g
+head-then : {s : List ℕ} (q : ReadPart Section) (g : Got Section) (f : Section → Token → Parsed) (k : Section → Parser (List Section)) → Parts s q g
     → ((h : Section) (u : Token) (us : List Lexeme) → View s u us → Listed s (f h u) (k h us)) → Listed s (after_head q f) (after g k)
 head-then (Ok got) (ok i us) f k w c = rw w.0 (c i got.1 us w.1)
 head-then (Ok got) (no m p) f k w c = absurd w
@@ -70,13 +70,13 @@ mutual
 
 -- ---- the image
 
-abbrev Imaged : List ℕ → Reading TextImage → Got TextImage → Type 0
+abbrev Imaged : List ℕ → ReadPart TextImage → Got TextImage → Type 0
 Imaged s (Ok got) (ok j us) = (got.0 ≡ j) × View s got.1 us
 Imaged s (Ok got) (no m q) = ⊥
 Imaged s (Err bad) (ok j us) = ⊥
 Imaged s (Err bad) (no m q) = (refusal_number bad.refusal ≡ m) × (bad.place ≡ q)
 
-image-then : {s : List ℕ} (q : Reading TextImage) (g : Got TextImage) (f : TextImage → Token → Reading TextImage) (k : TextImage → Parser TextImage) → Imaged s q g
+image-then : {s : List ℕ} (q : ReadPart TextImage) (g : Got TextImage) (f : TextImage → Token → ReadPart TextImage) (k : TextImage → Parser TextImage) → Imaged s q g
     → ((i : TextImage) (u : Token) (us : List Lexeme) → View s u us → Imaged s (f i u) (k i us)) → Imaged s (onward q f) (after g k)
 image-then (Ok got) (ok i us) f k w c = rw w.0 (c i got.1 us w.1)
 image-then (Ok got) (no m p) f k w c = absurd w
@@ -105,7 +105,7 @@ module _ {s : List ℕ} where
       same_sign (Imaged s) 64 (λ z. omega arith) (λ z. omega arith) ts v _ _ (bind (item number_act) (λ n. ret (set_address n i))) (ret i)
       (λ xs w. go (amount_at s (next s t)) (item number_act xs) (same_number xs w)) (refl, v)
     where
-      go : (m : Reading ℕ) (g : Got ℕ) → Numbers s m g → Imaged s (with_address i m) (after g (λ n. ret (set_address n i)))
+      go : (m : ReadPart ℕ) (g : Got ℕ) → Numbers s m g → Imaged s (with_address i m) (after g (λ n. ret (set_address n i)))
       go (Ok got) (ok k us) w = (ap (λ (j : ℕ). set_address j i) w.0, w.1)
       go (Ok got) (no k p) w = absurd w
       go (Err bad) (ok k us) w = absurd w
@@ -134,7 +134,7 @@ module _ {s : List ℕ} where
       (item (must_be k a) ts)
   same-must M k m [] v x y a f g = absurd (view-some v)
   same-must M {t} k m (word p w ∷ xs) v x y a f g =
-      let b = as-word v in rw (ne_eqb (code_of t.kind) k (λ e. m (sym e ∙ eqb-true (code_of t.kind) word_kind b.kind))) (g p b.place)
+      let b = as-word v in rw (ne_eqb (kind_number t.kind) k (λ e. m (sym e ∙ eqb-true (kind_number t.kind) word_kind b.kind))) (g p b.place)
   same-must M {t} k m (sign p j ∷ xs) v x y a f g = rw (as-sign v).kind (go (eqb j k) refl)
     where
       go : (b : Bool) → eqb j k ≡ b → M (cond b x y) (acted (cond b (eat a) (stop 51)) (sign p j) xs)
@@ -174,7 +174,7 @@ same_layout s = by-image (image_at s (token_at s 0)) (image_p (lexemes_of s)) (s
     by-list i j e (fault n p) (ok m us) w = absurd w
     by-list i j e (fault n p) (no m q) w = w
 
-    by-image : (q : Reading TextImage) (g : Got TextImage) → Imaged s q g
+    by-image : (q : ReadPart TextImage) (g : Got TextImage) → Imaged s q g
         → Whole (after_image q (λ i t. after_list (list_from f s t 1 128 []) (ended_by i)))
         (after g (λ i. bind (list_p f 1 128 []) (λ l. item (must_be 0 (i, l)))))
     by-image (Ok got) (ok j us) w = by-list got.0 j w.0 (list_from f s got.1 1 128 []) (list_p f 1 128 [] us) (same-list f us w.1 1 128 [])

@@ -10,7 +10,7 @@ use lib.ListN.{length, get_or, drop}
 use borrow.Author.Tests.{eqb-true, eq-eqb}
 use Rattle.octets.proofs.Parts.{length_part}
 use Rattle.octets.proofs.Bools.{choice, clash}
-use Rattle.fmd_lex.specs.Tokens.{end_kind, word_kind, skip_from, token_here, token_at, token_bytes, code_of}
+use Rattle.fmd_lex.specs.Tokens.{end_kind, word_kind, skip_from, token_here, token_at, token_bytes, kind_number}
 use Rattle.fmd_lex.specs.Invariants.{Within}
 use Rattle.fmd_lex.specs.Chars.{is_word}
 use Rattle.fmd_lex.specs.declared.Token.{Token}
@@ -64,7 +64,7 @@ pub record Worded (s : List ℕ) (t : Token) (p : ℕ) (w : List ℕ) (xs : List
   pub then : View s (next s t) xs
 
 pub record Signed (s : List ℕ) (t : Token) (p k : ℕ) : Type 0 where
-  pub kind : code_of t.kind ≡ k
+  pub kind : kind_number t.kind ≡ k
   pub place : t.start ≡ p
   pub wordless : is_kind word_kind t ≡ false
 
@@ -85,7 +85,7 @@ worded : (s : List ℕ) (t : Token) (p : ℕ) (w : List ℕ) → word p w ≡ le
 unfolding lexeme_of
 worded s t p w e = go (is_kind word_kind t) refl (same-as e)
   where
-    go : (b : Bool) → is_kind word_kind t ≡ b → Same (word p w) (cond b (word t.start (token_bytes s t)) (sign t.start (code_of t.kind)))
+    go : (b : Bool) → is_kind word_kind t ≡ b → Same (word p w) (cond b (word t.start (token_bytes s t)) (sign t.start (kind_number t.kind)))
         → (is_kind word_kind t ≡ true) × (t.start ≡ p) × (token_bytes s t ≡ w)
     go true f h = (f, h.0, h.1)
     go false f h = absurd h
@@ -94,7 +94,7 @@ signed : (s : List ℕ) (t : Token) (p k : ℕ) → sign p k ≡ lexeme_of s t �
 unfolding lexeme_of
 signed s t p k e = go (is_kind word_kind t) refl (same-as e)
   where
-    go : (b : Bool) → is_kind word_kind t ≡ b → Same (sign p k) (cond b (word t.start (token_bytes s t)) (sign t.start (code_of t.kind))) → Signed s t p k
+    go : (b : Bool) → is_kind word_kind t ≡ b → Same (sign p k) (cond b (word t.start (token_bytes s t)) (sign t.start (kind_number t.kind))) → Signed s t p k
     go true f h = absurd h
     go false f h = record { kind = h.1; place = h.0; wordless = f }
 
@@ -102,7 +102,7 @@ pub as-word : {s : List ℕ} {t : Token} {p : ℕ} {w : List ℕ} {xs : List Lex
 as-word {s} {t} {p} {w} (last h e k) = absurd (go (worded s t p w e))
   where
     go : (is_kind word_kind t ≡ true) × (t.start ≡ p) × (token_bytes s t ≡ w) → ⊥
-    go q = let a = eqb-true (code_of t.kind) word_kind q.0 in let b = eqb-true (code_of t.kind) end_kind k in omega arith
+    go q = let a = eqb-true (kind_number t.kind) word_kind q.0 in let b = eqb-true (kind_number t.kind) end_kind k in omega arith
 as-word {s} {t} {p} {w} (step h e k v) =
     let q = worded s t p w e in record { within = h; kind = q.0; place = q.1; bytes = q.2; then = v }
 
@@ -111,12 +111,12 @@ as-sign {s} {t} {p} {k} (last h e z) = signed s t p k e
 as-sign {s} {t} {p} {k} (step h e z v) = signed s t p k e
 
 pub after-sign : {s : List ℕ} {t : Token} {p k : ℕ} {xs : List Lexeme} → View s t (sign p k ∷ xs) → (k ≡ 0 → ⊥) → View s (next s t) xs
-after-sign {s} {t} {p} {k} (last h e z) n = absurd (n (let a = (signed s t p k e).kind in let b = eqb-true (code_of t.kind) end_kind z in omega arith))
+after-sign {s} {t} {p} {k} (last h e z) n = absurd (n (let a = (signed s t p k e).kind in let b = eqb-true (kind_number t.kind) end_kind z in omega arith))
 after-sign (step h e z v) n = v
 
 pub after-end : {s : List ℕ} {t : Token} {p : ℕ} {xs : List Lexeme} → View s t (sign p 0 ∷ xs) → xs ≡ []
 after-end (last h e z) = refl
-after-end {s} {t} {p} (step h e z v) = absurd (clash (eq-eqb (code_of t.kind) end_kind (signed s t p 0 e).kind) z)
+after-end {s} {t} {p} (step h e z v) = absurd (clash (eq-eqb (kind_number t.kind) end_kind (signed s t p 0 e).kind) z)
 
 pub view-within : {s : List ℕ} {t : Token} {xs : List Lexeme} → View s t xs → Within (length s) 0 t
 view-within (last h e k) = h

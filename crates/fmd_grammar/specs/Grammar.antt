@@ -2,7 +2,7 @@
 -- `X ts v`: the tokens ts, all of them and in this order, are an X, and v is what they say. No rule looks ahead, none is tried before another.
 use Rattle.std.specs.Prelude.{◌≡◌, Bool, true, false, cond, List, [], ◌∷◌, ◌++◌, ℕ, zero, suc, ◌+◌, ◌≤◌, ◌<◌, eqb, length, Option, Some, None}
 use Prim.Native.Char.{code}
-use Rattle.fmd_lex.specs.Tokens.{end_kind, word_kind, token_at, token_bytes, code_of}
+use Rattle.fmd_lex.specs.Tokens.{end_kind, word_kind, token_at, token_bytes, kind_number}
 use Rattle.fmd_lex.specs.Numbers.{number_in}
 use Rattle.fmd_lex.specs.Names.{good_name, cbfs, preserve}
 use Rattle.fmd_lex.specs.declared.Token.{Token}
@@ -20,12 +20,12 @@ pub data Lexeme : Type 0 where
 
 -- the token t of the text s; `token_at` of fmd_lex finds it (L4, L5): past blanks and comments, as many bytes of a word as there are
 unfoldable pub lexeme_of : List ℕ → Token → Lexeme
-lexeme_of s t = cond (eqb (code_of t.kind) word_kind) (word t.start (token_bytes s t)) (sign t.start (code_of t.kind))
+lexeme_of s t = cond (eqb (kind_number t.kind) word_kind) (word t.start (token_bytes s t)) (sign t.start (kind_number t.kind))
 
 -- the token t and those after it up to the text's end, f at most
 unfoldable pub lexemes_from : ℕ → List ℕ → Token → List Lexeme
 lexemes_from zero s t = []
-lexemes_from (suc f) s t = lexeme_of s t ∷ cond (eqb (code_of t.kind) end_kind) [] (lexemes_from f s (token_at s t.end))
+lexemes_from (suc f) s t = lexeme_of s t ∷ cond (eqb (kind_number t.kind) end_kind) [] (lexemes_from f s (token_at s t.end))
 
 -- the tokens of a text; each but the end has a byte of its own, so they are no more than the bytes and one
 unfoldable pub lexemes_of : List ℕ → List Lexeme

@@ -5,12 +5,12 @@ ghost use Rattle.fmd_head.specs.Images.{title_at, address_at, length_at, open_at
 ghost use Rattle.fmd_head.specs.Invariants.{ReadIn};
 
 use super::section::amount_at;
-use super::{Reading, Refusal, TextImage, fault_at};
+use super::{ReadPart, Refusal, TextImage, fault_at};
 use fmd_lex::{Kind, Token, next_token};
 
 // The image's name.
 #[tactic(auto, unfolding(crate::specs::Images::title_at))]
-fn title_at(text: &[u8], t: Token) -> Reading<TextImage>
+fn title_at(text: &[u8], t: Token) -> ReadPart<TextImage>
     requires { (length text.now ≤ 32768) × Within (length text.now) 0 t }
     ensures value { result ≡ title_at text.now t }
     ensures within { ReadIn (length text.now) 0 result }
@@ -32,7 +32,7 @@ fn title_at(text: &[u8], t: Token) -> Reading<TextImage>
 
 // The address, where an @ stands.
 #[tactic(auto, unfolding(crate::specs::Images::address_at))]
-fn address_at(text: &[u8], t: Token, i: TextImage) -> Reading<TextImage>
+fn address_at(text: &[u8], t: Token, i: TextImage) -> ReadPart<TextImage>
     requires { Within (length text.now) 0 t }
     ensures value { result ≡ address_at text.now t i }
     ensures within { ReadIn (length text.now) 0 result }
@@ -47,7 +47,7 @@ fn address_at(text: &[u8], t: Token, i: TextImage) -> Reading<TextImage>
 
 // The image's size.
 #[tactic(auto, unfolding(crate::specs::Images::length_at))]
-fn length_at(text: &[u8], t: Token, i: TextImage) -> Reading<TextImage>
+fn length_at(text: &[u8], t: Token, i: TextImage) -> ReadPart<TextImage>
     requires { Within (length text.now) 0 t }
     ensures value { result ≡ length_at text.now t i }
     ensures within { ReadIn (length text.now) 0 result }
@@ -61,7 +61,7 @@ fn length_at(text: &[u8], t: Token, i: TextImage) -> Reading<TextImage>
 
 // The opening brace.
 #[tactic(auto, unfolding(crate::specs::Images::open_at))]
-fn open_at(text: &[u8], t: Token, i: TextImage) -> Reading<TextImage>
+fn open_at(text: &[u8], t: Token, i: TextImage) -> ReadPart<TextImage>
     requires { Within (length text.now) 0 t }
     ensures value { result ≡ open_at text.now t i }
     ensures within { ReadIn (length text.now) 0 result }
@@ -74,7 +74,7 @@ fn open_at(text: &[u8], t: Token, i: TextImage) -> Reading<TextImage>
 
 // The image up to its opening brace.
 #[tactic(auto, unfolding(crate::specs::Images::image_at))]
-pub fn image_at(text: &[u8], t: Token) -> Reading<TextImage>
+pub fn image_at(text: &[u8], t: Token) -> ReadPart<TextImage>
     requires { (length text.now ≤ 32768) × Within (length text.now) 0 t }
     ensures value { result ≡ image_at text.now t }
     ensures within { ReadIn (length text.now) 0 result }

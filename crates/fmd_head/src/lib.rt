@@ -45,19 +45,19 @@ pub fn number(r: Refusal) -> u32
 
 // A fault and its place in the text.
 #[derive(Clone, Copy)]
-pub struct Fault {
+pub struct TextFault {
     pub refusal: Refusal,
     pub place: usize,
 }
 
 // What is read and the token after it; or a fault.
-pub type Reading<T> = Result<(T, Token), Fault>;
+pub type ReadPart<T> = Result<(T, Token), TextFault>;
 
 // A fault at the token t.
-pub fn fault_at(refusal: Refusal, t: Token) -> Fault
+pub fn fault_at(refusal: Refusal, t: Token) -> TextFault
     ensures { result ≡ record { refusal = refusal; place = t.start } }
 {
-    Fault {
+    TextFault {
         refusal,
         place: t.start,
     }

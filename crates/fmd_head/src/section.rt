@@ -4,13 +4,13 @@ ghost use Rattle.fmd_lex.specs.Invariants.{Within};
 ghost use Rattle.fmd_head.specs.Heads.{amount_at, named_at, mark_at, last_at, other_at, flags_at, offset_at, size_at, head_at};
 ghost use Rattle.fmd_head.specs.Invariants.{ReadIn, HeadIn};
 
-use super::{Reading, Refusal, fault_at};
+use super::{ReadPart, Refusal, fault_at};
 use fmd_lex::{Flag, Kind, Token, next_token};
 use fmd_table::{ParentOffset, Section};
 
 // The number that must stand at t.
 #[tactic(auto, unfolding(crate::specs::Heads::amount_at))]
-pub fn amount_at(text: &[u8], t: Token) -> Reading<u32>
+pub fn amount_at(text: &[u8], t: Token) -> ReadPart<u32>
     requires { Within (length text.now) 0 t }
     ensures value { result ≡ amount_at text.now t }
     ensures within { ReadIn (length text.now) t.end result }
@@ -26,7 +26,7 @@ pub fn amount_at(text: &[u8], t: Token) -> Reading<u32>
 
 // The section's name.
 #[tactic(auto, unfolding(crate::specs::Heads::named_at))]
-fn named_at(text: &[u8], t: Token, level: u32, parent: u32, count: usize) -> Reading<Section>
+fn named_at(text: &[u8], t: Token, level: u32, parent: u32, count: usize) -> ReadPart<Section>
     requires { (length text.now ≤ 32768) × Within (length text.now) 0 t }
     ensures value { result ≡ named_at text.now t level parent count }
     ensures within { HeadIn (length text.now) (t.start + 1) level count result }
@@ -55,7 +55,7 @@ fn named_at(text: &[u8], t: Token, level: u32, parent: u32, count: usize) -> Rea
 
 // One flag, marked in the section.
 #[tactic(auto, unfolding(crate::specs::Heads::mark_at))]
-fn mark_at(text: &[u8], t: Token, h: Section) -> Reading<Section>
+fn mark_at(text: &[u8], t: Token, h: Section) -> ReadPart<Section>
     requires { Within (length text.now) 0 t }
     ensures value { result ≡ mark_at text.now t h }
     ensures within { ReadIn (length text.now) t.end result }
@@ -74,7 +74,7 @@ fn mark_at(text: &[u8], t: Token, h: Section) -> Reading<Section>
 
 // After both flags: the end. (A third word is unknown or repeats.)
 #[tactic(auto, unfolding(crate::specs::Heads::last_at))]
-fn last_at(text: &[u8], t: Token, h: Section) -> Reading<Section>
+fn last_at(text: &[u8], t: Token, h: Section) -> ReadPart<Section>
     requires { Within (length text.now) 0 t }
     ensures value { result ≡ last_at text.now t h }
     ensures within { ReadIn (length text.now) t.end result }
@@ -87,7 +87,7 @@ fn last_at(text: &[u8], t: Token, h: Section) -> Reading<Section>
 
 // After one flag: the end, or the other flag.
 #[tactic(auto, unfolding(crate::specs::Heads::other_at))]
-fn other_at(text: &[u8], t: Token, h: Section) -> Reading<Section>
+fn other_at(text: &[u8], t: Token, h: Section) -> ReadPart<Section>
     requires { Within (length text.now) 0 t }
     ensures value { result ≡ other_at text.now t h }
     ensures within { ReadIn (length text.now) t.end result }
@@ -101,7 +101,7 @@ fn other_at(text: &[u8], t: Token, h: Section) -> Reading<Section>
 
 // The flags, where a parenthesis stands.
 #[tactic(auto, unfolding(crate::specs::Heads::flags_at))]
-fn flags_at(text: &[u8], t: Token, h: Section) -> Reading<Section>
+fn flags_at(text: &[u8], t: Token, h: Section) -> ReadPart<Section>
     requires { Within (length text.now) 0 t }
     ensures value { result ≡ flags_at text.now t h }
     ensures within { ReadIn (length text.now) t.start result }
@@ -115,7 +115,7 @@ fn flags_at(text: &[u8], t: Token, h: Section) -> Reading<Section>
 
 // The offset, where an @ stands.
 #[tactic(auto, unfolding(crate::specs::Heads::offset_at))]
-fn offset_at(text: &[u8], t: Token, h: Section) -> Reading<Section>
+fn offset_at(text: &[u8], t: Token, h: Section) -> ReadPart<Section>
     requires { Within (length text.now) 0 t }
     ensures value { result ≡ offset_at text.now t h }
     ensures within { ReadIn (length text.now) t.start result }
@@ -130,7 +130,7 @@ fn offset_at(text: &[u8], t: Token, h: Section) -> Reading<Section>
 
 // The size, where a word that begins with a digit stands.
 #[tactic(auto, unfolding(crate::specs::Heads::size_at))]
-fn size_at(text: &[u8], t: Token, h: Section) -> Reading<Section>
+fn size_at(text: &[u8], t: Token, h: Section) -> ReadPart<Section>
     requires { Within (length text.now) 0 t }
     ensures value { result ≡ size_at text.now t h }
     ensures within { ReadIn (length text.now) t.start result }
@@ -144,7 +144,7 @@ fn size_at(text: &[u8], t: Token, h: Section) -> Reading<Section>
 
 // A section up to its braces.
 #[tactic(auto, unfolding(crate::specs::Heads::head_at))]
-pub fn head_at(text: &[u8], t: Token, level: u32, parent: u32, count: usize) -> Reading<Section>
+pub fn head_at(text: &[u8], t: Token, level: u32, parent: u32, count: usize) -> ReadPart<Section>
     requires { (length text.now ≤ 32768) × Within (length text.now) 0 t }
     ensures value { result ≡ head_at text.now t level parent count }
     ensures within { HeadIn (length text.now) (t.start + 1) level count result }

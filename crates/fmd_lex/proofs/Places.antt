@@ -13,7 +13,7 @@ use Rattle.octets.specs.Bytes.{part}
 use Rattle.octets.proofs.Bools.{and_i, choice}
 use Rattle.text_words.specs.Classes.{is_blank}
 use Rattle.fmd_lex.specs.Chars.{is_word}
-use Rattle.fmd_lex.specs.Tokens.{word_kind, code_of, sign_kind, skip_from, word_from, token_here, token_at, token_bytes}
+use Rattle.fmd_lex.specs.Tokens.{word_kind, kind_number, sign_kind, skip_from, word_from, token_here, token_at, token_bytes}
 use Rattle.fmd_lex.specs.Invariants.{Within}
 use Rattle.fmd_lex.specs.declared.Kind.{Kind}
 use Rattle.fmd_lex.specs.declared.Token.{Token}
@@ -73,7 +73,7 @@ module _ (s : List ℕ) (at : ℕ) (h : at ≤ length s) where
       (λ f. record { after = omega arith; ordered = omega arith; inside = omega arith; filled = λ z. omega arith }))
       (λ e. record { after = omega arith; ordered = omega arith; inside = omega arith; filled = λ z. omega arith })
 
-sign-no-word : (b : ℕ) → code_of (sign_kind b) ≡ word_kind → ⊥
+sign-no-word : (b : ℕ) → kind_number (sign_kind b) ≡ word_kind → ⊥
 unfolding sign_kind
 sign-no-word b =
     choice P (eqb b 40) _ _ (λ e z. omega arith)
@@ -83,10 +83,10 @@ sign-no-word b =
     (λ h. choice P (eqb b 125) _ _ (λ i z. omega arith) (λ i z. omega arith)))))
   where
     P : Kind → Type 0
-    P k = code_of k ≡ word_kind → ⊥
+    P k = kind_number k ≡ word_kind → ⊥
 
 -- (L5) a word has bytes of 21 to 7E hex, no sign and no #
-pub word_bytes : (s : List ℕ) (at : ℕ) → code_of (token_at s at).kind ≡ word_kind → all is_word (token_bytes s (token_at s at)) ≡ true
+pub word_bytes : (s : List ℕ) (at : ℕ) → kind_number (token_at s at).kind ≡ word_kind → all is_word (token_bytes s (token_at s at)) ≡ true
 unfolding token_at token_here part
 word_bytes s at =
     let p = skip_from false (drop at s) at in
@@ -98,4 +98,4 @@ word_bytes s at =
     (λ e z. absurd (omega arith))
   where
     P : Token → Type 0
-    P t = code_of t.kind ≡ word_kind → all is_word (take (t.end - t.start) (drop t.start s)) ≡ true
+    P t = kind_number t.kind ≡ word_kind → all is_word (take (t.end - t.start) (drop t.start s)) ≡ true

@@ -18,15 +18,15 @@ bad_kind = 1
 abbrev pub word_kind : ℕ
 word_kind = 2
 
-abbrev pub code_of : Kind → ℕ
-code_of End = end_kind
-code_of Bad = bad_kind
-code_of Word = word_kind
-code_of Left = code "("
-code_of Right = code ")"
-code_of At = code "@"
-code_of Open = code "{"
-code_of Close = code "}"
+abbrev pub kind_number : Kind → ℕ
+kind_number End = end_kind
+kind_number Bad = bad_kind
+kind_number Word = word_kind
+kind_number Left = code "("
+kind_number Right = code ")"
+kind_number At = code "@"
+kind_number Open = code "{"
+kind_number Close = code "}"
 
 -- the kind of a token of one byte: a sign's, or that of a byte that begins no token
 unfoldable pub sign_kind : ℕ → Kind

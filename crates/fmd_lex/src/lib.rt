@@ -5,7 +5,7 @@
 ghost use Rattle.std.specs.Prelude.{false, ◌≡◌, ◌≤◌, ◌<◌, eqb, length, drop, get_or, take_while};
 ghost use Rattle.text_words.specs.Classes.{is_digit};
 ghost use Rattle.fmd_lex.specs.Chars.{is_sign, is_word};
-ghost use Rattle.fmd_lex.specs.Tokens.{code_of, sign_kind, skip_from, word_from, token_at, token_bytes};
+ghost use Rattle.fmd_lex.specs.Tokens.{kind_number, sign_kind, skip_from, word_from, token_at, token_bytes};
 ghost use Rattle.fmd_lex.specs.Invariants.{Within};
 ghost use Rattle.fmd_lex.specs.Numbers.{number_in};
 ghost use Rattle.fmd_lex.specs.Names.{good_name, flag_of};
@@ -38,7 +38,7 @@ pub struct Token {
 impl Token {
     // It is of the kind.
     pub fn is(self, kind: Kind) -> bool
-        ensures { result ≡ eqb (code_of self.kind) (code_of kind) }
+        ensures { result ≡ eqb (kind_number self.kind) (kind_number kind) }
     {
         self.kind == kind
     }

@@ -12,7 +12,7 @@ use Rattle.octets.specs.Tests.{◌or◌, all}
 use Rattle.octets.proofs.Bools.{choice, not_f}
 use Rattle.text_words.specs.Classes.{is_digit}
 use Rattle.fmd_lex.specs.Chars.{is_word}
-use Rattle.fmd_lex.specs.Tokens.{word_kind, token_at, token_bytes, code_of}
+use Rattle.fmd_lex.specs.Tokens.{word_kind, token_at, token_bytes, kind_number}
 use Rattle.fmd_lex.specs.Invariants.{Within}
 use Rattle.fmd_lex.specs.Numbers.{number_in}
 use Rattle.fmd_lex.specs.Names.{good_name, flag_of}
@@ -23,7 +23,7 @@ use Rattle.fmd_lex.proofs.Numbers.{NumberFits, number_fits}
 use Rattle.fmd_lex.proofs.Tokens.{earlier}
 use Rattle.fmd_lex.proofs.Places.{token-within, word_bytes}
 use Rattle.fmd_head.specs.Refusals.{number_of as refusal_number}
-use Rattle.fmd_head.specs.Heads.{next, is_kind, counted, amount_at, onward, named_at, marked, mark_at, last_at, other_at, flags_at, with_offset, Reading, read}
+use Rattle.fmd_head.specs.Heads.{next, is_kind, counted, amount_at, onward, named_at, marked, mark_at, last_at, other_at, flags_at, with_offset, ReadPart, read}
 use Rattle.fmd_head.specs.Heads.{offset_at, with_size, size_at, head_at}
 use Rattle.fmd_parse.specs.Trees.{Named}
 use Rattle.fmd_parse.specs.Claims.{FaultNumber}
@@ -33,7 +33,7 @@ use Rattle.fmd_table.specs.declared.Section.{Section}
 
 pub record From (s : List ℕ) (at : ℕ) (u : Token) : Type 0 where
   pub within : Within (length s) at u
-  pub word : code_of u.kind ≡ word_kind → all is_word (token_bytes s u) ≡ true
+  pub word : kind_number u.kind ≡ word_kind → all is_word (token_bytes s u) ≡ true
 
 pub token-from : (s : List ℕ) (at : ℕ) → at ≤ length s → From s at (token_at s at)
 token-from s at h = record { within = token-within s at h; word = word_bytes s at }
@@ -60,12 +60,12 @@ module _ {s : List ℕ} {a : ℕ} {t : Token} (w : From s a t) where
   pub fault-here : (n : ℕ) → FaultNumber n → Faulty s n t.start
   fault-here n e = (e, omega arith)
 
-  pub name-here : code_of t.kind ≡ word_kind → good_name (token_bytes s t) ≡ true → Named s t.start (t.end - t.start)
+  pub name-here : kind_number t.kind ≡ word_kind → good_name (token_bytes s t) ≡ true → Named s t.start (t.end - t.start)
   name-here k e = record { inside = omega arith; word = w.word k; good = e }
 
 -- ---- numbers
 
-abbrev pub AmountFrom : List ℕ → ℕ → Reading ℕ → Type 0
+abbrev pub AmountFrom : List ℕ → ℕ → ReadPart ℕ → Type 0
 AmountFrom s a (Ok got) = From s a got.1 × (got.0 ≤ 4294967295)
 AmountFrom s a (Err bad) = Faulty s (refusal_number bad.refusal) bad.place
 
@@ -93,15 +93,15 @@ kept h = record { place = refl; length = refl; parent = refl; level = refl }
 pub kept_on : {h k l : Section} → Kept h k → Kept k l → Kept h l
 kept_on p q = record { place = q.place ∙ p.place; length = q.length ∙ p.length; parent = q.parent ∙ p.parent; level = q.level ∙ p.level }
 
-abbrev pub Keeps : List ℕ → ℕ → Section → Reading Section → Type 0
+abbrev pub Keeps : List ℕ → ℕ → Section → ReadPart Section → Type 0
 Keeps s a h (Ok got) = From s a got.1 × Kept h got.0
 Keeps s a h (Err bad) = Faulty s (refusal_number bad.refusal) bad.place
 
-pub keeps : (s : List ℕ) (a b : ℕ) (h k : Section) (p : Reading Section) → Kept h k → b ≤ a → Keeps s a k p → Keeps s b h p
+pub keeps : (s : List ℕ) (a b : ℕ) (h k : Section) (p : ReadPart Section) → Kept h k → b ≤ a → Keeps s a k p → Keeps s b h p
 keeps s a b h k (Ok got) q o w = (from-earlier w.0 o, kept_on q w.1)
 keeps s a b h k (Err bad) q o w = w
 
-pub onward-keeps : (s : List ℕ) (a b : ℕ) (h : Section) (p : Reading Section) (f : Section → Token → Reading Section) → Keeps s a h p → b ≤ a
+pub onward-keeps : (s : List ℕ) (a b : ℕ) (h : Section) (p : ReadPart Section) (f : Section → Token → ReadPart Section) → Keeps s a h p → b ≤ a
     → ((k : Section) (u : Token) → From s a u → Keeps s u.start k (f k u)) → Keeps s b h (onward p f)
 onward-keeps s a b h (Ok got) f w o g =
     let x = w.0 in keeps s got.1.start b h got.0 (f got.0 got.1) w.1 (omega arith) (g got.0 got.1 x)
@@ -137,7 +137,7 @@ module _ {s : List ℕ} {a : ℕ} {t : Token} (w : From s a t) (h : Section) whe
       let x = next-from w in
       choice (Keeps s t.start h) (is_kind 64 t) _ _ (λ e. by-amount (amount_at s (next s t)) (amount-from x)) (λ e. (own-from w, kept h))
     where
-      by-amount : (m : Reading ℕ) → AmountFrom s (next s t).end m → Keeps s t.start h (with_offset h m)
+      by-amount : (m : ReadPart ℕ) → AmountFrom s (next s t).end m → Keeps s t.start h (with_offset h m)
       by-amount (Ok got) v =
           let x = next-from w in
           (from-earlier v.0 (omega arith), record { place = refl; length = refl; parent = refl; level = refl })
@@ -150,7 +150,7 @@ module _ {s : List ℕ} {a : ℕ} {t : Token} (w : From s a t) (h : Section) whe
       (λ e. choice (Keeps s t.start h) (is_digit (get_or s t.start 0)) _ _ (λ f. by-amount (amount_at s t) (amount-from w)) (λ f. (own-from w, kept h)))
       (λ e. (own-from w, kept h))
     where
-      by-amount : (m : Reading ℕ) → AmountFrom s t.end m → Keeps s t.start h (with_size h m)
+      by-amount : (m : ReadPart ℕ) → AmountFrom s t.end m → Keeps s t.start h (with_size h m)
       by-amount (Ok got) v = (from-earlier v.0 (omega arith), record { place = refl; length = refl; parent = refl; level = refl })
       by-amount (Err bad) v = v
 
@@ -173,7 +173,7 @@ pub record Headed (s : List ℕ) (lv par n : ℕ) (h : Section) : Type 0 where
   pub parent : h.parent ≡ par
   pub level : h.level ≡ lv
 
-abbrev pub Heads : List ℕ → ℕ → ℕ → ℕ → ℕ → Reading Section → Type 0
+abbrev pub Heads : List ℕ → ℕ → ℕ → ℕ → ℕ → ReadPart Section → Type 0
 Heads s a lv par n (Ok got) = From s a got.1 × Headed s lv par n got.0
 Heads s a lv par n (Err bad) = Faulty s (refusal_number bad.refusal) bad.place
 
@@ -186,7 +186,7 @@ named-heads {s} {a} {t} w lv par n =
     (λ f. choice P (leb 128 n) _ _ (λ g. fault-here w 55 refl)
     (λ g. choice P (ltb 8 lv) _ _ (λ d. fault-here w 55 refl)
     (λ d.
-    let k : code_of t.kind ≡ word_kind = eqb-true (code_of t.kind) word_kind (not_f (is_kind word_kind t) e) in
+    let k : kind_number t.kind ≡ word_kind = eqb-true (kind_number t.kind) word_kind (not_f (is_kind word_kind t) e) in
     let l = w.within.filled k in (
       from-earlier (next-from w) (omega arith),
       record {
@@ -198,12 +198,12 @@ named-heads {s} {a} {t} w lv par n =
       },
     )))))
 
-onward-heads : (s : List ℕ) (a lv par n : ℕ) (p : Reading Section) (f : Section → Token → Reading Section) → Heads s a lv par n p
+onward-heads : (s : List ℕ) (a lv par n : ℕ) (p : ReadPart Section) (f : Section → Token → ReadPart Section) → Heads s a lv par n p
     → ((h : Section) (u : Token) → From s a u → Keeps s u.start h (f h u)) → Heads s a lv par n (onward p f)
 onward-heads s a lv par n (Err bad) f w g = w
 onward-heads s a lv par n (Ok got) f w g = go (f got.0 got.1) (g got.0 got.1 w.0)
   where
-    go : (p : Reading Section) → Keeps s got.1.start got.0 p → Heads s a lv par n p
+    go : (p : ReadPart Section) → Keeps s got.1.start got.0 p → Heads s a lv par n p
     go (Err f) x = x
     go (Ok r) x =
         let o = w.0 in

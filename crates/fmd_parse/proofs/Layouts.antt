@@ -7,7 +7,7 @@ use mathlib.Core.List.{List, [], ◌∷◌, ◌++◌}
 use Prim.Native.Nat.{ℕ, zero, suc, ◌+◌, ◌*◌, ◌-◌, ◌≤◌, ◌<◌}
 use native.Mathlib.Omega.{arith}
 use lib.ListN.{length}
-use Rattle.fmd_lex.specs.Tokens.{token_at, code_of}
+use Rattle.fmd_lex.specs.Tokens.{token_at, kind_number}
 use Rattle.fmd_lex.specs.Invariants.{Within}
 use Rattle.fmd_lex.specs.declared.Token.{Token}
 use Rattle.fmd_lex.proofs.Tokens.{earlier}
@@ -15,12 +15,12 @@ use Rattle.fmd_table.specs.Table.{sections_in}
 use Rattle.fmd_table.specs.Invariants.{IsParent, Linked}
 use Rattle.fmd_table.specs.declared.Section.{Section}
 use Rattle.fmd_table.proofs.Table.{length-sections, no-sections}
-use Rattle.fmd_head.specs.Heads.{is_kind, head_at, Reading, read, refused_at}
+use Rattle.fmd_head.specs.Heads.{is_kind, head_at, ReadPart, read, refused_at}
 use Rattle.fmd_parse.specs.Layouts.{Parsed, section_from, list_from}
 use Rattle.fmd_parse.specs.Invariants.{step_of, StepIn, SectionRead, ListRead}
-use Rattle.fmd_head.specs.declared.Fault.{Fault}
+use Rattle.fmd_head.specs.declared.TextFault.{TextFault}
 
-step-earlier : (n a b par : ℕ) (rows : List ℕ) (p : Reading ℕ) → StepIn n a par rows p → b ≤ a → StepIn n b par rows p
+step-earlier : (n a b par : ℕ) (rows : List ℕ) (p : ReadPart ℕ) → StepIn n a par rows p → b ≤ a → StepIn n b par rows p
 step-earlier n a b par rows (Ok got) w l = (earlier w.0 l, w.1, w.2)
 step-earlier n a b par rows (Err bad) w l = tt
 
@@ -30,7 +30,7 @@ parent-on b (inl e) w = inl e
 parent-on b (inr e) (inl w) = absurd (omega arith)
 parent-on b (inr e) (inr w) = inr (omega arith)
 
-step-outer : (n a b m par : ℕ) (rows : List ℕ) (p : Reading ℕ) → StepIn n a m rows p → b ≤ a → m < 128 → IsParent m par → StepIn n b par rows p
+step-outer : (n a b m par : ℕ) (rows : List ℕ) (p : ReadPart ℕ) → StepIn n a m rows p → b ≤ a → m < 128 → IsParent m par → StepIn n b par rows p
 step-outer n a b m par rows (Ok got) w l o i = (earlier w.0 l, parent-on o i w.1, w.2)
 step-outer n a b m par rows (Err bad) w l o i = tt
 
@@ -40,7 +40,7 @@ parent-next (inr e) = inr (omega arith)
 
 -- n rows of the table old before
 module _ {s : List ℕ} {t : Token} {lv par : ℕ} (n : ℕ) (old : List ℕ) where
-  pub section-stopped : {b : Fault} {rows : List ℕ} {r : Reading ℕ} → head_at s t lv par n ≡ Err b → r ≡ Err b
+  pub section-stopped : {b : TextFault} {rows : List ℕ} {r : ReadPart ℕ} → head_at s t lv par n ≡ Err b → r ≡ Err b
       → SectionRead s t lv par (sections_in n old) rows r
   unfolding section_from
   section-stopped {b} {rows} e q = rw q (record { within = tt; same = same })
@@ -60,7 +60,7 @@ module _ {s : List ℕ} {t : Token} {lv par : ℕ} (n : ℕ) (old : List ℕ) wh
         same zero m = absurd (omega arith)
         same (suc f) m = rw (length-sections n old, e, k, q)
 
-    pub section-open : {v : Token} {rows : List ℕ} {r : Reading ℕ} → is_kind 123 u ≡ true → v ≡ token_at s u.end → Within (length s) u.end v
+    pub section-open : {v : Token} {rows : List ℕ} {r : ReadPart ℕ} → is_kind 123 u ≡ true → v ≡ token_at s u.end → Within (length s) u.end v
         → ListRead s v (lv + 1) n (sections_in (n + 1) new) rows r → n < 128 → IsParent n par → SectionRead s t lv par (sections_in n old) rows r
     unfolding section_from
     section-open {v} {rows} {r} k z x o b i =
@@ -70,8 +70,8 @@ module _ {s : List ℕ} {t : Token} {lv par : ℕ} (n : ℕ) (old : List ℕ) wh
         same zero m = absurd (omega arith)
         same (suc f) m = rw (length-sections n old, e, k, sym z, sym q) (o.same f (omega arith))
 
-module _ {s : List ℕ} {t : Token} {lv par : ℕ} {l : List Section} {new : List ℕ} {o : Reading ℕ} (h : SectionRead s t lv par l new o) where
-  pub list-stopped : {b : Fault} {r : Reading ℕ} → o ≡ Err b → r ≡ Err b → ListRead s t lv par l new r
+module _ {s : List ℕ} {t : Token} {lv par : ℕ} {l : List Section} {new : List ℕ} {o : ReadPart ℕ} (h : SectionRead s t lv par l new o) where
+  pub list-stopped : {b : TextFault} {r : ReadPart ℕ} → o ≡ Err b → r ≡ Err b → ListRead s t lv par l new r
   unfolding list_from
   list-stopped {b} e q = rw q (record { within = tt; same = same })
     where
@@ -92,7 +92,7 @@ module _ {s : List ℕ} {t : Token} {lv par : ℕ} {l : List Section} {new : Lis
         same zero m = absurd (omega arith)
         same (suc f) m = rw (sym (h.same f (omega arith)), e, k, z)
 
-    pub list-more : {rows : List ℕ} {r : Reading ℕ} → is_kind 125 u ≡ false → ListRead s u lv par (sections_in n new) rows r → ListRead s t lv par l rows r
+    pub list-more : {rows : List ℕ} {r : ReadPart ℕ} → is_kind 125 u ≡ false → ListRead s u lv par (sections_in n new) rows r → ListRead s t lv par l rows r
     unfolding list_from
     list-more {rows} {r} k q =
         record { within = step-earlier (length s) (u.start + 1) (t.start + 1) par rows r q.within (let w = here in omega arith); same = same }

@@ -13,25 +13,25 @@ use Rattle.fmd_lex.specs.Names.{good_name, flag_of}
 use Rattle.fmd_lex.specs.declared.Token.{Token}
 use Rattle.fmd_lex.specs.declared.Flag.{Flag}
 use Rattle.fmd_lex.specs.declared.Flag.TheVariants.{Cbfs, Preserve}
-use Rattle.fmd_head.specs.Heads.{next, is_kind, amount_at, onward, named_at, marked, mark_at, last_at, other_at, flags_at, with_offset, offset_at, Reading, read}
+use Rattle.fmd_head.specs.Heads.{next, is_kind, amount_at, onward, named_at, marked, mark_at, last_at, other_at, flags_at, with_offset, offset_at, ReadPart, read}
 use Rattle.fmd_head.specs.Heads.{with_size, size_at, head_at}
 use Rattle.fmd_table.specs.declared.Section.{Section}
 
-abbrev Of : ℕ → Reading Section → Type 0
+abbrev Of : ℕ → ReadPart Section → Type 0
 Of par (Ok got) = got.0.parent ≡ par
 Of par (Err bad) = Unit {0}
 
-onward-of : (par : ℕ) (p : Reading Section) (f : Section → Token → Reading Section) → Of par p → ((h : Section) (u : Token) → h.parent ≡ par → Of par (f h u))
+onward-of : (par : ℕ) (p : ReadPart Section) (f : Section → Token → ReadPart Section) → Of par p → ((h : Section) (u : Token) → h.parent ≡ par → Of par (f h u))
     → Of par (onward p f)
 onward-of par (Ok got) f e g = g got.0 got.1 e
 onward-of par (Err bad) f e g = tt
 
 module _ (par : ℕ) (s : List ℕ) (t : Token) where
-  offset-by : (h : Section) → h.parent ≡ par → (m : Reading ℕ) → Of par (with_offset h m)
+  offset-by : (h : Section) → h.parent ≡ par → (m : ReadPart ℕ) → Of par (with_offset h m)
   offset-by h e (Ok got) = e
   offset-by h e (Err bad) = tt
 
-  size-by : (h : Section) → h.parent ≡ par → (m : Reading ℕ) → Of par (with_size h m)
+  size-by : (h : Section) → h.parent ≡ par → (m : ReadPart ℕ) → Of par (with_size h m)
   size-by h e (Ok got) = e
   size-by h e (Err bad) = tt
 

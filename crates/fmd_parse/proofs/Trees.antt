@@ -13,17 +13,17 @@ use lib.Seq.{get_or-append_seam}
 use borrow.Author.Tests.{ltb-true, ltb-false, leb-true, eqb-true}
 use Rattle.octets.specs.Tests.{◌and◌, ◌or◌}
 use Rattle.octets.proofs.Bools.{choice, not_f, and_l, and_r}
-use Rattle.fmd_lex.specs.Tokens.{end_kind, word_kind, token_at, token_bytes, code_of}
+use Rattle.fmd_lex.specs.Tokens.{end_kind, word_kind, token_at, token_bytes, kind_number}
 use Rattle.fmd_lex.specs.Names.{good_name}
 use Rattle.fmd_lex.specs.declared.Token.{Token}
 use Rattle.fmd_head.specs.Refusals.{number_of}
-use Rattle.fmd_head.specs.Heads.{onward, next, is_kind, amount_at, head_at, Reading, refused_at}
+use Rattle.fmd_head.specs.Heads.{onward, next, is_kind, amount_at, head_at, ReadPart, refused_at}
 use Rattle.fmd_head.specs.Images.{title_at, with_address, address_at, with_length, length_at, open_at, image_at}
 use Rattle.fmd_parse.specs.Layouts.{Parsed, fault, parsed, after_head, after_section, section_from, list_from, after_image, after_list, ended_by, layout_of}
 use Rattle.fmd_parse.specs.Trees.{Named, blank_section, Under, Standing, Tree, AddressFits, Imaged}
 use Rattle.fmd_parse.specs.Claims.{LayoutFacts}
 use Rattle.fmd_table.specs.declared.Section.{Section}
-use Rattle.fmd_head.specs.declared.Fault.{Fault}
+use Rattle.fmd_head.specs.declared.TextFault.{TextFault}
 use Rattle.fmd_head.specs.declared.TextImage.{TextImage}
 use Rattle.fmd_parse.proofs.Kept.{From, token-from, from-earlier, own-from, Faulty, next-from, fault-here, name-here, AmountFrom, amount-from}
 use Rattle.fmd_parse.proofs.Kept.{Headed, Heads, head-heads}
@@ -111,7 +111,7 @@ facts-on : (s : List ℕ) (l m : List Section) (a b : ℕ) (p : Parsed) → Grow
 facts-on s l m a b (fault n p) g o w = w
 facts-on s l m a b (parsed k u) g o w = (from-earlier w.0 o, w.1, grown-on g w.2)
 
-after-head : (s : List ℕ) (l : List Section) (a lv par : ℕ) (p : Reading Section) (f : Section → Token → Parsed) → Heads s a lv par (length l) p
+after-head : (s : List ℕ) (l : List Section) (a lv par : ℕ) (p : ReadPart Section) (f : Section → Token → Parsed) → Heads s a lv par (length l) p
     → ((h : Section) (u : Token) → From s a u → Headed s lv par (length l) h → Facts s l a (f h u)) → Facts s l a (after_head p f)
 after-head s l a lv par (Err bad) f w g = w
 after-head s l a lv par (Ok got) f w g = g got.0 got.1 w.0 w.1
@@ -152,11 +152,11 @@ mutual
 
 -- ---- the image
 
-abbrev Titled : List ℕ → Reading TextImage → Type 0
+abbrev Titled : List ℕ → ReadPart TextImage → Type 0
 Titled s (Ok got) = From s 0 got.1 × Named s got.0.place got.0.length × AddressFits got.0.address
 Titled s (Err bad) = Faulty s (number_of bad.refusal) bad.place
 
-abbrev Measured : List ℕ → Reading TextImage → Type 0
+abbrev Measured : List ℕ → ReadPart TextImage → Type 0
 Measured s (Ok got) = From s 0 got.1 × Imaged s got.0
 Measured s (Err bad) = Faulty s (number_of bad.refusal) bad.place
 
@@ -166,7 +166,7 @@ module _ {s : List ℕ} {a : ℕ} {t : Token} (w : From s a t) where
   title-facts =
       choice (Titled s) (not (is_kind word_kind t)) _ _ (λ e. fault-here w 51 refl)
       (λ e. choice (Titled s) (not (good_name (token_bytes s t))) _ _ (λ f. fault-here w 53 refl)
-      (λ f. (from-earlier (next-from w) (omega arith), name-here w (eqb-true (code_of t.kind) word_kind (not_f (is_kind word_kind t) e)) (not_f _ f), tt)))
+      (λ f. (from-earlier (next-from w) (omega arith), name-here w (eqb-true (kind_number t.kind) word_kind (not_f (is_kind word_kind t) e)) (not_f _ f), tt)))
 
   module _ (i : TextImage) (d : Named s i.place i.length) (f : AddressFits i.address) where
     address-facts : Titled s (address_at s t i)
@@ -175,7 +175,7 @@ module _ {s : List ℕ} {a : ℕ} {t : Token} (w : From s a t) where
         choice (Titled s) (is_kind 64 t) _ _ (λ e. by-amount (amount_at s (next s t)) (amount-from (next-from w)))
         (λ e. (from-earlier (own-from w) (omega arith), d, f))
       where
-        by-amount : (m : Reading ℕ) → AmountFrom s (next s t).end m → Titled s (with_address i m)
+        by-amount : (m : ReadPart ℕ) → AmountFrom s (next s t).end m → Titled s (with_address i m)
         by-amount (Ok got) v = (from-earlier v.0 (omega arith), d, v.1)
         by-amount (Err bad) v = v
 
@@ -183,7 +183,7 @@ module _ {s : List ℕ} {a : ℕ} {t : Token} (w : From s a t) where
     unfolding length_at ◌or◌
     length-facts = by-amount (amount_at s t) (amount-from w)
       where
-        by-amount : (m : Reading ℕ) → AmountFrom s t.end m → Measured s (with_length i t m)
+        by-amount : (m : ReadPart ℕ) → AmountFrom s t.end m → Measured s (with_length i t m)
         by-amount (Ok got) v =
             choice (Measured s) (leb 98 got.0 and leb got.0 16777216) _ _
             (λ e. (
@@ -203,14 +203,14 @@ module _ {s : List ℕ} {a : ℕ} {t : Token} (w : From s a t) where
   unfolding open_at ◌or◌
   open-facts i d = choice (Measured s) (is_kind 123 t) _ _ (λ e. (from-earlier (next-from w) (omega arith), d)) (λ e. fault-here w 51 refl)
 
-titled-on : (s : List ℕ) (P : Reading TextImage → Type 0) (p : Reading TextImage) (f : TextImage → Token → Reading TextImage) → Titled s p
-    → ((b : Fault) → Faulty s (number_of b.refusal) b.place → P (Err b))
+titled-on : (s : List ℕ) (P : ReadPart TextImage → Type 0) (p : ReadPart TextImage) (f : TextImage → Token → ReadPart TextImage) → Titled s p
+    → ((b : TextFault) → Faulty s (number_of b.refusal) b.place → P (Err b))
     → ((i : TextImage) (u : Token) → From s 0 u → Named s i.place i.length → AddressFits i.address →
     P (f i u)) → P (onward p f)
 titled-on s P (Ok got) f w k g = g got.0 got.1 w.0 w.1 w.2
 titled-on s P (Err bad) f w k g = k bad w
 
-measured-on : (s : List ℕ) (p : Reading TextImage) (f : TextImage → Token → Reading TextImage) → Measured s p
+measured-on : (s : List ℕ) (p : ReadPart TextImage) (f : TextImage → Token → ReadPart TextImage) → Measured s p
     → ((i : TextImage) (u : Token) → From s 0 u → Imaged s i → Measured s (f i u)) → Measured s (onward p f)
 measured-on s (Ok got) f w g = g got.0 got.1 w.0 w.1
 measured-on s (Err bad) f w g = w
@@ -237,7 +237,7 @@ layout-facts s = by-image (image_at s (token_at s 0)) (image-facts (token-from s
     by-list i a d (parsed l u) w =
         choice (LayoutFacts s) (is_kind end_kind u) _ _ (λ e. (d, w.1, w.2.longer)) (λ e. fault-here w.0 51 refl)
 
-    by-image : (p : Reading TextImage) → Measured s p → LayoutFacts s (after_image p (λ i t. after_list (list_from (2 * length s + 2) s t 1 128 []) (ended_by i)))
+    by-image : (p : ReadPart TextImage) → Measured s p → LayoutFacts s (after_image p (λ i t. after_list (list_from (2 * length s + 2) s t 1 128 []) (ended_by i)))
     by-image (Err bad) w = w
     by-image (Ok got) w =
         by-list got.0 (got.1.start + 1) w.1 (list_from (2 * length s + 2) s got.1 1 128 [])

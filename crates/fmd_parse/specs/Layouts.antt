@@ -5,11 +5,11 @@ use Rattle.fmd_lex.specs.Tokens.{end_kind, token_at}
 use Rattle.fmd_lex.specs.declared.Token.{Token}
 use Rattle.fmd_table.specs.Table.{sections_in}
 use Rattle.fmd_head.specs.Refusals.{number_of}
-use Rattle.fmd_head.specs.Heads.{Reading, next, is_kind, head_at, read}
+use Rattle.fmd_head.specs.Heads.{ReadPart, next, is_kind, head_at, read}
 use Rattle.fmd_head.specs.Images.{image_at}
 use Rattle.fmd_table.specs.declared.Section.{Section}
 use Rattle.fmd_head.specs.declared.TextImage.{TextImage}
-use Rattle.fmd_head.specs.declared.Fault.{Fault}
+use Rattle.fmd_head.specs.declared.TextFault.{TextFault}
 use Rattle.fmd_parse.specs.declared.TextLayout.{TextLayout}
 
 -- ---- sections
@@ -19,7 +19,7 @@ pub data Parsed : Type 0 where
   fault : ℕ → ℕ → Parsed
   parsed : List Section → Token → Parsed
 
-abbrev pub after_head : Reading Section → (Section → Token → Parsed) → Parsed
+abbrev pub after_head : ReadPart Section → (Section → Token → Parsed) → Parsed
 after_head (Ok r) k = k r.0 r.1
 after_head (Err f) k = fault (number_of f.refusal) f.place
 
@@ -52,7 +52,7 @@ pub data Layout : Type 0 where
   refused : ℕ → ℕ → Layout
   layout : TextImage → List Section → Layout
 
-abbrev pub after_image : Reading TextImage → (TextImage → Token → Layout) → Layout
+abbrev pub after_image : ReadPart TextImage → (TextImage → Token → Layout) → Layout
 after_image (Ok r) k = k r.0 r.1
 after_image (Err f) k = refused (number_of f.refusal) f.place
 
@@ -72,6 +72,6 @@ layout_of s =
 
 -- ---- what the answer says, with the table that was lent
 
-abbrev pub answer_of : Result TextLayout Fault → List ℕ → Layout
+abbrev pub answer_of : Result TextLayout TextFault → List ℕ → Layout
 answer_of (Ok t) rows = layout t.image (sections_in t.count rows)
 answer_of (Err f) rows = refused (number_of f.refusal) f.place

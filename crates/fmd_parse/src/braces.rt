@@ -5,7 +5,7 @@ ghost use Rattle.fmd_table.specs.Table.{sections_in, HasRows};
 ghost use Rattle.fmd_table.specs.Invariants.{IsParent, Linked};
 ghost use Rattle.fmd_parse.specs.Invariants.{SectionRead, ListRead};
 
-use fmd_head::Reading;
+use fmd_head::ReadPart;
 use fmd_head::section::head_at;
 use fmd_lex::{Kind, Token, next_token};
 
@@ -18,7 +18,7 @@ fn read_section(
     parent: u32,
     rows: &mut [u32],
     n: usize,
-) -> Reading<usize>
+) -> ReadPart<usize>
     requires { (length text.now ≤ 32768) × Within (length text.now) 0 t × HasRows 129 rows.old
         × IsParent n parent × Linked n rows.old }
     ensures { SectionRead text.now t level parent (sections_in n rows.old) rows.new result }
@@ -28,14 +28,8 @@ fn read_section(
     if !u.is(Kind::Open) {
         return Ok((n + 1, u));
     }
-    read_list(
-        text,
-        next_token(text, u.end),
-        level + 1,
-        n as u32,
-        rows,
-        n + 1,
-    )
+    let v = next_token(text, u.end);
+    read_list(text, v, level + 1, n as u32, rows, n + 1)
 }
 
 // The sections up to the closing brace, from row n on: how many sections the table then has.
@@ -47,7 +41,7 @@ pub fn read_list(
     parent: u32,
     rows: &mut [u32],
     n: usize,
-) -> Reading<usize>
+) -> ReadPart<usize>
     requires { (length text.now ≤ 32768) × Within (length text.now) 0 t × HasRows 129 rows.old
         × IsParent n parent × Linked n rows.old }
     ensures { ListRead text.now t level parent (sections_in n rows.old) rows.new result }

@@ -7,7 +7,7 @@ ghost use Rattle.fmd_table.specs.Table.{HasRows};
 ghost use Rattle.fmd_parse.specs.Layouts.{answer_of, layout_of};
 ghost use Rattle.fmd_parse.specs.Invariants.{AnswerIn};
 
-use fmd_head::{Fault, Refusal, TextImage, fault_at};
+use fmd_head::{Refusal, TextFault, TextImage, fault_at};
 use fmd_lex::{Kind, next_token};
 
 pub mod rows; // rows.rt: the rows of the whole section list
@@ -21,7 +21,7 @@ pub struct TextLayout {
 }
 
 // Image and sections of a layout text, or its first fault.
-pub fn read_layout(text: &[u8], rows: &mut [u32]) -> Result<TextLayout, Fault>
+pub fn read_layout(text: &[u8], rows: &mut [u32]) -> Result<TextLayout, TextFault>
     requires { (length text.now ≤ 32768) × HasRows 129 rows.old }
     ensures rows_after { answer_of result rows.new ≡ layout_of text.now }
     ensures linked { AnswerIn rows.new result }

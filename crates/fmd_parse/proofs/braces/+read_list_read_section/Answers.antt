@@ -43,4 +43,4 @@ pub read_section-returns : goal.read_section-returns
 read_section-returns t c =
     let w = c.in_ok-h.ensures.within in
     section-open _ _ _ (sym c.head_at.ensures.value ∙ c.in_ok-h.was) w.0 c.push.ensures.0 (sym c.is.ensures ∙ c.if-not-is.false)
-    c.next_token.ensures.value c.next_token.ensures.within c.read_list.ensures w.2 c.requires.3
+    c.next_token-v.ensures.value c.next_token-v.ensures.within c.read_list.ensures w.2 c.requires.3
