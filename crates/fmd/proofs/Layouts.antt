@@ -1,12 +1,11 @@
 -- The layout of a text that is accepted: its areas by value, and room for its map.
 use mathlib.Core.Path.{◌≡◌, sym, ap, ◌∙◌}
-use mathlib.Core.List.{List, [], map}
-use mathlib.Core.Logic.{◌≢◌}
-use mathlib.Core.Option.{none, some}
+use mathlib.Core.List.{List, map}
+use mathlib.Core.Option.{none}
 use Prim.Native.Nat.{ℕ, ◌+◌, ◌*◌, ◌≤◌, ◌<◌}
 use native.Mathlib.Omega.{arith}
 use lib.ListN.{length}
-use borrow.Author.Tests.{eq-eqb, ne_eqb}
+use borrow.Author.Tests.{eq-eqb}
 use Rattle.octets.specs.Bytes.{part, put, flat}
 use Rattle.fmap_rules.specs.Written.{area_bytes, map_bytes}
 use Rattle.fmap_rules.specs.declared.Area.{Area}
@@ -14,20 +13,17 @@ use Rattle.fmap_write.proofs.Fields.{map-written}
 use Rattle.fmd_table.specs.Table.{sections_in, placed_in, HasRows, HasSpots}
 use Rattle.fmd_table.proofs.Table.{length-sections}
 use Rattle.fmd_head.specs.declared.TextImage.{TextImage}
-use Rattle.fmd_table.proofs.Spots.{length-placed, none-placed}
-use Rattle.fmd_check.specs.Check.{fault, good, check_text}
-use Rattle.fmd_check.specs.declared.FaultPlace.{FaultPlace}
+use Rattle.fmd_table.proofs.Spots.{length-placed}
+use Rattle.fmd_check.specs.Check.{good, check_text}
 use Rattle.fmd_check.proofs.Facts.{check-facts}
-use Rattle.fmd_check.specs.Areas.{area_from, area_at, areas_from, layout_areas}
+use Rattle.fmd_check.specs.Areas.{area_from, area_at, layout_areas}
 use Rattle.fmd_check.specs.Invariants.{Laid}
 use Rattle.fmd_check.proofs.Names.{name-short, length-stored}
 use Rattle.fmd_check.proofs.Places.{ends}
 use Rattle.fmd_check.proofs.Shape.{length-areas}
-use Rattle.fmd.specs.Calls.{blank_image, image_of, said_by, layout_in, layout_for, Said, refused_with, Read, reading, Written, with_map, write_by}
-use Rattle.fmd.specs.Invariants.{Held, ReadFor}
+use Rattle.fmd.specs.Calls.{image_of, said_by, Read, Written, with_map, write_by}
+use Rattle.fmd.specs.Invariants.{Held}
 use Rattle.fmd.specs.declared.Image.{Image as SaidImage}
-use Rattle.fmd.specs.declared.Answer.TheVariants.{Accepted}
-use Rattle.fmd.specs.declared.LayoutReading.{LayoutReading}
 
 -- ---- the tables of a text that is accepted
 
@@ -73,17 +69,6 @@ module _ {s : List ℕ} {i : TextImage} {rows spots : List ℕ} {n m : ℕ} (g :
     image-is : x ≡ image_of s i (length (sections_in n rows))
     image-is = rw (length-sections n rows) e
 
-    pub counted : (places : ℕ) → places ≡ 128 → good i (sections_in n rows) (placed_in n spots) m ≡ check_text s
-        → ReadFor s places rows spots (record { reading = record { answer = Accepted; image = x }; count = n })
-    unfolding layout_for layout_in
-    counted places h c = record {
-      fits = omega (arith, few);
-      laid = λ _. laid;
-      answer = rw (eq-eqb places 128 h, sym c);
-      image = rw (eq-eqb places 128 h, sym c) image-is;
-      areas = rw (eq-eqb places 128 h, sym c);
-    }
-
     pub read_is :
         ◌≡◌ {A = Read} (record { answer = none; image = x })
         (record {
@@ -108,27 +93,3 @@ module _ {s : List ℕ} {i : TextImage} {rows spots : List ℕ} {n m : ℕ} (g :
           let x = said_by s (good i (sections_in n rows) (placed_in n spots) m) in
           rw (eq-eqb (length image) i.size h) (ap {B = Written} (λ (y : List ℕ). record { answer = none; at = a.place.start; image = y }) (w ∙ rw (e, d, h))
           ∙ ap {B = Written} (λ (z : Area). record { answer = none; at = z.place.start; image = with_map x image }) d)
-
--- ---- a text that is refused: the tables hold no section
-
-no-areas : (s rows spots : List ℕ) → layout_areas s (sections_in 0 rows) (placed_in 0 spots) ≡ []
-unfolding layout_areas areas_from
-no-areas s rows spots = rw (none-placed spots)
-
-pub counted_none : {s : List ℕ} (places : ℕ) (rows spots : List ℕ) {r : LayoutReading} (k : ℕ) → layout_for s places ≡ refused_with (some k)
-    → reading r ≡ record { answer = some k; image = blank_image } → ReadFor s places rows spots (record { reading = r; count = 0 })
-counted_none {s} places rows spots {r} k e d = record {
-  fits = omega arith;
-  laid = λ h. absurd (omega arith);
-  answer = ap (λ (y : Read). y.answer) d ∙ sym (ap (λ (y : Said). y.answer) e);
-  image = ap (λ (y : Read). y.image) d ∙ sym (ap (λ (y : Said). y.image) e);
-  areas = no-areas s rows spots ∙ sym (ap (λ (y : Said). y.areas) e);
-}
-
-pub wrong-places : (s : List ℕ) (places : ℕ) → places ≢ 128 → layout_for s places ≡ refused_with (some 1)
-unfolding layout_for
-wrong-places s places h = rw (ne_eqb places 128 h)
-
-pub text-fault : (s : List ℕ) (places n : ℕ) (p : FaultPlace) → places ≡ 128 → fault n p ≡ check_text s → layout_for s places ≡ refused_with (some n)
-unfolding layout_for layout_in
-text-fault s places n p h c = rw (eq-eqb places 128 h, sym c)

@@ -1,6 +1,6 @@
 -- What a listing leaves in the records: the sections, or, after a refusal, what stood there.
 use mathlib.Core.Path.{◌≡◌, refl, sym, ap, ◌∙◌}
-use mathlib.Core.List.{List, [], ◌++◌, map}
+use mathlib.Core.List.{List, [], map}
 use mathlib.Core.Option.{none, some}
 use Prim.Native.Nat.{ℕ, ◌+◌, ◌-◌, ◌≤◌, ◌<◌}
 use native.Mathlib.Omega.{arith}
@@ -15,7 +15,7 @@ use Rattle.fmap_rules.specs.Map.{blank_area}
 use Rattle.fmap_rules.specs.Written.{area_bytes}
 use Rattle.fmap_rules.specs.declared.Area.{Area}
 use Rattle.fmd_check.specs.Check.{Checked, fault, good, check_text}
-use Rattle.fmd.specs.Calls.{Said, said_by, layout_in, layout_for, list_record, filled, list_by, list_text, Recorded, record_by, record_text}
+use Rattle.fmd.specs.Calls.{Said, said_by, layout_in, layout_for, list_record, filled, list_text, Recorded, record_text}
 use Rattle.fmd.specs.Claims.{blank_listed, Fills, ListedFills, RefusedListStays, RefusedRecordsStay}
 use Rattle.fmd.specs.declared.SectionRecord.{SectionRecord}
 use Rattle.fmd.proofs.Claims.{said}

@@ -1,27 +1,29 @@
 -- What each call answers and leaves behind.
-use Rattle.std.specs.Prelude.{cond, List, [], ◌++◌, map, ℕ, eqb, length, drop, Option as Optional, Some, None}
+use Rattle.std.specs.Prelude.{cond, List, [], ◌++◌, map, ℕ, eqb, length, drop, Option as Optional, Some, None, Result, Ok, Err}
 use Rattle.std.proofs.Math.Option.{Option, none, some}
 use Rattle.octets.specs.Bytes.{zeros, put, flat}
 use Rattle.fmap_rules.specs.Map.{position}
 use Rattle.fmap_rules.specs.Written.{area_bytes, map_bytes}
 use Rattle.fmap_rules.specs.declared.ImagePosition.{ImagePosition}
 use Rattle.fmap_rules.specs.declared.Area.{Area}
-use Rattle.fmd_head.specs.Refusals.{number_of as refusal_number}
+use Rattle.fmd_head.specs.Refusals.{number_of as text_number}
 use Rattle.fmd_head.specs.declared.TextImage.{TextImage}
 use Rattle.fmd_check.specs.Check.{Checked, fault, good, check_text}
 use Rattle.fmd_check.specs.Areas.{stored_name, area_at, layout_areas}
-use Rattle.fmd.specs.declared.Answer.{Answer}
-use Rattle.fmd.specs.declared.Answer.TheVariants.{Accepted, WrongLength, Refused}
+use Rattle.fmd.specs.declared.Refusal.{Refusal}
+use Rattle.fmd.specs.declared.Refusal.TheVariants.{WrongLength, OfText}
 use Rattle.fmd.specs.declared.Image.{Image}
-use Rattle.fmd.specs.declared.LayoutReading.{LayoutReading}
 use Rattle.fmd.specs.declared.SectionRecord.{SectionRecord}
-use Rattle.fmd.specs.declared.Writing.{Writing}
 
--- (W15) the number of each answer
-abbrev pub number_of : Answer → Option ℕ
-number_of Accepted = none
-number_of WrongLength = some 1
-number_of (Refused r) = some (refusal_number r)
+-- (W15) the number of each refusal
+abbrev pub refusal_number : Refusal → ℕ
+refusal_number WrongLength = 1
+refusal_number (OfText r) = text_number r
+
+-- the number of what a call answers; none where the call is accepted
+abbrev pub number_of : {A : Type 0} → Result A Refusal → Option ℕ
+number_of (Ok a) = none
+number_of (Err r) = some (refusal_number r)
 
 -- ---- what a layout text says
 
@@ -132,14 +134,24 @@ write_text s image = write_by (layout_in s) image (layout_in s).answer
 
 -- ---- what the values of the code say
 
-abbrev pub reading : LayoutReading → Read
-reading r = record { answer = number_of r.answer; image = r.image }
+-- the image of an answer, blank after a refusal
+abbrev pub image_in : Result Image Refusal → Image
+image_in (Ok i) = i
+image_in (Err r) = blank_image
 
-abbrev pub list_of : LayoutReading → List SectionRecord → Listed
-list_of r ys = record { answer = number_of r.answer; image = r.image; sections = ys }
+-- the position of an answer, 0 after a refusal
+abbrev pub position_of : Result ImagePosition Refusal → ImagePosition
+position_of (Ok at) = at
+position_of (Err r) = position 0
 
-abbrev pub recorded : LayoutReading → List ℕ → Recorded
-recorded r bs = record { answer = number_of r.answer; image = r.image; records = bs }
+abbrev pub reading : Result Image Refusal → Read
+reading r = record { answer = number_of r; image = image_in r }
 
-abbrev pub written : Writing → List ℕ → Written
-written r image = record { answer = number_of r.answer; at = r.at; image = image }
+abbrev pub list_of : Result Image Refusal → List SectionRecord → Listed
+list_of r ys = record { answer = number_of r; image = image_in r; sections = ys }
+
+abbrev pub recorded : Result Image Refusal → List ℕ → Recorded
+recorded r bs = record { answer = number_of r; image = image_in r; records = bs }
+
+abbrev pub written : Result ImagePosition Refusal → List ℕ → Written
+written r image = record { answer = number_of r; at = position_of r; image = image }

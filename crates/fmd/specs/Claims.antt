@@ -1,5 +1,5 @@
 -- What is claimed besides the equations of the calls: the statements of the theorems. Users rely on these.
-use Rattle.std.specs.Prelude.{◌≡◌, List, [], ℕ, ◌≤◌, ◌<◌, length, get_or}
+use Rattle.std.specs.Prelude.{◌≡◌, List, [], ℕ, ◌≤◌, ◌<◌, length, get_or, Result}
 use Rattle.std.proofs.Math.Option.{none, some}
 use Rattle.octets.specs.Rows.{code_of}
 use Rattle.fmap_rules.specs.Map.{position, blank_area}
@@ -13,12 +13,12 @@ use Rattle.fmd_check.specs.Fitted.{Fitted}
 use Rattle.fmd_check.specs.Check.{good, check_text}
 use Rattle.fmd_check.specs.Nested.{start_at, Nested, AreaStands}
 use Rattle.fmd.specs.Calls.{number_of, layout_in, list_text, record_text, write_text}
-use Rattle.fmd.specs.declared.Answer.{Answer}
+use Rattle.fmd.specs.declared.Refusal.{Refusal}
 use Rattle.fmd.specs.declared.SectionRecord.{SectionRecord as Listed}
 
 -- no refusal's number is 0
-abbrev pub ZeroIsAccepted : Type 0
-ZeroIsAccepted = (a : Answer) → code_of (number_of a) ≡ 0 → number_of a ≡ none
+abbrev pub ZeroIsAccepted : Type 1
+ZeroIsAccepted = (A : Type 0) (a : Result A Refusal) → code_of (number_of a) ≡ 0 → number_of a ≡ none
 
 -- (L14), (L15) sections lie in their parents and in the image, and any two, at any depth, are disjoint or one lies in the other
 abbrev pub SectionsNested : Type 0

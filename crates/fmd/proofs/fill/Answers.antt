@@ -14,7 +14,7 @@ use Rattle.fmd_check.proofs.Shape.{length-areas}
 use Rattle.fmd_check.proofs.Listed.{area-in}
 use Rattle.fmd.specs.Calls.{list_record, filled}
 use Rattle.fmd.specs.declared.SectionRecord.{SectionRecord}
-use Rattle.fmd.proofs.Filled.{filled-length, filled_on}
+use Rattle.fmd.proofs.Filled.{filled_on}
 use Rattle.fmd.proofs.fill.Goals as goal
 
 -- so many areas are listed
@@ -29,14 +29,11 @@ loop-i-preserved c =
     let ys = a.sections.now in
     let k : length areas ≡ a.n = count a.text.now a.rows.now a.spots.now a.n in
     let small : l.i < a.n = omega arith in
-    let laid = c.requires.0 (omega arith) in (
-      omega arith,
-      rw add-one (
-          ap (λ (z : List SectionRecord). set z l.i c.section_at.result) l.invariant.1
-          ∙ ap (λ (z : SectionRecord). set (filled (map list_record (take l.i areas)) ys) l.i z)
-          (c.section_at.ensures ∙ ap list_record (sym (area-in laid l.i small)))
-          ∙ filled_on list_record areas ys l.i blank_area (omega arith) (omega arith)
-          ),
+    rw add-one (
+    ap (λ (z : List SectionRecord). set z l.i c.section_at.result) l.invariant
+    ∙ ap (λ (z : SectionRecord). set (filled (map list_record (take l.i areas)) ys) l.i z)
+    (c.section_at.ensures ∙ ap list_record (sym (area-in c.requires.0 l.i small)))
+    ∙ filled_on list_record areas ys l.i blank_area (omega arith) (omega arith)
     )
 
 pub returns : goal.returns
@@ -44,6 +41,6 @@ returns c =
     let a = c.args in
     let l = c.loop-i in
     let k = count a.text.now a.rows.now a.spots.now a.n in
-    l.invariant.1
+    l.invariant
     ∙ ap (λ (us : List Area). filled (map list_record us) a.sections.now)
     (take_all l.i (layout_areas a.text.now (sections_in a.n a.rows.now) (placed_in a.n a.spots.now)) (omega arith))

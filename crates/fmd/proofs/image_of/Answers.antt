@@ -4,4 +4,4 @@ use Rattle.fmd.proofs.image_of.Goals as goal
 
 pub returns : goal.returns
 unfolding image_of
-returns c = rw (sym c.stored_name-name.ensures, sym c.base_of.ensures)
+returns c = rw (sym c.stored_name.ensures, sym c.base_of.ensures)

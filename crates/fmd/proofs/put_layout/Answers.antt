@@ -1,17 +1,18 @@
+use Rattle.fmd.proofs.Records.{stopped}
 use Rattle.fmd.proofs.Layouts.{few, laid, there, named, map-room, map_is}
-use Rattle.fmd.specs.Calls.{image_of, written}
-use Rattle.fmd.specs.declared.Writing.{Writing}
-use mathlib.Core.Path.{ap}
+use Rattle.fmd.specs.Calls.{image_of}
 use borrow.Author.Tests.{ne_eqb}
 use native.Mathlib.Omega.{arith}
 use Rattle.fmd.proofs.put_layout.Goals as goal
 
-pub returns-then-image-i : goal.returns-then-image-i
+pub returns-in_err-need_length : goal.returns-in_err-need_length
 unfolding image_of
-returns-then-image-i c = rw (ne_eqb _ _ c.if-image-i.true) (ap (λ (w : Writing). written w c.args.image.now) c.unwritten.ensures)
+returns-in_err-need_length c =
+    let w = c.in_err-need_length.ensures in
+    rw (stopped _ c.from_residual.ensures.1 w.0, ne_eqb _ _ w.1)
 
-pub area_at-a-requires : goal.area_at-a-requires
-area_at-a-requires c = (laid c.requires, there c.requires)
+pub area_at-requires : goal.area_at-requires
+area_at-requires c = (laid c.requires, there c.requires)
 
 pub image_of-x-requires : goal.image_of-x-requires
 image_of-x-requires c = named c.requires
@@ -20,10 +21,10 @@ pub overflow_cast-n : goal.overflow_cast-n
 overflow_cast-n c = omega (arith, few c.requires)
 
 pub put_header-requires : goal.put_header-requires
-put_header-requires c = omega (arith, map-room c.requires c.area_at-a.ensures, c.if-image-i.false)
+put_header-requires c = omega (arith, map-room c.requires c.area_at.ensures, c.in_ok-need_length.ensures)
 
 pub put_areas-requires : goal.put_areas-requires
-put_areas-requires c = (laid c.requires, omega (arith, map-room c.requires c.area_at-a.ensures, c.if-image-i.false))
+put_areas-requires c = (laid c.requires, omega (arith, map-room c.requires c.area_at.ensures, c.in_ok-need_length.ensures))
 
 pub returns : goal.returns
-returns c = map_is c.requires c.image_of-x.ensures _ c.if-image-i.false _ _ _ c.area_at-a.ensures c.put_header.ensures c.put_areas.ensures
+returns c = map_is c.requires c.image_of-x.ensures _ c.in_ok-need_length.ensures _ _ _ c.area_at.ensures c.put_header.ensures c.put_areas.ensures
