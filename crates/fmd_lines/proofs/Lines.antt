@@ -1,14 +1,15 @@
 -- Laws of lines: what functions that put text one after the other leave.
 use mathlib.Core.Path.{◌≡◌, ap}
-use mathlib.Core.List.{List, [], ◌∷◌}
-use Prim.Native.Nat.{ℕ, ◌+◌, ◌≤◌}
+use mathlib.Core.List.{List, [], ◌∷◌, map}
+use Prim.Native.Nat.{ℕ, ◌+◌, ◌*◌, ◌≤◌}
 use native.Mathlib.Omega.{arith}
 use lib.ListN.{length, take}
-use lib.Seq.{length-take-le}
+use lib.Seq.{length-take-le, take_all}
 use Rattle.octets.specs.Ascii.{ascii}
+use Rattle.octets.specs.Bytes.{flat}
 use Rattle.text_out.specs.Text.{hex_digits, decimal_digits, Puts}
 use Rattle.text_out.proofs.Digits.{length-hex, length-decimal}
-use Rattle.text_out.proofs.Puts.{puts_then, puts-as}
+use Rattle.text_out.proofs.Puts.{puts_then, puts-as, Each, each_all}
 use Rattle.fmap_rules.specs.Map.{name_length}
 use Rattle.fmd.specs.declared.Image.{Image}
 use Rattle.fmd.specs.declared.SectionRecord.{SectionRecord}
@@ -56,3 +57,10 @@ numbered-put word n at a b c r xs ys zs us vs p q t u = (
   omega (arith, p.0, q.0, t.0, u.0, length-decimal n),
   puts_then _ _ _ _ _ _ _ _ (puts_then _ _ _ _ _ _ _ _ (puts_then _ _ _ _ _ _ _ _ p q) t) u,
 )
+
+-- a text for each element of a list
+pub each-whole : {A : Type 0} (f : A → List ℕ) (w : ℕ) {items : List A} {at : ℕ} {old new : List ℕ} {end i : ℕ} → length items ≤ i → i ≤ length items
+    → Each f w items at old new end i → (end ≤ at + w * length items) × Puts at (flat (map f items)) end old new
+each-whole f w {items} g h q =
+    let p = each_all f w (length items) h g q in
+    (p.0, puts-as _ _ _ _ _ _ (ap (λ us. flat (map f us)) (take_all (length items) items (omega arith))) p.1)

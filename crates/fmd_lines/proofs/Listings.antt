@@ -1,21 +1,21 @@
 -- Laws of the listing: what a lent section list says of the text.
 use mathlib.Core.Path.{◌≡◌, refl, sym, ap, ap₂, ◌∙◌}
 use mathlib.Core.List.{List, ◌++◌, map}
-use Prim.Native.Nat.{ℕ, ◌≤◌, ◌<◌}
+use Prim.Native.Nat.{ℕ, ◌≤◌}
 use native.Mathlib.Omega.{arith}
 use lib.ListN.{length, take, drop, length-map}
 use lib.Seq.{take_at}
 use Rattle.octets.specs.Ascii.{ascii}
 use Rattle.octets.specs.Bytes.{flat}
-use Rattle.octets.specs.Rows.{code_of}
+use Rattle.std.proofs.Common.{Result, Ok, Err}
 use Rattle.fmd_check.specs.Check.{Checked, fault, good, check_text}
 use Rattle.fmd_check.specs.Claims.{CheckedFacts}
 use Rattle.fmd_check.proofs.Facts.{check-facts}
 use Rattle.fmd_check.proofs.Shape.{length-areas}
-use Rattle.fmd.specs.Calls.{Listed, number_of, image_of, said_by, layout_in, list_record, list_by, layout_for, list_text, list_of}
-use Rattle.fmd.specs.declared.LayoutReading.{LayoutReading}
+use Rattle.fmd.specs.Calls.{Listed, refusal_number, image_of, said_by, layout_in, list_record, list_by, layout_for, list_text, image_in, list_of}
+use Rattle.fmd.specs.declared.Image.{Image}
+use Rattle.fmd.specs.declared.Refusal.{Refusal}
 use Rattle.fmd.specs.declared.SectionRecord.{SectionRecord}
-use Rattle.fmd.proofs.Answers.{refused-by, accepted-by}
 use Rattle.fmd_lines.specs.Lines.{section_line, image_line, numbered_line, lines_of, listing_of}
 
 -- ---- an image has as many sections as it says, and at most 128
@@ -31,34 +31,33 @@ count-is s = count-by s (check_text s) (check-facts s)
 
 -- ---- a list of 128 sections that was lent
 
-module _ (s : List ℕ) (r : LayoutReading) (ys zs : List SectionRecord) (n : length ys ≡ 128) (e : list_of r zs ≡ list_text s ys) where
-  lent_is : list_of r zs ≡ list_by (layout_in s) ys
+module _ (s : List ℕ) (ys zs : List SectionRecord) (n : length ys ≡ 128) where
+  lent_is : (r : Result Image Refusal) → list_of r zs ≡ list_text s ys → list_of r zs ≡ list_by (layout_in s) ys
   unfolding list_text layout_for
-  lent_is = e ∙ ap (λ (k : ℕ). list_by (layout_for s k) ys) n
+  lent_is r e = e ∙ ap (λ (k : ℕ). list_by (layout_for s k) ys) n
 
-  pub answer-is : number_of r.answer ≡ (layout_in s).answer
-  answer-is = ap (λ (x : Listed). x.answer) lent_is
+  pub count_small : (r : Result Image Refusal) → list_of r zs ≡ list_text s ys → (image_in r).count ≤ 128
+  count_small r e = omega (arith, ap (λ (x : Listed). x.image.count) (lent_is r e), (count-is s).1)
 
-  image-is : r.image ≡ (layout_in s).image
-  image-is = ap (λ (x : Listed). x.image) lent_is
+  pub refused-lines : (r : Refusal) → list_of (Err r) zs ≡ list_text s ys → numbered_line (ascii "refused") (refusal_number r) ≡ listing_of s
+  unfolding listing_of
+  refused-lines r e = ap (λ (x : Listed). lines_of (layout_in s) x.answer) (lent_is (Err r) e)
 
-  pub count_small : r.image.count ≤ 128
-  count_small = omega (arith, ap (λ (x : Listed). x.image.count) lent_is, (count-is s).1)
+  module _ (i : Image) (e : list_of (Ok i) zs ≡ list_text s ys) where
+    lent : list_of (Ok i) zs ≡ list_by (layout_in s) ys
+    lent = lent_is (Ok i) e
 
-  sections-are : take r.image.count zs ≡ map list_record (layout_in s).areas
-  sections-are =
-      let xs = map list_record (layout_in s).areas in
-      rw (ap (λ (x : Listed). x.image.count) lent_is, ap (λ (x : Listed). x.sections) lent_is)
-      (take_at xs (drop (length xs) ys) (layout_in s).image.count (length-map (layout_in s).areas list_record ∙ sym (count-is s).0))
+    sections-are : take i.count zs ≡ map list_record (layout_in s).areas
+    sections-are =
+        let xs = map list_record (layout_in s).areas in
+        rw (ap (λ (x : Listed). x.image.count) lent, ap (λ (x : Listed). x.sections) lent)
+        (take_at xs (drop (length xs) ys) (layout_in s).image.count (length-map (layout_in s).areas list_record ∙ sym (count-is s).0))
 
-  -- the number k that the answer has, or 0
-  module _ (k : ℕ) (f : k ≡ code_of (number_of r.answer)) where
-    pub refused-lines : 0 < k → numbered_line (ascii "refused") k ≡ listing_of s
+    pub accepted-lines : image_line i ++ flat (map section_line (take i.count zs)) ≡ listing_of s
     unfolding listing_of
-    refused-lines h = ap (lines_of (layout_in s)) (sym (refused-by r.answer k f h) ∙ answer-is)
+    accepted-lines =
+        ap₂ ◌++◌ (ap (λ (x : Listed). image_line x.image) lent) (ap (λ (xs : List SectionRecord). flat (map section_line xs)) sections-are)
+        ∙ ap (λ (x : Listed). lines_of (layout_in s) x.answer) lent
 
-    pub accepted-lines : k ≤ 0 → image_line r.image ++ flat (map section_line (take r.image.count zs)) ≡ listing_of s
-    unfolding listing_of
-    accepted-lines h =
-        ap₂ ◌++◌ (ap image_line image-is) (ap (λ (xs : List SectionRecord). flat (map section_line xs)) sections-are)
-        ∙ ap (lines_of (layout_in s)) (sym (accepted-by r.answer k f h) ∙ answer-is)
+    pub so-many : i.count ≡ length (take i.count zs)
+    so-many = rw sections-are (ap (λ (x : Listed). x.image.count) lent ∙ ((count-is s).0 ∙ sym (length-map (layout_in s).areas list_record)))

@@ -1,7 +1,8 @@
 // Lists a layout text from standard input: the image, then each section, a line each; or the refusal (S10 to S13).
 #![tactic(auto)]
 
-ghost use Rattle.fmd_list.specs.Inputs.{InputWithin};
+ghost use Rattle.std.specs.Prelude.{IfOk};
+ghost use Rattle.io.specs.Counts.{IsPrefixLen};
 
 use std::io;
 use std::io::Read;
@@ -9,26 +10,18 @@ use std::io::Read;
 // One byte more than a layout text may have, so that a longer text is refused and not cut.
 const TEXT: usize = 32769;
 
-// What was read: so many bytes, or nothing, as the input can't be read.
-#[derive(Drop)]
-enum Input {
-    Bytes(usize),
-    Failed(io::Error),
-}
-
-// Reads until the buffer is full or the input ends.
-fn read_all<R: Read>(input: &mut R, buf: &mut [u8]) -> Input
-    ensures { InputWithin result buf.new }
+// Reads until the buffer is full or the input ends: how many bytes were read.
+fn read_all<R: Read>(input: &mut R, buf: &mut [u8]) -> io::Result<usize>
+    ensures { IfOk result (λ n. IsPrefixLen n buf.new) }
 {
     let mut done = 0;
     while done < buf.len() {
-        match input.read(&mut buf[done..]) {
-            Ok(0) => return Input::Bytes(done),
-            Ok(n) => done += n,
-            Err(e) => return Input::Failed(e),
+        match input.read(&mut buf[done..])? {
+            0 => return Ok(done),
+            n => done += n,
         }
     }
-    Input::Bytes(done)
+    Ok(done)
 }
 
 fn show(rt: &(impl Print + Eprint), text: &[u8]) -> io::Result<()> {
@@ -43,7 +36,7 @@ fn show(rt: &(impl Print + Eprint), text: &[u8]) -> io::Result<()> {
 fn main(rt: HostRuntime) -> io::Result<()> {
     let mut text = [0u8; TEXT];
     match read_all(&mut rt.stdin(), &mut text) {
-        Input::Bytes(n) => show(&rt, &text[..n]),
-        Input::Failed(e) => eprintln!(rt; "Standard input can't be read: {e}"),
+        Ok(n) => show(&rt, &text[..n]),
+        Err(e) => eprintln!(rt; "Standard input can't be read: {e}"),
     }
 }

@@ -9,80 +9,61 @@
 ghost use Rattle.std.specs.Prelude.{map, ◌≡◌, ◌+◌, ◌≤◌, length, take};
 ghost use Rattle.io.specs.Counts.{IsPrefixLen};
 ghost use Rattle.octets.specs.Bytes.{flat};
-ghost use Rattle.text_out.specs.Text.{hex_digits, Puts};
-ghost use Rattle.fmd.specs.Calls.{number_of};
-ghost use Rattle.fmd_records.specs.Records.{pattern as pattern_of, hex_bytes, record_line, answer_line, records_of};
+ghost use Rattle.text_out.specs.Text.{Puts};
+ghost use Rattle.fmd.specs.Calls.{number_of, image_in};
+ghost use Rattle.fmd_records.specs.Records.{hex_bytes, record_line, answer_line, records_of};
 
 use fmap_rules::ImagePosition;
-use fmd::{LayoutReading, SectionRecord};
+use fmd::{Image, Refusal, SectionRecord};
 use std::io;
 
 // What a record holds before it is lent, so that it shows whether it was filled.
-fn pattern() -> SectionRecord
-    ensures { result ≡ pattern_of }
-{
-    SectionRecord {
-        position: ImagePosition(0xa5a5a5a5),
-        size: 0x5a5a5a5a,
-        flags: 0xc3c3,
-        name: [0x7eu8; 32],
-    }
-}
+const PATTERN: SectionRecord = SectionRecord {
+    position: ImagePosition(0xa5a5a5a5),
+    size: 0x5a5a5a5a,
+    flags: 0xc3c3,
+    name: [0x7e; 32],
+};
 
-fn byte(out: &mut [u8], at: usize, b: u8) -> usize
-    requires { at + 2 ≤ length out.old }
-    ensures { (result ≤ at + 2) × Puts at (hex_digits 2 b) result out.old out.new }
-{
-    text_out::hex(out, at, b as u64, 2)
-}
-
-fn name(out: &mut [u8], at: usize, stored: [u8; 32]) -> usize
+fn name(out: &mut [u8], at: usize, stored: &[u8; 32]) -> usize
     requires { at + 64 ≤ length out.old }
-    ensures { (result ≤ at + 64) × Puts at (hex_bytes stored) result out.old out.new }
+    ensures { (result ≤ at + 64) × Puts at (hex_bytes stored.now) result out.old out.new }
 {
     let mut end = at;
-    let mut i: usize = 0;
-    while i < 32 {
-        end = byte(out, end, stored[i]);
-        i += 1;
+    for b in stored {
+        end = text_out::hex(out, end, *b as u64, 2);
     }
     end
 }
 
-fn record_line(out: &mut [u8], at: usize, s: SectionRecord) -> usize
+fn record_line(out: &mut [u8], at: usize, s: &SectionRecord) -> usize
     requires { at + 88 ≤ length out.old }
-    ensures { (result ≤ at + 88) × Puts at (record_line s) result out.old out.new }
+    ensures { (result ≤ at + 88) × Puts at (record_line s.now) result out.old out.new }
 {
-    let stored = s.name;
     let a = fmd_lines::numbers(out, at, s);
-    let b = name(out, a, stored);
+    let b = name(out, a, &s.name);
     text_out::bytes(out, b, b"\n")
 }
 
-fn record_lines(out: &mut [u8], at: usize, sections: [SectionRecord; 128]) -> usize
+fn record_lines(out: &mut [u8], at: usize, sections: &[SectionRecord; 128]) -> usize
     requires { at + 11264 ≤ length out.old }
-    ensures { (result ≤ at + 11264) × Puts at (flat (map record_line sections)) result out.old out.new }
+    ensures { (result ≤ at + 11264) × Puts at (flat (map record_line sections.now)) result out.old out.new }
 {
     let mut end = at;
-    let mut i: usize = 0;
-    while i < 128 {
-        end = record_line(out, end, sections[i]);
-        i += 1;
+    for s in sections {
+        end = record_line(out, end, s);
     }
     end
 }
 
-fn answer_line(out: &mut [u8], r: LayoutReading) -> usize
-    requires { (r.image.count ≤ 128) × (13 ≤ length out.old) }
-    ensures { (result ≤ 13) × Puts 0 (answer_line r.image.count (number_of r.answer)) result out.old out.new }
+fn answer_line(out: &mut [u8], answer: &Result<Image, Refusal>) -> usize
+    requires { ((image_in answer.now).count ≤ 128) × (13 ≤ length out.old) }
+    ensures { (result ≤ 13) × Puts 0 (answer_line (image_in answer.now).count (number_of answer.now)) result out.old out.new }
 {
-    let answer = r.answer;
-    let image = r.image;
-    let n = fmd::number(answer);
-    if 0 < n {
-        return fmd_lines::numbered(out, 0, b"refused", n as u64);
+    match answer {
+        Ok(image) => fmd_lines::numbered(out, 0, b"accepted", image.count as u64),
+        Err(_) => fmd_lines::numbered(out, 0, b"refused", fmd::number(answer) as u64),
     }
-    fmd_lines::numbered(out, 0, b"accepted", image.count as u64)
 }
 
 // The lines of a text.
@@ -90,12 +71,10 @@ fn records(out: &mut [u8], text: &[u8]) -> usize
     requires { 11277 ≤ length out.old }
     ensures { IsPrefixLen result out.new × (take result out.new ≡ records_of text.now) }
 {
-    let s = pattern();
-    let l = fmd_lines::lend(text, [s; 128]);
-    let reading = l.reading;
-    let sections = l.sections;
-    let at = answer_line(out, reading);
-    record_lines(out, at, sections)
+    let mut sections = [PATTERN; 128];
+    let answer = fmd::list(text, &mut sections);
+    let at = answer_line(out, &answer);
+    record_lines(out, at, &sections)
 }
 
 fn show(rt: &impl Print, text: &[u8]) -> io::Result<()> {

@@ -6,9 +6,9 @@ use Rattle.fmd_lines.proofs.image_line.Goals as goal
 pub bytes-requires : goal.bytes-requires
 bytes-requires c =
     omega
-    (arith, c.name-a.ensures.0, c.bytes-b.ensures.0, c.hex_field-c.ensures.0, c.hex-d.ensures.0, length-hex 16 c.args.i.address, c.requires)
+    (arith, c.name-a.ensures.0, c.bytes-b.ensures.0, c.hex_field-c.ensures.0, c.hex-d.ensures.0, length-hex 16 c.args.i.now.address, c.requires)
 
 pub returns : goal.returns
 returns c =
-    image-put c.args.i _ _ _ _ _ _ _ _ _ _ _ _ c.name-a.ensures c.bytes-b.ensures c.hex_field-c.ensures c.hex-d.ensures
+    image-put c.args.i.now _ _ _ _ _ _ _ _ _ _ _ _ c.name-a.ensures c.bytes-b.ensures c.hex_field-c.ensures c.hex-d.ensures
     c.bytes.ensures

@@ -1,2 +1,0 @@
--- What is known of a text that was read.
-pub mod Inputs
