@@ -140,9 +140,9 @@ image_in (Ok i) = i
 image_in (Err r) = blank_image
 
 -- the position of an answer, 0 after a refusal
-abbrev pub position_of : Result ImagePosition Refusal → ImagePosition
-position_of (Ok at) = at
-position_of (Err r) = position 0
+abbrev pub written_at : Result ImagePosition Refusal → ImagePosition
+written_at (Ok at) = at
+written_at (Err r) = position 0
 
 abbrev pub reading : Result Image Refusal → Read
 reading r = record { answer = number_of r; image = image_in r }
@@ -154,4 +154,4 @@ abbrev pub recorded : Result Image Refusal → List ℕ → Recorded
 recorded r bs = record { answer = number_of r; image = image_in r; records = bs }
 
 abbrev pub written : Result ImagePosition Refusal → List ℕ → Written
-written r image = record { answer = number_of r; at = position_of r; image = image }
+written r image = record { answer = number_of r; at = written_at r; image = image }
