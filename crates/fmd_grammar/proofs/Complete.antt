@@ -13,8 +13,7 @@ use Rattle.octets.specs.Tests.{◌and◌}
 use Rattle.octets.specs.Bytes.{same}
 use Rattle.octets.proofs.Bools.{choice, clash, and_i, and_r, not_t}
 use Rattle.text_words.specs.Classes.{is_digit, digit_of}
-use Rattle.text_words.specs.Numerals.{some_digits, numeral_of}
-use Rattle.text_words.specs.declared.Numeral.{Numeral}
+use Rattle.text_words.specs.Numerals.{Begun, some_digits, numeral_of}
 use Rattle.fmd_lex.specs.Numbers.{scaled_after, number_in}
 use Rattle.fmd_lex.specs.Names.{good_name, flag_of}
 use Rattle.fmd_table.specs.declared.ParentOffset.{ParentOffset}
@@ -53,7 +52,7 @@ unfolding number_in numeral_of some_digits is_digit ◌and◌
 number-digit [] e = absurd (wrong-value e)
 number-digit (x ∷ xs) {n} e = go e
   where
-    P : Numeral → Type 0
+    P : Begun → Type 0
     P v = scaled_after (x ∷ xs) v ≡ Some n → is_digit x ≡ true
 
     go : P (numeral_of 4294967295 (x ∷ xs))

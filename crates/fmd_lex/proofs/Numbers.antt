@@ -1,5 +1,5 @@
 -- Laws of numbers.
-use Rattle.std.specs.Prelude.{Option, Some, None, option_and_then}
+use Rattle.std.specs.Prelude.{Option, Some, None, option_and_then, Ok, Err}
 use Prim.Native.Nat.{ℕ, suc, ◌+◌, ◌*◌, ◌≤◌, ◌<◌}
 use mathlib.Core.Path.{◌≡◌, refl}
 use mathlib.Core.List.{List, [], ◌∷◌}
@@ -10,9 +10,7 @@ use lib.Seq.{drop-cons}
 use lib.Dec.{leb, eqb}
 use borrow.Author.Tests.{le-leb, lt-leb, leb-true}
 use Rattle.octets.proofs.Bools.{choice}
-use Rattle.text_words.specs.Numerals.{numeral_of}
-use Rattle.text_words.specs.declared.Numeral.{Numeral}
-use Rattle.text_words.specs.declared.Numeral.TheVariants.{Value as Begun, Over, Missing}
+use Rattle.text_words.specs.Numerals.{Begun, numeral_of}
 use Rattle.fmd_lex.specs.Numbers.{unit_of, capped, scaled, scaled_after, number_in}
 
 -- ---- every number is at most 4,294,967,295
@@ -35,10 +33,9 @@ scaled_fits n (x ∷ []) = by_unit (unit_of x)
     by_unit None = tt
 scaled_fits n (x ∷ y ∷ ys) = tt
 
-after-fits : (w : List ℕ) (v : Numeral) → NumberFits (scaled_after w v)
-after-fits w (Begun n e) = scaled_fits n (drop e w)
-after-fits w Over = tt
-after-fits w Missing = tt
+after-fits : (w : List ℕ) (v : Begun) → NumberFits (scaled_after w v)
+after-fits w (Ok v) = scaled_fits v.value (drop v.end w)
+after-fits w (Err e) = tt
 
 pub number_fits : (w : List ℕ) → NumberFits (number_in w)
 unfolding number_in

@@ -1,9 +1,7 @@
 -- Numbers of a layout text.
-use Rattle.std.specs.Prelude.{cond, List, [], ◌∷◌, ℕ, ◌*◌, leb, eqb, drop, Option, Some, None, option_and_then}
+use Rattle.std.specs.Prelude.{cond, List, [], ◌∷◌, ℕ, ◌*◌, leb, eqb, drop, Option, Some, None, option_and_then, Ok, Err}
 use Prim.Native.Char.{code}
-use Rattle.text_words.specs.Numerals.{numeral_of}
-use Rattle.text_words.specs.declared.Numeral.{Numeral}
-use Rattle.text_words.specs.declared.Numeral.TheVariants.{Value as Begun, Over, Missing}
+use Rattle.text_words.specs.Numerals.{Begun, numeral_of}
 
 -- L8: Numbers: 0, or decimal without leading 0, or 0x and hex digits of either case, then optional K, M or G (1,024 and its powers);
 -- at most 4,294,967,295.
@@ -23,10 +21,9 @@ scaled n (x ∷ []) = option_and_then (λ u. capped (n * u)) (unit_of x)
 scaled n (x ∷ y ∷ ys) = None
 
 -- the numeral that the word w begins with, then what `scaled` says; what is over the limit is so with K, M or G too
-abbrev pub scaled_after : List ℕ → Numeral → Option ℕ
-scaled_after w (Begun n e) = scaled n (drop e w)
-scaled_after w Over = None
-scaled_after w Missing = None
+abbrev pub scaled_after : List ℕ → Begun → Option ℕ
+scaled_after w (Ok v) = scaled v.value (drop v.end w)
+scaled_after w (Err e) = None
 
 -- the number that a word is
 unfoldable pub number_in : List ℕ → Option ℕ

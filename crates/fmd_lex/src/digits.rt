@@ -2,8 +2,6 @@
 ghost use Rattle.std.specs.Prelude.{◌≡◌, ◌≤◌, IfSome};
 ghost use Rattle.fmd_lex.specs.Numbers.{unit_of, capped, scaled, number_in};
 
-use text_words::Numeral;
-
 // What K, M and G stand for.
 #[tactic(auto, unfolding(crate::specs::Numbers::unit_of))]
 fn unit(b: u8) -> Option<u64>
@@ -45,8 +43,7 @@ pub fn number_of(w: &[u8]) -> Option<u32>
     ensures { result ≡ number_in w.now }
 {
     match text_words::digits::numeral_of(w, 4294967295) {
-        Numeral::Value(n, end) => scaled(n, &w[end..]),
-        Numeral::Over => None,
-        Numeral::Missing => None,
+        Ok(numeral) => scaled(numeral.value, &w[numeral.end..]),
+        Err(_) => None,
     }
 }

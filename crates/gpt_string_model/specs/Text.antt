@@ -1,5 +1,5 @@
 -- Layout strings of the boot loader: which texts are taken, and what each asks for. Definitions only.
-use Rattle.std.specs.Prelude.{Bool, true, false, not, cond, List, [], ◌∷◌, ◌++◌, map, ℕ, ◌-◌, ◌*◌, leb, eqb, length, get_or, drop, replicate}
+use Rattle.std.specs.Prelude.{Bool, true, false, not, cond, List, [], ◌∷◌, ◌++◌, map, ℕ, ◌-◌, ◌*◌, leb, eqb, length, get_or, drop, replicate, Ok, Err}
 use Rattle.std.proofs.Math.Option.{Option, none, some}
 use Prim.Native.Char.{code}
 use Prim.Native.String.{String}
@@ -10,9 +10,7 @@ use Rattle.guid.specs.Text.{is_guid_text, stored_of}
 use Rattle.guid.specs.Types.{expand}
 use Rattle.text_words.specs.Classes.{is_graphic}
 use Rattle.text_words.specs.Names.{is_sized}
-use Rattle.text_words.specs.Numerals.{some_digits}
-use Rattle.text_words.specs.declared.Numeral.{Numeral}
-use Rattle.text_words.specs.declared.Numeral.TheVariants.{Value, Over, Missing}
+use Rattle.text_words.specs.Numerals.{Begun, some_digits}
 use Rattle.gpt_model.specs.Calls.{is_none, or_zero}
 use Rattle.gpt_string_model.specs.declared.StartByte.TheVariants.{Given, Lowest}
 use Rattle.gpt_string_model.specs.declared.WantedPartition.{WantedPartition}
@@ -55,10 +53,9 @@ abbrev pub multiplied : ℕ → Option ℕ → Option ℕ
 multiplied n none = none
 multiplied n (some factor) = cond (leb (n * factor) most) (some (n * factor)) none
 
-abbrev pub byte_count_by : Numeral → List ℕ → Option ℕ
-byte_count_by (Value n end) v = multiplied n (factor_in units (drop end v))
-byte_count_by Over v = none
-byte_count_by Missing v = none
+abbrev pub byte_count_by : Begun → List ℕ → Option ℕ
+byte_count_by (Ok n) v = multiplied n.value (factor_in units (drop n.end v))
+byte_count_by (Err e) v = none
 
 -- the number of bytes that a value says; none where it is no such number
 unfoldable pub byte_count : List ℕ → Option ℕ

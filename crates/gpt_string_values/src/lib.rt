@@ -13,7 +13,6 @@ ghost use Rattle.gpt_string_model.specs.Text.{units, factor_in, multiplied, byte
 ghost use Rattle.gpt_string_values.specs.Reads.{count_as, guid_as};
 
 use guid::Answer;
-use text_words::Numeral;
 
 // The number of bytes that a value says.
 #[derive(Clone, Copy)]
@@ -88,9 +87,8 @@ pub fn byte_count(v: &[u8]) -> CountRead
     ensures { count_as result ≡ byte_count v.now }
 {
     match text_words::digits::some_digits(v, 0, 10, MOST) {
-        Numeral::Value(n, end) => counted(v, end, n),
-        Numeral::Over => CountRead::Wrong,
-        Numeral::Missing => CountRead::Wrong,
+        Ok(n) => counted(v, n.end, n.value),
+        Err(_) => CountRead::Wrong,
     }
 }
 

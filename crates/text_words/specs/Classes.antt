@@ -1,5 +1,6 @@
 -- Classes of bytes.
-use Rattle.std.specs.Prelude.{Bool, cond, ℕ, ◌-◌, ltb, leb, eqb}
+use Rattle.std.specs.Prelude.{Bool, cond, ℕ, ◌-◌, ltb, leb, eqb, Option}
+use Rattle.std.specs.Bool.{then_some}
 use Prim.Native.Char.{code}
 use Rattle.octets.specs.Ascii.{ascii}
 use Rattle.octets.specs.Tests.{◌and◌, any}
@@ -25,3 +26,7 @@ digit_of b =
     (cond (ltb b 71) (b - 55)
     (cond (ltb b 97) 99
     (cond (ltb b 103) (b - 87) 99)))))
+
+-- that value, of a digit of the base
+unfoldable pub digit_in : ℕ → ℕ → Option ℕ
+digit_in base b = then_some (ltb (digit_of b) base) (digit_of b)

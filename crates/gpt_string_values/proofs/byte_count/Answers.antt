@@ -7,16 +7,12 @@ pub counted-requires : goal.counted-requires
 counted-requires c =
     let args = c.args in
     let some-digits = c.some_digits in
-    digits-in-word 18446744073709551615 10 args.v.now some-digits.ensures c.in-Value.is
+    digits-in-word 18446744073709551615 10 args.v.now some-digits.ensures c.in-Ok.is
 
-pub returns-in-Value : goal.returns-in-Value
+pub returns-in-Ok : goal.returns-in-Ok
 unfolding byte_count
-returns-in-Value c = rw (sym c.some_digits.ensures ∙ c.in-Value.is) c.counted.ensures
+returns-in-Ok c = rw (sym c.some_digits.ensures ∙ c.in-Ok.is) c.counted.ensures
 
-pub returns-in-Over : goal.returns-in-Over
+pub returns-in-Err : goal.returns-in-Err
 unfolding byte_count
-returns-in-Over c = rw (sym c.some_digits.ensures ∙ c.in-Over.is)
-
-pub returns-in-Missing : goal.returns-in-Missing
-unfolding byte_count
-returns-in-Missing c = rw (sym c.some_digits.ensures ∙ c.in-Missing.is)
+returns-in-Err c = rw (sym c.some_digits.ensures ∙ c.in-Err.is)

@@ -1,25 +1,15 @@
-use borrow.Author.Tests.{ne_eqb}
-use Rattle.octets.specs.Tests.{◌or◌}
-use Rattle.text_words.specs.Classes.{is_blank}
+use native.Mathlib.Omega.{arith}
+use Rattle.text_words.proofs.Classes.{blank_not, blank_yes}
 use Rattle.text_words.proofs.is_blank.Goals as goal
 
-pub returns-in-32 : goal.returns-in-32
-unfolding is_blank ◌or◌
-returns-in-32 c = rw c.in-32.is
-
-pub returns-in-9 : goal.returns-in-9
-unfolding is_blank ◌or◌
-returns-in-9 c = rw c.in-9.is
-
-pub returns-in-13 : goal.returns-in-13
-unfolding is_blank ◌or◌
-returns-in-13 c = rw c.in-13.is
-
-pub returns-in-10 : goal.returns-in-10
-unfolding is_blank ◌or◌
-returns-in-10 c = rw c.in-10.is
-
 pub returns-in_default : goal.returns-in_default
-unfolding is_blank ◌or◌
-returns-in_default c = let r = c.in_default.in_default-own.rest in
-    simp (ne_eqb _ _ r.0.0.0.1, ne_eqb _ _ r.0.0.1, ne_eqb _ _ r.0.1, ne_eqb _ _ r.1)
+returns-in_default c = blank_not _ (λ e. omega (arith, e)) (λ e. omega (arith, e)) (λ e. omega (arith, e)) (λ e. omega (arith, e))
+
+pub returns-in_default-2 : goal.returns-in_default-2
+returns-in_default-2 c = blank_not _ (λ e. grind (arith, e)) (λ e. grind (arith, e)) (λ e. grind (arith, e)) (λ e. grind (arith, e))
+
+pub returns-in-32 : goal.returns-in-32
+returns-in-32 c = blank_yes _ (λ p q r s. omega (arith, p, q, r, s))
+
+pub returns-in-32-2 : goal.returns-in-32-2
+returns-in-32-2 c = blank_yes _ (λ p q r s. omega (arith, p, q, r, s))

@@ -1,15 +1,12 @@
-use borrow.Author.Tests.{lt-leb, le-leb}
+use lib.ListN.{length}
+use borrow.Author.Tests.{le-leb, lt-leb}
 use Rattle.octets.specs.Tests.{◌and◌}
 use Rattle.text_words.proofs.is_sized.Goals as goal
 
-pub returns-then-w-lt1 : goal.returns-then-w-lt1
+pub returns-then-w-ge1 : goal.returns-then-w-ge1
 unfolding ◌and◌
-returns-then-w-lt1 c = simp (lt-leb _ _ c.if-w-lt1.true)
+returns-then-w-ge1 c = rw (le-leb 1 (length c.args.w.now) c.if-w-ge1.true)
 
-pub returns-then-most-w : goal.returns-then-most-w
+pub returns-else-w-ge1 : goal.returns-else-w-ge1
 unfolding ◌and◌
-returns-then-most-w c = simp (le-leb _ _ c.if-w-lt1.false, lt-leb _ _ c.if-most-w.true)
-
-pub returns : goal.returns
-unfolding ◌and◌
-returns c = simp (le-leb _ _ c.if-w-lt1.false, le-leb _ _ c.if-most-w.false)
+returns-else-w-ge1 c = rw (lt-leb 1 (length c.args.w.now) c.if-w-ge1.false)

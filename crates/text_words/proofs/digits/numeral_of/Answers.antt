@@ -3,20 +3,17 @@ use native.Mathlib.Omega.{arith}
 use Rattle.text_words.proofs.Numerals.{num-none, num-plain, num-zero, num-hex, num-before}
 use Rattle.text_words.proofs.digits.numeral_of.Goals as goal
 
-pub returns-then-w-eq0 : goal.returns-then-w-eq0
-returns-then-w-eq0 c = num-none _ c.args.w.now c.if-w-eq0.true
+pub returns-in-empty : goal.returns-in-empty
+returns-in-empty c = num-none _ c.args.w.now (omega arith)
 
-pub returns-then-w-ne48 : goal.returns-then-w-ne48
-returns-then-w-ne48 c = c.some_digits.ensures ∙ num-plain _ c.args.w.now c.if-w-eq0.false
-    c.if-w-ne48.true
+pub returns-in-48 : goal.returns-in-48
+returns-in-48 c = c.some_digits.ensures ∙ num-hex _ c.args.w.now (omega arith) (omega arith) (omega arith)
 
-pub returns-then-w-eq1 : goal.returns-then-w-eq1
-returns-then-w-eq1 c = num-zero _ c.args.w.now c.if-w-eq1.true c.if-w-ne48.false
+pub returns-in-48-2 : goal.returns-in-48-2
+returns-in-48-2 c = num-zero _ c.args.w.now (omega arith) (omega arith)
 
-pub returns-then-w-eq120 : goal.returns-then-w-eq120
-returns-then-w-eq120 c = c.some_digits-then-w-eq120.ensures ∙ num-hex _ c.args.w.now (omega arith)
-    c.if-w-ne48.false c.if-w-eq120.true
+pub returns-in-48-2-2 : goal.returns-in-48-2-2
+returns-in-48-2-2 c = num-before _ c.args.w.now (omega arith) (omega arith) (λ e. omega (arith, e))
 
-pub returns : goal.returns
-returns c = num-before _ c.args.w.now (omega arith) c.if-w-ne48.false
-    c.if-w-eq120.false
+pub returns-in_default : goal.returns-in_default
+returns-in_default c = c.some_digits-in_default.ensures ∙ num-plain _ c.args.w.now (λ e. grind (arith, e)) (λ e. grind (arith, e))

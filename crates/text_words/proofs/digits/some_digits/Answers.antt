@@ -1,15 +1,16 @@
-use mathlib.Core.Path.{◌∙◌}
+use mathlib.Core.Path.{sym, ◌∙◌}
 use native.Mathlib.Omega.{arith}
-use Rattle.text_words.proofs.Numerals.{some_in, some_out, some_end}
-use borrow.Author.Rules.{rules}
+use Rattle.text_words.proofs.Numerals.{first_in, first_out, first_none}
 use Rattle.text_words.proofs.digits.some_digits.Goals as goal
 
-pub returns-then-digit-base : goal.returns-then-digit-base
-returns-then-digit-base c =
-    c.digits_from.ensures ∙ some_in c.args.w.now c.args.at c.args.most c.args.base (search rules) (omega arith)
+pub returns-in-len1-up : goal.returns-in-len1-up
+returns-in-len1-up c =
+    c.digits_from.ensures
+    ∙ first_in c.args.w.now c.args.at c.args.most c.args.base c.in-len1-up.len_at_least c.digit.ensures (sym c.is_some.ensures ∙ c.if-is_some.true)
 
-pub returns-then-at-w : goal.returns-then-at-w
-returns-then-at-w c = some_out c.args.w.now c.args.at c.args.most c.args.base (search rules) (omega arith)
+pub returns-in_default : goal.returns-in_default
+returns-in_default c = first_none c.args.w.now c.args.at c.args.most c.args.base (omega (arith, c.in_default.len_below))
 
-pub returns : goal.returns
-returns c = some_end c.args.w.now c.args.at c.args.most c.args.base (omega arith)
+pub returns-in_default-2 : goal.returns-in_default-2
+returns-in_default-2 c =
+    first_out c.args.w.now c.args.at c.args.most c.args.base c.in-len1-up.len_at_least c.digit.ensures (sym c.is_some.ensures ∙ c.if-is_some.false)
