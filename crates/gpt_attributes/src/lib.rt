@@ -2,12 +2,11 @@
 
 // Attribute bits: whether a number offends a rule, and the first used entry of a table that does.
 // An inner crate: no user calls it, so its functions may have a `requires`, which each caller meets.
-ghost use Rattle.std.specs.Prelude.{◌≡◌, [], ◌<◌, length, get_or};
-ghost use Rattle.gpt_model.specs.Table.{slot_count, table_bytes, entries};
-ghost use Rattle.gpt_model.specs.Attributes.{offends as offends_by, used_offends, first_offending};
+ghost use Rattle.std.specs.Prelude.{◌≡◌, ◌+◌, option_map, position};
+ghost use Rattle.gpt_model.specs.Attributes.{offends as offends_by, used_offends};
 
 use gpt_model::Rule;
-use gpt_table::SLOTS;
+use gpt_table::{Entry, Table};
 
 // D5: attributes 48
 const ATTRIBUTES_AT: usize = 48;
@@ -26,28 +25,18 @@ pub fn offends(rule: Rule, attributes: u64) -> bool
     }
 }
 
-// Entry i is used and offends.
-fn used_offends(t: &[u8], i: usize, rule: Rule) -> bool
-    requires { (i < slot_count) × (length t.now ≡ table_bytes) }
-    ensures { result ≡ used_offends rule (get_or (entries t.now) i []) }
+// The entry is used and offends.
+fn used_offends(e: &Entry, rule: Rule) -> bool
+    ensures { result ≡ used_offends rule e.now }
 {
-    if gpt_table::is_unused(t, i) {
-        return false;
-    }
-    offends(rule, octets::load(gpt_table::entry(t, i), ATTRIBUTES_AT))
+    !gpt_table::is_unused(e) && offends(rule, octets::load(e, ATTRIBUTES_AT))
 }
 
-// k3: the check answers the first used slot that offends, or 0.
-pub fn first_offending(t: &[u8], rule: Rule) -> u64
-    requires { length t.now ≡ table_bytes }
-    ensures { result ≡ first_offending rule t.now }
+// k3: the first used slot that offends, counted from 1.
+pub fn first_offending(t: &Table, rule: Rule) -> Option<u64>
+    ensures { result ≡ option_map (λ i. i + 1) (position (used_offends rule) t.now) }
 {
-    let mut i: usize = 0;
-    while i < SLOTS {
-        if used_offends(t, i, rule) {
-            return (i + 1) as u64;
-        }
-        i += 1;
-    }
-    0
+    t.iter()
+        .position(|e| used_offends(e, rule))
+        .map(|i| i as u64 + 1)
 }

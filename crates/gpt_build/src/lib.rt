@@ -108,7 +108,11 @@ fn usable_run(table: &[u8], n: u64, shape: Shape, b: Block) -> u64
     if b.0 < shape.first {
         return 0;
     }
-    gpt_room::run_at(table, b, gpt_places::last_usable(n, shape))
+    gpt_room::run_at(
+        gpt_table::as_table(table),
+        b,
+        gpt_places::last_usable(n, shape),
+    )
 }
 
 // Its size in blocks from block b on.
@@ -117,7 +121,11 @@ fn size_from(table: &[u8], n: u64, shape: Shape, w: WantedPartition, last: bool,
     ensures { result ≡ blocks_from shape n table.now w last b.0 }
 {
     if reaches(w, last) {
-        return gpt_room::run_at(table, b, gpt_places::last_usable(n, shape));
+        return gpt_room::run_at(
+            gpt_table::as_table(table),
+            b,
+            gpt_places::last_usable(n, shape),
+        );
     }
     w.size / shape.block as u64
 }
@@ -206,7 +214,7 @@ fn put_entry(table: &mut [u8], p: NewPartition, first: Block)
         × (first.0 + p.size < 18446744073709551616) }
     ensures { table.new ≡ put_chunk entry_bytes (lowest_unused table.old) (new_entry p first.0) table.old }
 {
-    let i = gpt_table::first_unused(&table[..]);
+    let i = gpt_table::first_unused(gpt_table::as_table(&table[..])).unwrap();
     let e = gpt_entry::added(p, first);
     octets::copy(table, i * ENTRY, &e);
 }

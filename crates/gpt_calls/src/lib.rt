@@ -6,6 +6,7 @@
 ghost use Rattle.std.specs.Prelude.{◌≡◌, [], ◌∷◌, ◌≤◌, length};
 ghost use Rattle.gpt_model.specs.Ranges.{free_count, longest_free};
 ghost use Rattle.gpt_model.specs.Table.{table_bytes, ranges_of};
+ghost use Rattle.gpt_model.specs.Attributes.{first_offending};
 ghost use Rattle.gpt_model.specs.Disk.{last_usable, most_blocks};
 ghost use Rattle.gpt_model.specs.Calls.{accepted, outcome, step, format as format_on, read as read_call, free_counts, repair as repair_call};
 ghost use Rattle.gpt_model.specs.Calls.{check as check_call, edit};
@@ -224,7 +225,7 @@ fn count_in(table: &[u8], n: u64, shape: Shape) -> Counted
         ∷ longest_free (ranges_of table.now) shape.first (last_usable shape n) ∷ []) }
 {
     let free = gpt_room::free_counts(
-        table,
+        gpt_table::as_table(table),
         gpt_places::first_usable(shape),
         gpt_places::last_usable(n, shape),
     );
@@ -246,17 +247,24 @@ pub fn free_counts(head: &[u8], tail: &[u8], n: u64, shape: Shape) -> Counted
     }
 }
 
+fn first_offending(table: &[u8], rule: Rule) -> u64
+    requires { length table.now ≡ table_bytes }
+    ensures { result ≡ first_offending rule table.now }
+{
+    gpt_attributes::first_offending(gpt_table::as_table(table), rule).unwrap_or(0)
+}
+
 // k3: the check answers the first used slot that offends, or 0. By the copy that reading uses
 pub fn check(head: &[u8], tail: &[u8], n: u64, shape: Shape, rule: Rule) -> Offending
     requires { Legal shape }
     ensures { outcome (offending_of result) head.now tail.now ≡ step shape n head.now tail.now (check_call rule) }
 {
     match used_copy(head, tail, n, shape) {
-        UsedCopy::Primary => Offending::Slot(gpt_attributes::first_offending(
+        UsedCopy::Primary => Offending::Slot(first_offending(
             gpt_places::entries_in(head, Side::Primary, shape),
             rule,
         )),
-        UsedCopy::Backup => Offending::Slot(gpt_attributes::first_offending(
+        UsedCopy::Backup => Offending::Slot(first_offending(
             gpt_places::entries_in(tail, Side::Backup, shape),
             rule,
         )),

@@ -1,22 +1,23 @@
 -- The rows that come before a call's work, from the tests of the code.
-use mathlib.Core.Path.{◌≡◌, refl, sym, ap, ◌∙◌}
+use mathlib.Core.Path.{◌≡◌, refl, sym, ap, ap₂, ◌∙◌}
 use mathlib.Core.Bool.{Bool, true, false, not}
-use mathlib.Core.List.{List, []}
+use mathlib.Core.List.{List}
 use mathlib.Core.Option.{Option, none, some}
 use Prim.Native.Nat.{ℕ, ◌≤◌, ◌<◌}
 use native.Mathlib.Omega.{arith}
 use lib.Dec.{leb, eqb}
-use lib.ListN.{length, set}
-use borrow.Author.Tests.{eqb-true, eqb-false, leb-true, le-ltb, lt-ltb}
-use mathlib.Core.Logic.{◌≢◌, ◌⊎◌, inl, inr}
-use Rattle.octets.specs.Tests.{◌and◌, any, find_ix}
+use lib.ListN.{length}
+use borrow.Author.Tests.{eqb-false, leb-true}
+use Rattle.octets.specs.Tests.{◌and◌, any}
 use Rattle.octets.specs.Bytes.{part, is_zero}
 use Rattle.octets.specs.Rows.{pick_row}
 use Rattle.octets.proofs.Bools.{and_l, and_r, and_i, and-t, and-f, and-false-l, some-none, or-il, or-ir, or-false-i, not_f, bool_cases}
 use Rattle.octets.proofs.Rows.{pick-none, pick-false}
 use Rattle.gpt_model.specs.Table.{unique_of, partition_name_of, name_bytes, unused, entries}
 use Rattle.gpt_model.specs.Calls.{carries, name_taken}
-use Rattle.gpt_table.proofs.Entries.{some-unused, all_in}
+use Rattle.std.specs.Prelude as std
+use Rattle.std.specs.Prelude.{position}
+use Rattle.gpt_table.proofs.Entries.{some-place}
 use Rattle.std.specs.Prelude.{Result, Ok, Err, IsErr, IsErrAnd}
 use Rattle.gpt_checks.specs.Checks.{stop_of}
 use Rattle.gpt_checks.specs.Refusals.{number_of}
@@ -38,14 +39,10 @@ unfolding pick_row
 row_ends true k j q e = sym e
 row_ends false k j q e = absurd (some-none e)
 
--- with none left out
-pub new-names : (es name : List ℕ) → name_taken (set (entries es) 128 []) name ≡ name_taken (entries es) name
-new-names es name = ap (λ (ds : List (List ℕ)). name_taken ds name) (all_in es)
-
 pub and_true : (a b : Bool) → a ≡ true → (a and b) ≡ b
 and_true a b e = sym (and-t e refl)
 
-pub ruleset one_row = (handed, row_passes, row_ends, new-names, and-false-l, and_true, or-il, or-ir, or-false-i)
+pub ruleset one_row = (handed, row_passes, row_ends, and-false-l, and_true, or-il, or-ir, or-false-i)
 
 -- ---- rows 12, 13 of a slot
 
@@ -63,25 +60,19 @@ size-passes size e = let w = eqb-false size 0 (pick-none (eqb size 0) 20 none (s
 
 -- ---- row 24 of adding
 
--- the lowest unused slot, 128 where there is none
-pub full_is : (es : List ℕ) (i : ℕ) → i ≡ find_ix unused (entries es) → i ≤ 128 → eqb i 128 ≡ not (any unused (entries es))
-full_is es i e l = go (bool_cases (eqb i 128))
+pub full_is : (es : List ℕ) {t : List (List ℕ)} {i : std.Option ℕ} {b : Bool} → t ≡ entries es → i ≡ position unused t → std.is_some i ≡ not b
+    → b ≡ not (any unused (entries es))
+full_is es {b = b} e q r = twice b ∙ ap not (sym r ∙ ap std.is_some (q ∙ ap (position unused) e) ∙ some-place unused (entries es))
   where
-    go : (eqb i 128 ≡ true) ⊎ (eqb i 128 ≡ false) → eqb i 128 ≡ not (any unused (entries es))
-    go (inl q) =
-        let w = eqb-true i 128 q in
-        q ∙ sym (ap not (some-unused es ∙ le-ltb (find_ix unused (entries es)) 128 (omega (arith, e, w))))
-    go (inr q) =
-        let w : i ≢ 128 = eqb-false i 128 q in
-        q ∙ sym (ap not (some-unused es ∙ lt-ltb (find_ix unused (entries es)) 128 (omega (arith, e, l))))
+    twice : (b : Bool) → b ≡ not (not b)
+    twice true = refl
+    twice false = refl
 
 -- ---- rows 22 and 26 of adding, 26 of renaming: a part that a used entry carries
 
--- with none left out
-pub unique-is : (es unique : List ℕ) (b : Bool) → length unique ≡ 16 → b ≡ any (carries (part 16 (length unique)) unique) (set (entries es) 128 [])
+pub unique-is : (es unique : List ℕ) (t : List (List ℕ)) (b : Bool) → length unique ≡ 16 → t ≡ entries es → b ≡ any (carries (part 16 (length unique)) unique) t
     → b ≡ any (carries unique_of unique) (entries es)
-unique-is es unique b l q =
-    q ∙ ap (λ (k : ℕ). any (carries (part 16 k) unique) (set (entries es) 128 [])) l ∙ ap (any (carries unique_of unique)) (all_in es)
+unique-is es unique t b l e q = q ∙ ap₂ (λ (k : ℕ) (ds : List (List ℕ)). any (carries (part 16 k) unique) ds) l e
 
 -- the bytes x of the name
 module _ (ds : List (List ℕ)) (name x : List ℕ) (e : x ≡ name_bytes name) where

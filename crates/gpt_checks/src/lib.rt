@@ -12,6 +12,7 @@ ghost use Rattle.gpt_model.specs.Ranges.{is_alignment};
 ghost use Rattle.gpt_model.specs.Disk.{last_usable, most_blocks, in_range, table_of};
 ghost use Rattle.gpt_model.specs.Calls.{lengths_ok, lent_rows, open_rows, format_rows, carries, name_taken, slot_rows, add_rows, start_for, table_rows, rows_of, edit};
 ghost use Rattle.gpt_model.specs.Calls.{add as add_call, delete as delete_call, resize as resize_call, rename as rename_call};
+ghost use Rattle.gpt_table.specs.Invariants.{without};
 ghost use Rattle.gpt_places.specs.Invariants.{Legal, Fits};
 ghost use Rattle.gpt_checks.specs.Checks.{stop_of};
 ghost use Rattle.gpt_checks.specs.Refusals.{number_of};
@@ -112,7 +113,7 @@ fn slot(table: &[u8], number: u64) -> Result<(), Refusal>
 {
     refuse_if(!is_slot(number), Refusal::NoSuchSlot)?;
     refuse_if(
-        gpt_table::is_unused(table, (number - 1) as usize),
+        gpt_table::is_unused(&gpt_table::as_table(table)[(number - 1) as usize]),
         Refusal::SlotUnused,
     )
 }
@@ -126,13 +127,13 @@ pub fn delete(head: &[u8], tail: &[u8], n: u64, shape: Shape, number: u64) -> Re
     slot(gpt_places::entries_in(head, Side::Primary, shape), number)
 }
 
-// 26: the name is not empty, and some used entry but entry `but` (SLOTS: of all) has its 72 bytes.
-fn name_taken(table: &[u8], but: usize, name: &[u16]) -> bool
+// 26: the name is not empty, and some used entry but the one left out has its 72 bytes.
+fn name_taken(table: &[u8], but: Option<usize>, name: &[u16]) -> bool
     requires { (length table.now ≡ table_bytes) × (length name.now ≡ 36) }
-    ensures { result ≡ name_taken (set (entries table.now) but []) name.now }
+    ensures { result ≡ name_taken (without but (entries table.now)) name.now }
 {
     let bytes = gpt_entry::name_bytes(name);
-    !octets::is_zero(&bytes) && gpt_table::carried(table, but, NAME_AT, &bytes)
+    !octets::is_zero(&bytes) && gpt_table::carried(gpt_table::as_table(table), but, NAME_AT, &bytes)
 }
 
 // R29: Rename the same, then 23. a4: 26, after 23 and before 24 (in rename, last).
@@ -151,7 +152,7 @@ pub fn rename(
     refuse_if(gpt_table::bad_name(name), Refusal::BadName)?;
     let table = gpt_places::entries_in(head, Side::Primary, shape);
     let own = (number - 1) as usize;
-    refuse_if(name_taken(table, own, name), Refusal::NameTaken)
+    refuse_if(name_taken(table, Some(own), name), Refusal::NameTaken)
 }
 
 // R30: Resize as delete, then 20, 25. The room is asked before a last block is formed, so no size is too large.
@@ -171,7 +172,7 @@ pub fn resize(
     let table = gpt_places::entries_in(head, Side::Primary, shape);
     let last = gpt_places::last_usable(n, shape);
     refuse_if(
-        !gpt_room::fits_at(table, number as usize, last, size),
+        !gpt_room::fits_at(gpt_table::as_table(table), number as usize, last, size),
         Refusal::NoRoom,
     )
 }
@@ -181,7 +182,8 @@ fn taken(table: &[u8], unique: &[u8]) -> bool
     requires { (length table.now ≡ table_bytes) × (length unique.now ≡ 16) }
     ensures { result ≡ (is_zero unique.now or any (carries unique_of unique.now) (entries table.now)) }
 {
-    octets::is_zero(unique) || gpt_table::carried(table, SLOTS, UNIQUE_AT, unique)
+    octets::is_zero(unique)
+        || gpt_table::carried(gpt_table::as_table(table), None, UNIQUE_AT, unique)
 }
 
 // 24.
@@ -189,7 +191,7 @@ fn full(table: &[u8]) -> bool
     requires { length table.now ≡ table_bytes }
     ensures { result ≡ not (any unused (entries table.now)) }
 {
-    gpt_table::first_unused(table) == SLOTS
+    gpt_table::first_unused(gpt_table::as_table(table)).is_none()
 }
 
 // 27.
@@ -209,7 +211,7 @@ pub fn new(table: &[u8], p: NewPartition) -> Result<(), Refusal>
     refuse_if(octets::is_zero(&p.kind), Refusal::NoType)?;
     refuse_if(taken(table, &p.unique), Refusal::NoUniqueGuid)?;
     refuse_if(gpt_table::bad_name(&p.name), Refusal::BadName)?;
-    refuse_if(name_taken(table, SLOTS, &p.name), Refusal::NameTaken)?;
+    refuse_if(name_taken(table, None, &p.name), Refusal::NameTaken)?;
     refuse_if(
         gpt_attributes::offends(p.rule, p.attributes),
         Refusal::AttributeBits,
@@ -226,7 +228,9 @@ pub fn place(table: &[u8], n: u64, shape: Shape, p: NewPartition) -> Result<Bloc
     new(table, p)?;
     let first = gpt_places::first_usable(shape);
     let last = gpt_places::last_usable(n, shape);
-    gpt_room::lowest(table, first, last, p.size, p.alignment).ok_or(Refusal::NoRoom)
+    gpt_room::lowest(gpt_table::as_table(table), first, last, p.size, p.alignment).ok_or(
+        Refusal::NoRoom,
+    )
 }
 
 // R27: Add: 1, 2, 10, 11, 20, 21, 22, 23, 24, 25. e5: 27 for any other alignment, after 20. a4: 26, after 23 and before 24.

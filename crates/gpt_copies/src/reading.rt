@@ -31,7 +31,7 @@ fn good_copy(b: &[u8], side: Side, n: u64, shape: Shape) -> bool
         return false;
     }
     gpt_table::rules::table_ok(
-        table,
+        gpt_table::as_table(table),
         gpt_places::first_usable(shape),
         gpt_places::last_usable(n, shape),
     )
@@ -56,7 +56,7 @@ fn state_alike(head: &[u8], tail: &[u8], n: u64, shape: Shape) -> Option<State>
 {
     let table = gpt_places::entries_in(head, Side::Primary, shape);
     if !gpt_table::rules::table_ok(
-        table,
+        gpt_table::as_table(table),
         gpt_places::first_usable(shape),
         gpt_places::last_usable(n, shape),
     ) {

@@ -9,7 +9,7 @@ use native.Mathlib.Numerals.{add-one}
 use native.Mathlib.Omega.{arith}
 use lib.ListN.{length, get_or}
 use borrow.Author.Tests.{eqb-true, eqb-false}
-use Rattle.octets.specs.Tests.{find_ix}
+use Rattle.octets.specs.Tests.{any, find_ix}
 use Rattle.octets.specs.Bytes.{le, put, put_chunk}
 use Rattle.octets.specs.Rows.{refusal}
 use Rattle.octets.proofs.Bools.{not_f}
@@ -114,6 +114,13 @@ module _ (g : Shape) (n : ℕ) (h t : List ℕ) (p : NewPartition) (e : refusal 
   placed-in : (s : ℕ) → start_for g.first (last_usable g n) (table_of g n h t) p ≡ some s → start_for g.first (last_usable g n) es p ≡ some s
   placed-in s r = sym (ap (λ (x : List ℕ). start_for g.first (last_usable g n) x p) (table_is g n h t d e)) ∙ r
 
+  -- some slot is unused
+  unused-in : any unused (entries es) ≡ true
+  unused-in = not_f _ (passes 24 (table_rows g.first (last_usable g n) es d) (own-rows g n h t d e))
+
+  pub some-slot : (tb : List ℕ) → tb ≡ es → any unused (entries tb) ≡ true
+  some-slot tb is = ap (λ (x : List ℕ). any unused (entries x)) is ∙ unused-in
+
   -- the slot that is taken, by a part tb of the head that holds the table
   module _ (tb : List ℕ) (i : ℕ) (is : tb ≡ es) (q : i ≡ find_ix unused (entries tb)) where
     lowest-is : i ≡ find_ix unused (entries es)
@@ -121,7 +128,7 @@ module _ (g : Shape) (n : ℕ) (h t : List ℕ) (p : NewPartition) (e : refusal 
 
     pub add-index : i < 128
     add-index =
-        let w = (find_ix-get unused (entries es) [] (not_f _ (passes 24 (table_rows g.first (last_usable g n) es d) (own-rows g n h t d e)))).0 in
+        let w = (find_ix-get unused (entries es) [] unused-in).0 in
         omega (arith, length-chunks 128 128 es, lowest-is)
 
     pub add_is : (new : List ℕ) (s : ℕ) → start_for g.first (last_usable g n) (table_of g n h t) p ≡ some s → new ≡ new_entry p s

@@ -29,7 +29,7 @@ pub fn rename(head: &mut [u8], tail: &mut [u8], n: u64, shape: Shape, slot: u64,
 {
     let i = (slot - 1) as usize;
     let new = gpt_entry::renamed(
-        gpt_table::entry(gpt_places::entries_in(&head[..], Side::Primary, shape), i),
+        &gpt_table::as_table(gpt_places::entries_in(&head[..], Side::Primary, shape))[i],
         name,
     );
     gpt_copies::writing::put_both(head, tail, n, shape, i, &new);
@@ -42,7 +42,7 @@ pub fn resize(head: &mut [u8], tail: &mut [u8], n: u64, shape: Shape, slot: u64,
 {
     let i = (slot - 1) as usize;
     let new = gpt_entry::resized(
-        gpt_table::entry(gpt_places::entries_in(&head[..], Side::Primary, shape), i),
+        &gpt_table::as_table(gpt_places::entries_in(&head[..], Side::Primary, shape))[i],
         size,
     );
     gpt_copies::writing::put_both(head, tail, n, shape, i, &new);
@@ -62,7 +62,8 @@ pub fn add(
     ensures { outcome (accepted (result ∷ first.0 ∷ [])) head.new tail.new
         ≡ step shape n head.old tail.old (edit (add_call p)) }
 {
-    let i = gpt_table::first_unused(gpt_places::entries_in(&head[..], Side::Primary, shape));
+    let table = gpt_places::entries_in(&head[..], Side::Primary, shape);
+    let i = gpt_table::first_unused(gpt_table::as_table(table)).unwrap();
     let new = gpt_entry::added(p, first);
     gpt_copies::writing::put_both(head, tail, n, shape, i, &new);
     i as u64 + 1

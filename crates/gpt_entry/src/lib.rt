@@ -8,10 +8,7 @@ ghost use Rattle.gpt_model.specs.Table.{entry_bytes, first_of, name_bytes};
 ghost use Rattle.gpt_model.specs.Calls.{new_entry};
 
 use gpt_model::{Block, NewPartition};
-use gpt_table::{FIRST_AT, LAST_AT, UNIQUE_AT};
-
-// D1: entry size 128
-const ENTRY: usize = 128;
+use gpt_table::{ENTRY, Entry, FIRST_AT, LAST_AT, UNIQUE_AT};
 
 // D5: attributes 48, name 56 as 36 16-bit units.
 const ATTRIBUTES_AT: usize = 48;
@@ -45,7 +42,7 @@ pub fn name_bytes(name: &[u16]) -> [u8; NAME_BYTES]
 }
 
 // A new partition from block `first` on.
-pub fn added(p: NewPartition, first: Block) -> [u8; ENTRY]
+pub fn added(p: NewPartition, first: Block) -> Entry
     requires { (0 < p.size) × (first.0 + p.size < 18446744073709551616) }
     ensures { (result ≡ new_entry p first.0) × (length result ≡ entry_bytes) }
 {
@@ -60,8 +57,8 @@ pub fn added(p: NewPartition, first: Block) -> [u8; ENTRY]
 }
 
 // The entry with the last block that the size asks for.
-pub fn resized(entry: &[u8], size: u64) -> [u8; ENTRY]
-    requires { (length entry.now ≡ entry_bytes) × (0 < size) × (first_of entry.now + size < 18446744073709551616) }
+pub fn resized(entry: &Entry, size: u64) -> Entry
+    requires { (0 < size) × (first_of entry.now + size < 18446744073709551616) }
     ensures { (result ≡ put 40 (le 8 (first_of entry.now + size - 1)) entry.now) × (length result ≡ entry_bytes) }
 {
     let mut e = [0u8; ENTRY];
@@ -75,8 +72,8 @@ pub fn resized(entry: &[u8], size: u64) -> [u8; ENTRY]
 }
 
 // The entry with another name.
-pub fn renamed(entry: &[u8], name: &[u16]) -> [u8; ENTRY]
-    requires { (length entry.now ≡ entry_bytes) × (length name.now ≡ 36) }
+pub fn renamed(entry: &Entry, name: &[u16]) -> Entry
+    requires { length name.now ≡ 36 }
     ensures { (result ≡ put 56 (name_bytes name.now) entry.now) × (length result ≡ entry_bytes) }
 {
     let mut e = [0u8; ENTRY];

@@ -8,12 +8,11 @@ use native.Mathlib.Nat.{le_refl}
 use native.Mathlib.Omega.{arith}
 use lib.Dec.{leb, eqb}
 use lib.ListN.{set}
-use lib.Seq.{set_out}
 use Rattle.octets.specs.Tests.{◌and◌}
 use Rattle.gpt_model.specs.Ranges.{block_in, in_none, MultipleOf, all_from, lowest_from, room_at, lowest_start, count_from, free_count, run_from}
 use Rattle.gpt_model.specs.Ranges.{longest as longest_of, longest_free}
-use Rattle.gpt_model.specs.Table.{BlockRange, no_blocks, range_of, entries, ranges_of}
-use Rattle.gpt_model.proofs.Entries.{map-set, length-ranges_of}
+use Rattle.gpt_model.specs.Table.{BlockRange, no_blocks, range_of}
+use Rattle.gpt_model.proofs.Entries.{map-set}
 use Rattle.gpt_model.proofs.Multiples.{Up, up_is}
 use Rattle.gpt_model.proofs.Walk.{Low, low-start, low-over, low-gap, low-found, low-none, Counted, Longest, counted_start, longest-start, counted-over}
 use Rattle.gpt_model.proofs.Walk.{longest-over, counted-gap, longest-step, counted-end, longest-end}
@@ -26,17 +25,13 @@ use Rattle.gpt_room.specs.Invariants.{Full, Clear}
 -- ---- the same blocks are free
 
 -- the ranges of used entries in order leave the same blocks free as the entries
-free-ranges : (es : List (List ℕ)) {f l : List ℕ} {n : ℕ} → InOrder es f l n → in_none (ranges f l n) ≡ in_none (map range_of es)
+pub free-ranges : (es : List (List ℕ)) {f l : List ℕ} {n : ℕ} → InOrder es f l n → in_none (ranges f l n) ≡ in_none (map range_of es)
 free-ranges es w = fun_ext (λ b. ap not (reordered-any (block_in b) w.same ∙ lies-used b es))
 
--- and as the table's slots, but slot `but`
-pub free-but : (t : List ℕ) (but : ℕ) {f l : List ℕ} {n : ℕ} → InOrder (set (entries t) but []) f l n
-    → in_none (ranges f l n) ≡ in_none (set (ranges_of t) but no_blocks)
-free-but t but w =
-    free-ranges (set (entries t) but []) w ∙ ap in_none (map-set range_of (entries t) but [] ∙ ap (set (ranges_of t) but) slot-nil)
-
-pub free_all : (t : List ℕ) {f l : List ℕ} {n : ℕ} → InOrder (set (entries t) 128 []) f l n → in_none (ranges f l n) ≡ in_none (ranges_of t)
-free_all t w = free-but t 128 w ∙ ap in_none (set_out (ranges_of t) 128 no_blocks (omega (arith, length-ranges_of t)))
+-- and as the slots but slot `but`
+pub free-but : (t : List (List ℕ)) (but : ℕ) {f l : List ℕ} {n : ℕ} → InOrder (set t but []) f l n
+    → in_none (ranges f l n) ≡ in_none (set (map range_of t) but no_blocks)
+free-but t but w = free-ranges (set t but []) w ∙ ap in_none (map-set range_of t but [] ∙ ap (set (map range_of t) but) slot-nil)
 
 pub run-same : (p q : ℕ → Bool) → p ≡ q → (last a : ℕ) → run_from p a (suc last - a) ≡ run_from q a (suc last - a)
 run-same p q e last a = ap (λ (p : ℕ → Bool). run_from p a (suc last - a)) e

@@ -2,17 +2,16 @@
 
 // Room for partitions: one walk from gap to gap over the ranges in order. No sum of a block and a size is formed, so no size is too large.
 // An inner crate: no user calls it, so its functions may have a `requires`, which each caller meets.
-ghost use Rattle.std.specs.Prelude.{◌≡◌, suc, ◌+◌, ◌-◌, ◌≤◌, ◌<◌, max, leb, length};
+ghost use Rattle.std.specs.Prelude.{◌≡◌, map, suc, ◌+◌, ◌-◌, ◌≤◌, ◌<◌, max, leb};
 ghost use Rattle.octets.specs.Tests.{◌and◌};
 ghost use Rattle.gpt_model.specs.Ranges.{in_none, MultipleOf, room_at, lowest_start, run_from};
-ghost use Rattle.gpt_model.specs.Table.{slot_count, table_bytes, ranges_of};
-ghost use Rattle.gpt_model.specs.Calls.{fits_at};
+ghost use Rattle.gpt_model.specs.Table.{slot_count, range_of};
 ghost use Rattle.gpt_table.specs.Invariants.{ranges, Ascending};
-ghost use Rattle.gpt_room.specs.Answers.{placed, free_of};
+ghost use Rattle.gpt_room.specs.Answers.{placed, free_of, fits_in};
 ghost use Rattle.gpt_room.specs.Invariants.{Passed, Next, Stands};
 
 use gpt_model::Block;
-use gpt_table::{FIRST_AT, SLOTS};
+use gpt_table::{FIRST_AT, SLOTS, Table};
 
 // Usable blocks in no partition, and the longest run of such.
 #[derive(Clone, Copy)]
@@ -137,13 +136,13 @@ fn search(
 }
 
 // The lowest multiple of the alignment with enough free blocks from it on.
-pub fn lowest(t: &[u8], first: Block, last: Block, size: u64, alignment: u64) -> Option<Block>
-    requires { (length t.now ≡ table_bytes) × (0 < size) × (0 < alignment) × (last.0 < 18446744073709551615) }
-    ensures { placed result ≡ lowest_start (ranges_of t.now) first.0 last.0 size alignment }
+pub fn lowest(t: &Table, first: Block, last: Block, size: u64, alignment: u64) -> Option<Block>
+    requires { (0 < size) × (0 < alignment) × (last.0 < 18446744073709551615) }
+    ensures { placed result ≡ lowest_start (map range_of t.now) first.0 last.0 size alignment }
 {
     let mut firsts = [0u64; SLOTS];
     let mut lasts = [0u64; SLOTS];
-    let count = gpt_table::order::ranges(t, SLOTS, &mut firsts, &mut lasts);
+    let count = gpt_table::order::ranges(t, None, &mut firsts, &mut lasts);
     search(&firsts, &lasts, count, first, last, size, alignment)
 }
 
@@ -191,13 +190,13 @@ fn tally(
     Free { blocks, longest }
 }
 
-pub fn free_counts(t: &[u8], first: Block, last: Block) -> Free
-    requires { (length t.now ≡ table_bytes) × (last.0 < 18446744073709551615) }
-    ensures { result ≡ free_of (ranges_of t.now) first.0 last.0 }
+pub fn free_counts(t: &Table, first: Block, last: Block) -> Free
+    requires { (last.0 < 18446744073709551615) }
+    ensures { result ≡ free_of (map range_of t.now) first.0 last.0 }
 {
     let mut firsts = [0u64; SLOTS];
     let mut lasts = [0u64; SLOTS];
-    let count = gpt_table::order::ranges(t, SLOTS, &mut firsts, &mut lasts);
+    let count = gpt_table::order::ranges(t, None, &mut firsts, &mut lasts);
     tally(&firsts, &lasts, count, first, last)
 }
 
@@ -217,13 +216,13 @@ fn run(firsts: &[u64; SLOTS], lasts: &[u64; SLOTS], count: usize, a: Block, last
     }
 }
 
-pub fn run_at(t: &[u8], a: Block, last: Block) -> u64
-    requires { (length t.now ≡ table_bytes) × (last.0 < 18446744073709551615) }
-    ensures { result ≡ run_from (in_none (ranges_of t.now)) a.0 (suc last.0 - a.0) }
+pub fn run_at(t: &Table, a: Block, last: Block) -> u64
+    requires { (last.0 < 18446744073709551615) }
+    ensures { result ≡ run_from (in_none (map range_of t.now)) a.0 (suc last.0 - a.0) }
 {
     let mut firsts = [0u64; SLOTS];
     let mut lasts = [0u64; SLOTS];
-    let count = gpt_table::order::ranges(t, SLOTS, &mut firsts, &mut lasts);
+    let count = gpt_table::order::ranges(t, None, &mut firsts, &mut lasts);
     run(&firsts, &lasts, count, a, last)
 }
 
@@ -242,14 +241,14 @@ fn room_at(
 }
 
 // From its first block on, the partition of slot k, counted from 1, has room for that size, its own range left out.
-pub fn fits_at(t: &[u8], k: usize, last: Block, size: u64) -> bool
-    requires { (1 ≤ k) × (k ≤ slot_count) × (length t.now ≡ table_bytes) × (0 < size) × (last.0 < 18446744073709551615) }
-    ensures { result ≡ fits_at last.0 t.now k size }
+pub fn fits_at(t: &Table, k: usize, last: Block, size: u64) -> bool
+    requires { (1 ≤ k) × (k ≤ slot_count) × (0 < size) × (last.0 < 18446744073709551615) }
+    ensures { result ≡ fits_in last.0 t.now k size }
 {
     let i = k - 1;
-    let a = Block(octets::load(gpt_table::entry(t, i), FIRST_AT));
+    let a = Block(octets::load(&t[i], FIRST_AT));
     let mut firsts = [0u64; SLOTS];
     let mut lasts = [0u64; SLOTS];
-    let count = gpt_table::order::ranges(t, i, &mut firsts, &mut lasts);
+    let count = gpt_table::order::ranges(t, Some(i), &mut firsts, &mut lasts);
     room_at(&firsts, &lasts, count, a, last, size)
 }

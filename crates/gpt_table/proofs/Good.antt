@@ -3,27 +3,24 @@ use mathlib.Core.Path.{◌≡◌, refl, sym, ap, ap₂, subst, ◌∙◌}
 use mathlib.Core.Logic.{◌⊎◌, inl, inr, ⊎_elim}
 use mathlib.Core.Bool.{Bool, true, false, not, ◌||◌}
 use mathlib.Core.List.{List, [], ◌∷◌, ◌++◌, map}
-use Prim.Native.Nat.{ℕ, ◌+◌, ◌-◌, ◌*◌, ◌≤◌, ◌<◌}
+use Prim.Native.Nat.{ℕ, ◌+◌, ◌-◌, ◌≤◌, ◌<◌}
 use native.Mathlib.Nat.{zero-add}
 use native.Mathlib.Decide.{ℕ_discrete}
 use native.Mathlib.Numerals.{add-one}
 use native.Mathlib.Omega.{arith}
 use lib.Dec.{eqb, leb, ltb}
-use lib.ListN.{length, get_or, set, take, drop, length-map}
+use lib.ListN.{length, get_or, take, drop, length-map}
 use lib.Seq.{take-add, drop-drop, drop-cons}
 use borrow.Author.Tests.{leb-true, eqb-true, eq-eqb, ne_eqb, lt-leb, le-leb, lt-ltb, le-ltb}
 use Rattle.octets.specs.Tests.{◌and◌, ◌or◌, all, pairs}
 use Rattle.octets.specs.Bytes.{unle, part, field, is_zero, same}
 use Rattle.octets.proofs.Bools.{and_l, and_r, and_i, bool_cases, eq-from, clash}
 use Rattle.octets.proofs.Tests.{pairs-get, pairs-make, all-get, all-make, all_done, get_d_map}
-use Rattle.octets.proofs.Parts.{get_d_part, part-part}
+use Rattle.octets.proofs.Parts.{part-part}
 use Rattle.octets.proofs.Equal.{same_true, same_refl, field-same}
-use Rattle.octets.proofs.Chunks.{chunk_part, length-chunk}
-use Rattle.gpt_model.specs.Table.{BlockRange, no_blocks, spans, range_of, bounded, apart, unique_of, first_of, last_of, unused, entry_ok, pair_ok, entries}
-use Rattle.gpt_model.specs.Table.{good_table}
+use Rattle.gpt_model.specs.Table.{BlockRange, no_blocks, spans, range_of, bounded, apart, unique_of, first_of, last_of, unused, entry_ok, pair_ok, entries, good_table}
 use Rattle.gpt_model.proofs.Entries.{range-used, pair-make}
-use Rattle.gpt_table.specs.Invariants.{used, Decoded, differ, Guids, ranges, Reordered, Ascending, InOrder}
-use Rattle.gpt_table.proofs.Entries.{length-entries, all_in}
+use Rattle.gpt_table.specs.Invariants.{good_entries, Whole, used, Decoded, differ, Guids, ranges, Ascending, InOrder}
 use Rattle.gpt_table.proofs.Used.{used-yes, used-no, used-each, low-at, high-at, length-ranges, get_or-ranges}
 use Rattle.gpt_table.proofs.Reorders.{reordered-all, reordered-pairs}
 use Rattle.gpt_table.proofs.Exchanges.{ascends}
@@ -250,64 +247,56 @@ apart-both no_blocks (spans g m) = refl
 apart-both (spans f l) no_blocks = refl
 apart-both (spans f l) (spans g m) = or-both (ltb l g) (ltb m f)
 
-module _ (first last : ℕ) (t : List ℕ) where
-  pub good-not : all (entry_ok first last) (entries t) ≡ false → good_table first last t ≡ false
-  unfolding good_table ◌and◌
+module _ (first last : ℕ) (t : List (List ℕ)) where
+  pub good-not : all (entry_ok first last) t ≡ false → good_entries first last t ≡ false
+  unfolding good_entries ◌and◌
   good-not h = rw h
 
-  module _ (ok : all (entry_ok first last) (entries t) ≡ true) where
-    good-split : (pairs differ (used (entries t)) and pairs apart (map range_of (used (entries t)))) ≡ good_table first last t
-    unfolding good_table ◌and◌
+  module _ (ok : all (entry_ok first last) t ≡ true) where
+    good-split : (pairs differ (used t) and pairs apart (map range_of (used t))) ≡ good_entries first last t
+    unfolding good_entries ◌and◌
     good-split =
-        sym (pairs-split (used (entries t)) (λ i h. (used-each (λ e. ℕ) (entries t) (λ j k. 0) i h).0)) ∙ pairs-used (entries t) ∙ sym (rw ok)
+        sym (pairs-split (used t) (λ i h. (used-each (λ e. ℕ) t (λ j k. 0) i h).0)) ∙ pairs-used t ∙ sym (rw ok)
 
-    all-bounded : all (bounded first last) (map range_of (used (entries t))) ≡ true
+    all-bounded : all (bounded first last) (map range_of (used t)) ≡ true
     all-bounded =
-        all-make (bounded first last) (map range_of (used (entries t))) no_blocks
+        all-make (bounded first last) (map range_of (used t)) no_blocks
         (λ i h.
-        let h' : i < length (used (entries t)) = omega (arith, length-map (used (entries t)) range_of) in
-        let w = used-each (λ e. entry_ok first last e ≡ true) (entries t) (λ j k. all-get (entry_ok first last) (entries t) [] ok j k) i h' in
-        ap (bounded first last) (get_d_map range_of (used (entries t)) i no_blocks [] h') ∙ ok-bounded first last _ w.0 w.1)
+        let h' : i < length (used t) = omega (arith, length-map (used t) range_of) in
+        let w = used-each (λ e. entry_ok first last e ≡ true) t (λ j k. all-get (entry_ok first last) t [] ok j k) i h' in
+        ap (bounded first last) (get_d_map range_of (used t) i no_blocks [] h') ∙ ok-bounded first last _ w.0 w.1)
 
-    pub good-guids : pairs differ (used (entries t)) ≡ false → good_table first last t ≡ false
+    pub good-guids : pairs differ (used t) ≡ false → good_entries first last t ≡ false
     unfolding ◌and◌
     good-guids h = sym good-split ∙ rw h
 
-    module _ {f l : List ℕ} {n : ℕ} (w : InOrder (set (entries t) 128 []) f l n) where
-      same-ranges : Reordered (map range_of (used (entries t))) (ranges f l n)
-      same-ranges = subst (λ (es : List (List ℕ)). Reordered (map range_of (used es)) (ranges f l n)) (all_in t) w.same
-
-      pub good-ranges : pairs differ (used (entries t)) ≡ true → pairs apart (ranges f l n) ≡ good_table first last t
+    module _ {f l : List ℕ} {n : ℕ} (w : InOrder t f l n) where
+      pub good-ranges : pairs differ (used t) ≡ true → pairs apart (ranges f l n) ≡ good_entries first last t
       unfolding ◌and◌
-      good-ranges h = reordered-pairs apart apart-both same-ranges ∙ rw h at good-split
+      good-ranges h = reordered-pairs apart apart-both w.same ∙ rw h at good-split
 
       -- no range is empty
       pub ranges-proper : (k : ℕ) → k < n → get_or f k 0 ≤ get_or l k 0
       unfolding bounded
       ranges-proper k h =
           let b = subst (λ (s : BlockRange). bounded first last s ≡ true) (get_or-ranges f l n k h)
-          (all-get (bounded first last) (ranges f l n) no_blocks (reordered-all (bounded first last) same-ranges all-bounded) k
+          (all-get (bounded first last) (ranges f l n) no_blocks (reordered-all (bounded first last) w.same all-bounded) k
           (omega (arith, length-ranges f l n))) in
           leb-true _ _ (and_r _ _ (and_l _ _ b))
 
 -- a table's unique GUIDs decoded
-module _ (t : List ℕ) (size : length t ≡ 16384) (bytes : (j : ℕ) → get_or t j 0 < 256) where
-  entry-long : (i : ℕ) → i < 128 → length (get_or (entries t) i []) ≡ 128
-  entry-long i h = length-chunk 128 128 i t h size
-
-  entry-bytes : (i j : ℕ) → i < 128 → j < 128 → get_or (get_or (entries t) i []) j 0 < 256
-  entry-bytes i j h k =
-      subst (λ (e : List ℕ). get_or e j 0 < 256) (sym (chunk_part 128 128 i t h))
-      (subst (λ (b : ℕ). b < 256) (sym (get_d_part t (i * 128) 128 j k)) (bytes (i * 128 + j)))
-
-  pub used-guids : {u v : List ℕ} {n : ℕ} → Decoded (used (set (entries t) 128 [])) 16 u v n → Guids (used (entries t)) u v n
-  used-guids {u} {v} {n} d' =
-      let d = subst (λ (es : List (List ℕ)). Decoded (used es) 16 u v n) (all_in t) d' in
+module _ (t : List (List ℕ)) (size : length t ≡ 128) (whole : (i : ℕ) → i < 128 → Whole (get_or t i [])) where
+  pub used-guids : {u v : List ℕ} {n : ℕ} → Decoded (used t) 16 u v n → Guids (used t) u v n
+  used-guids d =
       let c = d.count in
-      let both = used-each (λ e. (length e ≡ 128) × ((j : ℕ) → j < 128 → get_or e j 0 < 256)) (entries t)
-      (λ i h. (entry-long i (omega (arith, length-entries t)), λ j k. entry-bytes i j (omega (arith, length-entries t)) k)) in
+      let both = used-each Whole t (λ i h. whole i (omega arith)) in
       record {
         halves = d;
         long = λ i h. (both i (omega arith)).1.0;
-        bytes = λ i j h k. (both i (omega arith)).1.1 j k;
+        bytes = λ i j h k. (both i (omega arith)).1.1 j;
       }
+
+-- the entries of a table's bytes
+pub good_is : (first last : ℕ) (bytes : List ℕ) (t : List (List ℕ)) → t ≡ entries bytes → good_entries first last t ≡ good_table first last bytes
+unfolding good_entries good_table
+good_is first last bytes t e = ap (λ (es : List (List ℕ)). all (entry_ok first last) es and pairs pair_ok es) e

@@ -1,10 +1,10 @@
 // The rules of a table: of each entry by itself, then of each two used entries, on numbers decoded once and on ranges in order.
 ghost use Rattle.std.specs.Prelude.{◌≡◌, not, List, [], ℕ, ◌+◌, ◌≤◌, ◌<◌, eqb, length, get_or, drop};
 ghost use Rattle.octets.specs.Tests.{◌and◌, all, pairs};
-ghost use Rattle.gpt_model.specs.Table.{spans, bounded as bounded_in, apart, entry_bytes, slot_count, table_bytes, entries, entry_ok, good_table};
-ghost use Rattle.gpt_table.specs.Invariants.{differ, Guids, ranges, Ascending};
+ghost use Rattle.gpt_model.specs.Table.{spans, bounded as bounded_in, apart, slot_count, entry_ok};
+ghost use Rattle.gpt_table.specs.Invariants.{good_entries, differ, Guids, ranges, Ascending};
 
-use crate::{FIRST_AT, LAST_AT, SLOTS, UNIQUE_AT, order};
+use crate::{Entry, FIRST_AT, LAST_AT, SLOTS, Table, UNIQUE_AT, order};
 use gpt_model::Block;
 
 fn bounded(f: Block, l: Block, first: Block, last: Block) -> bool
@@ -19,11 +19,10 @@ fn bounded(f: Block, l: Block, first: Block, last: Block) -> bool
     l.0 <= last.0
 }
 
-fn entry_ok(e: &[u8], first: Block, last: Block) -> bool
-    requires { length e.now ≡ entry_bytes }
+fn entry_ok(e: &Entry, first: Block, last: Block) -> bool
     ensures { result ≡ entry_ok first.0 last.0 e.now }
 {
-    if crate::unused(e) {
+    if crate::is_unused(e) {
         return true;
     }
     if octets::is_zero(&e[UNIQUE_AT..FIRST_AT]) {
@@ -37,18 +36,10 @@ fn entry_ok(e: &[u8], first: Block, last: Block) -> bool
     )
 }
 
-fn entries_ok(t: &[u8], first: Block, last: Block) -> bool
-    requires { length t.now ≡ table_bytes }
-    ensures { result ≡ all (entry_ok first.0 last.0) (entries t.now) }
+fn entries_ok(t: &Table, first: Block, last: Block) -> bool
+    ensures { result ≡ all (entry_ok first.0 last.0) t.now }
 {
-    let mut i = 0;
-    while i < SLOTS {
-        if !entry_ok(crate::entry(t, i), first, last) {
-            return false;
-        }
-        i += 1;
-    }
-    true
+    t.iter().all(|e| entry_ok(e, first, last))
 }
 
 // 0 where two unique GUIDs, as two numbers each, differ, else 1.
@@ -108,21 +99,20 @@ fn ranges_apart(firsts: &[u64; SLOTS], lasts: &[u64; SLOTS], count: usize) -> bo
 }
 
 // All entries keep the rules.
-pub fn table_ok(t: &[u8], first: Block, last: Block) -> bool
-    requires { length t.now ≡ table_bytes }
-    ensures { result ≡ good_table first.0 last.0 t.now }
+pub fn table_ok(t: &Table, first: Block, last: Block) -> bool
+    ensures { result ≡ good_entries first.0 last.0 t.now }
 {
     if !entries_ok(t, first, last) {
         return false;
     }
     let mut lows = [0u64; SLOTS];
     let mut highs = [0u64; SLOTS];
-    let guids = crate::decode(t, SLOTS, UNIQUE_AT, &mut lows, &mut highs);
+    let guids = crate::decode(t, None, UNIQUE_AT, &mut lows, &mut highs);
     if !guids_differ(&lows, &highs, guids) {
         return false;
     }
     let mut firsts = [0u64; SLOTS];
     let mut lasts = [0u64; SLOTS];
-    let count = order::ranges(t, SLOTS, &mut firsts, &mut lasts);
+    let count = order::ranges(t, None, &mut firsts, &mut lasts);
     ranges_apart(&firsts, &lasts, count)
 }

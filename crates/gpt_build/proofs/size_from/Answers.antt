@@ -4,7 +4,7 @@ use Rattle.gpt_build.proofs.size_from.Goals as goal
 
 pub returns-then-reaches : goal.returns-then-reaches
 returns-then-reaches c =
-    c.run_at.ensures ∙ run-last _ _ _ c.last_usable.ensures
+    (rw c.as_table.ensures at c.run_at.ensures) ∙ run-last _ _ _ c.last_usable.ensures
     ∙ cond_yes _ _ _ (sym c.reaches.ensures ∙ c.if-reaches.true)
 
 pub returns : goal.returns

@@ -8,5 +8,5 @@ returns-then-b-shape c = cond_no _ _ _ (lt-leb _ _ c.if-b-shape.true)
 
 pub returns : goal.returns
 returns c =
-    c.run_at.ensures ∙ run-last _ _ _ c.last_usable.ensures
+    (rw c.as_table.ensures at c.run_at.ensures) ∙ run-last _ _ _ c.last_usable.ensures
     ∙ cond_yes _ _ _ (le-leb _ _ c.if-b-shape.false)

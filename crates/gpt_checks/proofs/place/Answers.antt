@@ -18,10 +18,10 @@ lowest-requires c =
     let m = c.requires.2 in
     let passed = sym c.in_ok-new.ensures in
     let t = a.table.now in
-    (c.requires.0, add-size a.shape a.n t a.p passed, add-alignment a.shape a.n t a.p passed, omega arith)
+    (add-size a.shape a.n t a.p passed, add-alignment a.shape a.n t a.p passed, omega arith)
 
 pub returns-clause-refused : goal.returns-clause-refused
 returns-clause-refused c =
     let a = c.args in
     ap stop_of c.ok_or.ensures.value
-    ∙ start-found a.shape a.n a.table.now a.p (sym c.in_ok-new.ensures) _ _ _ c.first_usable-first.ensures c.last_usable-last.ensures c.lowest.ensures
+    ∙ start-found a.shape a.n a.table.now a.p (sym c.in_ok-new.ensures) _ _ _ c.first_usable-first.ensures c.last_usable-last.ensures (rw c.as_table.ensures at c.lowest.ensures)

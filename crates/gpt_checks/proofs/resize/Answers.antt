@@ -35,7 +35,7 @@ fits_at-requires c =
     let o = open-facts a.shape a.n a.head.now a.tail.now (delete-open a.shape a.n a.head.now a.tail.now a.number d) in
     let k = delete-slot a.shape a.n a.head.now a.tail.now a.number d in
     let e = c.last_usable-last.ensures in
-    (k.0, k.1, c.entries_in-table.ensures.1, size-passes a.size c.in_ok-refuse_if.ensures, omega arith)
+    (k.0, k.1, size-passes a.size c.in_ok-refuse_if.ensures, omega arith)
 
 pub returns : goal.returns
 returns c =

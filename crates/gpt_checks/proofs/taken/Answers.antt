@@ -9,4 +9,4 @@ returns-then-is_zero c = c.if-is_zero.true ∙ or-t _ (sym c.is_zero.ensures ∙
 pub returns-else-is_zero : goal.returns-else-is_zero
 returns-else-is_zero c =
     let a = c.args in
-    or-f (sym c.is_zero.ensures ∙ c.if-is_zero.false) (unique-is a.table.now a.unique.now _ c.requires.1 c.carried.ensures)
+    or-f (sym c.is_zero.ensures ∙ c.if-is_zero.false) (unique-is a.table.now a.unique.now _ _ c.requires.1 c.as_table.ensures c.carried.ensures)

@@ -1,12 +1,23 @@
+use native.Mathlib.Omega.{arith}
 use Rattle.gpt_checks.proofs.Judged.{edit-facts}
-use Rattle.gpt_edits.proofs.Outcomes.{same_tables, edit-made, add-size, add-index, add_is, add-bound}
+use Rattle.gpt_table.proofs.Entries.{lowest_is, lowest-some}
+use Rattle.gpt_edits.proofs.Outcomes.{same_tables, edit-made, add-size, add-index, add_is, add-bound, some-slot}
 use Rattle.gpt_model.specs.Calls.{add}
 use Rattle.gpt_edits.proofs.add.Goals as goal
 
-pub entries_in-requires : goal.entries_in-requires
-entries_in-requires c =
+pub entries_in-table-requires : goal.entries_in-table-requires
+entries_in-table-requires c =
     let a = c.args in
     ((edit-facts a.shape a.n a.head.now a.tail.now (add a.p) c.requires.0).head, c.requires.2)
+
+pub as_table-requires : goal.as_table-requires
+as_table-requires c = c.entries_in-table.ensures.1
+
+pub unwrap-i-requires : goal.unwrap-i-requires
+unwrap-i-requires c =
+    let a = c.args in
+    lowest-some _ c.as_table.ensures c.first_unused.ensures
+    (some-slot a.shape a.n a.head.now a.tail.now a.p c.requires.0 _ c.entries_in-table.ensures.0)
 
 pub added-new-requires : goal.added-new-requires
 added-new-requires c =
@@ -20,14 +31,21 @@ put_both-requires c =
       o.head,
       o.tail,
       record { legal = c.requires.2; least = o.least },
-      add-index a.shape a.n a.head.now a.tail.now a.p c.requires.0 _ _ c.entries_in.ensures.0 c.first_unused-i.ensures.0,
+      add-index a.shape a.n a.head.now a.tail.now a.p c.requires.0 _ _ c.entries_in-table.ensures.0 (lowest_is _ c.as_table.ensures c.first_unused.ensures c.unwrap-i.ensures),
       c.added-new.ensures.1,
       same_tables a.shape a.n a.head.now a.tail.now (add a.p) c.requires.0,
     )
+
+pub overflow_add-result : goal.overflow_add-result
+overflow_add-result c =
+    let a = c.args in
+    let i = add-index a.shape a.n a.head.now a.tail.now a.p c.requires.0 _ _ c.entries_in-table.ensures.0
+    (lowest_is _ c.as_table.ensures c.first_unused.ensures c.unwrap-i.ensures) in
+    omega arith
 
 pub returns : goal.returns
 returns c =
     let a = c.args in
     edit-made a.shape a.n a.head.now a.tail.now (add a.p) c.requires.0 _ _ _
-    (add_is a.shape a.n a.head.now a.tail.now a.p c.requires.0 _ _ c.entries_in.ensures.0 c.first_unused-i.ensures.0 _ _ c.requires.1 c.added-new.ensures.0)
+    (add_is a.shape a.n a.head.now a.tail.now a.p c.requires.0 _ _ c.entries_in-table.ensures.0 (lowest_is _ c.as_table.ensures c.first_unused.ensures c.unwrap-i.ensures) _ _ c.requires.1 c.added-new.ensures.0)
     c.put_both.ensures.0 c.put_both.ensures.1

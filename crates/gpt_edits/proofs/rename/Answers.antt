@@ -1,3 +1,7 @@
+use mathlib.Core.List.{List, []}
+use mathlib.Core.Path.{ap}
+use Prim.Native.Nat.{ℕ, ◌-◌}
+use lib.ListN.{get_or}
 use native.Mathlib.Omega.{arith}
 use Rattle.gpt_checks.proofs.Judged.{edit-facts}
 use Rattle.gpt_edits.proofs.Outcomes.{same_tables, edit-made, rename-slot, renamed-is}
@@ -14,16 +18,22 @@ entries_in-requires c =
     let a = c.args in
     ((edit-facts a.shape a.n a.head.now a.tail.now (rename a.slot a.name.now) c.requires.0).head, c.requires.1)
 
-pub entry-requires : goal.entry-requires
-entry-requires c =
+pub offset_bounds-as_table-i : goal.offset_bounds-as_table-i
+offset_bounds-as_table-i c =
     let a = c.args in
     let k = rename-slot a.shape a.n a.head.now a.tail.now a.slot a.name.now c.requires.0 in
-    (omega arith, c.entries_in.ensures.1)
+    omega arith
+
+pub bounds-as_table-i : goal.bounds-as_table-i
+bounds-as_table-i c =
+    let a = c.args in
+    let k = rename-slot a.shape a.n a.head.now a.tail.now a.slot a.name.now c.requires.0 in
+    omega arith
 
 pub renamed-new-requires : goal.renamed-new-requires
 renamed-new-requires c =
     let a = c.args in
-    (c.entry.ensures.1, (rename-slot a.shape a.n a.head.now a.tail.now a.slot a.name.now c.requires.0).2)
+    (rename-slot a.shape a.n a.head.now a.tail.now a.slot a.name.now c.requires.0).2
 
 pub put_both-requires : goal.put_both-requires
 put_both-requires c =
@@ -42,5 +52,5 @@ pub returns : goal.returns
 returns c =
     let a = c.args in
     edit-made a.shape a.n a.head.now a.tail.now (rename a.slot a.name.now) c.requires.0 _ _ _
-    (renamed-is a.shape a.n a.head.now a.tail.now a.slot _ _ c.entries_in.ensures.0 c.entry.ensures.0 _ a.name.now c.renamed-new.ensures.0)
+    (renamed-is a.shape a.n a.head.now a.tail.now a.slot _ _ c.entries_in.ensures.0 (ap (λ (es : List (List ℕ)). get_or es (a.slot - 1) []) c.as_table.ensures) _ a.name.now c.renamed-new.ensures.0)
     c.put_both.ensures.0 c.put_both.ensures.1

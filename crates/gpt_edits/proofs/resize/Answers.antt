@@ -1,3 +1,7 @@
+use mathlib.Core.List.{List, []}
+use mathlib.Core.Path.{ap}
+use Prim.Native.Nat.{ℕ, ◌-◌}
+use lib.ListN.{get_or}
 use native.Mathlib.Omega.{arith}
 use Rattle.gpt_checks.proofs.Judged.{edit-facts}
 use Rattle.gpt_edits.proofs.Outcomes.{same_tables, edit-made, resize-slot, resized-is, resize-bound}
@@ -14,18 +18,23 @@ entries_in-requires c =
     let a = c.args in
     ((edit-facts a.shape a.n a.head.now a.tail.now (resize a.slot a.size) c.requires.0).head, c.requires.1)
 
-pub entry-requires : goal.entry-requires
-entry-requires c =
+pub offset_bounds-as_table-i : goal.offset_bounds-as_table-i
+offset_bounds-as_table-i c =
     let a = c.args in
     let k = resize-slot a.shape a.n a.head.now a.tail.now a.slot a.size c.requires.0 in
-    (omega arith, c.entries_in.ensures.1)
+    omega arith
+
+pub bounds-as_table-i : goal.bounds-as_table-i
+bounds-as_table-i c =
+    let a = c.args in
+    let k = resize-slot a.shape a.n a.head.now a.tail.now a.slot a.size c.requires.0 in
+    omega arith
 
 pub resized-new-requires : goal.resized-new-requires
 resized-new-requires c =
     let a = c.args in (
-      c.entry.ensures.1,
       (resize-slot a.shape a.n a.head.now a.tail.now a.slot a.size c.requires.0).2,
-      resize-bound a.shape a.n a.head.now a.tail.now a.slot _ _ c.entries_in.ensures.0 c.entry.ensures.0 a.size c.requires.0,
+      resize-bound a.shape a.n a.head.now a.tail.now a.slot _ _ c.entries_in.ensures.0 (ap (λ (es : List (List ℕ)). get_or es (a.slot - 1) []) c.as_table.ensures) a.size c.requires.0,
     )
 
 pub put_both-requires : goal.put_both-requires
@@ -45,5 +54,5 @@ pub returns : goal.returns
 returns c =
     let a = c.args in
     edit-made a.shape a.n a.head.now a.tail.now (resize a.slot a.size) c.requires.0 _ _ _
-    (resized-is a.shape a.n a.head.now a.tail.now a.slot _ _ c.entries_in.ensures.0 c.entry.ensures.0 _ a.size c.resized-new.ensures.0)
+    (resized-is a.shape a.n a.head.now a.tail.now a.slot _ _ c.entries_in.ensures.0 (ap (λ (es : List (List ℕ)). get_or es (a.slot - 1) []) c.as_table.ensures) _ a.size c.resized-new.ensures.0)
     c.put_both.ensures.0 c.put_both.ensures.1

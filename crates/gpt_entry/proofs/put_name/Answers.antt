@@ -1,4 +1,3 @@
-use Prim.Native.Nat.{◌-◌}
 use native.Mathlib.Omega.{arith}
 use Rattle.gpt_entry.proofs.Bytes.{named_none, named-on, named-all}
 use borrow.Author.Rules.{rules}

@@ -1,8 +1,8 @@
-use mathlib.Core.Path.{ap, ◌∙◌}
+use mathlib.Core.Path.{◌∙◌}
+use mathlib.Core.List.{map}
 use Prim.Native.Nat.{◌-◌}
 use lib.ListN.{set}
-use Rattle.octets.specs.Bytes.{field}
-use Rattle.gpt_model.specs.Table.{ranges_of, no_blocks}
+use Rattle.gpt_model.specs.Table.{range_of, no_blocks}
 use Rattle.gpt_room.proofs.Walks.{free-but, room-same}
 use Rattle.gpt_room.proofs.fits_at.Goals as goal
 
@@ -11,5 +11,5 @@ returns c =
     let a = c.args in
     let free = free-but a.t.now (a.k - 1) c.ranges-count.ensures in
     c.room_at.ensures
-    ∙ room-same _ (set (ranges_of a.t.now) (a.k - 1) no_blocks) free a.last.0 a.size
-    (c.load.ensures ∙ ap (field 32 8) c.entry.ensures.0)
+    ∙ room-same _ (set (map range_of a.t.now) (a.k - 1) no_blocks) free a.last.0 a.size
+    c.load.ensures

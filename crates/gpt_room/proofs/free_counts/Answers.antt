@@ -1,10 +1,11 @@
 use mathlib.Core.Path.{◌∙◌}
-use Rattle.gpt_model.specs.Table.{ranges_of}
-use Rattle.gpt_room.proofs.Walks.{free_all, counts_same}
+use mathlib.Core.List.{map}
+use Rattle.gpt_model.specs.Table.{range_of}
+use Rattle.gpt_room.proofs.Walks.{free-ranges, counts_same}
 use Rattle.gpt_room.proofs.free_counts.Goals as goal
 
 pub returns : goal.returns
 returns c =
     let a = c.args in
-    let free = free_all a.t.now c.ranges-count.ensures in
-    c.tally.ensures ∙ counts_same _ (ranges_of a.t.now) free a.last.0 a.first.0
+    let free = free-ranges a.t.now c.ranges-count.ensures in
+    c.tally.ensures ∙ counts_same _ (map range_of a.t.now) free a.last.0 a.first.0

@@ -1,10 +1,11 @@
 use mathlib.Core.Path.{◌∙◌}
-use Rattle.gpt_model.specs.Table.{ranges_of}
-use Rattle.gpt_room.proofs.Walks.{free_all, place_same}
+use mathlib.Core.List.{map}
+use Rattle.gpt_model.specs.Table.{range_of}
+use Rattle.gpt_room.proofs.Walks.{free-ranges, place_same}
 use Rattle.gpt_room.proofs.lowest.Goals as goal
 
 pub returns : goal.returns
 returns c =
     let a = c.args in
-    let free = free_all a.t.now c.ranges-count.ensures in
-    c.search.ensures ∙ place_same _ (ranges_of a.t.now) free a.last.0 a.first.0 a.size a.alignment
+    let free = free-ranges a.t.now c.ranges-count.ensures in
+    c.search.ensures ∙ place_same _ (map range_of a.t.now) free a.last.0 a.first.0 a.size a.alignment

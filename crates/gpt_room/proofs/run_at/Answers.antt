@@ -1,9 +1,9 @@
 use mathlib.Core.Path.{◌∙◌}
-use Rattle.gpt_room.proofs.Walks.{free_all, run-same}
+use Rattle.gpt_room.proofs.Walks.{free-ranges, run-same}
 use Rattle.gpt_room.proofs.run_at.Goals as goal
 
 pub returns : goal.returns
 returns c =
     let a = c.args in
-    let free = free_all a.t.now c.ranges-count.ensures in
+    let free = free-ranges a.t.now c.ranges-count.ensures in
     c.run.ensures ∙ run-same _ _ free a.last.0 a.a.0

@@ -1,6 +1,5 @@
 use mathlib.Core.Logic.{inl, inr}
 use mathlib.Core.Path.{refl, sym, ◌∙◌}
-use Prim.Native.Nat.{◌-◌}
 use native.Mathlib.Omega.{arith}
 use Rattle.gpt_table.proofs.Names.{name-stop, name-on, name_done}
 use Rattle.gpt_table.proofs.bad_name.Goals as goal

@@ -1,43 +1,20 @@
-use mathlib.Core.Bool.{Bool}
-use mathlib.Core.List.{List, []}
-use mathlib.Core.Path.{refl, sym, ◌∙◌}
-use Prim.Native.Nat.{ℕ, ◌-◌}
-use native.Mathlib.Omega.{arith}
-use lib.ListN.{length, set}
-use Rattle.octets.proofs.Tests.{any-on, any-stop, any-done}
-use Rattle.octets.specs.Bytes.{part}
-use Rattle.gpt_model.specs.Calls.{carries}
-use Rattle.gpt_model.specs.Table.{entries}
-use Rattle.gpt_table.proofs.Entries.{length-but}
-use Rattle.gpt_table.proofs.carried.Invariants.{test}
+use Rattle.std.proofs.Common.{◌≡◌, ◌∙◌, ℕ, ◌+◌, ◌-◌, List, length, take, drop, ◌&&◌, rules, arith}
+use borrow.Author.Tests.{tests}
+use Rattle.std.proofs.lemmas.Iterator.{YieldsList-from_slice}
+use Rattle.std.proofs.lemmas.Iterator.Consumers.{YieldsList-from_enumerate}
+use Rattle.std.proofs.lemmas.Iterator.Search.{any_from_yields_List}
+use Rattle.octets.specs.Bytes.{part, same}
+use Rattle.gpt_table.specs.Invariants.{wanted}
+use Rattle.gpt_table.proofs.Entries.{some-passes}
 use Rattle.gpt_table.proofs.carried.Goals as goal
 
-pub loop-i-init : goal.loop-i-init
-loop-i-init c = (omega arith, refl)
-
-pub returns-then-carries : goal.returns-then-carries
-returns-then-carries c =
-    let a = c.args in
-    let l = c.loop-i in
-    let k = length-but a.t.now a.but in
-    sym (sym l.invariant.1
-    ∙ any-stop (test a.at a.bytes.now) (set (entries a.t.now) a.but []) [] l.i (omega arith)
-    (sym c.carries.ensures ∙ c.if-carries.true))
-
-pub loop-i-preserved : goal.loop-i-preserved
-loop-i-preserved c =
-    let a = c.args in
-    let l = c.loop-i in
-    let k = length-but a.t.now a.but in (
-      omega arith,
-      sym (any-on (test a.at a.bytes.now) (set (entries a.t.now) a.but []) [] l.i (omega arith)
-          (sym c.carries.ensures ∙ c.if-carries.false))
-          ∙ l.invariant.1,
-    )
-
 pub returns : goal.returns
+unfolding part
 returns c =
     let a = c.args in
-    let l = c.loop-i in
-    let k = length-but a.t.now a.but in
-    sym (sym l.invariant.1 ∙ any-done (test a.at a.bytes.now) (set (entries a.t.now) a.but []) l.i (omega arith))
+    let long = length a.bytes.now in
+    let test = λ (p : ℕ × List ℕ). wanted a.but p.0 p.1 && same (take (a.at + long - a.at) (drop a.at p.1)) a.bytes.now in
+    let found = any_from_yields_List test _ _ c.any.result c.any.ensures.ran
+    (YieldsList-from_enumerate (YieldsList-from_slice a.t.now cc) (cc)) (λ x b q k. search (rules, tests)) in
+    let k : a.at + long - a.at ≡ long = omega arith in
+    rw k at (found ∙ some-passes (λ (e : List ℕ). same (take (a.at + long - a.at) (drop a.at e)) a.bytes.now) a.but a.t.now)

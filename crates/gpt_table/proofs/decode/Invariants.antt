@@ -1,12 +1,9 @@
 use mathlib.Core.List.{[]}
-use Prim.Native.Nat.{◌-◌}
-use lib.ListN.{set}
-use Rattle.gpt_model.specs.Table.{entries}
+use Prim.Native.Nat.{ℕ, ◌<◌}
+use lib.ListN.{get_or}
+use Rattle.gpt_table.specs.Invariants.{without, Whole}
 use Rattle.gpt_table.proofs.Used.{Decoding}
 use Rattle.gpt_table.proofs.decode.Given as goal
 
 abbrev pub invariant-loop-i : goal.invariant-loop-i
-invariant-loop-i l = Decoding (set (entries l.t) l.but []) l.at l.x l.y l.n l.i
-
-abbrev pub decreases-loop-i : goal.decreases-loop-i
-decreases-loop-i l = 128 - l.i
+invariant-loop-i l = Decoding (without l.but l.t) l.at l.x l.y l.n l.i × ((k : ℕ) → k < l.i → Whole (get_or l.t k []))

@@ -1,6 +1,8 @@
-use mathlib.Core.Path.{ap, ◌∙◌}
-use Rattle.gpt_model.specs.Table.{unused}
+use mathlib.Core.Path.{sym, ◌∙◌}
+use Rattle.octets.specs.Bytes.{part}
+use Rattle.gpt_model.proofs.Entries.{unused-type}
 use Rattle.gpt_table.proofs.is_unused.Goals as goal
 
 pub returns : goal.returns
-returns c = c.unused.ensures ∙ ap unused c.entry.ensures.0
+unfolding part
+returns c = c.is_zero.ensures ∙ sym (unused-type _)

@@ -2,6 +2,7 @@ use mathlib.Core.Path.{ap, ap₂, ◌∙◌}
 use Prim.Native.Nat.{ℕ}
 use Rattle.crc_lanes.specs.Crc.{crc32}
 use Rattle.gpt_model.specs.Table.{good_table}
+use Rattle.gpt_table.proofs.Good.{good_is}
 use Rattle.gpt_places.specs.Sides.{side_of}
 use Rattle.gpt_copies.proofs.Judged.{copy-table, bad-header}
 use Rattle.gpt_copies.proofs.reading.good_copy.Goals as goal
@@ -16,5 +17,5 @@ returns-then-not-good c =
 
 pub returns : goal.returns
 returns c =
-    let w = c.table_ok.ensures ∙ ap₂ (λ (f l : ℕ). good_table f l c.entries_in-table.result.now) c.first_usable.ensures c.last_usable.ensures in
+    let w = c.table_ok.ensures ∙ good_is _ _ _ _ c.as_table.ensures ∙ ap₂ (λ (f l : ℕ). good_table f l c.entries_in-table.result.now) c.first_usable.ensures c.last_usable.ensures in
     copy-table c.args.shape c.args.n (side_of c.args.side) c.args.b.now _ _ _ c.entries_in-table.ensures.0 c.good.ensures w c.if-not-good.false

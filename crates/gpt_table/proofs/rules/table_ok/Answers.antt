@@ -9,7 +9,7 @@ pub returns-then-not-guids_differ : goal.returns-then-not-guids_differ
 returns-then-not-guids_differ c =
     let a = c.args in
     let ok = sym c.entries_ok.ensures ∙ c.if-not-entries_ok.false in
-    let g = used-guids a.t.now c.requires (λ j. (c.shared_slice_known-1.given j).fits) c.decode-guids.ensures in
+    let g = used-guids a.t.now c.told-t c.decode-guids.ensures.1 c.decode-guids.ensures.0 in
     sym (good-guids a.first.0 a.last.0 a.t.now ok (sym (c.guids_differ.ensures _ g) ∙ c.if-not-guids_differ.true))
 
 pub ranges_apart-requires : goal.ranges_apart-requires
@@ -23,6 +23,6 @@ pub returns : goal.returns
 returns c =
     let a = c.args in
     let ok = sym c.entries_ok.ensures ∙ c.if-not-entries_ok.false in
-    let g = used-guids a.t.now c.requires (λ j. (c.shared_slice_known-1.given j).fits) c.decode-guids.ensures in
+    let g = used-guids a.t.now c.told-t c.decode-guids.ensures.1 c.decode-guids.ensures.0 in
     c.ranges_apart.ensures
     ∙ good-ranges a.first.0 a.last.0 a.t.now ok c.ranges-count.ensures (sym (c.guids_differ.ensures _ g) ∙ c.if-not-guids_differ.false)
