@@ -17,7 +17,7 @@ ghost use Rattle.gpt_build.specs.Invariants.{usable_run, blocks_from, rows_from7
 
 use gpt_checks::Refusal as DiskRefusal;
 use gpt_model::{Block, NewPartition, Rule, Shape};
-use gpt_places::ENTRY;
+use gpt_places::{Disk, ENTRY};
 use gpt_string_model::{StartByte, WantedPartition};
 
 // Why a layout string is refused; specs/Answers gives each its number.
@@ -108,11 +108,8 @@ fn usable_run(table: &[u8], n: u64, shape: Shape, b: Block) -> u64
     if b.0 < shape.first {
         return 0;
     }
-    gpt_room::run_at(
-        gpt_table::as_table(table),
-        b,
-        gpt_places::last_usable(n, shape),
-    )
+    let disk = Disk { shape, n };
+    gpt_room::run_at(gpt_table::as_table(table), b, disk.last_usable())
 }
 
 // Its size in blocks from block b on.
@@ -121,11 +118,8 @@ fn size_from(table: &[u8], n: u64, shape: Shape, w: WantedPartition, last: bool,
     ensures { result ≡ blocks_from shape n table.now w last b.0 }
 {
     if reaches(w, last) {
-        return gpt_room::run_at(
-            gpt_table::as_table(table),
-            b,
-            gpt_places::last_usable(n, shape),
-        );
+        let disk = Disk { shape, n };
+        return gpt_room::run_at(gpt_table::as_table(table), b, disk.last_usable());
     }
     w.size / shape.block as u64
 }
@@ -176,7 +170,7 @@ fn place_lowest(
         (rows_from72 shape n alignment table.now w last Lowest) }
 {
     let size = needed(w, last, shape);
-    match gpt_checks::place(table, n, shape, as_new(w, size, alignment)) {
+    match gpt_checks::place(table, Disk { shape, n }, as_new(w, size, alignment)) {
         Err(r) => Placing::Stop(Refusal::Disk(r)),
         Ok(first) => {
             let blocks = size_from(table, n, shape, w, last, first);

@@ -7,18 +7,18 @@ ghost use Rattle.std.specs.Prelude.{◌≡◌, [], ◌∷◌, ◌≤◌, length}
 ghost use Rattle.gpt_model.specs.Ranges.{free_count, longest_free};
 ghost use Rattle.gpt_model.specs.Table.{table_bytes, ranges_of};
 ghost use Rattle.gpt_model.specs.Attributes.{first_offending};
-ghost use Rattle.gpt_model.specs.Disk.{last_usable, most_blocks};
+ghost use Rattle.gpt_model.specs.Disk.{last_usable};
 ghost use Rattle.gpt_model.specs.Calls.{accepted, outcome, step, format as format_on, read as read_call, free_counts, repair as repair_call};
 ghost use Rattle.gpt_model.specs.Calls.{check as check_call, edit};
 ghost use Rattle.gpt_model.specs.Calls.{add as add_call, delete as delete_call, resize as resize_call, rename as rename_call};
-ghost use Rattle.gpt_places.specs.Invariants.{Legal, Fits};
+ghost use Rattle.gpt_places.specs.Invariants.{Legal};
 ghost use Rattle.gpt_calls.specs.Answers.{done_of, reading_of, added_of, counted_of, offending_of, handed, entries_on};
 ghost use Rattle.gpt_calls.specs.Invariants.{Uses};
 
 use gpt_checks::Refusal;
 use gpt_copies::State;
 use gpt_model::{Block, NewPartition, Rule, Shape};
-use gpt_places::Side;
+use gpt_places::{Disk, Side};
 
 #[derive(Clone, Copy)]
 pub enum Done {
@@ -71,8 +71,9 @@ pub fn format(head: &mut [u8], tail: &mut [u8], n: u64, shape: Shape, guid: [u8;
     match gpt_checks::format(&head[..], &tail[..], n, shape, &guid) {
         Err(r) => Done::Refused(r),
         Ok(()) => {
-            gpt_copies::writing::fresh_head(head, n, shape, &guid);
-            gpt_copies::writing::fresh_tail(tail, n, shape, &guid);
+            let disk = Disk { shape, n };
+            gpt_copies::writing::fresh(head, Side::Primary, disk, &guid);
+            gpt_copies::writing::fresh(tail, Side::Backup, disk, &guid);
             Done::Accepted
         }
     }
@@ -85,7 +86,7 @@ pub fn read(head: &[u8], tail: &[u8], n: u64, shape: Shape) -> Reading
 {
     match gpt_checks::lent(head, tail, n, shape) {
         Err(r) => Reading::Refused(r),
-        Ok(()) => match gpt_copies::reading::state(head, tail, n, shape) {
+        Ok(()) => match gpt_copies::reading::state(head, tail, Disk { shape, n }) {
             Some(State::Both) => Reading::Same,
             Some(State::Differ) => Reading::Different,
             Some(State::PrimaryOnly) => Reading::PrimaryOnly,
@@ -104,7 +105,8 @@ pub fn delete(head: &mut [u8], tail: &mut [u8], n: u64, shape: Shape, slot: u64)
     match gpt_checks::delete(&head[..], &tail[..], n, shape, slot) {
         Err(r) => Done::Refused(r),
         Ok(()) => {
-            gpt_edits::delete(head, tail, n, shape, slot);
+            let disk = Disk { shape, n };
+            gpt_edits::delete(head, tail, disk, slot);
             Done::Accepted
         }
     }
@@ -119,7 +121,8 @@ pub fn add(head: &mut [u8], tail: &mut [u8], n: u64, shape: Shape, p: NewPartiti
     match gpt_checks::add(&head[..], &tail[..], n, shape, p) {
         Err(r) => Added::Refused(r),
         Ok(first) => {
-            let slot = gpt_edits::add(head, tail, n, shape, p, first);
+            let disk = Disk { shape, n };
+            let slot = gpt_edits::add(head, tail, disk, p, first);
             Added::At { slot, first }
         }
     }
@@ -134,7 +137,8 @@ pub fn resize(head: &mut [u8], tail: &mut [u8], n: u64, shape: Shape, slot: u64,
     match gpt_checks::resize(&head[..], &tail[..], n, shape, slot, size) {
         Err(r) => Done::Refused(r),
         Ok(()) => {
-            gpt_edits::resize(head, tail, n, shape, slot, size);
+            let disk = Disk { shape, n };
+            gpt_edits::resize(head, tail, disk, slot, size);
             Done::Accepted
         }
     }
@@ -156,7 +160,8 @@ pub fn rename(
     match gpt_checks::rename(&head[..], &tail[..], n, shape, slot, &name) {
         Err(r) => Done::Refused(r),
         Ok(()) => {
-            gpt_edits::rename(head, tail, n, shape, slot, &name);
+            let disk = Disk { shape, n };
+            gpt_edits::rename(head, tail, disk, slot, &name);
             Done::Accepted
         }
     }
@@ -170,15 +175,18 @@ pub fn repair(head: &mut [u8], tail: &mut [u8], n: u64, shape: Shape) -> Reading
     match read(&head[..], &tail[..], n, shape) {
         Reading::Same => Reading::Same,
         Reading::Different => {
-            gpt_edits::repair_tail(&head[..], tail, n, shape);
+            let disk = Disk { shape, n };
+            gpt_edits::repair(tail, Side::Backup, &head[..], disk);
             Reading::Different
         }
         Reading::PrimaryOnly => {
-            gpt_edits::repair_tail(&head[..], tail, n, shape);
+            let disk = Disk { shape, n };
+            gpt_edits::repair(tail, Side::Backup, &head[..], disk);
             Reading::PrimaryOnly
         }
         Reading::BackupOnly => {
-            gpt_edits::repair_head(head, &tail[..], n, shape);
+            let disk = Disk { shape, n };
+            gpt_edits::repair(head, Side::Primary, &tail[..], disk);
             Reading::BackupOnly
         }
         Reading::Refused(r) => Reading::Refused(r),
@@ -219,15 +227,15 @@ fn used_copy(head: &[u8], tail: &[u8], n: u64, shape: Shape) -> UsedCopy
     }
 }
 
-fn count_in(table: &[u8], n: u64, shape: Shape) -> Counted
-    requires { (length table.now ≡ table_bytes) × Fits shape n × (n ≤ most_blocks) }
-    ensures { counted_of result ≡ accepted (free_count (ranges_of table.now) shape.first (last_usable shape n)
-        ∷ longest_free (ranges_of table.now) shape.first (last_usable shape n) ∷ []) }
+fn count_in(table: &[u8], disk: Disk) -> Counted
+    requires { length table.now ≡ table_bytes }
+    ensures { counted_of result ≡ accepted (free_count (ranges_of table.now) disk.shape.first (last_usable disk.shape disk.n)
+        ∷ longest_free (ranges_of table.now) disk.shape.first (last_usable disk.shape disk.n) ∷ []) }
 {
     let free = gpt_room::free_counts(
         gpt_table::as_table(table),
-        gpt_places::first_usable(shape),
-        gpt_places::last_usable(n, shape),
+        disk.first_usable(),
+        disk.last_usable(),
     );
     Counted::Free {
         blocks: free.blocks,
@@ -241,8 +249,14 @@ pub fn free_counts(head: &[u8], tail: &[u8], n: u64, shape: Shape) -> Counted
     ensures { outcome (counted_of result) head.now tail.now ≡ step shape n head.now tail.now free_counts }
 {
     match used_copy(head, tail, n, shape) {
-        UsedCopy::Primary => count_in(gpt_places::entries_in(head, Side::Primary, shape), n, shape),
-        UsedCopy::Backup => count_in(gpt_places::entries_in(tail, Side::Backup, shape), n, shape),
+        UsedCopy::Primary => count_in(
+            gpt_places::entries_in(head, Side::Primary, shape),
+            Disk { shape, n },
+        ),
+        UsedCopy::Backup => count_in(
+            gpt_places::entries_in(tail, Side::Backup, shape),
+            Disk { shape, n },
+        ),
         UsedCopy::Refused(r) => Counted::Refused(r),
     }
 }

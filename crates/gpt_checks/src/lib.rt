@@ -9,18 +9,18 @@ ghost use Rattle.octets.specs.Bytes.{is_zero};
 ghost use Rattle.octets.specs.Rows.{row, refusal};
 ghost use Rattle.gpt_model.specs.Table.{slot_count, table_bytes, unique_of, unused, entries};
 ghost use Rattle.gpt_model.specs.Ranges.{is_alignment};
-ghost use Rattle.gpt_model.specs.Disk.{last_usable, most_blocks, in_range, table_of};
+ghost use Rattle.gpt_model.specs.Disk.{last_usable, in_range, table_of};
 ghost use Rattle.gpt_model.specs.Calls.{lengths_ok, lent_rows, open_rows, format_rows, carries, name_taken, slot_rows, add_rows, start_for, table_rows, rows_of, edit};
 ghost use Rattle.gpt_model.specs.Calls.{add as add_call, delete as delete_call, resize as resize_call, rename as rename_call};
 ghost use Rattle.gpt_table.specs.Invariants.{without};
-ghost use Rattle.gpt_places.specs.Invariants.{Legal, Fits};
+ghost use Rattle.gpt_places.specs.Invariants.{Legal};
 ghost use Rattle.gpt_checks.specs.Checks.{stop_of};
 ghost use Rattle.gpt_checks.specs.Refusals.{number_of};
 
 use gpt_copies::State;
 use gpt_entry::NAME_AT;
 use gpt_model::{Block, NewPartition, Shape};
-use gpt_places::{SLOTS, Side};
+use gpt_places::{Disk, SLOTS, Side};
 use gpt_table::UNIQUE_AT;
 
 // Why a call is refused; specs/Refusals gives each its number.
@@ -95,7 +95,8 @@ fn opened(head: &[u8], tail: &[u8], n: u64, shape: Shape) -> Result<(), Refusal>
     ensures { stop_of result ≡ refusal (open_rows shape n head.now tail.now true) }
 {
     lent(head, tail, n, shape)?;
-    let state = gpt_copies::reading::state(head, tail, n, shape).ok_or(Refusal::NeitherGood)?;
+    let disk = Disk { shape, n };
+    let state = gpt_copies::reading::state(head, tail, disk).ok_or(Refusal::NeitherGood)?;
     refuse_if(state != State::Both, Refusal::NotTheSame)
 }
 
@@ -170,9 +171,14 @@ pub fn resize(
     delete(head, tail, n, shape, number)?;
     refuse_if(size == 0, Refusal::NoSize)?;
     let table = gpt_places::entries_in(head, Side::Primary, shape);
-    let last = gpt_places::last_usable(n, shape);
+    let disk = Disk { shape, n };
     refuse_if(
-        !gpt_room::fits_at(gpt_table::as_table(table), number as usize, last, size),
+        !gpt_room::fits_at(
+            gpt_table::as_table(table),
+            number as usize,
+            disk.last_usable(),
+            size,
+        ),
         Refusal::NoRoom,
     )
 }
@@ -220,17 +226,21 @@ pub fn new(table: &[u8], p: NewPartition) -> Result<(), Refusal>
 }
 
 // The same, then 25; and where it starts.
-pub fn place(table: &[u8], n: u64, shape: Shape, p: NewPartition) -> Result<Block, Refusal>
-    requires { (length table.now ≡ table_bytes) × Fits shape n × (n ≤ most_blocks) }
-    ensures refused { stop_of result ≡ refusal (table_rows shape.first (last_usable shape n) table.now (add_call p)) }
-    ensures start { IfOk result (λ b. start_for shape.first (last_usable shape n) table.now p ≡ some b.0) }
+pub fn place(table: &[u8], disk: Disk, p: NewPartition) -> Result<Block, Refusal>
+    requires { length table.now ≡ table_bytes }
+    ensures refused { stop_of result ≡ refusal (table_rows disk.shape.first (last_usable disk.shape disk.n) table.now (add_call p)) }
+    ensures start { IfOk result (λ b. start_for disk.shape.first (last_usable disk.shape disk.n) table.now p ≡ some b.0) }
 {
     new(table, p)?;
-    let first = gpt_places::first_usable(shape);
-    let last = gpt_places::last_usable(n, shape);
-    gpt_room::lowest(gpt_table::as_table(table), first, last, p.size, p.alignment).ok_or(
-        Refusal::NoRoom,
+    let table = gpt_table::as_table(table);
+    gpt_room::lowest(
+        table,
+        disk.first_usable(),
+        disk.last_usable(),
+        p.size,
+        p.alignment,
     )
+    .ok_or(Refusal::NoRoom)
 }
 
 // R27: Add: 1, 2, 10, 11, 20, 21, 22, 23, 24, 25. e5: 27 for any other alignment, after 20. a4: 26, after 23 and before 24.
@@ -248,5 +258,6 @@ pub fn add(
 {
     opened(head, tail, n, shape)?;
     let table = gpt_places::entries_in(head, Side::Primary, shape);
-    place(table, n, shape, p)
+    let disk = Disk { shape, n };
+    place(table, disk, p)
 }

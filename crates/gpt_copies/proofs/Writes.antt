@@ -16,7 +16,7 @@ use Rattle.crc_lanes.specs.Crc.{crc_update, crc32}
 use Rattle.crc_lanes.proofs.Parts.{crc-parts}
 use Rattle.gpt_model.specs.Table.{write_all}
 use Rattle.gpt_model.specs.Disk.{Shape, Side, primary, backup, lent_bytes, header_at, entries_at, guid_in, entries_in, header, with_table}
-use Rattle.gpt_model.specs.Disk.{with_copy}
+use Rattle.gpt_model.specs.Disk.{lent, with_copy}
 use Rattle.gpt_model.specs.Disk.{block0, fresh_head, fresh_tail}
 use Rattle.gpt_model.proofs.Copies.{length-header, places-apart, length-guid, length-entries}
 use Rattle.gpt_model.proofs.Writes.{entry-written, fresh-head, fresh-tail}
@@ -146,3 +146,19 @@ tail-fresh g ok n guid t1 t2 es crc p r c f =
     f (zeros 16384) (c ∙ ap crc32 z)
     ∙ ap (put (header_at g backup) (header g n backup guid (zeros 16384))) p
     ∙ sym (fresh-tail g (wide g ok) n guid)
+
+-- ---- by side: zeros, block 0 in the head, and the copy
+
+module _ (g : Shape) (n : ℕ) (guid : List ℕ) where
+  pub fresh : Legal g → (side : Side) (b0 b1 b2 es : List ℕ) (crc : ℕ) → b0 ≡ zeros (lent_bytes g side) → es ≡ entries_in g side b0 → crc ≡ crc32 es
+      → b1 ≡ lent side (write_all (block0 n) b0) b0
+      → ((es : List ℕ) → crc ≡ crc32 es → b2 ≡ put (header_at g side) (header g n side guid es) b1)
+      → b2 ≡ lent side (fresh_head g n guid (zeros 16384)) (fresh_tail g n guid (zeros 16384))
+  fresh ok primary b0 b1 b2 es crc p r c q f = head-fresh g ok n guid b0 b1 b2 es crc p r c q f
+  fresh ok backup b0 b1 b2 es crc p r c q f =
+      tail-fresh g ok n guid b0 b2 es crc p r c (λ es e. f es e ∙ ap (put (header_at g backup) (header g n backup guid es)) q)
+
+  pub built : (side : Side) (es b0 b1 b2 : List ℕ) → b0 ≡ zeros (lent_bytes g side) → b1 ≡ lent side (write_all (block0 n) b0) b0
+      → b2 ≡ with_table g n side guid es b1 → b2 ≡ lent side (fresh_head g n guid es) (fresh_tail g n guid es)
+  built primary es b0 b1 b2 p q r = r ∙ ap (with_table g n primary guid es) (q ∙ ap (write_all (block0 n)) p)
+  built backup es b0 b1 b2 p q r = r ∙ ap (with_table g n backup guid es) (q ∙ p)

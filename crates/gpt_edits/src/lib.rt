@@ -5,97 +5,71 @@
 ghost use Rattle.std.specs.Prelude.{◌≡◌, [], ◌∷◌, length};
 ghost use Rattle.std.proofs.Math.Option.{none, some};
 ghost use Rattle.octets.specs.Rows.{refusal};
-ghost use Rattle.gpt_model.specs.Disk.{last_usable, primary, backup, lent_bytes, guid_in, entries_in, table_of, with_copy};
+ghost use Rattle.gpt_model.specs.Disk.{last_usable, other, lent_bytes, guid_in, entries_in, table_of, with_copy};
 ghost use Rattle.gpt_model.specs.Calls.{accepted, outcome, start_for, step, rows_of, edit};
-ghost use Rattle.gpt_places.specs.Invariants.{Legal, Fits};
+ghost use Rattle.gpt_places.specs.Sides.{side_of};
 ghost use Rattle.gpt_model.specs.Calls.{add as add_call, delete as delete_call, resize as resize_call, rename as rename_call};
 
-use gpt_model::{Block, NewPartition, Shape};
-use gpt_places::{ENTRY, Side};
+use gpt_model::{Block, NewPartition};
+use gpt_places::{Disk, ENTRY, Side};
 
-pub fn delete(head: &mut [u8], tail: &mut [u8], n: u64, shape: Shape, slot: u64)
-    requires { (refusal (rows_of shape n head.old tail.old (edit (delete_call slot))) ≡ none) × Legal shape }
+pub fn delete(head: &mut [u8], tail: &mut [u8], disk: Disk, slot: u64)
+    requires { refusal (rows_of disk.shape disk.n head.old tail.old (edit (delete_call slot))) ≡ none }
     ensures { outcome (accepted []) head.new tail.new
-        ≡ step shape n head.old tail.old (edit (delete_call slot)) }
+        ≡ step disk.shape disk.n head.old tail.old (edit (delete_call slot)) }
 {
     let none = [0u8; ENTRY];
-    gpt_copies::writing::put_both(head, tail, n, shape, (slot - 1) as usize, &none);
+    gpt_copies::writing::put_both(head, tail, disk, (slot - 1) as usize, &none);
 }
 
-pub fn rename(head: &mut [u8], tail: &mut [u8], n: u64, shape: Shape, slot: u64, name: &[u16])
-    requires { (refusal (rows_of shape n head.old tail.old (edit (rename_call slot name.now))) ≡ none) × Legal shape }
+pub fn rename(head: &mut [u8], tail: &mut [u8], disk: Disk, slot: u64, name: &[u16; 36])
+    requires { refusal (rows_of disk.shape disk.n head.old tail.old (edit (rename_call slot name.now))) ≡ none }
     ensures { outcome (accepted []) head.new tail.new
-        ≡ step shape n head.old tail.old (edit (rename_call slot name.now)) }
+        ≡ step disk.shape disk.n head.old tail.old (edit (rename_call slot name.now)) }
 {
     let i = (slot - 1) as usize;
     let new = gpt_entry::renamed(
-        &gpt_table::as_table(gpt_places::entries_in(&head[..], Side::Primary, shape))[i],
+        &gpt_table::as_table(gpt_places::entries_in(&head[..], Side::Primary, disk.shape))[i],
         name,
     );
-    gpt_copies::writing::put_both(head, tail, n, shape, i, &new);
+    gpt_copies::writing::put_both(head, tail, disk, i, &new);
 }
 
-pub fn resize(head: &mut [u8], tail: &mut [u8], n: u64, shape: Shape, slot: u64, size: u64)
-    requires { (refusal (rows_of shape n head.old tail.old (edit (resize_call slot size))) ≡ none) × Legal shape }
+pub fn resize(head: &mut [u8], tail: &mut [u8], disk: Disk, slot: u64, size: u64)
+    requires { refusal (rows_of disk.shape disk.n head.old tail.old (edit (resize_call slot size))) ≡ none }
     ensures { outcome (accepted []) head.new tail.new
-        ≡ step shape n head.old tail.old (edit (resize_call slot size)) }
+        ≡ step disk.shape disk.n head.old tail.old (edit (resize_call slot size)) }
 {
     let i = (slot - 1) as usize;
     let new = gpt_entry::resized(
-        &gpt_table::as_table(gpt_places::entries_in(&head[..], Side::Primary, shape))[i],
+        &gpt_table::as_table(gpt_places::entries_in(&head[..], Side::Primary, disk.shape))[i],
         size,
     );
-    gpt_copies::writing::put_both(head, tail, n, shape, i, &new);
+    gpt_copies::writing::put_both(head, tail, disk, i, &new);
 }
 
 // From a start with room; answers the slot that is taken.
-pub fn add(
-    head: &mut [u8],
-    tail: &mut [u8],
-    n: u64,
-    shape: Shape,
-    p: NewPartition,
-    first: Block,
-) -> u64
-    requires { (refusal (rows_of shape n head.old tail.old (edit (add_call p))) ≡ none)
-        × (start_for shape.first (last_usable shape n) (table_of shape n head.old tail.old) p ≡ some first.0) × Legal shape }
+pub fn add(head: &mut [u8], tail: &mut [u8], disk: Disk, p: NewPartition, first: Block) -> u64
+    requires { (refusal (rows_of disk.shape disk.n head.old tail.old (edit (add_call p))) ≡ none)
+        × (start_for disk.shape.first (last_usable disk.shape disk.n) (table_of disk.shape disk.n head.old tail.old) p ≡ some first.0) }
     ensures { outcome (accepted (result ∷ first.0 ∷ [])) head.new tail.new
-        ≡ step shape n head.old tail.old (edit (add_call p)) }
+        ≡ step disk.shape disk.n head.old tail.old (edit (add_call p)) }
 {
-    let table = gpt_places::entries_in(&head[..], Side::Primary, shape);
+    let table = gpt_places::entries_in(&head[..], Side::Primary, disk.shape);
     let i = gpt_table::first_unused(gpt_table::as_table(table)).unwrap();
     let new = gpt_entry::added(p, first);
-    gpt_copies::writing::put_both(head, tail, n, shape, i, &new);
+    gpt_copies::writing::put_both(head, tail, disk, i, &new);
     i as u64 + 1
 }
 
-// Repair writes the other copy from the good one.
-pub fn repair_tail(head: &[u8], tail: &mut [u8], n: u64, shape: Shape)
-    requires { (length head.now ≡ lent_bytes shape primary) × (length tail.old ≡ lent_bytes shape backup) × Fits shape n }
-    ensures { tail.new ≡ with_copy shape n backup (guid_in shape primary head.now)
-        (entries_in shape primary head.now) tail.old }
+// Repair writes the copy of a side from the other, good one.
+pub fn repair(b: &mut [u8], side: Side, good: &[u8], disk: Disk)
+    requires { (length b.old ≡ lent_bytes disk.shape (side_of side)) × (length good.now ≡ lent_bytes disk.shape (other (side_of side))) }
+    ensures { b.new ≡ with_copy disk.shape disk.n (side_of side) (guid_in disk.shape (other (side_of side)) good.now)
+        (entries_in disk.shape (other (side_of side)) good.now) b.old }
 {
-    gpt_copies::writing::put_copy(
-        tail,
-        Side::Backup,
-        n,
-        shape,
-        gpt_places::guid_in(head, Side::Primary, shape),
-        gpt_places::entries_in(head, Side::Primary, shape),
-    );
-}
-
-pub fn repair_head(head: &mut [u8], tail: &[u8], n: u64, shape: Shape)
-    requires { (length head.old ≡ lent_bytes shape primary) × (length tail.now ≡ lent_bytes shape backup) × Fits shape n }
-    ensures { head.new ≡ with_copy shape n primary (guid_in shape backup tail.now)
-        (entries_in shape backup tail.now) head.old }
-{
-    gpt_copies::writing::put_copy(
-        head,
-        Side::Primary,
-        n,
-        shape,
-        gpt_places::guid_in(tail, Side::Backup, shape),
-        gpt_places::entries_in(tail, Side::Backup, shape),
-    );
+    let from = side.other();
+    let guid = gpt_places::guid_in(good, from, disk.shape);
+    let table = gpt_places::entries_in(good, from, disk.shape);
+    gpt_copies::writing::put_copy(b, side, disk, guid, table);
 }

@@ -3,6 +3,7 @@
 // The shape of a disk by its block size, and where header and table of each copy lie in head and tail on a disk of a shape; in `header` the header writer
 // and the header's judge. Everything is in the words of gpt_model.
 // An inner crate: no user calls it, so its functions may have a `requires`, which each caller meets.
+mod disk;
 pub mod header;
 
 ghost use Rattle.std.specs.Prelude.{◌≡◌, ◌≤◌, length};
@@ -13,6 +14,7 @@ ghost use Rattle.gpt_model.specs.Sizes.{shape_of};
 ghost use Rattle.gpt_places.specs.Invariants.{Legal, Fits};
 ghost use Rattle.gpt_places.specs.Sides.{side_of, behind};
 
+pub use disk::Disk;
 use gpt_model::{Block, Shape};
 
 // D1: header size 92
@@ -50,12 +52,14 @@ pub enum Side {
     Backup,
 }
 
-pub fn other(side: Side) -> Side
-    ensures { side_of result ≡ other_side (side_of side) }
-{
-    match side {
-        Side::Primary => Side::Backup,
-        Side::Backup => Side::Primary,
+impl Side {
+    pub fn other(self) -> Side
+        ensures { side_of result ≡ other_side (side_of self) }
+    {
+        match self {
+            Side::Primary => Side::Backup,
+            Side::Backup => Side::Primary,
+        }
     }
 }
 
@@ -68,29 +72,6 @@ pub fn header_block(side: Side, n: u64) -> Block
         Side::Primary => Block(1),
         Side::Backup => Block(n - 1),
     }
-}
-
-pub fn entries_block(side: Side, n: u64, shape: Shape) -> Block
-    requires { Fits shape n }
-    ensures { result.0 ≡ entries_block shape (side_of side) n }
-{
-    match side {
-        Side::Primary => Block(2),
-        Side::Backup => Block(n - shape.first + 1),
-    }
-}
-
-pub fn first_usable(shape: Shape) -> Block
-    ensures { result.0 ≡ shape.first }
-{
-    Block(shape.first)
-}
-
-pub fn last_usable(n: u64, shape: Shape) -> Block
-    requires { Fits shape n }
-    ensures { result.0 ≡ last_usable shape n }
-{
-    Block(n - shape.first)
 }
 
 // Q3: the head, blocks 0 to 33 (17,408 bytes), and the tail, the last 33 blocks (16,896 bytes). l1: the head is 6 blocks (24,576 bytes), the tail 5 (20,480)
@@ -134,13 +115,12 @@ pub fn header_in<'a>(b: &'a [u8], side: Side, shape: Shape) -> &'a [u8]
     &b[at..end]
 }
 
-pub fn guid_in<'a>(b: &'a [u8], side: Side, shape: Shape) -> &'a [u8]
+pub fn guid_in<'a>(b: &'a [u8], side: Side, shape: Shape) -> &'a [u8; 16]
     requires { (length b.now ≡ lent_bytes shape (side_of side)) × Legal shape }
-    ensures { (result.now ≡ guid_in shape (side_of side) b.now) × (length result.now ≡ 16) }
+    ensures { result.now ≡ guid_in shape (side_of side) b.now }
 {
     let at = header_at(side, shape) + 56;
-    let end = at + 16;
-    &b[at..end]
+    b[at..at + 16].as_array::<16>().unwrap()
 }
 
 pub fn entries_in<'a>(b: &'a [u8], side: Side, shape: Shape) -> &'a [u8]

@@ -18,7 +18,7 @@ ghost use Rattle.gpt_string.specs.Answers.{build_answer};
 use gpt_build::{Building, Refusal};
 use gpt_checks::Refusal as DiskRefusal;
 use gpt_model::Shape;
-use gpt_places::TABLE;
+use gpt_places::{Disk, Side, TABLE};
 
 #[derive(Clone, Copy)]
 pub enum Answer {
@@ -72,8 +72,9 @@ fn write(
         match fill(&mut table, n, shape, alignment, text) {
             Building::Stop(r) => Answer::Refused(r),
             Building::Pass => {
-                gpt_copies::writing::built_head(head, n, shape, &guid, &table);
-                gpt_copies::writing::built_tail(tail, n, shape, &guid, &table);
+                let disk = Disk { shape, n };
+                gpt_copies::writing::built(head, Side::Primary, disk, &guid, &table);
+                gpt_copies::writing::built(tail, Side::Backup, disk, &guid, &table);
                 Answer::Accepted
             }
         }

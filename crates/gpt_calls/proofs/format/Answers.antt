@@ -5,17 +5,23 @@ use Rattle.gpt_checks.proofs.Judged.{format-facts}
 use borrow.Author.Rules.{rules}
 use Rattle.gpt_calls.proofs.format.Goals as goal
 
-pub fresh_head-requires : goal.fresh_head-requires
-fresh_head-requires c =
+pub invariant_of-disk : goal.invariant_of-disk
+invariant_of-disk c =
     let a = c.args in
     let f = format-facts a.shape a.n a.head.now a.tail.now a.guid (sym c.in-Ok.ensures) in
-    (f.head, record { legal = search rules; least = f.least }, f.most, search rules)
+    record { fits = record { legal = search rules; least = f.least } }
 
-pub fresh_tail-requires : goal.fresh_tail-requires
-fresh_tail-requires c =
+pub fresh-requires : goal.fresh-requires
+fresh-requires c =
     let a = c.args in
     let f = format-facts a.shape a.n a.head.now a.tail.now a.guid (sym c.in-Ok.ensures) in
-    (f.tail, record { legal = search rules; least = f.least }, search rules)
+    (f.head, λ _. f.most)
+
+pub fresh-requires-in-Ok : goal.fresh-requires-in-Ok
+fresh-requires-in-Ok c =
+    let a = c.args in
+    let f = format-facts a.shape a.n a.head.now a.tail.now a.guid (sym c.in-Ok.ensures) in
+    (f.tail, λ _. f.most)
 
 pub returns-in-Err : goal.returns-in-Err
 returns-in-Err c =
@@ -25,4 +31,4 @@ returns-in-Err c =
 pub returns-in-Ok : goal.returns-in-Ok
 returns-in-Ok c =
     let a = c.args in
-    format-done a.shape a.n a.guid a.head.now a.tail.now (sym c.in-Ok.ensures) _ _ c.fresh_head.ensures c.fresh_tail.ensures
+    format-done a.shape a.n a.guid a.head.now a.tail.now (sym c.in-Ok.ensures) _ _ c.fresh.ensures c.fresh-in-Ok.ensures

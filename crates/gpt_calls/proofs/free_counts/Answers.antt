@@ -13,12 +13,11 @@ entries_in-requires c =
     let u = uses a.shape a.n a.head.now a.tail.now _ Primary c.used_copy.ensures c.in-Primary.is in
     ((common-lent a.shape a.n a.head.now a.tail.now u.0).head, search rules)
 
-pub count_in-requires : goal.count_in-requires
-count_in-requires c =
+pub invariant_of-count_in : goal.invariant_of-count_in
+invariant_of-count_in c =
     let a = c.args in
     let u = uses a.shape a.n a.head.now a.tail.now _ Primary c.used_copy.ensures c.in-Primary.is in
-    let f = common-lent a.shape a.n a.head.now a.tail.now u.0 in
-    (c.entries_in.ensures.1, record { legal = search rules; least = f.least }, f.most)
+    record { fits = record { legal = search rules; least = (common-lent a.shape a.n a.head.now a.tail.now u.0).least } }
 
 pub entries_in-requires-in-Backup : goal.entries_in-requires-in-Backup
 entries_in-requires-in-Backup c =
@@ -26,12 +25,11 @@ entries_in-requires-in-Backup c =
     let u = uses a.shape a.n a.head.now a.tail.now _ Backup c.used_copy.ensures c.in-Backup.is in
     ((common-lent a.shape a.n a.head.now a.tail.now u.0).tail, search rules)
 
-pub count_in-requires-in-Backup : goal.count_in-requires-in-Backup
-count_in-requires-in-Backup c =
+pub invariant_of-count_in-in-Backup : goal.invariant_of-count_in-in-Backup
+invariant_of-count_in-in-Backup c =
     let a = c.args in
     let u = uses a.shape a.n a.head.now a.tail.now _ Backup c.used_copy.ensures c.in-Backup.is in
-    let f = common-lent a.shape a.n a.head.now a.tail.now u.0 in
-    (c.entries_in-in-Backup.ensures.1, record { legal = search rules; least = f.least }, f.most)
+    record { fits = record { legal = search rules; least = (common-lent a.shape a.n a.head.now a.tail.now u.0).least } }
 
 pub returns-in-Primary : goal.returns-in-Primary
 returns-in-Primary c =

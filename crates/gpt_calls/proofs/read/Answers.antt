@@ -9,11 +9,17 @@ use Rattle.gpt_model.specs.Calls.{read}
 use borrow.Author.Rules.{rules}
 use Rattle.gpt_calls.proofs.read.Goals as goal
 
+pub invariant_of-state : goal.invariant_of-state
+invariant_of-state c =
+    let a = c.args in
+    let f = lent-facts a.shape a.n a.head.now a.tail.now (sym c.in-Ok.ensures) in
+    record { fits = record { legal = search rules; least = f.least } }
+
 pub state-requires : goal.state-requires
 state-requires c =
     let a = c.args in
     let f = lent-facts a.shape a.n a.head.now a.tail.now (sym c.in-Ok.ensures) in
-    (f.head, f.tail, record { legal = search rules; least = f.least })
+    (f.head, f.tail)
 
 pub returns-in-Err : goal.returns-in-Err
 returns-in-Err c =

@@ -7,29 +7,41 @@ use mathlib.Core.Path.{refl, ap, ◌∙◌}
 use borrow.Author.Rules.{rules}
 use Rattle.gpt_calls.proofs.repair.Goals as goal
 
-pub repair_tail-requires : goal.repair_tail-requires
-repair_tail-requires c =
+pub invariant_of-disk : goal.invariant_of-disk
+invariant_of-disk c =
     let a = c.args in
-    let h = a.head.now in
-    let t = a.tail.now in
-    let f = found-lent a.shape a.n h t _ Different c.read.ensures c.in-Different.is 2 refl in
-    (f.head, f.tail, record { legal = search rules; least = f.least })
+    let f = found-lent a.shape a.n a.head.now a.tail.now _ Different c.read.ensures c.in-Different.is 2 refl in
+    record { fits = record { legal = search rules; least = f.least } }
 
-pub repair_tail-requires-in-PrimaryOnly : goal.repair_tail-requires-in-PrimaryOnly
-repair_tail-requires-in-PrimaryOnly c =
+pub repair-requires : goal.repair-requires
+repair-requires c =
     let a = c.args in
-    let h = a.head.now in
-    let t = a.tail.now in
-    let f = found-lent a.shape a.n h t _ PrimaryOnly c.read.ensures c.in-PrimaryOnly.is 3 refl in
-    (f.head, f.tail, record { legal = search rules; least = f.least })
+    let f = found-lent a.shape a.n a.head.now a.tail.now _ Different c.read.ensures c.in-Different.is 2 refl in
+    (f.tail, f.head)
 
-pub repair_head-requires : goal.repair_head-requires
-repair_head-requires c =
+pub invariant_of-disk-in-PrimaryOnly : goal.invariant_of-disk-in-PrimaryOnly
+invariant_of-disk-in-PrimaryOnly c =
     let a = c.args in
-    let h = a.head.now in
-    let t = a.tail.now in
-    let f = found-lent a.shape a.n h t _ BackupOnly c.read.ensures c.in-BackupOnly.is 4 refl in
-    (f.head, f.tail, record { legal = search rules; least = f.least })
+    let f = found-lent a.shape a.n a.head.now a.tail.now _ PrimaryOnly c.read.ensures c.in-PrimaryOnly.is 3 refl in
+    record { fits = record { legal = search rules; least = f.least } }
+
+pub repair-requires-in-PrimaryOnly : goal.repair-requires-in-PrimaryOnly
+repair-requires-in-PrimaryOnly c =
+    let a = c.args in
+    let f = found-lent a.shape a.n a.head.now a.tail.now _ PrimaryOnly c.read.ensures c.in-PrimaryOnly.is 3 refl in
+    (f.tail, f.head)
+
+pub invariant_of-disk-in-BackupOnly : goal.invariant_of-disk-in-BackupOnly
+invariant_of-disk-in-BackupOnly c =
+    let a = c.args in
+    let f = found-lent a.shape a.n a.head.now a.tail.now _ BackupOnly c.read.ensures c.in-BackupOnly.is 4 refl in
+    record { fits = record { legal = search rules; least = f.least } }
+
+pub repair-requires-in-BackupOnly : goal.repair-requires-in-BackupOnly
+repair-requires-in-BackupOnly c =
+    let a = c.args in
+    let f = found-lent a.shape a.n a.head.now a.tail.now _ BackupOnly c.read.ensures c.in-BackupOnly.is 4 refl in
+    (f.head, f.tail)
 
 pub returns-in-Same : goal.returns-in-Same
 returns-in-Same c =
@@ -43,7 +55,7 @@ returns-in-Different c =
     let a = c.args in
     let h = a.head.now in
     let t = a.tail.now in
-    ap (λ (x : List ℕ). outcome (accepted (2 ∷ [])) h x) c.repair_tail.ensures ∙ repaired-is a.shape a.n h t _ Different
+    ap (λ (x : List ℕ). outcome (accepted (2 ∷ [])) h x) c.repair.ensures ∙ repaired-is a.shape a.n h t _ Different
     c.read.ensures c.in-Different.is 2
     refl
 
@@ -52,7 +64,7 @@ returns-in-PrimaryOnly c =
     let a = c.args in
     let h = a.head.now in
     let t = a.tail.now in
-    ap (λ (x : List ℕ). outcome (accepted (3 ∷ [])) h x) c.repair_tail-in-PrimaryOnly.ensures ∙ repaired-is a.shape a.n h t _ PrimaryOnly
+    ap (λ (x : List ℕ). outcome (accepted (3 ∷ [])) h x) c.repair-in-PrimaryOnly.ensures ∙ repaired-is a.shape a.n h t _ PrimaryOnly
     c.read.ensures c.in-PrimaryOnly.is 3
     refl
 
@@ -61,7 +73,7 @@ returns-in-BackupOnly c =
     let a = c.args in
     let h = a.head.now in
     let t = a.tail.now in
-    ap (λ (x : List ℕ). outcome (accepted (4 ∷ [])) x t) c.repair_head.ensures ∙ repaired-is a.shape a.n h t _ BackupOnly
+    ap (λ (x : List ℕ). outcome (accepted (4 ∷ [])) x t) c.repair-in-BackupOnly.ensures ∙ repaired-is a.shape a.n h t _ BackupOnly
     c.read.ensures c.in-BackupOnly.is 4
     refl
 

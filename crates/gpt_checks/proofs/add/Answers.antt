@@ -19,11 +19,11 @@ entries_in-table-requires c =
     let a = c.args in
     ((open-facts a.shape a.n a.head.now a.tail.now (sym c.in_ok-opened.ensures)).head, c.requires)
 
-pub place-requires : goal.place-requires
-place-requires c =
+pub invariant_of-disk : goal.invariant_of-disk
+invariant_of-disk c =
     let a = c.args in
     let f = open-facts a.shape a.n a.head.now a.tail.now (sym c.in_ok-opened.ensures) in
-    (c.entries_in-table.ensures.1, record { legal = c.requires; least = f.least }, f.most)
+    record { fits = record { legal = c.requires; least = f.least } }
 
 pub returns-clause-refused : goal.returns-clause-refused
 returns-clause-refused c =

@@ -22,11 +22,11 @@ entries_in-table-requires c =
     let o = delete-open a.shape a.n a.head.now a.tail.now a.number (sym c.in_ok-delete.ensures) in
     ((open-facts a.shape a.n a.head.now a.tail.now o).head, c.requires)
 
-pub last_usable-last-requires : goal.last_usable-last-requires
-last_usable-last-requires c =
+pub invariant_of-disk : goal.invariant_of-disk
+invariant_of-disk c =
     let a = c.args in
     let o = delete-open a.shape a.n a.head.now a.tail.now a.number (sym c.in_ok-delete.ensures) in
-    record { legal = c.requires; least = (open-facts a.shape a.n a.head.now a.tail.now o).least }
+    record { fits = record { legal = c.requires; least = (open-facts a.shape a.n a.head.now a.tail.now o).least } }
 
 pub fits_at-requires : goal.fits_at-requires
 fits_at-requires c =
@@ -34,7 +34,7 @@ fits_at-requires c =
     let d = sym c.in_ok-delete.ensures in
     let o = open-facts a.shape a.n a.head.now a.tail.now (delete-open a.shape a.n a.head.now a.tail.now a.number d) in
     let k = delete-slot a.shape a.n a.head.now a.tail.now a.number d in
-    let e = c.last_usable-last.ensures in
+    let e = c.last_usable.ensures in
     (k.0, k.1, size-passes a.size c.in_ok-refuse_if.ensures, omega arith)
 
 pub returns : goal.returns

@@ -8,7 +8,7 @@ use Rattle.gpt_edits.proofs.add.Goals as goal
 pub entries_in-table-requires : goal.entries_in-table-requires
 entries_in-table-requires c =
     let a = c.args in
-    ((edit-facts a.shape a.n a.head.now a.tail.now (add a.p) c.requires.0).head, c.requires.2)
+    ((edit-facts a.disk.shape a.disk.n a.head.now a.tail.now (add a.p) c.requires.0).head, a.disk.fits.legal)
 
 pub as_table-requires : goal.as_table-requires
 as_table-requires c = c.entries_in-table.ensures.1
@@ -17,35 +17,33 @@ pub unwrap-i-requires : goal.unwrap-i-requires
 unwrap-i-requires c =
     let a = c.args in
     lowest-some _ c.as_table.ensures c.first_unused.ensures
-    (some-slot a.shape a.n a.head.now a.tail.now a.p c.requires.0 _ c.entries_in-table.ensures.0)
+    (some-slot a.disk.shape a.disk.n a.head.now a.tail.now a.p c.requires.0 _ c.entries_in-table.ensures.0)
 
 pub added-new-requires : goal.added-new-requires
 added-new-requires c =
     let a = c.args in
-    (add-size a.shape a.n a.head.now a.tail.now a.p c.requires.0, add-bound a.shape a.n a.head.now a.tail.now a.p c.requires.0 _ c.requires.1)
+    (add-size a.disk.shape a.disk.n a.head.now a.tail.now a.p c.requires.0, add-bound a.disk.shape a.disk.n a.head.now a.tail.now a.p c.requires.0 _ c.requires.1)
 
 pub put_both-requires : goal.put_both-requires
 put_both-requires c =
     let a = c.args in
-    let o = edit-facts a.shape a.n a.head.now a.tail.now (add a.p) c.requires.0 in (
+    let o = edit-facts a.disk.shape a.disk.n a.head.now a.tail.now (add a.p) c.requires.0 in (
       o.head,
       o.tail,
-      record { legal = c.requires.2; least = o.least },
-      add-index a.shape a.n a.head.now a.tail.now a.p c.requires.0 _ _ c.entries_in-table.ensures.0 (lowest_is _ c.as_table.ensures c.first_unused.ensures c.unwrap-i.ensures),
-      c.added-new.ensures.1,
-      same_tables a.shape a.n a.head.now a.tail.now (add a.p) c.requires.0,
+      add-index a.disk.shape a.disk.n a.head.now a.tail.now a.p c.requires.0 _ _ c.entries_in-table.ensures.0 (lowest_is _ c.as_table.ensures c.first_unused.ensures c.unwrap-i.ensures),
+      same_tables a.disk.shape a.disk.n a.head.now a.tail.now (add a.p) c.requires.0,
     )
 
 pub overflow_add-result : goal.overflow_add-result
 overflow_add-result c =
     let a = c.args in
-    let i = add-index a.shape a.n a.head.now a.tail.now a.p c.requires.0 _ _ c.entries_in-table.ensures.0
+    let i = add-index a.disk.shape a.disk.n a.head.now a.tail.now a.p c.requires.0 _ _ c.entries_in-table.ensures.0
     (lowest_is _ c.as_table.ensures c.first_unused.ensures c.unwrap-i.ensures) in
     omega arith
 
 pub returns : goal.returns
 returns c =
     let a = c.args in
-    edit-made a.shape a.n a.head.now a.tail.now (add a.p) c.requires.0 _ _ _
-    (add_is a.shape a.n a.head.now a.tail.now a.p c.requires.0 _ _ c.entries_in-table.ensures.0 (lowest_is _ c.as_table.ensures c.first_unused.ensures c.unwrap-i.ensures) _ _ c.requires.1 c.added-new.ensures.0)
+    edit-made a.disk.shape a.disk.n a.head.now a.tail.now (add a.p) c.requires.0 _ _ _
+    (add_is a.disk.shape a.disk.n a.head.now a.tail.now a.p c.requires.0 _ _ c.entries_in-table.ensures.0 (lowest_is _ c.as_table.ensures c.first_unused.ensures c.unwrap-i.ensures) _ _ c.requires.1 c.added-new.ensures.0)
     c.put_both.ensures.0 c.put_both.ensures.1

@@ -11,46 +11,44 @@ use Rattle.gpt_edits.proofs.rename.Goals as goal
 pub overflow_sub-i : goal.overflow_sub-i
 overflow_sub-i c =
     let a = c.args in
-    omega (arith, (rename-slot a.shape a.n a.head.now a.tail.now a.slot a.name.now c.requires.0).0)
+    omega (arith, (rename-slot a.disk.shape a.disk.n a.head.now a.tail.now a.slot a.name.now c.requires).0)
 
 pub entries_in-requires : goal.entries_in-requires
 entries_in-requires c =
     let a = c.args in
-    ((edit-facts a.shape a.n a.head.now a.tail.now (rename a.slot a.name.now) c.requires.0).head, c.requires.1)
+    ((edit-facts a.disk.shape a.disk.n a.head.now a.tail.now (rename a.slot a.name.now) c.requires).head, a.disk.fits.legal)
 
 pub offset_bounds-as_table-i : goal.offset_bounds-as_table-i
 offset_bounds-as_table-i c =
     let a = c.args in
-    let k = rename-slot a.shape a.n a.head.now a.tail.now a.slot a.name.now c.requires.0 in
+    let k = rename-slot a.disk.shape a.disk.n a.head.now a.tail.now a.slot a.name.now c.requires in
     omega arith
 
 pub bounds-as_table-i : goal.bounds-as_table-i
 bounds-as_table-i c =
     let a = c.args in
-    let k = rename-slot a.shape a.n a.head.now a.tail.now a.slot a.name.now c.requires.0 in
+    let k = rename-slot a.disk.shape a.disk.n a.head.now a.tail.now a.slot a.name.now c.requires in
     omega arith
 
 pub renamed-new-requires : goal.renamed-new-requires
 renamed-new-requires c =
     let a = c.args in
-    (rename-slot a.shape a.n a.head.now a.tail.now a.slot a.name.now c.requires.0).2
+    (rename-slot a.disk.shape a.disk.n a.head.now a.tail.now a.slot a.name.now c.requires).2
 
 pub put_both-requires : goal.put_both-requires
 put_both-requires c =
     let a = c.args in
-    let o = edit-facts a.shape a.n a.head.now a.tail.now (rename a.slot a.name.now) c.requires.0 in
-    let k = rename-slot a.shape a.n a.head.now a.tail.now a.slot a.name.now c.requires.0 in (
+    let o = edit-facts a.disk.shape a.disk.n a.head.now a.tail.now (rename a.slot a.name.now) c.requires in
+    let k = rename-slot a.disk.shape a.disk.n a.head.now a.tail.now a.slot a.name.now c.requires in (
       o.head,
       o.tail,
-      record { legal = c.requires.1; least = o.least },
       omega arith,
-      c.renamed-new.ensures.1,
-      same_tables a.shape a.n a.head.now a.tail.now (rename a.slot a.name.now) c.requires.0,
+      same_tables a.disk.shape a.disk.n a.head.now a.tail.now (rename a.slot a.name.now) c.requires,
     )
 
 pub returns : goal.returns
 returns c =
     let a = c.args in
-    edit-made a.shape a.n a.head.now a.tail.now (rename a.slot a.name.now) c.requires.0 _ _ _
-    (renamed-is a.shape a.n a.head.now a.tail.now a.slot _ _ c.entries_in.ensures.0 (ap (λ (es : List (List ℕ)). get_or es (a.slot - 1) []) c.as_table.ensures) _ a.name.now c.renamed-new.ensures.0)
+    edit-made a.disk.shape a.disk.n a.head.now a.tail.now (rename a.slot a.name.now) c.requires _ _ _
+    (renamed-is a.disk.shape a.disk.n a.head.now a.tail.now a.slot _ _ c.entries_in.ensures.0 (ap (λ (es : List (List ℕ)). get_or es (a.slot - 1) []) c.as_table.ensures) _ a.name.now c.renamed-new.ensures.0)
     c.put_both.ensures.0 c.put_both.ensures.1

@@ -20,17 +20,23 @@ fill-requires c =
     let f = lent-facts a.shape a.n a.head.now a.tail.now c.requires.1 in
     (search rules, record { legal = c.requires.0; least = f.least }, f.most, sym c.is_layout.ensures ∙ c.if-is_layout.true)
 
-pub built_head-requires : goal.built_head-requires
-built_head-requires c =
+pub invariant_of-disk : goal.invariant_of-disk
+invariant_of-disk c =
     let a = c.args in
     let f = lent-facts a.shape a.n a.head.now a.tail.now c.requires.1 in
-    (f.head, record { legal = c.requires.0; least = f.least }, f.most, search rules, search rules)
+    record { fits = record { legal = c.requires.0; least = f.least } }
 
-pub built_tail-requires : goal.built_tail-requires
-built_tail-requires c =
+pub built-requires : goal.built-requires
+built-requires c =
     let a = c.args in
     let f = lent-facts a.shape a.n a.head.now a.tail.now c.requires.1 in
-    (f.tail, record { legal = c.requires.0; least = f.least }, search rules, search rules)
+    (f.head, λ _. f.most, search rules)
+
+pub built-requires-in-Pass : goal.built-requires-in-Pass
+built-requires-in-Pass c =
+    let a = c.args in
+    let f = lent-facts a.shape a.n a.head.now a.tail.now c.requires.1 in
+    (f.tail, λ _. f.most, search rules)
 
 pub returns-in-Stop : goal.returns-in-Stop
 returns-in-Stop c =
@@ -46,7 +52,7 @@ returns-in-Pass c =
     let laid = sym c.is_layout.ensures ∙ c.if-is_layout.true in
     let some_guid = guid-some _ _ _ c.disk_guid-guid.ensures c.is_zero.ensures c.if-is_zero.false in
     written_all a.shape a.n a.alignment a.text.now a.head.now a.tail.now c.requires.1 laid some_guid
-    _ (empty-table _) _ _ c.fill.ensures c.in-Pass.is _ c.disk_guid-guid.ensures _ _ c.built_head.ensures c.built_tail.ensures
+    _ (empty-table _) _ _ c.fill.ensures c.in-Pass.is _ c.disk_guid-guid.ensures _ _ c.built.ensures c.built-in-Pass.ensures
 
 pub returns-else-is_layout : goal.returns-else-is_layout
 returns-else-is_layout c =

@@ -9,13 +9,13 @@ use Rattle.gpt_copies.proofs.reading.good_copy.Goals as goal
 
 pub good-requires : goal.good-requires
 good-requires c =
-    (c.requires.0, c.requires.1, c.crc32.ensures ∙ ap crc32 c.entries_in-table.ensures.0)
+    (c.requires, c.crc32.ensures ∙ ap crc32 c.entries_in-table.ensures.0)
 
 pub returns-then-not-good : goal.returns-then-not-good
 returns-then-not-good c =
-    bad-header c.args.shape c.args.n (side_of c.args.side) c.args.b.now _ c.good.ensures c.if-not-good.true
+    bad-header c.args.disk.shape c.args.disk.n (side_of c.args.side) c.args.b.now _ c.good.ensures c.if-not-good.true
 
 pub returns : goal.returns
 returns c =
     let w = c.table_ok.ensures ∙ good_is _ _ _ _ c.as_table.ensures ∙ ap₂ (λ (f l : ℕ). good_table f l c.entries_in-table.result.now) c.first_usable.ensures c.last_usable.ensures in
-    copy-table c.args.shape c.args.n (side_of c.args.side) c.args.b.now _ _ _ c.entries_in-table.ensures.0 c.good.ensures w c.if-not-good.false
+    copy-table c.args.disk.shape c.args.disk.n (side_of c.args.side) c.args.b.now _ _ _ c.entries_in-table.ensures.0 c.good.ensures w c.if-not-good.false

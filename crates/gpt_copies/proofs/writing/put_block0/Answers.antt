@@ -1,6 +1,7 @@
+use mathlib.Core.Path.{sym, ap, ◌∙◌}
 use Rattle.gpt_copies.proofs.Writes.{block0-put}
 use Rattle.gpt_copies.proofs.writing.put_block0.Goals as goal
 
-pub returns : goal.returns
-returns c =
-    block0-put c.args.n c.args.head.now _ _ _ _ c.copy.ensures c.store.ensures c.store-2.ensures c.copy-2.ensures
+pub returns-in-Primary : goal.returns-in-Primary
+returns-in-Primary c =
+    let w = block0-put c.args.disk.n c.args.b.now _ _ _ _ c.copy.ensures c.store.ensures c.store-in-Primary.ensures c.copy-in-Primary.ensures in rw c.in-Primary.is w

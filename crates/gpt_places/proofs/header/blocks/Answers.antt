@@ -5,7 +5,7 @@ use Rattle.gpt_places.proofs.header.blocks.Goals as goal
 
 pub returns : goal.returns
 returns c =
-    let other = c.header_block-other.ensures ∙ ap (λ (s : Side). header_block s c.args.n) c.other.ensures in
+    let other = c.header_block-other.ensures ∙ ap (λ (s : Side). header_block s c.args.disk.n) c.other.ensures in
     stored 48 8 c.store-4.ensures c.last_usable.ensures
     (stored 40 8 c.store-3.ensures c.first_usable.ensures
     (stored 32 8 c.store-2.ensures other

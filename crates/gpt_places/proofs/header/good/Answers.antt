@@ -9,7 +9,7 @@ use Rattle.gpt_places.proofs.header.good.Goals as goal
 pub returns : goal.returns
 returns c =
     let b = c.args.b.now in
-    let es = entries_in c.args.shape (side_of c.args.side) b in
+    let es = entries_in c.args.disk.shape (side_of c.args.side) b in
     c.same.ensures
     ∙ ap₂ same c.header_in.ensures
-    (c.write.ensures es c.requires.2 ∙ ap (λ (g : List ℕ). header c.args.shape c.args.n (side_of c.args.side) g es) c.guid_in.ensures.0)
+    (c.of-right.ensures.0 es c.requires.1 ∙ ap (λ (g : List ℕ). header c.args.disk.shape c.args.disk.n (side_of c.args.side) g es) c.guid_in.ensures)
