@@ -24,8 +24,7 @@ use Rattle.gpt_model.specs.Ranges.{in_none, room_at, run_from}
 use Rattle.gpt_model.specs.Calls.{add, is_none, or_zero, add_rows, lowest_unused, new_entry, start_for, table_rows}
 use Rattle.gpt_model.proofs.Longest.{run_holds, run-bound, run-least, room-run}
 use Rattle.gpt_model.proofs.Edits.{nonzero}
-use Rattle.gpt_string_model.specs.declared.StartByte.{StartByte}
-use Rattle.gpt_string_model.specs.declared.StartByte.TheVariants.{Given, Lowest}
+use Rattle.std.specs.Prelude.{Option as Found, None, Some, unwrap_or}
 use Rattle.gpt_string_model.specs.declared.WantedPartition.{WantedPartition}
 use Rattle.gpt_string_model.specs.Build.{uneven, blocked, needed, as_new, standing, first_block, size_in_blocks}
 use Rattle.gpt_string_model.specs.Build.{part_rows, with_part, faulty, complete, unless_faulty}
@@ -40,19 +39,25 @@ use Rattle.gpt_build.specs.Invariants.{usable_run, blocks_from, rows_from72, Par
 
 -- ---- choices
 
-pub uneven-given : (g : Shape) (size at : ℕ) (start : StartByte) → start ≡ Given at → at % g.block ≢ 0 → true ≡ uneven g size start
+uneven-by : (g : Shape) (size : ℕ) (start : Found ℕ) → (not (eqb (unwrap_or start 0 % g.block) 0) or not (eqb (size % g.block) 0)) ≡ uneven g size start
 unfolding ◌or◌
-uneven-given g size at start q e =
-    sym (ap (uneven g size) q ∙ ap (λ (b : Bool). not b or not (eqb (size % g.block) 0)) (ne_eqb (at % g.block) 0 e))
+uneven-by g size None = rw (let z : 0 % g.block ≡ 0 = omega arith in z)
+uneven-by g size (Some at) = refl
 
-pub uneven-size : (g : Shape) (size at : ℕ) (start : StartByte) → start ≡ Given at → at % g.block ≡ 0
-    → not (eqb (size % g.block) 0) ≡ uneven g size start
-unfolding ◌or◌
-uneven-size g size at start q e =
-    sym (ap (uneven g size) q ∙ ap (λ (b : Bool). not b or not (eqb (size % g.block) 0)) (eq-eqb (at % g.block) 0 e))
+-- s is the start, or 0
+module _ (g : Shape) (size s : ℕ) (start : Found ℕ) (is-s : s ≡ unwrap_or start 0) where
+  pub uneven-start : s % g.block ≢ 0 → not (eqb (s % g.block) 0) ≡ uneven g size start
+  unfolding ◌or◌
+  uneven-start h =
+      let e = ne_eqb (s % g.block) 0 h in
+      ap not e ∙ ap (λ (b : Bool). not b or not (eqb (size % g.block) 0)) (sym e)
+      ∙ ap (λ (x : ℕ). not (eqb (x % g.block) 0) or not (eqb (size % g.block) 0)) is-s ∙ uneven-by g size start
 
-pub uneven-lowest : (g : Shape) (size : ℕ) (start : StartByte) → start ≡ Lowest → not (eqb (size % g.block) 0) ≡ uneven g size start
-uneven-lowest g size start q = sym (ap (uneven g size) q)
+  pub uneven-size : s % g.block ≡ 0 → not (eqb (size % g.block) 0) ≡ uneven g size start
+  unfolding ◌or◌
+  uneven-size h =
+      ap (λ (b : Bool). not b or not (eqb (size % g.block) 0)) (sym (eq-eqb (s % g.block) 0 h))
+      ∙ ap (λ (x : ℕ). not (eqb (x % g.block) 0) or not (eqb (size % g.block) 0)) is-s ∙ uneven-by g size start
 
 pub and_no : (b x : Bool) → b ≡ false → false ≡ (b and x)
 unfolding ◌and◌
@@ -80,7 +85,7 @@ module _ (g : Shape) (n : ℕ) (es : List ℕ) (at : ℕ) where
   abbrev run : ℕ
   run = run_from (in_none (ranges_of es)) b (suc (last_usable g n) - b)
 
-  blocked-by : (low : Bool) → leb g.first b ≡ low → blocked g n es (Given at) ≡ eqb (cond low run 0) 0
+  blocked-by : (low : Bool) → leb g.first b ≡ low → blocked g n es (Some at) ≡ eqb (cond low run 0) 0
   unfolding ◌and◌
   blocked-by false e = rw e
   blocked-by true e = rw e (go (bool_cases (leb b (last_usable g n))) (bool_cases (in_none (ranges_of es) b)))
@@ -103,7 +108,7 @@ module _ (g : Shape) (n : ℕ) (es : List ℕ) (at : ℕ) where
           none_from (no k) = omega arith
           none_from (yes k) = absurd (clash (run_holds (in_none (ranges_of es)) b (suc (last_usable g n) - b) b (le_refl b) (omega arith)) c)
 
-  pub start-blocked : blocked g n es (Given at) ≡ eqb (usable_run g n es b) 0
+  pub start-blocked : blocked g n es (Some at) ≡ eqb (usable_run g n es b) 0
   start-blocked = blocked-by (leb g.first b) refl
 
   run_is : usable_run g n es b ≢ 0 → usable_run g n es b ≡ run
@@ -116,11 +121,11 @@ module _ (g : Shape) (n : ℕ) (es : List ℕ) (at : ℕ) where
 -- ---- a spot by the rows
 
 module _ (g : Shape) (n a : ℕ) (es : List ℕ) (w : WantedPartition) (final : Bool) where
-  pub spot-stop : (start : StartByte) (rows : List Row) (k : ℕ) → refusal rows ≡ some k → stopped k ≡ part_place_of g n a es w final start rows
+  pub spot-stop : (start : Found ℕ) (rows : List Row) (k : ℕ) → refusal rows ≡ some k → stopped k ≡ part_place_of g n a es w final start rows
   spot-stop start rows k e =
       let f = or_zero (standing g n a es w final start) in sym (ap (λ (o : Option ℕ). part_place_unless o f (blocks_from g n es w final f)) e)
 
-  pub spot-from : (start : StartByte) (rows : List Row) (f s : ℕ) → refusal rows ≡ none → or_zero (standing g n a es w final start) ≡ f
+  pub spot-from : (start : Found ℕ) (rows : List Row) (f s : ℕ) → refusal rows ≡ none → or_zero (standing g n a es w final start) ≡ f
       → s ≡ blocks_from g n es w final f → from f s ≡ part_place_of g n a es w final start rows
   spot-from start rows f s e p q =
       ap (from f) q ∙ ap (λ (x : ℕ). from x (blocks_from g n es w final x)) (sym p)
@@ -135,10 +140,10 @@ module _ (g : Shape) (n a : ℕ) (es : List ℕ) (w : WantedPartition) (final : 
   pub rows-even : uneven g w.size w.start ≡ false → refusal (part_rows g n a es w final) ≡ refusal (rows_from72 g n a es w final w.start)
   rows-even e = pick-false _ 71 _ e
 
-  pub spot-even : (start : StartByte) → w.start ≡ start → uneven g w.size w.start ≡ false → (x : PartPlace)
+  pub spot-even : (start : Found ℕ) → w.start ≡ start → uneven g w.size w.start ≡ false → (x : PartPlace)
       → x ≡ part_place_of g n a es w final start (rows_from72 g n a es w final start) → x ≡ part_place_of g n a es w final w.start (part_rows g n a es w final)
   spot-even start q e x z =
-      z ∙ ap (λ (o : StartByte). part_place_of g n a es w final o (rows_from72 g n a es w final o)) (sym q)
+      z ∙ ap (λ (o : Found ℕ). part_place_of g n a es w final o (rows_from72 g n a es w final o)) (sym q)
       ∙ (let b = or_zero (standing g n a es w final w.start) in
       ap (λ (o : Option ℕ). part_place_unless o b (blocks_from g n es w final b)) (sym (rows-even e)))
 
@@ -149,16 +154,16 @@ module _ (g : Shape) (n a : ℕ) (es : List ℕ) (w : WantedPartition) (final : 
     own = add_rows es (as_new a w (needed g w final))
 
     abbrev room25 : List Row
-    room25 = row (is_none (standing g n a es w final (Given at))) 25 ∷ []
+    room25 = row (is_none (standing g n a es w final (Some at))) 25 ∷ []
 
     abbrev all-rows : List Row
-    all-rows = rows_from72 g n a es w final (Given at)
+    all-rows = rows_from72 g n a es w final (Some at)
 
     pub given-taken : usable_run g n es (at / g.block) ≡ 0 → refusal all-rows ≡ some 72
     given-taken z = pick_true _ 72 _ (start-blocked g n es at ∙ eq-eqb _ 0 z)
 
     module _ (ne : usable_run g n es (at / g.block) ≢ 0) where
-      open-start : blocked g n es (Given at) ≡ false
+      open-start : blocked g n es (Some at) ≡ false
       open-start = start-blocked g n es at ∙ ne_eqb _ 0 ne
 
       pub given-stop : (k : ℕ) → refusal own ≡ some k → refusal all-rows ≡ some k
@@ -180,7 +185,7 @@ module _ (g : Shape) (n a : ℕ) (es : List ℕ) (w : WantedPartition) (final : 
             (room-is ∙ lt-leb (needed g w final) (usable_run g n es (at / g.block)) h))
 
         pub given-stands : needed g w final ≤ usable_run g n es (at / g.block)
-            → (refusal all-rows ≡ none) × (or_zero (standing g n a es w final (Given at)) ≡ at / g.block)
+            → (refusal all-rows ≡ none) × (or_zero (standing g n a es w final (Some at)) ≡ at / g.block)
         given-stands h =
             let q = room-is ∙ le-leb _ _ h in (
               from25 ∙ pick-false _ 25 _ (ap (λ (c : Bool). is_none (cond c (some (at / g.block)) none)) q),
@@ -189,11 +194,11 @@ module _ (g : Shape) (n a : ℕ) (es : List ℕ) (w : WantedPartition) (final : 
 
   -- ---- without start
 
-  pub lowest-rows : refusal (rows_from72 g n a es w final Lowest) ≡ refusal (table_rows g.first (last_usable g n) es (add (as_new a w (needed g w final))))
+  pub lowest-rows : refusal (rows_from72 g n a es w final None) ≡ refusal (table_rows g.first (last_usable g n) es (add (as_new a w (needed g w final))))
   lowest-rows = pick-false _ 72 _ refl
 
   pub lowest-stands : (b : ℕ) → start_for g.first (last_usable g n) es (as_new a w (needed g w final)) ≡ some b
-      → or_zero (standing g n a es w final Lowest) ≡ b
+      → or_zero (standing g n a es w final None) ≡ b
   lowest-stands b e = ap or_zero e
 
 -- ---- in the words of the code: the free blocks r from the start on, the blocks s that are needed, what adding is given
@@ -205,37 +210,37 @@ module _ (g : Shape) (n a : ℕ) (es : List ℕ) (w : WantedPartition) (final : 
 
   module _ (at r : ℕ) (is-r : r ≡ usable_run g n es (at / g.block)) (ne : r ≢ 0) where
     pub given-says-stop : (k : ℕ) → refusal (add_rows es p) ≡ some k
-        → stopped k ≡ part_place_of g n a es w final (Given at) (rows_from72 g n a es w final (Given at))
+        → stopped k ≡ part_place_of g n a es w final (Some at) (rows_from72 g n a es w final (Some at))
     given-says-stop k e =
-        spot-stop g n a es w final (Given at) (rows_from72 g n a es w final (Given at)) k
+        spot-stop g n a es w final (Some at) (rows_from72 g n a es w final (Some at)) k
         (given-stop g n a es w final at (λ z. ne (is-r ∙ z)) k (own_is ∙ e))
 
     pub given-says-short : refusal (add_rows es p) ≡ none → r < s
-        → stopped 25 ≡ part_place_of g n a es w final (Given at) (rows_from72 g n a es w final (Given at))
+        → stopped 25 ≡ part_place_of g n a es w final (Some at) (rows_from72 g n a es w final (Some at))
     given-says-short e h =
-        spot-stop g n a es w final (Given at) (rows_from72 g n a es w final (Given at)) 25
+        spot-stop g n a es w final (Some at) (rows_from72 g n a es w final (Some at)) 25
         (given-short g n a es w final at (λ z. ne (is-r ∙ z)) (own_is ∙ e) (omega arith))
 
     pub given-says-from : refusal (add_rows es p) ≡ none → s ≤ r → (x : ℕ) → x ≡ blocks_from g n es w final (at / g.block)
-        → from (at / g.block) x ≡ part_place_of g n a es w final (Given at) (rows_from72 g n a es w final (Given at))
+        → from (at / g.block) x ≡ part_place_of g n a es w final (Some at) (rows_from72 g n a es w final (Some at))
     given-says-from e h x q =
         let v = given-stands g n a es w final at (λ z. ne (is-r ∙ z)) (own_is ∙ e) (omega arith) in
-        spot-from g n a es w final (Given at) (rows_from72 g n a es w final (Given at)) (at / g.block) x v.0 v.1 q
+        spot-from g n a es w final (Some at) (rows_from72 g n a es w final (Some at)) (at / g.block) x v.0 v.1 q
 
   abbrev lowest : NewPartition → Option ℕ
   lowest x = refusal (table_rows g.first (last_usable g n) es (add x))
 
-  lowest-is : refusal (rows_from72 g n a es w final Lowest) ≡ lowest p
+  lowest-is : refusal (rows_from72 g n a es w final None) ≡ lowest p
   lowest-is = lowest-rows g n a es w final ∙ ap (λ (x : ℕ). lowest (as_new a w x)) (sym is-s) ∙ ap lowest (sym is-p)
 
-  pub lowest-says-stop : (k : ℕ) → lowest p ≡ some k → stopped k ≡ part_place_of g n a es w final Lowest (rows_from72 g n a es w final Lowest)
-  lowest-says-stop k e = spot-stop g n a es w final Lowest (rows_from72 g n a es w final Lowest) k (lowest-is ∙ e)
+  pub lowest-says-stop : (k : ℕ) → lowest p ≡ some k → stopped k ≡ part_place_of g n a es w final None (rows_from72 g n a es w final None)
+  lowest-says-stop k e = spot-stop g n a es w final None (rows_from72 g n a es w final None) k (lowest-is ∙ e)
 
   pub lowest-says-from : lowest p ≡ none → (b : ℕ) → start_for g.first (last_usable g n) es p ≡ some b → (x : ℕ) → x ≡ blocks_from g n es w final b
-      → from b x ≡ part_place_of g n a es w final Lowest (rows_from72 g n a es w final Lowest)
+      → from b x ≡ part_place_of g n a es w final None (rows_from72 g n a es w final None)
   lowest-says-from e b q x z =
       let start = start_for g.first (last_usable g n) es in
-      spot-from g n a es w final Lowest (rows_from72 g n a es w final Lowest) b x (lowest-is ∙ e)
+      spot-from g n a es w final None (rows_from72 g n a es w final None) b x (lowest-is ∙ e)
       (lowest-stands g n a es w final b (ap (λ (y : ℕ). start (as_new a w y)) (sym is-s) ∙ ap start (sym is-p) ∙ q)) z
 
 -- ---- what a spot says

@@ -6,7 +6,7 @@ use Rattle.gpt_model.specs.Table.{ranges_of}
 use Rattle.gpt_model.specs.Disk.{Shape, last_usable}
 use Rattle.gpt_model.specs.Ranges.{in_none, run_from}
 use Rattle.gpt_model.specs.Calls.{is_none, or_zero, add_rows}
-use Rattle.gpt_string_model.specs.declared.StartByte.{StartByte}
+use Rattle.std.specs.Prelude.{Option as Found}
 use Rattle.gpt_string_model.specs.declared.WantedPartition.{WantedPartition}
 use Rattle.gpt_string_model.specs.Build.{blocked, reaches, needed, as_new, standing}
 use Rattle.gpt_build.specs.declared.Placing.{Placing}
@@ -22,7 +22,7 @@ abbrev pub blocks_from : Shape → ℕ → List ℕ → WantedPartition → Bool
 blocks_from g n es w final b = cond (reaches w final) (run_from (in_none (ranges_of es)) b (suc (last_usable g n) - b)) (w.size / g.block)
 
 -- the rows from 72 on, for a given start or for none
-abbrev pub rows_from72 : Shape → ℕ → ℕ → List ℕ → WantedPartition → Bool → StartByte → List Row
+abbrev pub rows_from72 : Shape → ℕ → ℕ → List ℕ → WantedPartition → Bool → Found ℕ → List Row
 rows_from72 g n a es w final start =
     row (blocked g n es start) 72 ∷ (add_rows es (as_new a w (needed g w final)) ++ (row (is_none (standing g n a es w final start)) 25 ∷ []))
 
@@ -40,7 +40,7 @@ part_place_unless none first blocks = from first blocks
 part_place_unless (some k) first blocks = stopped k
 
 -- where the partition stands by those rows
-abbrev pub part_place_of : Shape → ℕ → ℕ → List ℕ → WantedPartition → Bool → StartByte → List Row → PartPlace
+abbrev pub part_place_of : Shape → ℕ → ℕ → List ℕ → WantedPartition → Bool → Found ℕ → List Row → PartPlace
 part_place_of g n a es w final start rows =
     let b = or_zero (standing g n a es w final start) in
     part_place_unless (refusal rows) b (blocks_from g n es w final b)

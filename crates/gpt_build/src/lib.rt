@@ -2,14 +2,13 @@
 
 // One partition of a layout string on the table that the earlier ones left: why it is refused, where it stands, and its entry.
 // An inner crate: no user calls it, so its functions may have a `requires`, which each caller meets.
-ghost use Rattle.std.specs.Prelude.{◌≡◌, ◌+◌, ◌≤◌, ◌<◌, length};
+ghost use Rattle.std.specs.Prelude.{◌≡◌, ◌+◌, ◌≤◌, ◌<◌, length, None, Some};
 ghost use Rattle.octets.specs.Bytes.{put_chunk};
 ghost use Rattle.octets.specs.Rows.{refusal};
 ghost use Rattle.gpt_model.specs.Table.{entry_bytes, slot_count, table_bytes};
 ghost use Rattle.gpt_model.specs.Disk.{most_blocks};
 ghost use Rattle.gpt_model.specs.Calls.{lowest_unused, new_entry};
 ghost use Rattle.gpt_places.specs.Invariants.{Legal, Fits};
-ghost use Rattle.gpt_string_model.specs.declared.StartByte.TheVariants.{Given, Lowest};
 ghost use Rattle.gpt_string_model.specs.Build.{uneven as uneven_of, reaches as reaches_of, needed as needed_of, as_new};
 ghost use Rattle.gpt_string_model.specs.Build.{part_rows, with_part, complete, unless_faulty};
 ghost use Rattle.gpt_build.specs.Answers.{built_by};
@@ -18,7 +17,7 @@ ghost use Rattle.gpt_build.specs.Invariants.{usable_run, blocks_from, rows_from7
 use gpt_checks::Refusal as DiskRefusal;
 use gpt_model::{Block, NewPartition, Rule, Shape};
 use gpt_places::{Disk, ENTRY};
-use gpt_string_model::{StartByte, WantedPartition};
+use gpt_string_model::WantedPartition;
 
 // Why a layout string is refused; specs/Answers gives each its number.
 #[derive(Clone, Copy)]
@@ -49,26 +48,16 @@ fn uneven(w: WantedPartition, shape: Shape) -> bool
     ensures { result ≡ uneven_of shape w.size w.start }
 {
     let block = shape.block as u64;
-    let start = w.start;
-    match start {
-        StartByte::Lowest => w.size % block != 0,
-        StartByte::Given(at) => {
-            if at % block != 0 {
-                return true;
-            }
-            w.size % block != 0
-        }
-    }
+    // 0 is a multiple
+    let start = w.start.unwrap_or(0);
+    start % block != 0 || w.size % block != 0
 }
 
 // b7: Size 0 in the last partition reaches .. to the end of that free run
 fn reaches(w: WantedPartition, last: bool) -> bool
     ensures { result ≡ reaches_of w last }
 {
-    if last {
-        return w.size == 0;
-    }
-    false
+    last && w.size == 0
 }
 
 // The free blocks that it must find.
@@ -77,9 +66,10 @@ fn needed(w: WantedPartition, last: bool, shape: Shape) -> u64
     ensures { result ≡ needed_of shape w last }
 {
     if reaches(w, last) {
-        return 1;
+        1
+    } else {
+        w.size / shape.block as u64
     }
-    w.size / shape.block as u64
 }
 
 // k5: The string builder goes by the present rule.
@@ -106,10 +96,11 @@ fn usable_run(table: &[u8], n: u64, shape: Shape, b: Block) -> u64
     ensures { result ≡ usable_run shape n table.now b.0 }
 {
     if b.0 < shape.first {
-        return 0;
+        0
+    } else {
+        let disk = Disk { shape, n };
+        gpt_room::run_at(gpt_table::as_table(table), b, disk.last_usable())
     }
-    let disk = Disk { shape, n };
-    gpt_room::run_at(gpt_table::as_table(table), b, disk.last_usable())
 }
 
 // Its size in blocks from block b on.
@@ -119,9 +110,10 @@ fn size_from(table: &[u8], n: u64, shape: Shape, w: WantedPartition, last: bool,
 {
     if reaches(w, last) {
         let disk = Disk { shape, n };
-        return gpt_room::run_at(gpt_table::as_table(table), b, disk.last_usable());
+        gpt_room::run_at(gpt_table::as_table(table), b, disk.last_usable())
+    } else {
+        w.size / shape.block as u64
     }
-    w.size / shape.block as u64
 }
 
 // b8: with it, the partition stands exactly there. 72, those of adding, 25.
@@ -135,8 +127,8 @@ fn place_given(
     at: u64,
 ) -> Placing
     requires { (length table.now ≡ table_bytes) × Fits shape n × (n ≤ most_blocks) }
-    ensures { part_place_by result ≡ part_place_of shape n alignment table.now w last (Given at)
-        (rows_from72 shape n alignment table.now w last (Given at)) }
+    ensures { part_place_by result ≡ part_place_of shape n alignment table.now w last (Some at)
+        (rows_from72 shape n alignment table.now w last (Some at)) }
 {
     let first = Block(at / shape.block as u64);
     let run = usable_run(table, n, shape, first);
@@ -166,8 +158,8 @@ fn place_lowest(
     last: bool,
 ) -> Placing
     requires { (length table.now ≡ table_bytes) × Fits shape n × (n ≤ most_blocks) }
-    ensures { part_place_by result ≡ part_place_of shape n alignment table.now w last Lowest
-        (rows_from72 shape n alignment table.now w last Lowest) }
+    ensures { part_place_by result ≡ part_place_of shape n alignment table.now w last None
+        (rows_from72 shape n alignment table.now w last None) }
 {
     let size = needed(w, last, shape);
     match gpt_checks::place(table, Disk { shape, n }, as_new(w, size, alignment)) {
@@ -195,10 +187,9 @@ fn place(
     if uneven(w, shape) {
         return Placing::Stop(Refusal::NotWholeBlocks);
     }
-    let start = w.start;
-    match start {
-        StartByte::Lowest => place_lowest(table, n, shape, alignment, w, last),
-        StartByte::Given(at) => place_given(table, n, shape, alignment, w, last, at),
+    match w.start {
+        None => place_lowest(table, n, shape, alignment, w, last),
+        Some(at) => place_given(table, n, shape, alignment, w, last, at),
     }
 }
 

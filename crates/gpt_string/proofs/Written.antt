@@ -1,6 +1,9 @@
 -- The outcome of building by its rows and by the table that the text makes.
 use mathlib.Core.Path.{◌≡◌, refl, sym, ap, ap₂, ◌∙◌}
-use mathlib.Core.Bool.{Bool, true, false, not}
+use mathlib.Core.Bool.{Bool, true, false, not, cond}
+use mathlib.Core.Logic.{◌⊎◌, inl, inr}
+use Rattle.octets.proofs.Bools.{bool_cases}
+use Rattle.std.specs.Prelude.{Option as Found, None, Some}
 use mathlib.Core.List.{List, [], ◌∷◌}
 use mathlib.Core.Option.{Option, none, some}
 use Prim.Native.Nat.{ℕ}
@@ -29,6 +32,22 @@ guid-zero guid d z p q r = ap is_zero (sym p) ∙ sym q ∙ r
 
 pub guid-some : (guid d : List ℕ) (z : Bool) → guid ≡ d → z ≡ is_zero guid → z ≡ false → is_zero d ≡ false
 guid-some guid d z p q r = ap is_zero (sym p) ∙ sym q ∙ r
+
+-- whether the text is a layout string, by the disk GUID that was read
+module _ (text : List ℕ) (r : Found (List ℕ)) (e : r ≡ cond (is_layout text) (Some (disk_guid_of text)) None) where
+  pub laid-by : (guid : List ℕ) → r ≡ Some guid → (is_layout text ≡ true) × (guid ≡ disk_guid_of text)
+  laid-by guid q = go (bool_cases (is_layout text))
+    where
+      go : (is_layout text ≡ true) ⊎ (is_layout text ≡ false) → (is_layout text ≡ true) × (guid ≡ disk_guid_of text)
+      go (inl l) = let z : r ≡ Some (disk_guid_of text) = rw l at e in (l, cc)
+      go (inr l) = let z : r ≡ None = rw l at e in cc
+
+  pub unlaid-by : r ≡ None → is_layout text ≡ false
+  unlaid-by q = go (bool_cases (is_layout text))
+    where
+      go : (is_layout text ≡ true) ⊎ (is_layout text ≡ false) → is_layout text ≡ false
+      go (inl l) = let z : r ≡ Some (disk_guid_of text) = rw l at e in cc
+      go (inr l) = l
 
 module _ (g : Shape) (n a : ℕ) (text h t : List ℕ) where
   refused-by-row : (k : ℕ) → refusal (string_rows g n a text h t) ≡ some k → outcome (refused k) h t ≡ build_string g n a text h t

@@ -19,6 +19,7 @@ use gpt_build::{Building, Refusal};
 use gpt_checks::Refusal as DiskRefusal;
 use gpt_model::Shape;
 use gpt_places::{Disk, Side, TABLE};
+use gpt_string_values::cut;
 
 #[derive(Clone, Copy)]
 pub enum Answer {
@@ -31,19 +32,18 @@ fn fill(table: &mut [u8], n: u64, shape: Shape, alignment: u64, text: &[u8]) -> 
     requires { (length table.old ≡ table_bytes) × Fits shape n × (n ≤ most_blocks) × (is_layout text.now ≡ true) }
     ensures { built_by result table.new ≡ build_table shape n alignment table.old (wanted_in text.now) }
 {
-    let first = gpt_string_values::find(text, 0, b';');
-    let mut i = first + 1;
-    while i < text.len() {
-        let end = gpt_string_values::find(text, i, b';');
-        let read = gpt_string_text::partition(&text[i..end]);
-        let next = end + 1;
-        let last = text.len() <= next;
-        match gpt_build::add(table, n, shape, alignment, read.wanted, last) {
+    let (_, partitions) = cut(text, b';');
+    let mut rest = partitions;
+    while !rest.is_empty() {
+        let (part, behind) = cut(rest, b';');
+        let wanted = gpt_string_text::partition(part).unwrap();
+        let last = behind.is_empty();
+        match gpt_build::add(table, n, shape, alignment, wanted, last) {
             Building::Stop(r) => {
                 return Building::Stop(r);
             }
             Building::Pass => {
-                i = next;
+                rest = behind;
             }
         }
     }
@@ -63,23 +63,21 @@ fn write(
     ensures { outcome (build_answer result) head.new tail.new
         ≡ build_string shape n alignment text.now head.old tail.old }
 {
-    if gpt_string_text::is_layout(text) {
-        let guid = gpt_string_text::disk_guid(text);
-        if octets::is_zero(&guid) {
-            return Answer::Refused(Refusal::Disk(DiskRefusal::NoDiskGuid));
+    let Some(guid) = gpt_string_text::disk_of(text) else {
+        return Answer::Refused(Refusal::StringForm);
+    };
+    if octets::is_zero(&guid) {
+        return Answer::Refused(Refusal::Disk(DiskRefusal::NoDiskGuid));
+    }
+    let mut table = [0u8; TABLE];
+    match fill(&mut table, n, shape, alignment, text) {
+        Building::Stop(r) => Answer::Refused(r),
+        Building::Pass => {
+            let disk = Disk { shape, n };
+            gpt_copies::writing::built(head, Side::Primary, disk, &guid, &table);
+            gpt_copies::writing::built(tail, Side::Backup, disk, &guid, &table);
+            Answer::Accepted
         }
-        let mut table = [0u8; TABLE];
-        match fill(&mut table, n, shape, alignment, text) {
-            Building::Stop(r) => Answer::Refused(r),
-            Building::Pass => {
-                let disk = Disk { shape, n };
-                gpt_copies::writing::built(head, Side::Primary, disk, &guid, &table);
-                gpt_copies::writing::built(tail, Side::Backup, disk, &guid, &table);
-                Answer::Accepted
-            }
-        }
-    } else {
-        Answer::Refused(Refusal::StringForm)
     }
 }
 

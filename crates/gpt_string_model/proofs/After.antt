@@ -8,7 +8,7 @@ use Prim.Native.Nat.{ℕ, zero, suc, ◌+◌, ◌-◌, ◌*◌, ◌^◌, ◌≤�
 use native.Mathlib.Omega.{arith}
 use lib.ListN.{length, get_or, replicate, length-append, length-replicate, get_or-replicate}
 use borrow.Author.Tests.{leb-true, eqb-true}
-use Rattle.octets.specs.Tests.{◌and◌, all}
+use Rattle.octets.specs.Tests.{all}
 use Rattle.octets.specs.Rows.{refusal}
 use Rattle.octets.specs.Bytes.{part, zeros}
 use Rattle.octets.proofs.Bools.{and_l, and_r, not_f}

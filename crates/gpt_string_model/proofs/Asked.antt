@@ -1,13 +1,13 @@
 -- What a field takes by its key; where the partitions of a text that is taken begin, and the lengths of what it asks for.
 use mathlib.Core.Path.{◌≡◌, refl, sym, ap, subst, ◌∙◌}
 use mathlib.Core.Logic.{◌⊎◌, inl, inr}
-use mathlib.Core.Bool.{Bool, true, false, not, false≢true}
+use mathlib.Core.Bool.{Bool, true, false, false≢true}
 use mathlib.Core.List.{List, [], ◌∷◌}
-use mathlib.Core.Option.{Option, some}
+use Rattle.std.specs.Prelude.{Option, is_some}
 use Prim.Native.Nat.{ℕ, ◌+◌, ◌-◌, ◌≤◌, ◌<◌}
 use Prim.Native.Char.{code}
 use native.Mathlib.Omega.{arith}
-use lib.ListN.{length, get_or, take, drop, replicate, length-append, length-replicate}
+use lib.ListN.{length, get_or, take, drop, replicate, length-append, length-replicate, length-drop}
 use lib.Dec.{ltb}
 use borrow.Author.Tests.{leb-true, ltb-true, ltb-false}
 use Rattle.octets.specs.Ascii.{ascii}
@@ -20,12 +20,11 @@ use Rattle.guid.specs.Hex.{hex_value}
 use Rattle.guid.specs.Text.{digits_in, dashes_in, is_guid_text, stored_of}
 use Rattle.guid.specs.Types.{short_at, expand}
 use Rattle.guid.proofs.Calls.{length-stored}
-use Rattle.gpt_model.specs.Calls.{is_none}
 use Rattle.gpt_string_model.specs.declared.WantedPartition.{WantedPartition}
 use Rattle.gpt_string_model.specs.Text.{key_of, field_value, byte_count, is_partition_name, keys, has_key, is_field, are_fields, value_in, said_or}
 use Rattle.gpt_string_model.specs.Text.{name_units, type_named, wanted_by, fields_of, is_partition, wanted_of}
 use Rattle.gpt_string_model.specs.Text.{split, closed, parts_of, are_parts, is_layout, disk_guid_of}
-use Rattle.gpt_string_model.proofs.Reading.{next_in, value-yes, value-no, value-nil, parts-end, parts_last, parts-on}
+use Rattle.gpt_string_model.proofs.Reading.{next_in, first_part, behind_first, parts-nil, parts-next, parts-head, value-yes, value-no, value-nil}
 
 -- ---- a field with one of the keys is one where the key takes its value
 
@@ -47,7 +46,7 @@ module _ (f : List ℕ) where
   unfolding taken_by same ◌and◌ ◌or◌
   name-field q = by_key f (ascii "name=") q ∙ or_nothing _
 
-  pub size-field : key_of f ≡ ascii "size=" → is_field f ≡ not (is_none (byte_count (field_value f)))
+  pub size-field : key_of f ≡ ascii "size=" → is_field f ≡ is_some (byte_count (field_value f))
   unfolding taken_by same ◌and◌ ◌or◌
   size-field q = by_key f (ascii "size=") q ∙ or_nothing _
 
@@ -55,7 +54,7 @@ module _ (f : List ℕ) where
   unfolding taken_by same ◌and◌ ◌or◌
   uuid-field q = by_key f (ascii "uuid=") q ∙ or_nothing _
 
-  pub start-field : key_of f ≡ ascii "start=" → is_field f ≡ not (is_none (byte_count (field_value f)))
+  pub start-field : key_of f ≡ ascii "start=" → is_field f ≡ is_some (byte_count (field_value f))
   unfolding taken_by same ◌and◌ ◌or◌
   start-field q = by_key f (ascii "start=") q ∙ or_nothing _
 
@@ -151,18 +150,31 @@ parts_are (d ∷ p ∷ ps) e = record {
   partitions = and_r _ _ e;
 }
 
--- e is the place of the first semicolon, or the text's length; where nothing stands behind it there is no partition
-pub no-partition : (text : List ℕ) (e : ℕ) → e ≡ 0 + next_in (code ";") (drop 0 text) → e ≤ length text → length text ≤ e + 1
-    → are_parts (parts_of text) ≡ false
-no-partition text e p l h = go (bool_cases (ltb e (length text))) (bool_cases (ltb 0 (length text)))
-  where
-    go : (ltb e (length text) ≡ true) ⊎ (ltb e (length text) ≡ false) → (ltb 0 (length text) ≡ true) ⊎ (ltb 0 (length text) ≡ false)
-        → are_parts (parts_of text) ≡ false
-    go (inl q) b =
-        ap are_parts (parts-on
-        (code ";") text 0 e p (ltb-true _ _ q) ∙ ap (λ (r : List (List ℕ)). take (e - 0) text ∷ r) (parts-end (code ";") text (e + 1) h))
-    go (inr q) (inl b) = ap are_parts (parts_last (code ";") text 0 e p (ltb-true _ _ b) (omega (arith, ltb-false e (length text) q)))
-    go (inr q) (inr b) = ap are_parts (parts-end (code ";") text 0 (omega (arith, ltb-false 0 (length text) b)))
+-- by the part before the first semicolon, and what stands behind it: without anything behind it there is no partition
+module _ (text : List ℕ) where
+  abbrev pub is_disk : Bool
+  is_disk = has_key (ascii "uuid_disk=") (first_part text) and is_guid_text (field_value (first_part text))
+
+  longer : 0 < length (behind_first text) → 0 < length text
+  longer h = omega (arith, length-drop (next_in (code ";") text + 1) text)
+
+  pub parts-alone : length (behind_first text) ≡ 0 → are_parts (parts_of text) ≡ false
+  parts-alone h = go text h
+    where
+      go : (text : List ℕ) → length (behind_first text) ≡ 0 → are_parts (parts_of text) ≡ false
+      go [] h = ap are_parts (parts-nil [] refl)
+      go (x ∷ xs) h =
+          ap are_parts (parts-next (x ∷ xs) (omega arith) ∙ ap (λ (ps : List (List ℕ)). first_part (x ∷ xs) ∷ ps) (parts-nil (behind_first (x ∷ xs)) h))
+
+  pub parts-more : 0 < length (behind_first text) → are_parts (parts_of text) ≡ (is_disk and all is_partition (parts_of (behind_first text)))
+  parts-more h =
+      let w = parts-next (behind_first text) h in
+      ap are_parts (parts-next text (longer h) ∙ ap (λ (ps : List (List ℕ)). first_part text ∷ ps) w)
+      ∙ ap (λ (ps : List (List ℕ)). is_disk and all is_partition ps) (sym w)
+
+  pub disk-first : disk_guid_of text ≡ stored_of (field_value (first_part text))
+  unfolding disk_guid_of
+  disk-first = ap (λ (d : List ℕ). stored_of (field_value d)) (parts-head text)
 
 module _ (text : List ℕ) (t : is_layout text ≡ true) where
   layout-are : are_parts (parts_of text) ≡ true
@@ -178,29 +190,3 @@ module _ (text : List ℕ) (t : is_layout text ≡ true) where
 
   pub layout-partitions : all is_partition (drop 1 (parts_of text)) ≡ true
   layout-partitions = let w = layout-parts in rw w.are w.partitions
-
-  -- the partitions begin behind the first semicolon, at e
-  module _ (e : ℕ) (p : e ≡ 0 + next_in (code ";") (drop 0 text)) (l : e ≤ length text) where
-    pub layout-begins : e + 1 < length text
-    layout-begins = go (bool_cases (ltb (e + 1) (length text)))
-      where
-        go : (ltb (e + 1) (length text) ≡ true) ⊎ (ltb (e + 1) (length text) ≡ false) → e + 1 < length text
-        go (inl q) = ltb-true _ _ q
-        go (inr q) = absurd (clash layout-are (no-partition text e p l (ltb-false _ _ q)))
-
-    pub layout-rest : drop 1 (parts_of text) ≡ closed (split (code ";") (drop (e + 1) text))
-    layout-rest = let h = layout-begins in ap (drop 1) (parts-on (code ";") text 0 e p (omega arith))
-
-    pub layout-disk : disk_guid_of text ≡ stored_of (field_value (take (e - 0) (drop 0 text)))
-    unfolding disk_guid_of
-    layout-disk =
-        let h = layout-begins in
-        ap (λ (r : List (List ℕ)). stored_of (field_value (get_or r 0 []))) (parts-on (code ";") text 0 e p (omega arith))
-
-    pub layout-keyed : (has_key (ascii "uuid_disk=") (take (e - 0) (drop 0 text)) and is_guid_text (field_value (take (e - 0) (drop 0 text)))) ≡ true
-    layout-keyed =
-        let h = layout-begins in
-        let w = layout-parts in
-        let q : w.disk ≡ take (e - 0) (drop 0 text) = cons_head (sym w.are ∙ parts-on (code ";") text 0 e p (omega arith)) in
-        and_i _ _ (subst (λ (d : List ℕ). has_key (ascii "uuid_disk=") d ≡ true) q w.keyed)
-        (subst (λ (d : List ℕ). is_guid_text (field_value d) ≡ true) q w.guid)

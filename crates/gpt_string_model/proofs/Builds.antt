@@ -8,7 +8,7 @@ use Prim.Native.Nat.{ℕ, zero, suc, ◌+◌, ◌-◌, ◌*◌, ◌^◌, ◌<◌
 use native.Mathlib.Omega.{arith}
 use lib.ListN.{length, set, replicate, length-append, length-replicate, get_or-replicate, length-map}
 use lib.Seq.{set_at, ext_get_or}
-use Rattle.octets.specs.Tests.{◌or◌, all, any, find_ix}
+use Rattle.octets.specs.Tests.{all, any, find_ix}
 use Rattle.octets.specs.Rows.{refusal}
 use Rattle.octets.specs.Bytes.{zeros, put_chunk}
 use Rattle.octets.proofs.Bools.{and_l, and_r, or-false-l, or-false-r, or-false-i, option_cases}

@@ -1,18 +1,17 @@
 -- A text is its parts, joined; the order of a partition's fields does not matter.
 use mathlib.Core.Path.{◌≡◌, refl, sym, ap, ap₂, subst, ◌∙◌}
 use mathlib.Core.Logic.{◌⊎◌, inl, inr}
-use mathlib.Core.Bool.{Bool, true, false, not, true≢false}
+use mathlib.Core.Bool.{Bool, true, false, not}
 use mathlib.Core.List.{List, [], ◌∷◌, ◌++◌}
-use mathlib.Core.Option.{Option}
 use Prim.Native.Nat.{ℕ}
 use lib.Dec.{eqb}
 use borrow.Author.Tests.{eqb-true}
 use Rattle.octets.specs.Ascii.{ascii}
 use Rattle.octets.specs.Tests.{◌and◌, ◌or◌, all, any, pairs}
 use Rattle.octets.specs.Bytes.{same}
-use Rattle.octets.proofs.Bools.{and_l, and_r, and_i, or-false-i, bool_cases, not_t, not_f, clash}
+use Rattle.octets.proofs.Bools.{and_l, and_r, and_i, or-false-i, bool_cases, not_t, clash}
 use Rattle.octets.proofs.Equal.{same_true, same_refl}
-use Rattle.gpt_string_model.specs.Text.{in_first, split, key_of, field_value, Key, keys, has_key, is_field, are_fields, value_in, wanted_by}
+use Rattle.gpt_string_model.specs.Text.{in_first, split, key_of, Key, keys, has_key, is_field, are_fields, value_in, wanted_by}
 use Rattle.gpt_string_model.specs.Claims.{joined, SplitSays, AnyOrder}
 use Rattle.gpt_string_model.proofs.Reading.{value-yes, value-no}
 

@@ -4,6 +4,7 @@ use mathlib.Core.Logic.{◌⊎◌, inl, inr, ◌≢◌}
 use mathlib.Core.Bool.{Bool, true, false, not, cond, true≢false}
 use mathlib.Core.List.{List, [], map}
 use mathlib.Core.Option.{none, some}
+use Rattle.std.specs.Prelude.{Option, None, Some}
 use Prim.Native.Nat.{ℕ, suc, ◌+◌, ◌-◌, ◌*◌, ◌/◌, ◌%◌, ◌^◌, ◌≤◌, ◌<◌}
 use native.Mathlib.Nat.{div-add-mod', div-le_self}
 use native.Mathlib.Omega.{arith}
@@ -24,8 +25,6 @@ use Rattle.gpt_model.proofs.Room.{Room, Start, room-get, start-some}
 use Rattle.gpt_model.proofs.Longest.{run_holds, run-bound, run-stops, run-least}
 use Rattle.gpt_model.proofs.Entries.{range-unused, entry_at}
 use Rattle.gpt_model.proofs.Edits.{nonzero, some-or_zero, Fits, new-fits}
-use Rattle.gpt_string_model.specs.declared.StartByte.{StartByte}
-use Rattle.gpt_string_model.specs.declared.StartByte.TheVariants.{Given, Lowest}
 use Rattle.gpt_string_model.specs.declared.WantedPartition.{WantedPartition}
 use Rattle.gpt_string_model.specs.Build.{reaches, needed, as_new, standing, first_block, size_in_blocks, uneven, blocked, part_rows, entry_for}
 
@@ -63,10 +62,10 @@ module _ (g : Shape) (n a : ℕ) (es : List ℕ) (w : WantedPartition) (final : 
   need = needed g w final
 
   -- where it stands, the blocks that it needs are free
-  stands : (o : StartByte) → blocked g n es o ≡ false → is_none (standing g n a es w final o) ≡ false
+  stands : (o : Option ℕ) → blocked g n es o ≡ false → is_none (standing g n a es w final o) ≡ false
       → (g.first ≤ or_zero (standing g n a es w final o)) × Room (ranges_of es) last need (or_zero (standing g n a es w final o))
-  stands Lowest b q = let p = start-some (ranges_of es) g.first last need a _ (some-or_zero _ q) in (p.0, p.1.1)
-  stands (Given at) b q = go (room_at (ranges_of es) last need (at / g.block)) refl q
+  stands None b q = let p = start-some (ranges_of es) g.first last need a _ (some-or_zero _ q) in (p.0, p.1.1)
+  stands (Some at) b q = go (room_at (ranges_of es) last need (at / g.block)) refl q
     where
       go : (c : Bool) → room_at (ranges_of es) last need (at / g.block) ≡ c → is_none (cond c (some (at / g.block)) none) ≡ false
           → (g.first ≤ or_zero (cond c (some (at / g.block)) none)) × Room (ranges_of es) last need (or_zero (cond c (some (at / g.block)) none))
@@ -81,34 +80,34 @@ module _ (g : Shape) (n a : ℕ) (es : List ℕ) (w : WantedPartition) (final : 
       widened (ranges_of es) last (reaches w final) (w.size / g.block) (first_block g n a es w final) (nonzero _ (passes 20 rows e)) part-stands.1
 
   -- b8: with it, the partition stands exactly there
-  pub part-given : (at : ℕ) → w.start ≡ Given at → first_block g n a es w final * g.block ≡ at
+  pub part-given : (at : ℕ) → w.start ≡ Some at → first_block g n a es w final * g.block ≡ at
   part-given at q = go w.start q (passes 71 rows e) (passes 25 rows e)
     where
-      go : (o : StartByte) → o ≡ Given at → uneven g w.size o ≡ false → is_none (standing g n a es w final o) ≡ false
+      go : (o : Option ℕ) → o ≡ Some at → uneven g w.size o ≡ false → is_none (standing g n a es w final o) ≡ false
           → or_zero (standing g n a es w final o) * g.block ≡ at
-      go Lowest q u v = let z : ◌≡◌ {A = ℕ} 0 1 = cc in absurd (omega arith)
-      go (Given x) q u v = there (room_at (ranges_of es) last need (x / g.block)) v ∙ (let z : x ≡ at = cc in z)
+      go None q u v = let z : ◌≡◌ {A = ℕ} 0 1 = cc in absurd (omega arith)
+      go (Some x) q u v = there (room_at (ranges_of es) last need (x / g.block)) v ∙ (let z : x ≡ at = cc in z)
         where
           there : (c : Bool) → is_none (cond c (some (x / g.block)) none) ≡ false → or_zero (cond c (some (x / g.block)) none) * g.block ≡ x
           there true v = whole x g.block (not_f _ (or-false-l _ _ u))
           there false v = absurd (true≢false v)
 
-  pub part-lowest : w.start ≡ Lowest
+  pub part-lowest : w.start ≡ None
       → (g.first ≤ first_block g n a es w final) × Start (ranges_of es) last need a (first_block g n a es w final)
       × ((b : ℕ) → g.first ≤ b → b < first_block g n a es w final → Start (ranges_of es) last need a b → ⊥)
   part-lowest q = go w.start q (passes 25 rows e)
     where
-      go : (o : StartByte) → o ≡ Lowest → is_none (standing g n a es w final o) ≡ false → let s = or_zero (standing g n a es w final o) in
+      go : (o : Option ℕ) → o ≡ None → is_none (standing g n a es w final o) ≡ false → let s = or_zero (standing g n a es w final o) in
           (g.first ≤ s) × Start (ranges_of es) last need a s × ((b : ℕ) → g.first ≤ b → b < s → Start (ranges_of es) last need a b → ⊥)
-      go Lowest q v = start-some (ranges_of es) g.first last need a _ (some-or_zero _ v)
-      go (Given x) q v = let z : ◌≡◌ {A = ℕ} 0 1 = cc in absurd (omega arith)
+      go None q v = start-some (ranges_of es) g.first last need a _ (some-or_zero _ v)
+      go (Some x) q v = let z : ◌≡◌ {A = ℕ} 0 1 = cc in absurd (omega arith)
 
   pub part-even : w.size / g.block * g.block ≡ w.size
   part-even = whole w.size g.block (even w.start (passes 71 rows e))
     where
-      even : (o : StartByte) → uneven g w.size o ≡ false → eqb (w.size % g.block) 0 ≡ true
-      even Lowest q = not_f _ q
-      even (Given at) q = not_f _ (or-false-r _ _ q)
+      even : (o : Option ℕ) → uneven g w.size o ≡ false → eqb (w.size % g.block) 0 ≡ true
+      even None q = not_f _ q
+      even (Some at) q = not_f _ (or-false-r _ _ q)
 
   -- a size other than 0 is what it takes
   not-reaching : w.size ≢ 0 → reaches w final ≡ false

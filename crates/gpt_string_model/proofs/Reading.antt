@@ -1,14 +1,14 @@
 -- Laws that code which reads a text from left to right cites: the next part, a field's key and value, one field more.
-use mathlib.Core.Path.{◌≡◌, refl, sym, ap, subst, ◌∙◌}
+use mathlib.Core.Path.{◌≡◌, refl, sym, ap, ap₂, subst, ◌∙◌}
 use mathlib.Core.Logic.{◌⊎◌, inl, inr}
 use mathlib.Core.Bool.{Bool, true, false, not, false≢true}
 use mathlib.Core.List.{List, [], ◌∷◌, ◌++◌}
-use mathlib.Core.Option.{none, some}
+use Rattle.std.specs.Prelude.{None, Some}
 use Prim.Native.Nat.{ℕ, zero, suc, ◌+◌, ◌-◌, ◌≤◌, ◌<◌}
 use Prim.Native.Char.{code}
 use native.Mathlib.Omega.{arith}
 use lib.Dec.{eqb, ltb}
-use lib.ListN.{length, take, drop, length-drop, drop_of_length-le}
+use lib.ListN.{length, get_or, take, drop, length-drop, drop_of_length-le}
 use lib.Seq.{take_all, length-take-le, drop-drop}
 use borrow.Author.Tests.{ltb-true, ltb-false}
 use Rattle.octets.specs.Tests.{◌and◌, ◌or◌, all, any, pairs, find_ix}
@@ -16,7 +16,7 @@ use Rattle.octets.specs.Bytes.{same}
 use Rattle.octets.proofs.Bools.{and_l, and_r, and_i, or_cases, or-false-l, or-false-r, and-false-l, and_false_r, bool_cases, clash}
 use Rattle.octets.proofs.Tests.{all_append}
 use Rattle.octets.proofs.Equal.{same_true, same_refl}
-use Rattle.gpt_string_model.specs.Text.{in_first, split, key_of, field_value, keys, has_key, is_field, are_fields, value_in, closed}
+use Rattle.gpt_string_model.specs.Text.{in_first, split, key_of, field_value, keys, has_key, is_field, are_fields, value_in, closed, parts_of}
 
 find_ix-here : (p : ℕ → Bool) (x : ℕ) (xs : List ℕ) → p x ≡ true → find_ix p (x ∷ xs) ≡ 0
 find_ix-here p x xs e = rw (find_ix, e)
@@ -101,61 +101,43 @@ module _ (c : ℕ) where
   unfolding same
   closed-nil = ap closed split-nil
 
--- ---- the same from the place i of a text on; e is the place of the next byte c, or the text's length
+-- ---- the parts of a text: what stands before its first semicolon, and those of what stands behind
 
-behind : (i e : ℕ) (text : List ℕ) → i ≤ e → drop (suc (e - i)) (drop i text) ≡ drop (e + 1) text
-behind i e text h = drop-drop (suc (e - i)) i text ∙ at (i + suc (e - i)) (e + 1) (omega arith)
+abbrev pub first_part : List ℕ → List ℕ
+first_part text = take (next_in (code ";") text) text
+
+abbrev pub behind_first : List ℕ → List ℕ
+behind_first text = drop (next_in (code ";") text + 1) text
+
+pub parts-nil : (text : List ℕ) → length text ≡ 0 → parts_of text ≡ []
+parts-nil [] h = closed-nil (code ";")
+parts-nil (x ∷ xs) h = absurd (omega arith)
+
+behind-nil : (text : List ℕ) → length text ≤ next_in (code ";") text → parts_of (behind_first text) ≡ []
+behind-nil text h = parts-nil (behind_first text) (omega (arith, length-drop (next_in (code ";") text + 1) text))
+
+pub parts-next : (text : List ℕ) → 0 < length text → parts_of text ≡ first_part text ∷ parts_of (behind_first text)
+parts-next text l = go (bool_cases (ltb (next_in (code ";") text) (length text)))
   where
-    at : (j k : ℕ) → j ≡ k → drop j text ≡ drop k text
-    at j k q = ap (λ (n : ℕ). drop n text) q
+    go : (ltb (next_in (code ";") text) (length text) ≡ true) ⊎ (ltb (next_in (code ";") text) (length text) ≡ false)
+        → parts_of text ≡ first_part text ∷ parts_of (behind_first text)
+    go (inl q) =
+        let one : suc (next_in (code ";") text) ≡ next_in (code ";") text + 1 = omega arith in
+        closed_on (code ";") text (next_in (code ";") text) refl (ltb-true _ _ q)
+        ∙ ap (λ (k : ℕ). first_part text ∷ parts_of (drop k text)) one
+    go (inr q) =
+        let h : length text ≤ next_in (code ";") text = ltb-false (next_in (code ";") text) (length text) q in
+        let e : next_in (code ";") text ≡ length text = omega (arith, next-in (code ";") text) in
+        closed-last (code ";") text l e ∙ ap₂ (λ (p : List ℕ) (ps : List (List ℕ)). p ∷ ps) (sym (take_all (next_in (code ";") text) text h))
+        (sym (behind-nil text h))
 
-whole : (i e : ℕ) (text : List ℕ) → e ≡ length text → drop i text ≡ take (e - i) (drop i text)
-whole i e text q = sym (take_all (e - i) (drop i text) (omega (arith, length-drop i text)))
+pub parts-behind : (text : List ℕ) → drop 1 (parts_of text) ≡ parts_of (behind_first text)
+parts-behind [] = ap (drop 1) (parts-nil [] refl) ∙ sym (behind-nil [] (omega arith))
+parts-behind (x ∷ xs) = ap (drop 1) (parts-next (x ∷ xs) (omega arith))
 
-module _ (c : ℕ) (text : List ℕ) (i e : ℕ) (p : e ≡ i + next_in c (drop i text)) where
-  pub split-at-last : i ≤ length text → e ≡ length text → split c (drop i text) ≡ take (e - i) (drop i text) ∷ []
-  split-at-last h q =
-      split-last c (drop i text) (omega (arith, length-drop i text)) ∙ ap (λ (r : List ℕ). r ∷ []) (whole i e text q)
-
-  pub split_at : e < length text → split c (drop i text) ≡ take (e - i) (drop i text) ∷ split c (drop (e + 1) text)
-  split_at l =
-      split-on c (drop i text) (e - i) (omega arith) (omega (arith, length-drop i text))
-      ∙ ap (λ (r : List ℕ). take (e - i) (drop i text) ∷ split c r) (behind i e text (omega arith))
-
-  pub parts_last : i < length text → e ≡ length text → closed (split c (drop i text)) ≡ take (e - i) (drop i text) ∷ []
-  parts_last h q =
-      closed-last c (drop i text) (omega (arith, length-drop i text)) (omega (arith, length-drop i text))
-      ∙ ap (λ (r : List ℕ). r ∷ []) (whole i e text q)
-
-  pub parts-on : e < length text → closed (split c (drop i text)) ≡ take (e - i) (drop i text) ∷ closed (split c (drop (e + 1) text))
-  parts-on l =
-      closed_on c (drop i text) (e - i) (omega arith) (omega (arith, length-drop i text))
-      ∙ ap (λ (r : List ℕ). take (e - i) (drop i text) ∷ closed (split c r)) (behind i e text (omega arith))
-
-  -- in either case
-  pub split-first : i ≤ length text → e ≤ length text → (ps : List (List ℕ)) × (split c (drop i text) ≡ take (e - i) (drop i text) ∷ ps)
-  split-first h l = go (bool_cases (ltb e (length text)))
-    where
-      go : (ltb e (length text) ≡ true) ⊎ (ltb e (length text) ≡ false) → (ps : List (List ℕ)) × (split c (drop i text) ≡ take (e - i) (drop i text) ∷ ps)
-      go (inl q) = (split c (drop (e + 1) text), split_at (ltb-true _ _ q))
-      go (inr q) = ([], split-at-last h (omega (arith, ltb-false e (length text) q)))
-
-  pub parts_first : i < length text → e ≤ length text → (ps : List (List ℕ)) × (closed (split c (drop i text)) ≡ take (e - i) (drop i text) ∷ ps)
-  parts_first h l = go (bool_cases (ltb e (length text)))
-    where
-      go : (ltb e (length text) ≡ true) ⊎ (ltb e (length text) ≡ false)
-          → (ps : List (List ℕ)) × (closed (split c (drop i text)) ≡ take (e - i) (drop i text) ∷ ps)
-      go (inl q) = (closed (split c (drop (e + 1) text)), parts-on (ltb-true _ _ q))
-      go (inr q) = ([], parts_last h (omega (arith, ltb-false e (length text) q)))
-
-pub parts-end : (c : ℕ) (text : List ℕ) (i : ℕ) → length text ≤ i → closed (split c (drop i text)) ≡ []
-parts-end c text i h = ap (λ (r : List ℕ). closed (split c r)) (drop_of_length-le text {i = i} h) ∙ closed-nil c
-
--- a text that is not at its end has a part
-pub parts-some : (c : ℕ) (text : List ℕ) (i : ℕ) → i < length text → (p : List ℕ) × ((ps : List (List ℕ)) × (closed (split c (drop i text)) ≡ p ∷ ps))
-parts-some c text i h =
-    let w = parts_first c text i (i + next_in c (drop i text)) refl h (omega (arith, length-drop i text, next-in c (drop i text))) in
-    (take (i + next_in c (drop i text) - i) (drop i text), w)
+pub parts-head : (text : List ℕ) → get_or (parts_of text) 0 [] ≡ first_part text
+parts-head [] = ap (λ (ps : List (List ℕ)). get_or ps 0 []) (parts-nil [] refl)
+parts-head (x ∷ xs) = ap (λ (ps : List (List ℕ)). get_or ps 0 []) (parts-next (x ∷ xs) (omega arith))
 
 -- ---- a field
 
@@ -180,26 +162,24 @@ key-at (x ∷ xs) = go (bool_cases (eqb x (code "="))) (key-at xs)
     go (inl e) ih = key_here x xs e ∙ ap (λ (k : ℕ). x ∷ take k xs) (sym (find_ix-here (λ b. eqb b (code "=")) x xs e))
     go (inr e) ih = key-past x xs e ∙ ap (λ (r : List ℕ). x ∷ r) ih ∙ ap (λ (k : ℕ). x ∷ take k xs) (sym (find_ix-past (λ b. eqb b (code "=")) x xs e))
 
--- the key is what the field begins with
-pub key-first : (f : List ℕ) → take (length (key_of f)) f ≡ key_of f
-key-first f = ap (λ (k : List ℕ). take (length k) f) (key-at f) ∙ again (suc (next_in (code "=") f)) f ∙ sym (key-at f)
-  where
-    again : (k : ℕ) (xs : List ℕ) → take (length (take k xs)) xs ≡ take k xs
-    again zero xs = refl
-    again (suc k) [] = refl
-    again (suc k) (x ∷ xs) = ap (λ (r : List ℕ). x ∷ r) (again k xs)
+-- the field's key and its value, where its first `=` stands at e, or the field has none
+module _ (f : List ℕ) where
+  pub keyed-on : (e : ℕ) → next_in (code "=") f ≡ e → e < length f → (take (e + 1) f ≡ key_of f) × (drop (e + 1) f ≡ field_value f)
+  unfolding field_value
+  keyed-on e p h =
+      let one : suc (next_in (code "=") f) ≡ e + 1 = omega arith in
+      let k : key_of f ≡ take (e + 1) f = key-at f ∙ ap (λ (j : ℕ). take j f) one in
+      (sym k, ap (λ (j : ℕ). drop j f) (sym (ap length k ∙ length-take-le (e + 1) f (omega arith))))
 
--- its length, where the first `=` stands at e, or the field has none and ends there
-module _ (f : List ℕ) (e : ℕ) (p : e ≡ next_in (code "=") f) where
-  pub key-length-on : e < length f → e + 1 ≡ length (key_of f)
-  key-length-on h = sym (ap length (key-at f) ∙ length-take-le (suc (next_in (code "=") f)) f (omega arith) ∙ omega arith)
-
-  pub key-length-all : length f ≤ e → length f ≡ length (key_of f)
-  key-length-all h = sym (ap length (key-at f ∙ take_all (suc (next_in (code "=") f)) f (omega arith)))
+  pub keyed-all : next_in (code "=") f ≡ length f → (f ≡ key_of f) × ([] ≡ field_value f)
+  unfolding field_value
+  keyed-all p =
+      let k : key_of f ≡ f = key-at f ∙ take_all (suc (next_in (code "=") f)) f (omega arith) in
+      (sym k, sym (drop_of_length-le f {i = length (key_of f)} (omega (arith, ap length k))))
 
 -- ---- what is found is a field's value
 
-pub value-yes : (k f : List ℕ) (fs : List (List ℕ)) → has_key k f ≡ true → value_in k (f ∷ fs) ≡ some (field_value f)
+pub value-yes : (k f : List ℕ) (fs : List (List ℕ)) → has_key k f ≡ true → value_in k (f ∷ fs) ≡ Some (field_value f)
 unfolding value_in
 value-yes k f fs e = rw (e, value_in)
 
@@ -207,7 +187,7 @@ pub value-no : (k f : List ℕ) (fs : List (List ℕ)) → has_key k f ≡ false
 unfolding value_in
 value-no k f fs e = rw (e, value_in)
 
-pub value-nil : (k : List ℕ) → value_in k [] ≡ none
+pub value-nil : (k : List ℕ) → value_in k [] ≡ None
 unfolding value_in
 value-nil k = refl
 

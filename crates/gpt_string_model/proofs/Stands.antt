@@ -25,7 +25,7 @@ use Rattle.gpt_model.proofs.Room.{not-in-none, Start}
 use Rattle.gpt_model.proofs.Fields.{new-type, new-unique, new-first, new-last, new-attributes, new-name}
 use Rattle.gpt_model.proofs.Entries.{range-unused, unused-zeros, get_or-range, entry_at}
 use Rattle.gpt_model.proofs.StoredTable.{type-is, unique-is, first-is, last-is, attributes-is, name_is, used-is, holds-is}
-use Rattle.gpt_string_model.specs.declared.StartByte.TheVariants.{Lowest}
+use Rattle.std.specs.Prelude.{None}
 use Rattle.gpt_string_model.specs.declared.WantedPartition.{WantedPartition}
 use Rattle.gpt_string_model.specs.Build.{needed, as_new, first_block, size_in_blocks, part_rows, entry_for}
 use Rattle.gpt_string_model.specs.Claims.{Needs, AsAsked}
@@ -153,7 +153,7 @@ module _ (g : Shape) (n a : ℕ) (small : last_usable g n < 256 ^ 8) (es : List 
     reaching = λ z. (part-final g n a es w final e z, ends z (dec_le (s + size) (last_usable g n)));
   }
     where
-      lowest-from : w.start ≡ Lowest → (k : ℕ) → k ≡ needed g w final
+      lowest-from : w.start ≡ None → (k : ℕ) → k ≡ needed g w final
           → AlignedFrom g n (take i (ranges_of es')) k a (entry_first es' i)
           × ((b : ℕ) → b < entry_first es' i → ¬ AlignedFrom g n (take i (ranges_of es')) k a b)
       lowest-from q k r =

@@ -1,6 +1,7 @@
 -- The table that the partitions of a layout string make, one after the other. Definitions only.
 use Rattle.std.specs.Prelude.{Bool, true, false, not, cond, List, [], ◌∷◌, ◌++◌, ℕ, suc, ◌-◌, ◌/◌, ◌%◌, leb, eqb}
-use Rattle.std.proofs.Math.Option.{Option, none, some}
+use Rattle.std.specs.Prelude.{Option, None, Some}
+use Rattle.std.proofs.Math.Option.{Option as Maybe, none, some}
 use Rattle.octets.specs.Tests.{◌and◌, ◌or◌}
 use Rattle.octets.specs.Rows.{Row, row, refusal}
 use Rattle.octets.specs.Bytes.{put_chunk}
@@ -10,21 +11,19 @@ use Rattle.gpt_model.specs.Ranges.{in_none, room_at, run_from}
 use Rattle.gpt_model.specs.declared.NewPartition.{NewPartition}
 use Rattle.gpt_model.specs.declared.Rule.TheVariants.{Present}
 use Rattle.gpt_model.specs.Calls.{new_partition, is_none, or_zero, add_rows, lowest_unused, new_entry, start_for}
-use Rattle.gpt_string_model.specs.declared.StartByte.{StartByte}
-use Rattle.gpt_string_model.specs.declared.StartByte.TheVariants.{Given, Lowest}
 use Rattle.gpt_string_model.specs.declared.WantedPartition.{WantedPartition}
 
 -- ---- one partition, on the table es that the earlier ones left; `final`: it is the last of the string
 
 -- b10: 71 (start or size no multiple of 512). l5: Layout-string starts and sizes (71) .. become multiples of the block
-abbrev pub uneven : Shape → ℕ → StartByte → Bool
-uneven g size Lowest = not (eqb (size % g.block) 0)
-uneven g size (Given at) = not (eqb (at % g.block) 0) or not (eqb (size % g.block) 0)
+abbrev pub uneven : Shape → ℕ → Option ℕ → Bool
+uneven g size None = not (eqb (size % g.block) 0)
+uneven g size (Some at) = not (eqb (at % g.block) 0) or not (eqb (size % g.block) 0)
 
 -- b10: 72 (start block taken or not usable)
-abbrev pub blocked : Shape → ℕ → List ℕ → StartByte → Bool
-blocked g n es Lowest = false
-blocked g n es (Given at) = not (leb g.first (at / g.block) and leb (at / g.block) (last_usable g n) and in_none (ranges_of es) (at / g.block))
+abbrev pub blocked : Shape → ℕ → List ℕ → Option ℕ → Bool
+blocked g n es None = false
+blocked g n es (Some at) = not (leb g.first (at / g.block) and leb (at / g.block) (last_usable g n) and in_none (ranges_of es) (at / g.block))
 
 -- b7: Size 0 in the last partition reaches .. to the end of that free run
 abbrev pub reaches : WantedPartition → Bool → Bool
@@ -41,9 +40,9 @@ as_new alignment w size = new_partition w.kind w.unique size alignment w.attribu
 module _ (g : Shape) (n alignment : ℕ) (es : List ℕ) (w : WantedPartition) (final : Bool) where
   -- b8: Without start, placing is as in adding; with it, the partition stands exactly there. None: no room; b10: 25 where the run from a given start is
   -- too short. e3: a start given in a string stands as given
-  abbrev pub standing : StartByte → Option ℕ
-  standing Lowest = start_for g.first (last_usable g n) es (as_new alignment w (needed g w final))
-  standing (Given at) = cond (room_at (ranges_of es) (last_usable g n) (needed g w final) (at / g.block)) (some (at / g.block)) none
+  abbrev pub standing : Option ℕ → Maybe ℕ
+  standing None = start_for g.first (last_usable g n) es (as_new alignment w (needed g w final))
+  standing (Some at) = cond (room_at (ranges_of es) (last_usable g n) (needed g w final) (at / g.block)) (some (at / g.block)) none
 
   abbrev pub first_block : ℕ
   first_block = or_zero (standing w.start)
@@ -72,7 +71,7 @@ pub data Built : Type 0 where
   faulty : ℕ → Built
   complete : List ℕ → Built
 
-abbrev pub unless_faulty : Option ℕ → Built → Built
+abbrev pub unless_faulty : Maybe ℕ → Built → Built
 unless_faulty none b = b
 unless_faulty (some k) b = faulty k
 

@@ -1,5 +1,5 @@
 -- What is claimed of the definitions: the statements of the theorems, proved under the same names in lower case. A reader relies on these.
-use Rattle.std.specs.Prelude.{◌≡◌, ◌⊎◌, ◌≢◌, Bool, true, not, List, [], ◌∷◌, ◌++◌, ℕ, suc, ◌-◌, ◌*◌, ◌≤◌, ◌<◌, eqb, length, take, Some}
+use Rattle.std.specs.Prelude.{◌≡◌, ◌⊎◌, ◌≢◌, Bool, true, not, List, [], ◌∷◌, ◌++◌, ℕ, suc, ◌-◌, ◌*◌, ◌≤◌, ◌<◌, eqb, length, take, None, Some}
 use Rattle.octets.specs.Tests.{all, any}
 use Rattle.octets.specs.Bytes.{part, zeros}
 use Rattle.gpt_model.specs.Table.{entry_bytes, slot_count, ranges_of}
@@ -12,7 +12,6 @@ use Rattle.gpt_model.specs.Lists.{Snapshot, after_all, answers, applied, StartsA
 use Rattle.gpt_model.specs.Stored.{EntryUsed, entry_type, entry_unique, entry_first, entry_last, entry_attributes, entry_name_bytes}
 use Rattle.gpt_model.specs.Stored.{unit_bytes, EntryHolds, NoneOffends}
 use Rattle.gpt_model.specs.Claims.{Sound, NamesDifferIn, Serves}
-use Rattle.gpt_string_model.specs.declared.StartByte.TheVariants.{Given, Lowest}
 use Rattle.gpt_string_model.specs.declared.WantedPartition.{WantedPartition}
 use Rattle.gpt_string_model.specs.Text.{split, are_fields, wanted_by, disk_guid_of, wanted_in}
 use Rattle.gpt_string_model.specs.Build.{is_nil}
@@ -50,9 +49,9 @@ pub record AsAsked (g : Shape) (n alignment : ℕ) (es : List ℕ) (i : ℕ) (w 
   pub attributes : entry_attributes es i ≡ w.attributes
   pub name : entry_name_bytes es i ≡ unit_bytes w.name
   -- b8: with it, the partition stands exactly there
-  pub given : (at : ℕ) → w.start ≡ Given at → entry_first es i * g.block ≡ at
+  pub given : (at : ℕ) → w.start ≡ Some at → entry_first es i * g.block ≡ at
   -- Without start, placing is as in adding: the lowest multiple of the alignment with room enough
-  pub lowest : w.start ≡ Lowest → (k : ℕ) → Needs g w k
+  pub lowest : w.start ≡ None → (k : ℕ) → Needs g w k
       → AlignedFrom g n (take i (ranges_of es)) k alignment (entry_first es i)
       × ((s : ℕ) → s < entry_first es i → ¬ AlignedFrom g n (take i (ranges_of es)) k alignment s)
   pub sized : w.size ≢ 0 → (suc (entry_last es i) - entry_first es i) * g.block ≡ w.size

@@ -1,5 +1,5 @@
 -- Texts, and what the rules make of them; the numbers were reckoned by hand. Statements, proved under the same names in lower case.
-use Rattle.std.specs.Prelude.{◌≡◌, true, false, List, [], ◌∷◌, ◌++◌, map, ℕ, length, replicate}
+use Rattle.std.specs.Prelude.{◌≡◌, true, false, List, [], ◌∷◌, ◌++◌, map, ℕ, length, replicate, Some}
 use Prim.Native.String.{String}
 use Rattle.octets.specs.Ascii.{ascii}
 use Rattle.octets.specs.Tests.{all, any}
@@ -7,7 +7,6 @@ use Rattle.octets.specs.Bytes.{zeros}
 use Rattle.gpt_model.specs.Table.{table_bytes}
 use Rattle.gpt_model.specs.Disk.{disk512, disk4096, primary, backup, lent_bytes}
 use Rattle.gpt_model.specs.Calls.{accepted}
-use Rattle.gpt_string_model.specs.declared.StartByte.TheVariants.{Given}
 use Rattle.gpt_string_model.specs.Text.{is_layout, wanted_in}
 use Rattle.gpt_string_model.specs.Build.{Built, faulty, complete, build, grants}
 use Rattle.gpt_string_model.specs.Calls.{build_string}
@@ -59,7 +58,7 @@ TextAsks =
     ≡ record {
       kind = 0xAF ∷ 0x3D ∷ 0xC6 ∷ 0x0F ∷ 0x83 ∷ 0x84 ∷ 0x72 ∷ 0x47 ∷ 0x8E ∷ 0x79 ∷ 0x3D ∷ 0x69 ∷ 0xD8 ∷ 0x47 ∷ 0x7D ∷ 0xE4 ∷ [];
       unique = 0x33 ∷ 0x22 ∷ 0x11 ∷ 0 ∷ 0x55 ∷ 0x44 ∷ 0x77 ∷ 0x66 ∷ 0x88 ∷ 0x99 ∷ 0xAA ∷ 0xBB ∷ 0xCC ∷ 0xDD ∷ 0xEE ∷ 0xFF ∷ [];
-      start = Given 1048576;
+      start = Some 1048576;
       size = 61440;
       attributes = 4;
       name = ascii "a=b" ++ replicate 33 0;

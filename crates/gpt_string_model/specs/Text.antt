@@ -1,6 +1,6 @@
 -- Layout strings of the boot loader: which texts are taken, and what each asks for. Definitions only.
-use Rattle.std.specs.Prelude.{Bool, true, false, not, cond, List, [], ◌∷◌, ◌++◌, map, ℕ, ◌-◌, ◌*◌, leb, eqb, length, get_or, drop, replicate, Ok, Err}
-use Rattle.std.proofs.Math.Option.{Option, none, some}
+use Rattle.std.specs.Prelude.{Bool, true, false, not, cond, List, [], ◌∷◌, ◌++◌, map, ℕ, ◌-◌, ◌*◌, leb, eqb, length, get_or, drop, replicate}
+use Rattle.std.specs.Prelude.{Option, None, Some, is_some, unwrap_or, Ok, Err}
 use Prim.Native.Char.{code}
 use Prim.Native.String.{String}
 use Rattle.octets.specs.Ascii.{ascii}
@@ -11,8 +11,6 @@ use Rattle.guid.specs.Types.{expand}
 use Rattle.text_words.specs.Classes.{is_graphic}
 use Rattle.text_words.specs.Names.{is_sized}
 use Rattle.text_words.specs.Numerals.{Begun, some_digits}
-use Rattle.gpt_model.specs.Calls.{is_none, or_zero}
-use Rattle.gpt_string_model.specs.declared.StartByte.TheVariants.{Given, Lowest}
 use Rattle.gpt_string_model.specs.declared.WantedPartition.{WantedPartition}
 
 -- ---- splitting
@@ -42,20 +40,20 @@ abbrev pub units : List (List ℕ × ℕ)
 units = (ascii "", 1) ∷ (ascii "KiB", 1024) ∷ (ascii "MiB", 1048576) ∷ (ascii "GiB", 1073741824) ∷ []
 
 unfoldable pub factor_in : List (List ℕ × ℕ) → List ℕ → Option ℕ
-factor_in [] u = none
-factor_in (k ∷ ks) u = cond (same u k.0) (some k.1) (factor_in ks u)
+factor_in [] u = None
+factor_in (k ∷ ks) u = cond (same u k.0) (Some k.1) (factor_in ks u)
 
 -- b5: numbers, multiplied, stay below 2^64
 abbrev pub most : ℕ
 most = 18446744073709551615
 
 abbrev pub multiplied : ℕ → Option ℕ → Option ℕ
-multiplied n none = none
-multiplied n (some factor) = cond (leb (n * factor) most) (some (n * factor)) none
+multiplied n None = None
+multiplied n (Some factor) = cond (leb (n * factor) most) (Some (n * factor)) None
 
 abbrev pub byte_count_by : Begun → List ℕ → Option ℕ
 byte_count_by (Ok n) v = multiplied n.value (factor_in units (drop n.end v))
-byte_count_by (Err e) v = none
+byte_count_by (Err e) v = None
 
 -- the number of bytes that a value says; none where it is no such number
 unfoldable pub byte_count : List ℕ → Option ℕ
@@ -80,9 +78,9 @@ key s m t = record { word = ascii s; must = m; takes = t }
 abbrev pub keys : List Key
 keys =
     key "name=" true is_partition_name
-    ∷ key "size=" true (λ v. not (is_none (byte_count v)))
+    ∷ key "size=" true (λ v. is_some (byte_count v))
     ∷ key "uuid=" true is_guid_text
-    ∷ key "start=" false (λ v. not (is_none (byte_count v)))
+    ∷ key "start=" false (λ v. is_some (byte_count v))
     ∷ key "type=" false (λ v. is_guid_text (expand v))
     ∷ key "bootable" false (λ v. true)
     ∷ []
@@ -105,14 +103,14 @@ are_fields fs =
 
 -- the value of the field with the key k, where there is one
 unfoldable pub value_in : List ℕ → List (List ℕ) → Option (List ℕ)
-value_in k [] = none
-value_in k (f ∷ fs) = elim (has_key k f) [ true ↦ some (field_value f) | false ↦ value_in k fs ]
+value_in k [] = None
+value_in k (f ∷ fs) = elim (has_key k f) [ true ↦ Some (field_value f) | false ↦ value_in k fs ]
 
 -- what a value says, where there is one, else d
 module _ {A : Type 0} (says : List ℕ → A) (d : A) where
   abbrev pub said_or : Option (List ℕ) → A
-  said_or none = d
-  said_or (some v) = says v
+  said_or None = d
+  said_or (Some v) = says v
 
 -- a name as 36 units, one for each byte, then zeros
 abbrev pub name_units : List ℕ → List ℕ
@@ -127,8 +125,8 @@ unfoldable pub wanted_by : List (List ℕ) → WantedPartition
 wanted_by fs = record {
   kind = said_or type_named (type_named (ascii "data")) (value_in (ascii "type=") fs);
   unique = said_or stored_of (zeros 16) (value_in (ascii "uuid=") fs);
-  start = said_or (λ v. Given (or_zero (byte_count v))) Lowest (value_in (ascii "start=") fs);
-  size = said_or (λ v. or_zero (byte_count v)) 0 (value_in (ascii "size=") fs);
+  start = said_or (λ v. Some (unwrap_or (byte_count v) 0)) None (value_in (ascii "start=") fs);
+  size = said_or (λ v. unwrap_or (byte_count v) 0) 0 (value_in (ascii "size=") fs);
   attributes = said_or (λ v. 4) 0 (value_in (ascii "bootable") fs);
   name = said_or name_units (zeros 36) (value_in (ascii "name=") fs);
 }

@@ -1,71 +1,48 @@
 -- The fields of a partition as the code keeps them, for its proofs: no part of what is to be believed.
-use Rattle.std.specs.Prelude.{◌≡◌, Bool, true, false, not, cond, List, [], ◌∷◌, ◌++◌, ℕ}
-use Rattle.std.proofs.Math.Option.{Option, none, some}
+use Rattle.std.specs.Prelude.{◌≡◌, not, cond, List, [], ◌∷◌, ◌++◌, ℕ, Option, None, Some, is_some, unwrap_or, option_map, MatchOption}
 use Rattle.octets.specs.Ascii.{ascii}
 use Rattle.octets.specs.Tests.{◌and◌, all, pairs}
-use Rattle.octets.specs.Bytes.{zeros}
 use Rattle.guid.specs.Text.{stored_of}
-use Rattle.gpt_model.specs.Calls.{or_zero}
-use Rattle.gpt_string_model.specs.declared.StartByte.TheVariants.{Given, Lowest}
 use Rattle.gpt_string_model.specs.declared.WantedPartition.{WantedPartition}
-use Rattle.gpt_string_model.specs.Text.{key_of, field_value, has_key, is_field, byte_count, value_in, said_or, name_units, type_named}
-use Rattle.gpt_string_text.specs.declared.FieldsRead.{FieldsRead}
-
-abbrev pub read_as : FieldsRead → Option FieldsRead
-read_as r = cond r.good (some r) none
-
-abbrev pub is_given : Option (List ℕ) → Bool
-is_given none = false
-is_given (some v) = true
+use Rattle.gpt_string_model.specs.Text.{key_of, has_key, is_field, byte_count, value_in, name_units, type_named}
+use Rattle.gpt_string_text.specs.declared.fields.Fields.{Fields}
 
 -- by the values of the six keys, where they are given
-abbrev pub fields_by : (name size uuid start type bootable : Option (List ℕ)) → FieldsRead
+abbrev pub fields_by : (name size uuid start type bootable : Option (List ℕ)) → Fields
 fields_by name size uuid start type bootable = record {
-  good = true;
-  named = is_given name;
-  sized = is_given size;
-  identified = is_given uuid;
-  placed = is_given start;
-  typed = is_given type;
-  bootable = is_given bootable;
-  kind = said_or type_named (type_named (ascii "data")) type;
-  unique = said_or stored_of (zeros 16) uuid;
-  start = said_or (λ v. or_zero (byte_count v)) 0 start;
-  size = said_or (λ v. or_zero (byte_count v)) 0 size;
-  name = said_or name_units (zeros 36) name;
+  name = option_map name_units name;
+  size = option_map (λ v. unwrap_or (byte_count v) 0) size;
+  unique = option_map stored_of uuid;
+  start = option_map (λ v. unwrap_or (byte_count v) 0) start;
+  kind = option_map type_named type;
+  attributes = option_map (λ v. 4) bootable;
 }
 
 -- what the fields fs say
-unfoldable pub fields_in : List (List ℕ) → FieldsRead
+unfoldable pub fields_in : List (List ℕ) → Fields
 fields_in fs =
     fields_by (value_in (ascii "name=") fs) (value_in (ascii "size=") fs) (value_in (ascii "uuid=") fs) (value_in (ascii "start=") fs)
     (value_in (ascii "type=") fs) (value_in (ascii "bootable") fs)
 
 -- the fields fs and then f
-unfoldable pub with_field : List (List ℕ) → List ℕ → Option FieldsRead
-with_field fs f = cond (is_field f and not (is_given (value_in (key_of f) fs))) (some (fields_in (fs ++ (f ∷ [])))) none
+unfoldable pub with_field : List (List ℕ) → List ℕ → Option Fields
+with_field fs f = cond (is_field f and not (is_some (value_in (key_of f) fs))) (Some (fields_in (fs ++ (f ∷ [])))) None
 
--- r is what the field f adds to s, whatever fields s stands for
-abbrev pub Takes : List ℕ → FieldsRead → FieldsRead → Type 0
-Takes f s r = (fs : List (List ℕ)) → s ≡ fields_in fs → read_as r ≡ with_field fs f
-
--- the same for a field with the key k and the value v
-abbrev pub TakesValue : List ℕ → List ℕ → FieldsRead → FieldsRead → Type 0
-TakesValue k v s r = (f : List ℕ) → key_of f ≡ k → field_value f ≡ v → Takes f s r
+-- t is what the field f adds to s, whatever fields s stands for, where it adds something
+abbrev pub Takes : {A : Type 0} → List ℕ → Fields → Option A → Fields → Type 0
+Takes f s r t = (fs : List (List ℕ)) → s ≡ fields_in fs → MatchOption r (with_field fs f ≡ None) (λ u. with_field fs f ≡ Some t)
 
 -- all of the fields fs
-unfoldable pub all_read : List (List ℕ) → Option FieldsRead
-all_read fs = cond (all is_field fs and pairs (λ f d. not (has_key (key_of f) d)) fs) (some (fields_in fs)) none
+unfoldable pub all_read : List (List ℕ) → Option Fields
+all_read fs = cond (all is_field fs and pairs (λ f d. not (has_key (key_of f) d)) fs) (Some (fields_in fs)) None
 
-unfoldable pub is_whole : FieldsRead → Bool
-is_whole f = f.good and f.named and f.sized and f.identified
+-- what they ask for, where a name, a size and a unique GUID are among them
+abbrev pub asked : Option (List ℕ) → Option ℕ → Option (List ℕ) → Option ℕ → List ℕ → ℕ → Option WantedPartition
+asked (Some name) (Some size) (Some unique) start kind attributes =
+    Some (record { kind = kind; unique = unique; start = start; size = size; attributes = attributes; name = name })
+asked None size unique start kind attributes = None
+asked (Some name) None unique start kind attributes = None
+asked (Some name) (Some size) None start kind attributes = None
 
-unfoldable pub wanted_from : FieldsRead → WantedPartition
-wanted_from f = record {
-  kind = f.kind;
-  unique = f.unique;
-  start = cond f.placed (Given f.start) Lowest;
-  size = f.size;
-  attributes = cond f.bootable 4 0;
-  name = f.name;
-}
+unfoldable pub wanted_from : Fields → Option WantedPartition
+wanted_from f = asked f.name f.size f.unique f.start (unwrap_or f.kind (type_named (ascii "data"))) (unwrap_or f.attributes 0)

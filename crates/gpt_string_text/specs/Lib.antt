@@ -1,3 +1,2 @@
--- What the answers of this crate stand for, and what its code keeps while it reads.
-pub mod Answers
+-- What the code keeps while it reads the fields of a partition.
 pub mod Invariants

@@ -5,5 +5,5 @@ use Rattle.gpt_build.proofs.needed.Goals as goal
 pub returns-then-reaches : goal.returns-then-reaches
 returns-then-reaches c = cond_yes _ _ _ (sym c.reaches.ensures ∙ c.if-reaches.true)
 
-pub returns : goal.returns
-returns c = cond_no _ _ _ (sym c.reaches.ensures ∙ c.if-reaches.false)
+pub returns-else-reaches : goal.returns-else-reaches
+returns-else-reaches c = cond_no _ _ _ (sym c.reaches.ensures ∙ c.if-reaches.false)

@@ -9,14 +9,14 @@ returns-then-uneven c =
     spot-stop a.shape a.n a.alignment a.table.now a.w a.last a.w.start (part_rows a.shape a.n a.alignment a.table.now a.w a.last) 71
     (rows-uneven a.shape a.n a.alignment a.table.now a.w a.last (sym c.uneven.ensures ∙ c.if-uneven.true))
 
-pub returns-in-Lowest : goal.returns-in-Lowest
-returns-in-Lowest c =
+pub returns-in-None : goal.returns-in-None
+returns-in-None c =
     let a = c.args in
-    spot-even a.shape a.n a.alignment a.table.now a.w a.last _ c.in-Lowest.is (sym c.uneven.ensures ∙ c.if-uneven.false) _
+    spot-even a.shape a.n a.alignment a.table.now a.w a.last _ c.in-None.is (sym c.uneven.ensures ∙ c.if-uneven.false) _
     c.place_lowest.ensures
 
-pub returns-in-Given : goal.returns-in-Given
-returns-in-Given c =
+pub returns-in-Some : goal.returns-in-Some
+returns-in-Some c =
     let a = c.args in
-    spot-even a.shape a.n a.alignment a.table.now a.w a.last _ c.in-Given.is (sym c.uneven.ensures ∙ c.if-uneven.false) _
+    spot-even a.shape a.n a.alignment a.table.now a.w a.last _ c.in-Some.is (sym c.uneven.ensures ∙ c.if-uneven.false) _
     c.place_given.ensures

@@ -1,5 +1,5 @@
 use mathlib.Core.Path.{sym, ◌∙◌}
-use Rattle.gpt_string_model.specs.declared.StartByte.TheVariants.{Given}
+use Rattle.std.specs.Prelude.{Some}
 use Rattle.gpt_build.specs.Invariants.{rows_from72}
 use Rattle.gpt_build.proofs.Places.{spot-stop, given-taken, given-says-stop, given-says-short, given-says-from}
 use Rattle.gpt_build.proofs.place_given.Goals as goal
@@ -7,7 +7,7 @@ use Rattle.gpt_build.proofs.place_given.Goals as goal
 pub returns-then-run-eq0 : goal.returns-then-run-eq0
 returns-then-run-eq0 c =
     let a = c.args in
-    spot-stop a.shape a.n a.alignment a.table.now a.w a.last (Given a.at) (rows_from72 a.shape a.n a.alignment a.table.now a.w a.last (Given a.at)) 72
+    spot-stop a.shape a.n a.alignment a.table.now a.w a.last (Some a.at) (rows_from72 a.shape a.n a.alignment a.table.now a.w a.last (Some a.at)) 72
     (given-taken a.shape a.n a.alignment a.table.now a.w a.last a.at (sym c.usable_run-run.ensures ∙ c.if-run-eq0.true))
 
 pub returns-then-run-size : goal.returns-then-run-size

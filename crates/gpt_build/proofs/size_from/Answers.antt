@@ -7,5 +7,5 @@ returns-then-reaches c =
     (rw c.as_table.ensures at c.run_at.ensures) ∙ run-last _ _ _ c.last_usable.ensures
     ∙ cond_yes _ _ _ (sym c.reaches.ensures ∙ c.if-reaches.true)
 
-pub returns : goal.returns
-returns c = cond_no _ _ _ (sym c.reaches.ensures ∙ c.if-reaches.false)
+pub returns-else-reaches : goal.returns-else-reaches
+returns-else-reaches c = cond_no _ _ _ (sym c.reaches.ensures ∙ c.if-reaches.false)

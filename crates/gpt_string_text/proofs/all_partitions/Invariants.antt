@@ -1,13 +1,11 @@
 use mathlib.Core.Path.{◌≡◌}
-use Prim.Native.Nat.{◌≤◌, ◌-◌}
 use lib.ListN.{length}
 use Rattle.octets.specs.Tests.{all}
-use Rattle.gpt_string_model.specs.Text.{is_partition}
-use Rattle.gpt_string_text.specs.Answers.{parts_from}
+use Rattle.gpt_string_model.specs.Text.{is_partition, parts_of}
 use Rattle.gpt_string_text.proofs.all_partitions.Given as goal
 
-abbrev pub invariant-loop-i : goal.invariant-loop-i
-invariant-loop-i l = (l.i ≤ length l.text) × (all is_partition (parts_from l.i l.text) ≡ all is_partition (parts_from l.from l.text))
+abbrev pub invariant-loop-rest : goal.invariant-loop-rest
+invariant-loop-rest l = all is_partition (parts_of l.rest) ≡ all is_partition (parts_of l.parts)
 
-abbrev pub decreases-loop-i : goal.decreases-loop-i
-decreases-loop-i l = length l.text - l.i
+abbrev pub decreases-loop-rest : goal.decreases-loop-rest
+decreases-loop-rest l = length l.rest

@@ -1,10 +1,13 @@
-use Rattle.gpt_string_text.proofs.Taken.{partition-read}
+use mathlib.Core.Path.{◌≡◌, sym, ◌∙◌}
+use borrow.Author.Rules.{rules}
+use Rattle.std.specs.Prelude.{None}
+use Rattle.gpt_string_text.proofs.Taken.{not-read, read-wanted}
 use Rattle.gpt_string_text.proofs.partition.Goals as goal
 
+pub returns-in_err-all_fields : goal.returns-in_err-all_fields
+returns-in_err-all_fields c =
+    let none : c.from_residual.result ≡ None = search rules in
+    none ∙ not-read c.args.p.now (sym c.all_fields.ensures ∙ c.in_err-all_fields.was)
+
 pub returns : goal.returns
-returns c =
-    let is_whole = c.is_whole-good in
-    let wanted-from = c.wanted_from-wanted in
-    let args = c.args in
-    let all-fields = c.all_fields-f in
-    rw (is_whole.ensures, wanted-from.ensures) (partition-read args.p.now all-fields.result all-fields.ensures)
+returns c = c.wanted.ensures ∙ read-wanted c.args.p.now _ (sym c.all_fields.ensures ∙ c.in_ok-all_fields.was)
