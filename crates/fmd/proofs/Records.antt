@@ -6,13 +6,12 @@ use mathlib.Core.Option.{none}
 use Prim.Native.Nat.{ℕ}
 use lib.ListN.{length}
 use borrow.Author.Tests.{eq-eqb, ne_eqb}
-use Rattle.std.proofs.Common.{Result, Ok, Err, IsErrAnd}
+use Rattle.std.proofs.Common.{Option, Result, Ok, Err, IsErrAnd}
 use Rattle.octets.specs.Bytes.{put, flat}
 use Rattle.fmap_rules.specs.Written.{area_bytes}
 use Rattle.fmd_head.specs.Refusals.{number_of as text_number}
 use Rattle.fmd_head.specs.declared.Refusal.{Refusal as TextRefusal}
 use Rattle.fmd_check.specs.Check.{Checked, fault, check_text}
-use Rattle.fmd_check.specs.declared.FaultPlace.{FaultPlace}
 use Rattle.fmd.specs.Calls.{Read, said_by, layout_in, list_record, filled, layout_for, list_of, list_text, recorded, record_text}
 use Rattle.fmd.specs.declared.Image.{Image}
 use Rattle.fmd.specs.declared.Refusal.TheVariants.{WrongLength, OfText}
@@ -49,7 +48,7 @@ module _ (s : List ℕ) (j : Checked) (c : j ≡ check_text s) (x : Image)
 
 -- ---- a refused text
 
-module _ (s : List ℕ) (r : TextRefusal) (p : FaultPlace) (c : fault (text_number r) p ≡ check_text s) where
+module _ (s : List ℕ) (r : TextRefusal) (p : Option ℕ) (c : fault (text_number r) p ≡ check_text s) where
   pub list-fault : (ys : List SectionRecord) → length ys ≡ 128 → list_of (Err (OfText r)) ys ≡ list_text s ys
   unfolding list_text layout_for layout_in
   list-fault ys h = rw (eq-eqb (length ys) 128 h, sym c)

@@ -6,16 +6,18 @@ ghost use Rattle.std.proofs.Math.Option.{none};
 ghost use Rattle.octets.specs.Rows.{code_of};
 ghost use Rattle.fmap_rules.specs.Map.{position};
 ghost use Rattle.fmd_table.specs.Table.{sections_in, placed_in, HasRows, HasSpots};
-ghost use Rattle.fmd_check.specs.Check.{good};
+ghost use Rattle.fmd_check.specs.Check.{verdict_of};
 ghost use Rattle.fmd_check.specs.Areas.{area_at, layout_areas};
 ghost use Rattle.fmd_check.specs.Invariants.{Laid};
 ghost use Rattle.fmd.specs.Calls.{number_of, address_of, image_of, said_by, reading, read_text, list_record, filled, list_of};
 ghost use Rattle.fmd.specs.Calls.{list_text, recorded, record_text, written, write_by, write_text};
 ghost use Rattle.fmd.specs.Invariants.{Held};
+ghost use Rattle.fmd.specs.declared.Refusal.TheVariants.{OfText};
 
 use fmap_rules::ImagePosition;
-use fmd_check::Verdict;
-use fmd_check::areas::area_at;
+use fmap_write::put_header;
+use fmd_check::areas::{area_at, put_areas, stored_name};
+use fmd_check::{Fault, GoodLayout};
 use fmd_head::{Refusal as TextRefusal, TextImage};
 use fmd_table::{ROWS, SPOTS};
 
@@ -24,6 +26,14 @@ use fmd_table::{ROWS, SPOTS};
 pub enum Refusal {
     WrongLength,
     OfText(TextRefusal),
+}
+
+impl From<Fault> for Refusal {
+    ghost from_gives = { λ f r. r ≡ OfText f.refusal };
+
+    fn from(f: Fault) -> Refusal {
+        Refusal::OfText(f.refusal)
+    }
 }
 
 // The image that a layout text describes: its name as a map holds it, its size, its address or 0, and how many sections it has.
@@ -69,7 +79,7 @@ fn image_of(text: &[u8], i: TextImage, count: usize) -> Image
     ensures { result ≡ image_of text.now i count }
 {
     Image {
-        name: fmd_check::areas::stored_name(text, i.place as u32, i.length as u32),
+        name: stored_name(text, i.place as u32, i.length as u32),
         size: i.size,
         address: base_of(i.address),
         count: count as u32,
@@ -92,10 +102,8 @@ pub fn read(text: &[u8]) -> Result<Image, Refusal>
 {
     let mut rows = [0u32; ROWS];
     let mut spots = [0u32; SPOTS];
-    match fmd_check::check(text, &mut rows, &mut spots) {
-        Verdict::Good(i, n, _) => Ok(image_of(text, i, n)),
-        Verdict::Fault(r, _) => Err(Refusal::OfText(r)),
-    }
+    let l = fmd_check::check(text, &mut rows, &mut spots)?;
+    Ok(image_of(text, l.image, l.count))
 }
 
 // Section k of n, as the list has it.
@@ -132,13 +140,9 @@ pub fn list(text: &[u8], sections: &mut [SectionRecord]) -> Result<Image, Refusa
     need_length(sections.len(), 128)?;
     let mut rows = [0u32; ROWS];
     let mut spots = [0u32; SPOTS];
-    match fmd_check::check(text, &mut rows, &mut spots) {
-        Verdict::Good(i, n, _) => {
-            fill(sections, text, &rows, &spots, n);
-            Ok(image_of(text, i, n))
-        }
-        Verdict::Fault(r, _) => Err(Refusal::OfText(r)),
-    }
+    let l = fmd_check::check(text, &mut rows, &mut spots)?;
+    fill(sections, text, &rows, &spots, l.count);
+    Ok(image_of(text, l.image, l.count))
 }
 
 // Reads a layout text into the bytes that the caller lends: 128 records of 42 bytes, each as an area of a map.
@@ -148,35 +152,37 @@ pub fn put_records(text: &[u8], records: &mut [u8]) -> Result<Image, Refusal>
     need_length(records.len(), 5376)?;
     let mut rows = [0u32; ROWS];
     let mut spots = [0u32; SPOTS];
-    match fmd_check::check(text, &mut rows, &mut spots) {
-        Verdict::Good(i, n, _) => {
-            fmd_check::areas::put_areas(text, &rows, &spots, n, records, 0);
-            Ok(image_of(text, i, n))
-        }
-        Verdict::Fault(r, _) => Err(Refusal::OfText(r)),
-    }
+    let l = fmd_check::check(text, &mut rows, &mut spots)?;
+    put_areas(text, &rows, &spots, l.count, records, 0);
+    Ok(image_of(text, l.image, l.count))
 }
 
-// Writes the map of a layout into an image; section m is FMAP.
+// Writes the map of a layout into an image.
 fn put_layout(
     text: &[u8],
-    i: TextImage,
+    l: GoodLayout,
     rows: &[u32],
     spots: &[u32],
-    n: usize,
-    m: usize,
     image: &mut [u8],
 ) -> Result<ImagePosition, Refusal>
-    requires { Held text.now i rows.now spots.now n m }
+    requires { Held text.now l.image rows.now spots.now l.count l.map }
     ensures { written result image.new
-        ≡ write_by (said_by text.now (good i (sections_in n rows.now) (placed_in n spots.now) m)) image.old none }
+        ≡ write_by (said_by text.now (verdict_of (Ok l) rows.now spots.now)) image.old none }
 {
-    need_length(image.len(), i.size as usize)?;
-    let at = area_at(text, rows, spots, n, m).place.start;
+    need_length(image.len(), l.image.size as usize)?;
+    let at = area_at(text, rows, spots, l.count, l.map).place.start;
     let start = at.0 as usize;
-    let x = image_of(text, i, n);
-    fmap_write::put_header(image, start, x.size, x.name, x.address as u64, 1, n as u16);
-    fmd_check::areas::put_areas(text, rows, spots, n, image, start + 56);
+    let x = image_of(text, l.image, l.count);
+    put_header(
+        image,
+        start,
+        x.size,
+        x.name,
+        x.address as u64,
+        1,
+        l.count as u16,
+    );
+    put_areas(text, rows, spots, l.count, image, start + 56);
     Ok(at)
 }
 
@@ -186,8 +192,6 @@ pub fn write_map(text: &[u8], image: &mut [u8]) -> Result<ImagePosition, Refusal
 {
     let mut rows = [0u32; ROWS];
     let mut spots = [0u32; SPOTS];
-    match fmd_check::check(text, &mut rows, &mut spots) {
-        Verdict::Good(i, n, m) => put_layout(text, i, &rows, &spots, n, m, image),
-        Verdict::Fault(r, _) => Err(Refusal::OfText(r)),
-    }
+    let l = fmd_check::check(text, &mut rows, &mut spots)?;
+    put_layout(text, l, &rows, &spots, image)
 }

@@ -8,7 +8,7 @@ use Prim.Native.Nat.{ℕ, ◌≤◌, ◌<◌}
 use native.Mathlib.Omega.{arith}
 use lib.Dec.{ltb, leb, eqb}
 use lib.ListN.{length, get_or}
-use borrow.Author.Tests.{ltb-true, ltb-false, leb-true, eqb-true}
+use borrow.Author.Tests.{ltb-false, leb-true, eqb-true}
 use Rattle.octets.specs.Tests.{◌and◌, ◌or◌, all, any}
 use Rattle.octets.proofs.Bools.{choice, and_l, and_r, or_cases, or-false-l, or-false-r, clash}
 use Rattle.fmap_rules.specs.Map.{map_size}

@@ -1,5 +1,5 @@
 -- Every resolution: offsets and sizes are those of the text or follow from the siblings', sections lie in their parents, siblings ascend without overlap.
-use Rattle.std.specs.Prelude.{Option, Some, None}
+use Rattle.std.specs.Prelude.{Option, Some, None, Result, Ok, Err}
 use mathlib.Core.Path.{◌≡◌, refl, sym, ap, subst, ◌∙◌}
 use mathlib.Core.Bool.{Bool, true, false}
 use mathlib.Core.Logic.{◌⊎◌, inl, inr}
@@ -26,8 +26,8 @@ use Rattle.fmd_check.specs.Claims.{ResolvedFacts}
 use Rattle.fmd_parse.specs.Rows.{sibling_in, reach_of, is_undecided, undecided}
 use Rattle.fmd_parse.specs.declared.rows.Reach.{Reach}
 use Rattle.fmd_parse.specs.declared.rows.Reach.TheVariants.{OfSize, UpTo, ToParentEnd, Undecided}
-use Rattle.fmd_check.specs.declared.plan.Spot.{Spot}
-use Rattle.fmd_check.specs.declared.plan.Spot.TheVariants.{Fits, Unfit, NoSize}
+use Rattle.fmd_check.specs.declared.plan.Misfit.{Misfit}
+use Rattle.fmd_check.specs.declared.plan.Misfit.TheVariants.{Unfit, NoSize}
 
 -- ---- one section
 
@@ -48,10 +48,10 @@ pub record Spotted (h : Section) (e start room : ℕ) (r : Reach) (p : Placed) :
   pub parent : p.parent ≡ h.parent
   pub level : p.level ≡ h.level
 
-abbrev SpotFacts : Section → ℕ → ℕ → ℕ → Reach → Spot → Type 0
-SpotFacts h e start room r (Fits p) = Spotted h e start room r p × (is_undecided r ≡ false)
-SpotFacts h e start room r Unfit = is_undecided r ≡ false
-SpotFacts h e start room r NoSize = is_undecided r ≡ true
+abbrev SpotFacts : Section → ℕ → ℕ → ℕ → Reach → Result Placed Misfit → Type 0
+SpotFacts h e start room r (Ok p) = Spotted h e start room r p × (is_undecided r ≡ false)
+SpotFacts h e start room r (Err Unfit) = is_undecided r ≡ false
+SpotFacts h e start room r (Err NoSize) = is_undecided r ≡ true
 
 spot-facts : (h : Section) (e start size room : ℕ) (r : Reach) → is_undecided r ≡ false
     → ((p : Placed) → p.offset.0 ≡ start → p.size ≡ size → 1 ≤ size → Reaches p room r) → SpotFacts h e start room r (spot_of h e start size room)
@@ -311,12 +311,12 @@ record Done (z : ℕ) (l : List Section) (ps : List Placed) : Type 0 where
   parent : (k : ℕ) → k < length ps → (get_or ps k blank_placed).parent ≡ (get_or l k blank_section).parent
   level : (k : ℕ) → k < length ps → (get_or ps k blank_placed).level ≡ (get_or l k blank_section).level
 
-after-spot : (z : ℕ) (l : List Section) (h : Section) (e start room k : ℕ) (r : Reach) (t : Spot) (f : Placed → Resolved) → SpotFacts h e start room r t
+after-spot : (z : ℕ) (l : List Section) (h : Section) (e start room k : ℕ) (r : Reach) (t : Result Placed Misfit) (f : Placed → Resolved) → SpotFacts h e start room r t
     → k < length l → is_undecided r ≡ undecided l k → Sized l k → ((p : Placed) → Spotted h e start room r p → Sized l (k + 1) → ResolvedFacts z l (f p))
     → ResolvedFacts z l (after_spot t k f)
-after-spot z l h e start room k r (Fits p) f w q u d g = g p w.0 (sized-more l k d (sym u ∙ w.1))
-after-spot z l h e start room k r Unfit f w q u d g = (q, sized-more l k d (sym u ∙ w))
-after-spot z l h e start room k r NoSize f w q u d g = (q, d, sym u ∙ w)
+after-spot z l h e start room k r (Ok p) f w q u d g = g p w.0 (sized-more l k d (sym u ∙ w.1))
+after-spot z l h e start room k r (Err Unfit) f w q u d g = (q, sized-more l k d (sym u ∙ w))
+after-spot z l h e start room k r (Err NoSize) f w q u d g = (q, d, sym u ∙ w)
 
 from-rest : (z : ℕ) (l : List Section) (hs : List Section) (ps : List Placed) → drop (length ps) l ≡ hs → Done z l ps
     → ResolvedFacts z l (resolve_from z ps hs)

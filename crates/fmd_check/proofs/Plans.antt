@@ -1,10 +1,11 @@
 -- Laws of the resolution's loops over the two tables.
+use Rattle.std.proofs.Common.{Ok, Err}
 use mathlib.Core.Path.{◌≡◌, refl, sym, ap, ◌∙◌}
 use mathlib.Core.List.{List, [], ◌∷◌, ◌++◌}
-use Prim.Native.Nat.{ℕ, suc, ◌+◌, ◌*◌, ◌≤◌, ◌<◌}
+use Prim.Native.Nat.{ℕ, suc, ◌+◌, ◌<◌}
 use native.Mathlib.Numerals.{add-one}
 use native.Mathlib.Omega.{arith}
-use lib.ListN.{length, get_or, drop, drop_of_length-le}
+use lib.ListN.{get_or, drop, drop_of_length-le}
 use lib.Seq.{drop-cons}
 use borrow.Author.Tests.{eq-eqb, ne_eqb}
 use Rattle.fmd_table.specs.Table.{listed, sections_in, placed_at, placed_in}
@@ -13,8 +14,8 @@ use Rattle.fmd_table.proofs.Table.{length-sections}
 use Rattle.fmd_table.proofs.Spots.{length-placed, none-placed}
 use Rattle.fmd_table.specs.declared.Placed.{Placed}
 use Rattle.fmd_parse.specs.Trees.{blank_section}
-use Rattle.fmd_check.specs.Plans.{end_with, sibling_end, spot_for, unfit, unsized, plan, resolve_from}
-use Rattle.fmd_check.specs.declared.plan.Spot.TheVariants.{Fits, Unfit, NoSize}
+use Rattle.fmd_check.specs.Plans.{end_with, sibling_end, spot_for, stopped_at, plan, resolve_from}
+use Rattle.fmd_check.specs.declared.plan.Misfit.{Misfit}
 
 -- ---- the end of the last section with a parent, sought from the last row back
 
@@ -49,18 +50,14 @@ module _ (n : ℕ) (rows : List ℕ) (k : ℕ) (spots : List ℕ) (z : ℕ) wher
       drop-cons (sections_in n rows) k blank_section (omega (arith, length-sections n rows))
       ∙ ap (λ (i : ℕ). get_or (sections_in n rows) k blank_section ∷ drop i (sections_in n rows)) (sym (add-one k))
 
-  pub resolve-stop : k < n → spot_for z (placed_in k spots) (get_or (sections_in n rows) k blank_section) (drop (k + 1) (sections_in n rows)) ≡ Unfit
-      → unfit k ≡ resolve_from z (placed_in k spots) (drop k (sections_in n rows))
+  pub resolve-stop : (w : Misfit) → k < n
+      → spot_for z (placed_in k spots) (get_or (sections_in n rows) k blank_section) (drop (k + 1) (sections_in n rows)) ≡ Err w
+      → stopped_at w k ≡ resolve_from z (placed_in k spots) (drop k (sections_in n rows))
   unfolding resolve_from
-  resolve-stop h q = rw (here h, q, length-placed k spots)
-
-  pub resolve-unsized : k < n → spot_for z (placed_in k spots) (get_or (sections_in n rows) k blank_section) (drop (k + 1) (sections_in n rows)) ≡ NoSize
-      → unsized k ≡ resolve_from z (placed_in k spots) (drop k (sections_in n rows))
-  unfolding resolve_from
-  resolve-unsized h q = rw (here h, q, length-placed k spots)
+  resolve-stop w h q = rw (here h, q, length-placed k spots)
 
   pub resolve-on : (new : List ℕ) (x : Placed) → k < n
-      → spot_for z (placed_in k spots) (get_or (sections_in n rows) k blank_section) (drop (k + 1) (sections_in n rows)) ≡ Fits x
+      → spot_for z (placed_in k spots) (get_or (sections_in n rows) k blank_section) (drop (k + 1) (sections_in n rows)) ≡ Ok x
       → placed_in (k + 1) new ≡ placed_in k spots ++ (x ∷ [])
       → resolve_from z (placed_in (k + 1) new) (drop (k + 1) (sections_in n rows)) ≡ resolve_from z (placed_in k spots) (drop k (sections_in n rows))
   unfolding resolve_from

@@ -1,13 +1,15 @@
 -- Laws of the rows of the whole list, one after the other.
-use Rattle.std.specs.Prelude.{Option, Some, None}
+use Rattle.std.specs.Prelude.{Option, Some, None, Result, Ok, Err, IsErrAnd}
 use mathlib.Core.Path.{◌≡◌, refl, sym, ap, ◌∙◌}
-use mathlib.Core.Bool.{Bool, true, false}
+use mathlib.Core.Bool.{true, false}
 use mathlib.Core.List.{List, []}
-use Prim.Native.Nat.{ℕ, zero, ◌+◌, ◌-◌, ◌≤◌, ◌<◌}
+use Prim.Native.Nat.{ℕ, ◌+◌, ◌-◌, ◌≤◌, ◌<◌}
 use native.Mathlib.Nat.{sub-zero}
 use native.Mathlib.Omega.{arith}
 use lib.ListN.{length, get_or}
 use Rattle.octets.specs.Rows.{pick_row}
+use Rattle.fmd_table.specs.Table.{section_at, sections_in}
+use Rattle.fmd_table.proofs.Table.{section-in}
 use Rattle.fmd_table.specs.declared.Section.{Section}
 use Rattle.fmd_table.specs.declared.Placed.{Placed}
 use Rattle.fmd_parse.specs.Trees.{blank_section}
@@ -18,12 +20,19 @@ use Rattle.fmd_check.specs.Plans.{Resolved, unfit, plan, resolve_from}
 use Rattle.fmd_check.specs.Fitted.{Sized}
 use Rattle.fmd_check.specs.Check.{fault, good, no_map, fault_place, index_of, check_list}
 use Rattle.fmd_check.specs.Invariants.{check_from}
-use Rattle.fmd_check.specs.declared.FaultPlace.{FaultPlace}
-use Rattle.fmd_check.specs.declared.FaultPlace.TheVariants.{Byte, NoPlace}
+
+-- what `?` hands on of an error
+pub stopped : {A E : Type 0} (r : Result A E) {e : E} → IsErrAnd r (λ y. y ≡ e) → r ≡ Err e
+stopped (Ok a) p = absurd p
+stopped (Err y) p = ap Err p
 
 -- the place of section k
-abbrev pub named : List Section → ℕ → FaultPlace
-named l k = Byte (get_or l k blank_section).place
+abbrev pub named : List Section → ℕ → Option ℕ
+named l k = Some (get_or l k blank_section).place
+
+-- .. where it stands in row k
+pub named-in : (n : ℕ) (rows : List ℕ) (k : ℕ) → k < n → Some (section_at rows k).place ≡ named (sections_in n rows) k
+named-in n rows k h = ap (λ (x : Section). Some x.place) (sym (section-in n rows k blank_section h))
 
 module _ (s : List ℕ) (i : TextImage) (l : List Section) where
   pub whole : check_from 0 s i l (resolve_from i.size [] l) ≡ check_list s i l
@@ -63,7 +72,7 @@ module _ (s : List ℕ) (i : TextImage) (l : List Section) where
     unfolding check_from pick_row
     on-58 e = rw e
 
-    pub no-map : fmap_in s l ≡ None → fault 59 NoPlace ≡ check_from 4 s i l (plan ps)
+    pub no-map : fmap_in s l ≡ None → fault 59 None ≡ check_from 4 s i l (plan ps)
     unfolding check_from pick_row
     no-map e = rw e (ap (λ (f : Option ℕ). fault 59 (fault_place l f)) (sym e))
 

@@ -1,6 +1,6 @@
 -- What each area says of its section, in positions and bytes.
 use mathlib.Core.Path.{◌≡◌, refl, sym, ap, ◌∙◌}
-use mathlib.Core.Logic.{◌⊎◌, inl, inr, ⊎_elim}
+use mathlib.Core.Logic.{◌⊎◌, inl, inr}
 use mathlib.Core.Bool.{Bool, true, false, true≢false}
 use mathlib.Core.List.{List, ◌++◌}
 use Prim.Native.Nat.{ℕ, zero, suc, ◌+◌, ◌-◌, ◌≤◌, ◌<◌}
@@ -13,7 +13,7 @@ use Rattle.octets.specs.Bytes.{part, zeros}
 use Rattle.octets.proofs.Parts.{length_part, get_d_part}
 use Rattle.fmap_rules.specs.Map.{blank_area}
 use Rattle.fmap_rules.specs.declared.Area.{Area}
-use Rattle.fmd_parse.specs.Trees.{Tree, blank_section}
+use Rattle.fmd_parse.specs.Trees.{Tree}
 use Rattle.fmd_table.specs.Table.{blank_placed}
 use Rattle.fmd_table.specs.declared.Section.{Section}
 use Rattle.fmd_table.specs.declared.Placed.{Placed}

@@ -1,6 +1,6 @@
 -- R33: FMD: 1 (section list not 128 records), 50; then left to right, the first fault in the text; then over the whole list 54, 56, 57, 58, 59.
 -- Row 1 stands where a list is lent.
-use Rattle.std.specs.Prelude.{Bool, true, cond, List, [], ◌∷◌, ℕ, ltb, eqb, length, get_or, Option, Some, None}
+use Rattle.std.specs.Prelude.{Bool, true, cond, List, [], ◌∷◌, ℕ, ltb, eqb, length, get_or, Option, Some, None, Result, Ok, Err}
 use Rattle.std.proofs.Math.Option.{Option as Picked, none, some}
 use Rattle.octets.specs.Tests.{◌or◌}
 use Rattle.octets.specs.Rows.{Row, row, refusal}
@@ -14,14 +14,12 @@ use Rattle.fmd_head.specs.Refusals.{number_of}
 use Rattle.fmd_head.specs.declared.TextImage.{TextImage}
 use Rattle.fmd_parse.specs.Rows.{is_found, first_repeat, first_cbfs, first_undecided, fmap_in, has_child}
 use Rattle.fmd_check.specs.Plans.{Resolved, unfit, unsized, plan, resolve_from}
-use Rattle.fmd_check.specs.declared.FaultPlace.{FaultPlace}
-use Rattle.fmd_check.specs.declared.FaultPlace.TheVariants.{Byte, NoPlace}
-use Rattle.fmd_check.specs.declared.Verdict.{Verdict}
-use Rattle.fmd_check.specs.declared.Verdict.TheVariants.{Good, Fault}
+use Rattle.fmd_check.specs.declared.Fault.{Fault}
+use Rattle.fmd_check.specs.declared.GoodLayout.{GoodLayout}
 
 -- a fault's number and place; or image, sections, their places, and the index of section FMAP
 pub data Checked : Type 0 where
-  fault : ℕ → FaultPlace → Checked
+  fault : ℕ → Option ℕ → Checked
   good : TextImage → List Section → List Placed → ℕ → Checked
 
 -- ---- over the whole list: the sections l of the text s, resolved as r
@@ -63,9 +61,9 @@ at_fault s l r n =
     (fmap_in s l))))
 
 -- the place of a section: its name's
-abbrev pub fault_place : List Section → Option ℕ → FaultPlace
-fault_place l (Some k) = Byte (get_or l k blank_section).place
-fault_place l None = NoPlace
+abbrev pub fault_place : List Section → Option ℕ → Option ℕ
+fault_place l (Some k) = Some (get_or l k blank_section).place
+fault_place l None = None
 
 -- the index of a section that was found
 abbrev pub index_of : Option ℕ → ℕ
@@ -82,15 +80,15 @@ check_list s i l = checked_by s i l (resolve_from i.size [] l) (refusal (list_ro
 -- ---- a text
 
 abbrev pub check_layout : List ℕ → Layout → Checked
-check_layout s (refused n p) = fault n (Byte p)
+check_layout s (refused n p) = fault n (Some p)
 check_layout s (layout i l) = check_list s i l
 
 -- R17: 50: layout text too long
 unfoldable pub check_text : List ℕ → Checked
-check_text s = cond (ltb 32768 (length s)) (fault 50 NoPlace) (check_layout s (layout_of s))
+check_text s = cond (ltb 32768 (length s)) (fault 50 None) (check_layout s (layout_of s))
 
 -- ---- what the values of the code say, with the tables that were lent
 
-abbrev pub verdict_of : Verdict → List ℕ → List ℕ → Checked
-verdict_of (Good i n k) rows spots = good i (sections_in n rows) (placed_in n spots) k
-verdict_of (Fault r p) rows spots = fault (number_of r) p
+abbrev pub verdict_of : Result GoodLayout Fault → List ℕ → List ℕ → Checked
+verdict_of (Ok g) rows spots = good g.image (sections_in g.count rows) (placed_in g.count spots) g.map
+verdict_of (Err f) rows spots = fault (number_of f.refusal) f.place

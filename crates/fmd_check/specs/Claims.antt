@@ -1,5 +1,5 @@
 -- What is claimed of every resolution, of every text and of its areas: the statements of theorems (proofs/Fitted, FittedOnce, Facts, Nested, Stands).
-use Rattle.std.specs.Prelude.{◌≡◌, true, false, List, ℕ, ◌+◌, ◌≤◌, ◌<◌, length, get_or}
+use Rattle.std.specs.Prelude.{◌≡◌, true, false, List, ℕ, ◌+◌, ◌≤◌, ◌<◌, length, get_or, Option, Some, None}
 use Rattle.fmap_rules.specs.Map.{map_size}
 use Rattle.fmd_parse.specs.Trees.{Tree, Imaged}
 use Rattle.fmd_table.specs.declared.Section.{Section}
@@ -12,8 +12,6 @@ use Rattle.fmd_check.specs.Check.{Checked, fault, good}
 use Rattle.fmd_check.specs.Plans.{Resolved, unfit, unsized, plan}
 use Rattle.fmd_check.specs.Areas.{layout_areas}
 use Rattle.fmd_check.specs.Nested.{Nested, AreaStands}
-use Rattle.fmd_check.specs.declared.FaultPlace.{FaultPlace}
-use Rattle.fmd_check.specs.declared.FaultPlace.TheVariants.{Byte, NoPlace}
 
 -- ---- offsets and sizes
 
@@ -34,9 +32,9 @@ abbrev pub LayoutNumber : ℕ → Type 0
 LayoutNumber n = (50 ≤ n) × (n ≤ 59)
 
 -- a fault's place is one of the text, or its end
-abbrev pub InText : List ℕ → FaultPlace → Type 0
-InText s (Byte p) = p ≤ length s
-InText s NoPlace = Unit {0}
+abbrev pub InText : List ℕ → Option ℕ → Type 0
+InText s (Some p) = p ≤ length s
+InText s None = Unit {0}
 
 -- image, sections, their places, and the index of section FMAP
 pub record Accepted (s : List ℕ) (i : TextImage) (l : List Section) (ps : List Placed) (m : ℕ) : Type 0 where

@@ -8,20 +8,18 @@ ghost use Rattle.fmd_check.specs.Plans.{sibling_end, room_of, start_of, spot_of,
 use fmd_parse::rows::Reach;
 use fmd_table::{ParentOffset, Placed, Section, placed_at, put_placed, row_at};
 
-// A section at its place; or that it does not fit, or has no size.
+// Why a section has no place.
 #[derive(Clone, Copy)]
-pub enum Spot {
-    Fits(Placed),
+pub enum Misfit {
     Unfit,
     NoSize,
 }
 
-// All sections have their places; or the first that does not fit, or has no size.
+// The first section that has no place, and why.
 #[derive(Clone, Copy)]
-pub enum Resolution {
-    Whole,
-    Unfits(usize),
-    Unsized(usize),
+pub struct Unplaced {
+    pub at: usize,
+    pub why: Misfit,
 }
 
 // The end of the last section with the parent, sought from the last row back.
@@ -29,13 +27,10 @@ fn end_in(spots: &[u32], k: usize, parent: u32) -> u64
     requires { HasSpots k spots.now }
     ensures { (result ≡ sibling_end parent 0 (placed_in k spots.now)) × (result ≤ 8589934590) }
 {
-    let mut j = k;
-    while 0 < j {
-        j -= 1;
+    for j in (0..k).rev() {
         let q = placed_at(spots, j);
         if q.parent == parent {
-            let o = q.offset;
-            return o.0 as u64 + q.size as u64;
+            return q.offset.0 as u64 + q.size as u64;
         }
     }
     0
@@ -48,8 +43,7 @@ fn room_of(spots: &[u32], k: usize, parent: u32, size: u32) -> u32
 {
     let i = parent as usize;
     if i < k {
-        let q = placed_at(spots, i);
-        return q.size;
+        return placed_at(spots, i).size;
     }
     size
 }
@@ -73,20 +67,20 @@ fn gap(start: u64, limit: u32) -> u64
 }
 
 // The section at start, of size bytes, after a sibling that ends at e.
-fn spot_of(h: Section, e: u64, start: u64, size: u64, room: u32) -> Spot
+fn spot_of(h: Section, e: u64, start: u64, size: u64, room: u32) -> Result<Placed, Misfit>
     requires { (start ≤ 8589934590) × (size ≤ 4294967295) }
     ensures { result ≡ spot_of h e start size room }
 {
     if size < 1 {
-        return Spot::Unfit;
+        return Err(Misfit::Unfit);
     }
     if start < e {
-        return Spot::Unfit;
+        return Err(Misfit::Unfit);
     }
     if (room as u64) < start + size {
-        return Spot::Unfit;
+        return Err(Misfit::Unfit);
     }
-    Spot::Fits(Placed {
+    Ok(Placed {
         offset: ParentOffset(start as u32),
         size: size as u32,
         parent: h.parent,
@@ -94,7 +88,7 @@ fn spot_of(h: Section, e: u64, start: u64, size: u64, room: u32) -> Spot
     })
 }
 
-fn spot_in(h: Section, e: u64, room: u32, reach: Reach) -> Spot
+fn spot_in(h: Section, e: u64, room: u32, reach: Reach) -> Result<Placed, Misfit>
     requires { e ≤ 8589934590 }
     ensures { result ≡ spot_in h e room reach }
 {
@@ -104,12 +98,12 @@ fn spot_in(h: Section, e: u64, room: u32, reach: Reach) -> Spot
         Reach::OfSize(n) => spot_of(h, e, start, n as u64, room),
         Reach::UpTo(o) => spot_of(h, e, start, gap(start, o.0), room),
         Reach::ToParentEnd => spot_of(h, e, start, gap(start, room), room),
-        Reach::Undecided => Spot::NoSize,
+        Reach::Undecided => Err(Misfit::NoSize),
     }
 }
 
 // Section k.
-fn place_at(rows: &[u32], n: usize, k: usize, spots: &[u32], size: u32) -> Spot
+fn place_at(rows: &[u32], n: usize, k: usize, spots: &[u32], size: u32) -> Result<Placed, Misfit>
     requires { HasRows n rows.now × HasSpots n spots.now × (k < n) × Linked n rows.now }
     ensures { result ≡ spot_for size (placed_in k spots.now) (get_or (sections_in n rows.now) k blank_section)
         (drop (k + 1) (sections_in n rows.now)) }
@@ -122,24 +116,15 @@ fn place_at(rows: &[u32], n: usize, k: usize, spots: &[u32], size: u32) -> Spot
 }
 
 // Offsets and sizes of the sections of an image of size bytes.
-pub fn resolve(rows: &[u32], n: usize, size: u32, spots: &mut [u32]) -> Resolution
+pub fn resolve(rows: &[u32], n: usize, size: u32, spots: &mut [u32]) -> Result<(), Unplaced>
     requires { HasRows n rows.now × HasSpots n spots.old × Linked n rows.now }
     ensures { resolved_by result (placed_in n spots.new) ≡ resolve_from size [] (sections_in n rows.now) }
 {
-    let mut k: usize = 0;
-    while k < n {
+    for k in 0..n {
         match place_at(rows, n, k, spots, size) {
-            Spot::Unfit => {
-                return Resolution::Unfits(k);
-            }
-            Spot::NoSize => {
-                return Resolution::Unsized(k);
-            }
-            Spot::Fits(q) => {
-                put_placed(spots, k, q);
-                k += 1;
-            }
+            Ok(q) => put_placed(spots, k, q),
+            Err(why) => return Err(Unplaced { at: k, why }),
         }
     }
-    Resolution::Whole
+    Ok(())
 }

@@ -17,8 +17,8 @@ area_at-requires c = (laid c.requires, there c.requires)
 pub image_of-x-requires : goal.image_of-x-requires
 image_of-x-requires c = named c.requires
 
-pub overflow_cast-n : goal.overflow_cast-n
-overflow_cast-n c = omega (arith, few c.requires)
+pub overflow_cast-l-2 : goal.overflow_cast-l-2
+overflow_cast-l-2 c = omega (arith, few c.requires)
 
 pub put_header-requires : goal.put_header-requires
 put_header-requires c = omega (arith, map-room c.requires c.area_at.ensures, c.in_ok-need_length.ensures)

@@ -1,5 +1,5 @@
 use Rattle.fmd_check.proofs.Found.{ready}
-use Rattle.fmd_check.proofs.Stages.{whole}
+use Rattle.fmd_check.proofs.Stages.{whole, stopped}
 use Rattle.fmd_check.specs.Check.{check_text}
 use borrow.Author.Tests.{lt-ltb, le-ltb}
 use native.Mathlib.Omega.{arith}
@@ -12,15 +12,13 @@ returns-then-text-gt32768 c = rw (lt-ltb 32768 _ c.if-text-gt32768.true)
 
 pub check_list-requires : goal.check_list-requires
 check_list-requires c =
-    let w = ready _ _ _ _ (rw c.in-Ok.is at c.read_layout.ensures.rows_after) in
-    let l = rw c.in-Ok.is at c.read_layout.ensures.linked in
-    (omega arith, omega arith, l, w)
+    let l = c.in_ok-t.ensures.linked in
+    (omega arith, omega arith, l, ready _ _ _ _ c.in_ok-t.ensures.rows_after)
 
-pub returns-in-Ok : goal.returns-in-Ok
+pub returns-in_err-t : goal.returns-in_err-t
 unfolding check_text
-returns-in-Ok c = rw (le-ltb _ _ c.if-text-gt32768.false, sym (rw c.in-Ok.is at c.read_layout.ensures.rows_after)) (c.check_list.ensures
-    ∙ whole _ _ _)
+returns-in_err-t c = rw (le-ltb _ _ c.if-text-gt32768.false, stopped _ c.from_residual.ensures.1, sym c.in_err-t.ensures.rows_after)
 
-pub returns-in-Err : goal.returns-in-Err
+pub returns : goal.returns
 unfolding check_text
-returns-in-Err c = rw (le-ltb _ _ c.if-text-gt32768.false, sym (rw c.in-Err.is at c.read_layout.ensures.rows_after))
+returns c = rw (le-ltb _ _ c.if-text-gt32768.false, sym c.in_ok-t.ensures.rows_after) (c.check_list.ensures ∙ whole _ _ _)

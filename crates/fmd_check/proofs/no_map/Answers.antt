@@ -13,6 +13,6 @@ unfolding ◌or◌
 returns c = rw (
   sym c.has_child.ensures ∙ c.if-has_child.false,
   placed-in c.args.n c.args.spots.now c.args.k c.requires.3,
-  sym c.placed_at-q.ensures,
+  sym c.placed_at.ensures,
   length-sections,
 )

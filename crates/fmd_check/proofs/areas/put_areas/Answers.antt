@@ -2,7 +2,6 @@ use Rattle.fmd_check.proofs.Listed.{many, area-in}
 use Rattle.fmap_write.proofs.Fields.{written_none, written_on, written_all}
 use Rattle.fmap_rules.specs.Map.{blank_area}
 use native.Mathlib.Omega.{arith}
-use Prim.Native.Nat.{◌-◌}
 use mathlib.Core.Path.{sym, ◌∙◌}
 use borrow.Author.Rules.{rules}
 use Rattle.fmd_check.proofs.areas.put_areas.Goals as goal

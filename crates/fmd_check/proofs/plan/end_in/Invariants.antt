@@ -1,11 +1,7 @@
 use Rattle.fmd_check.specs.Plans.{sibling_end}
 use Rattle.fmd_table.specs.Table.{placed_in}
-use Prim.Native.Nat.{◌≤◌}
 use mathlib.Core.Path.{◌≡◌}
 use Rattle.fmd_check.proofs.plan.end_in.Given as goal
 
 abbrev pub invariant-loop-j : goal.invariant-loop-j
-invariant-loop-j l = (l.j ≤ l.k) × (sibling_end l.parent 0 (placed_in l.j l.spots) ≡ sibling_end l.parent 0 (placed_in l.k l.spots))
-
-abbrev pub decreases-loop-j : goal.decreases-loop-j
-decreases-loop-j l = l.j
+invariant-loop-j l = sibling_end l.parent 0 (placed_in l.j l.spots) ≡ sibling_end l.parent 0 (placed_in l.k l.spots)

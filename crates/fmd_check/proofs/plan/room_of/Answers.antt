@@ -6,7 +6,7 @@ use Rattle.fmd_check.proofs.plan.room_of.Goals as goal
 
 pub returns-then-i-k : goal.returns-then-i-k
 unfolding room_of
-returns-then-i-k c = rw (length-placed, lt-ltb _ _ c.if-i-k.true, placed-in c.args.k c.args.spots.now c.args.parent c.if-i-k.true, sym c.placed_at-q.ensures)
+returns-then-i-k c = rw (length-placed, lt-ltb _ _ c.if-i-k.true, placed-in c.args.k c.args.spots.now c.args.parent c.if-i-k.true, sym c.placed_at.ensures)
 
 pub returns : goal.returns
 unfolding room_of
