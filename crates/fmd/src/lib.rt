@@ -17,7 +17,7 @@ ghost use Rattle.fmd.specs.declared.Refusal.TheVariants.{OfText};
 use fmap_rules::ImagePosition;
 use fmap_write::put_header;
 use fmd_check::areas::{area_at, put_areas, stored_name};
-use fmd_check::{Fault, GoodLayout};
+use fmd_check::{GoodLayout, LayoutFault};
 use fmd_head::{Refusal as TextRefusal, TextImage};
 use fmd_table::{ROWS, SPOTS};
 
@@ -28,10 +28,10 @@ pub enum Refusal {
     OfText(TextRefusal),
 }
 
-impl From<Fault> for Refusal {
+impl From<LayoutFault> for Refusal {
     ghost from_gives = { λ f r. r ≡ OfText f.refusal };
 
-    fn from(f: Fault) -> Refusal {
+    fn from(f: LayoutFault) -> Refusal {
         Refusal::OfText(f.refusal)
     }
 }

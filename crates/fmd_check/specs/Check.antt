@@ -14,7 +14,7 @@ use Rattle.fmd_head.specs.Refusals.{number_of}
 use Rattle.fmd_head.specs.declared.TextImage.{TextImage}
 use Rattle.fmd_parse.specs.Rows.{is_found, first_repeat, first_cbfs, first_undecided, fmap_in, has_child}
 use Rattle.fmd_check.specs.Plans.{Resolved, unfit, unsized, plan, resolve_from}
-use Rattle.fmd_check.specs.declared.Fault.{Fault}
+use Rattle.fmd_check.specs.declared.LayoutFault.{LayoutFault}
 use Rattle.fmd_check.specs.declared.GoodLayout.{GoodLayout}
 
 -- a fault's number and place; or image, sections, their places, and the index of section FMAP
@@ -89,6 +89,6 @@ check_text s = cond (ltb 32768 (length s)) (fault 50 None) (check_layout s (layo
 
 -- ---- what the values of the code say, with the tables that were lent
 
-abbrev pub verdict_of : Result GoodLayout Fault → List ℕ → List ℕ → Checked
+abbrev pub verdict_of : Result GoodLayout LayoutFault → List ℕ → List ℕ → Checked
 verdict_of (Ok g) rows spots = good g.image (sections_in g.count rows) (placed_in g.count spots) g.map
 verdict_of (Err f) rows spots = fault (number_of f.refusal) f.place

@@ -22,16 +22,16 @@ mod plan; // plan.rt: offsets and sizes of the sections
 
 // Why a layout text is refused, and where the fault stands in it, if it does.
 #[derive(Clone, Copy)]
-pub struct Fault {
+pub struct LayoutFault {
     pub refusal: Refusal,
     pub place: Option<usize>,
 }
 
-impl From<TextFault> for Fault {
+impl From<TextFault> for LayoutFault {
     ghost from_gives = { λ f r. r ≡ record { refusal = f.refusal; place = Some f.place } };
 
-    fn from(f: TextFault) -> Fault {
-        Fault {
+    fn from(f: TextFault) -> LayoutFault {
+        LayoutFault {
             refusal: f.refusal,
             place: Some(f.place),
         }
@@ -47,11 +47,11 @@ pub struct GoodLayout {
 }
 
 // A fault at the name of section k.
-fn fault_at(refusal: Refusal, rows: &[u32], k: usize) -> Fault
+fn fault_at(refusal: Refusal, rows: &[u32], k: usize) -> LayoutFault
     requires { HasRows (k + 1) rows.now }
     ensures { result ≡ record { refusal = refusal; place = Some (section_at rows.now k).place } }
 {
-    Fault {
+    LayoutFault {
         refusal,
         place: Some(row_at(rows, k).place as usize),
     }
@@ -75,13 +75,13 @@ fn check_map(
     rows: &[u32],
     spots: &[u32],
     n: usize,
-) -> Result<GoodLayout, Fault>
+) -> Result<GoodLayout, LayoutFault>
     requires { HasRows n rows.now × HasSpots n spots.now × Linked n rows.now × Inside text.now (sections_in n rows.now) }
     ensures { verdict_of result rows.now spots.now
         ≡ check_from 4 text.now image (sections_in n rows.now) (plan (placed_in n spots.now)) }
 {
     let Some(map) = fmd_parse::rows::find_fmap(text, rows, n) else {
-        return Err(Fault {
+        return Err(LayoutFault {
             refusal: Refusal::NoMapSection,
             place: None,
         });
@@ -97,7 +97,7 @@ fn check_map(
 }
 
 // Rows 57 and 58, where section k is the first that does not fit.
-fn unfit_at(rows: &[u32], n: usize, k: usize) -> Fault
+fn unfit_at(rows: &[u32], n: usize, k: usize) -> LayoutFault
     requires { HasRows n rows.now × (k < n) × Sized (sections_in n rows.now) (k + 1) × Linked n rows.now }
     ensures { (s : List ℕ) (i : TextImage) (spots : List ℕ) → fault (number_of result.refusal) result.place
         ≡ check_from 2 s i (sections_in n rows.now) (unfit k) }
@@ -115,7 +115,7 @@ fn check_list(
     rows: &[u32],
     spots: &mut [u32],
     n: usize,
-) -> Result<GoodLayout, Fault>
+) -> Result<GoodLayout, LayoutFault>
     requires { HasRows n rows.now × HasSpots n spots.old × Linked n rows.now × Inside text.now (sections_in n rows.now) }
     ensures { verdict_of result rows.now spots.new
         ≡ check_from 0 text.now image (sections_in n rows.now) (resolve_from image.size [] (sections_in n rows.now)) }
@@ -136,12 +136,12 @@ fn check_list(
 }
 
 // Image, sections and their places of a layout text, or its first fault.
-pub fn check(text: &[u8], rows: &mut [u32], spots: &mut [u32]) -> Result<GoodLayout, Fault>
+pub fn check(text: &[u8], rows: &mut [u32], spots: &mut [u32]) -> Result<GoodLayout, LayoutFault>
     requires { HasRows 129 rows.old × HasSpots 128 spots.old }
     ensures { verdict_of result rows.new spots.new ≡ check_text text.now }
 {
     if 32768 < text.len() {
-        return Err(Fault {
+        return Err(LayoutFault {
             refusal: Refusal::TooLong,
             place: None,
         });
