@@ -101,11 +101,11 @@ module _ (g : Shape) (ok : Legal g) (side : Side) (b : List ℕ) (lb : length b 
 -- ---- the CRC of a table with one entry replaced
 
 pub crc-changed : (t e : List ℕ) (i x y z : ℕ) → length t ≡ 16384 → i < 128 → length e ≡ 128
-    → x ≡ crc_update 0xFFFF_FFFF (take (i * 128 - 0) t) → y ≡ crc_update x e → z ≡ crc_update y (take (length t - (i * 128 + 128)) (drop (i * 128 + 128) t))
+    → x ≡ crc_update 0xFFFF_FFFF (take (i * 128 - 0) t) → y ≡ crc_update x e → z ≡ crc_update y (take (16384 - (i * 128 + 128)) (drop (i * 128 + 128) t))
     → bit_xor z 0xFFFF_FFFF ≡ crc32 (put_chunk 128 i e t)
 crc-changed t e i x y z lt hi le' p q r =
-    let whole : take (length t - (i * 128 + 128)) (drop (i * 128 + 128) t) ≡ drop (i * 128 + 128) t =
-    take_all (length t - (i * 128 + 128)) (drop (i * 128 + 128) t) (omega (arith, length-drop (i * 128 + 128) t)) in
+    let whole : take (16384 - (i * 128 + 128)) (drop (i * 128 + 128) t) ≡ drop (i * 128 + 128) t =
+    take_all (16384 - (i * 128 + 128)) (drop (i * 128 + 128) t) (omega (arith, length-drop (i * 128 + 128) t, lt)) in
     let whole0 : i * 128 - 0 ≡ i * 128 = omega arith in
     crc-parts (take (i * 128) t) e (drop (i * 128 + 128) t) (p ∙ ap (λ (k : ℕ). crc_update 0xFFFF_FFFF (take k t)) whole0) q (r ∙ ap (crc_update y) whole)
     ∙ ap crc32

@@ -24,7 +24,7 @@ fn good_copy(b: &[u8], side: Side, disk: Disk) -> bool
     requires { length b.now ≡ lent_bytes disk.shape (side_of side) }
     ensures { result ≡ good_copy disk.shape disk.n (side_of side) b.now }
 {
-    let table = gpt_places::entries_in(b, side, disk.shape);
+    let table = gpt_places::table_in(b, side, disk.shape);
     if !gpt_places::header::good(b, side, disk, crc32::crc32(table)) {
         return false;
     }
@@ -52,7 +52,7 @@ fn state_alike(head: &[u8], tail: &[u8], disk: Disk) -> Option<State>
         × (entries_in disk.shape primary head.now ≡ entries_in disk.shape backup tail.now) }
     ensures { state_number result ≡ state_on disk.shape disk.n head.now tail.now }
 {
-    let table = gpt_places::entries_in(head, Side::Primary, disk.shape);
+    let table = gpt_places::table_in(head, Side::Primary, disk.shape);
     if !gpt_table::rules::table_ok(
         gpt_table::as_table(table),
         disk.first_usable(),
@@ -75,8 +75,8 @@ pub fn state(head: &[u8], tail: &[u8], disk: Disk) -> Option<State>
     ensures { state_number result ≡ state_on disk.shape disk.n head.now tail.now }
 {
     if octets::same(
-        gpt_places::entries_in(head, Side::Primary, disk.shape),
-        gpt_places::entries_in(tail, Side::Backup, disk.shape),
+        gpt_places::table_in(head, Side::Primary, disk.shape),
+        gpt_places::table_in(tail, Side::Backup, disk.shape),
     ) {
         return state_alike(head, tail, disk);
     }

@@ -9,7 +9,7 @@ ghost use Rattle.gpt_places.specs.Invariants.{Legal};
 ghost use Rattle.gpt_places.specs.Sides.{side_of};
 
 use gpt_model::Shape;
-use gpt_places::{Disk, ENTRY, Side};
+use gpt_places::{Disk, ENTRY, Side, TABLE};
 
 // The header of a copy whose table has that CRC, in its place.
 fn put_header(b: &mut [u8], side: Side, disk: Disk, guid: &[u8; 16], crc: u32)
@@ -53,8 +53,8 @@ pub fn put_entry(b: &mut [u8], side: Side, disk: Disk, i: usize, e: &[u8; ENTRY]
 }
 
 // The CRC of a table with entry i replaced.
-pub fn crc_with(table: &[u8], i: usize, e: &[u8; ENTRY]) -> u32
-    requires { (length table.now ≡ table_bytes) × (i < slot_count) }
+pub fn crc_with(table: &[u8; TABLE], i: usize, e: &[u8; ENTRY]) -> u32
+    requires { i < slot_count }
     ensures { result ≡ crc_of (put_chunk entry_bytes i e.now table.now) }
 {
     let at = i * ENTRY;
@@ -74,7 +74,7 @@ pub fn put_both(head: &mut [u8], tail: &mut [u8], disk: Disk, i: usize, e: &[u8;
         (put_chunk entry_bytes i e.now (entries_in disk.shape primary head.old)) tail.old) }
 {
     let crc = crc_with(
-        gpt_places::entries_in(&head[..], Side::Primary, disk.shape),
+        gpt_places::table_in(&head[..], Side::Primary, disk.shape),
         i,
         e,
     );
@@ -92,8 +92,8 @@ fn clear_header(b: &mut [u8], side: Side, shape: Shape)
 }
 
 // The table and its header in one copy, every other byte as it was.
-fn put_table(b: &mut [u8], side: Side, disk: Disk, guid: &[u8; 16], table: &[u8])
-    requires { (length b.old ≡ lent_bytes disk.shape (side_of side)) × (length table.now ≡ table_bytes) }
+fn put_table(b: &mut [u8], side: Side, disk: Disk, guid: &[u8; 16], table: &[u8; TABLE])
+    requires { length b.old ≡ lent_bytes disk.shape (side_of side) }
     ensures { b.new ≡ with_table disk.shape disk.n (side_of side) guid.now table.now b.old }
 {
     octets::copy(b, gpt_places::entries_at(side, disk.shape), table);
@@ -101,8 +101,8 @@ fn put_table(b: &mut [u8], side: Side, disk: Disk, guid: &[u8; 16], table: &[u8]
 }
 
 // D24: the other copy's 33 blocks from the good one, header tail zero.
-pub fn put_copy(b: &mut [u8], side: Side, disk: Disk, guid: &[u8; 16], table: &[u8])
-    requires { (length b.old ≡ lent_bytes disk.shape (side_of side)) × (length table.now ≡ table_bytes) }
+pub fn put_copy(b: &mut [u8], side: Side, disk: Disk, guid: &[u8; 16], table: &[u8; TABLE])
+    requires { length b.old ≡ lent_bytes disk.shape (side_of side) }
     ensures { b.new ≡ with_copy disk.shape disk.n (side_of side) guid.now table.now b.old }
 {
     clear_header(b, side, disk.shape);
@@ -132,15 +132,14 @@ pub fn fresh(b: &mut [u8], side: Side, disk: Disk, guid: &[u8; 16])
         (fresh_tail disk.shape disk.n guid.now (zeros table_bytes)) }
 {
     octets::fill(b, 0);
-    let crc = crc32::crc32(gpt_places::entries_in(&b[..], side, disk.shape));
+    let crc = crc32::crc32(gpt_places::table_in(&b[..], side, disk.shape));
     put_block0(b, side, disk);
     put_header(b, side, disk, guid, crc);
 }
 
 // b1: should become a formatted head and tail. With that table
-pub fn built(b: &mut [u8], side: Side, disk: Disk, guid: &[u8; 16], table: &[u8])
-    requires { (length b.old ≡ lent_bytes disk.shape (side_of side)) × (side_of side ≡ primary → disk.n ≤ most_blocks)
-        × (length table.now ≡ table_bytes) }
+pub fn built(b: &mut [u8], side: Side, disk: Disk, guid: &[u8; 16], table: &[u8; TABLE])
+    requires { (length b.old ≡ lent_bytes disk.shape (side_of side)) × (side_of side ≡ primary → disk.n ≤ most_blocks) }
     ensures { b.new ≡ lent (side_of side) (fresh_head disk.shape disk.n guid.now table.now)
         (fresh_tail disk.shape disk.n guid.now table.now) }
 {

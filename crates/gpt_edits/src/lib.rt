@@ -29,7 +29,7 @@ pub fn rename(head: &mut [u8], tail: &mut [u8], disk: Disk, slot: u64, name: &[u
 {
     let i = (slot - 1) as usize;
     let new = gpt_entry::renamed(
-        &gpt_table::as_table(gpt_places::entries_in(&head[..], Side::Primary, disk.shape))[i],
+        &gpt_table::as_table(gpt_places::table_in(&head[..], Side::Primary, disk.shape))[i],
         name,
     );
     gpt_copies::writing::put_both(head, tail, disk, i, &new);
@@ -42,7 +42,7 @@ pub fn resize(head: &mut [u8], tail: &mut [u8], disk: Disk, slot: u64, size: u64
 {
     let i = (slot - 1) as usize;
     let new = gpt_entry::resized(
-        &gpt_table::as_table(gpt_places::entries_in(&head[..], Side::Primary, disk.shape))[i],
+        &gpt_table::as_table(gpt_places::table_in(&head[..], Side::Primary, disk.shape))[i],
         size,
     );
     gpt_copies::writing::put_both(head, tail, disk, i, &new);
@@ -55,7 +55,7 @@ pub fn add(head: &mut [u8], tail: &mut [u8], disk: Disk, p: NewPartition, first:
     ensures { outcome (accepted (result ∷ first.0 ∷ [])) head.new tail.new
         ≡ step disk.shape disk.n head.old tail.old (edit (add_call p)) }
 {
-    let table = gpt_places::entries_in(&head[..], Side::Primary, disk.shape);
+    let table = gpt_places::table_in(&head[..], Side::Primary, disk.shape);
     let i = gpt_table::first_unused(gpt_table::as_table(table)).unwrap();
     let new = gpt_entry::added(p, first);
     gpt_copies::writing::put_both(head, tail, disk, i, &new);
@@ -70,6 +70,6 @@ pub fn repair(b: &mut [u8], side: Side, good: &[u8], disk: Disk)
 {
     let from = side.other();
     let guid = gpt_places::guid_in(good, from, disk.shape);
-    let table = gpt_places::entries_in(good, from, disk.shape);
+    let table = gpt_places::table_in(good, from, disk.shape);
     gpt_copies::writing::put_copy(b, side, disk, guid, table);
 }

@@ -7,7 +7,7 @@ use lib.ListN.{length, take, drop}
 use borrow.Rule.Slice.Shared.{by_byte}
 use Rattle.octets.specs.Bytes.{part}
 use Rattle.octets.proofs.Parts.{length_part, part-part}
-use Rattle.gpt_model.specs.Disk.{Shape, Side, primary, backup, lent_bytes, header_at, entries_at, guid_in}
+use Rattle.gpt_model.specs.Disk.{Shape, Side, lent_bytes, header_at, entries_at, guid_in}
 use Rattle.gpt_model.proofs.Copies.{header-inside, block_inside, entries-inside}
 use Rattle.gpt_places.specs.Invariants.{Legal}
 use Rattle.gpt_places.specs.Sides.{behind}

@@ -132,3 +132,11 @@ pub fn entries_in<'a>(b: &'a [u8], side: Side, shape: Shape) -> &'a [u8]
     let end = at + TABLE;
     &b[at..end]
 }
+
+// The same as an array, whose place is not told: std's `as_array` says its bytes alone.
+pub fn table_in<'a>(b: &'a [u8], side: Side, shape: Shape) -> &'a [u8; TABLE]
+    requires { (length b.now ≡ lent_bytes shape (side_of side)) × Legal shape }
+    ensures { result.now ≡ entries_in shape (side_of side) b.now }
+{
+    entries_in(b, side, shape).as_array::<TABLE>().unwrap()
+}

@@ -5,19 +5,16 @@ use Rattle.gpt_edits.proofs.Outcomes.{same_tables, edit-made, add-size, add-inde
 use Rattle.gpt_model.specs.Calls.{add}
 use Rattle.gpt_edits.proofs.add.Goals as goal
 
-pub entries_in-table-requires : goal.entries_in-table-requires
-entries_in-table-requires c =
+pub table_in-table-requires : goal.table_in-table-requires
+table_in-table-requires c =
     let a = c.args in
     ((edit-facts a.disk.shape a.disk.n a.head.now a.tail.now (add a.p) c.requires.0).head, a.disk.fits.legal)
-
-pub as_table-requires : goal.as_table-requires
-as_table-requires c = c.entries_in-table.ensures.1
 
 pub unwrap-i-requires : goal.unwrap-i-requires
 unwrap-i-requires c =
     let a = c.args in
     lowest-some _ c.as_table.ensures c.first_unused.ensures
-    (some-slot a.disk.shape a.disk.n a.head.now a.tail.now a.p c.requires.0 _ c.entries_in-table.ensures.0)
+    (some-slot a.disk.shape a.disk.n a.head.now a.tail.now a.p c.requires.0 _ c.table_in-table.ensures)
 
 pub added-new-requires : goal.added-new-requires
 added-new-requires c =
@@ -30,14 +27,14 @@ put_both-requires c =
     let o = edit-facts a.disk.shape a.disk.n a.head.now a.tail.now (add a.p) c.requires.0 in (
       o.head,
       o.tail,
-      add-index a.disk.shape a.disk.n a.head.now a.tail.now a.p c.requires.0 _ _ c.entries_in-table.ensures.0 (lowest_is _ c.as_table.ensures c.first_unused.ensures c.unwrap-i.ensures),
+      add-index a.disk.shape a.disk.n a.head.now a.tail.now a.p c.requires.0 _ _ c.table_in-table.ensures (lowest_is _ c.as_table.ensures c.first_unused.ensures c.unwrap-i.ensures),
       same_tables a.disk.shape a.disk.n a.head.now a.tail.now (add a.p) c.requires.0,
     )
 
 pub overflow_add-result : goal.overflow_add-result
 overflow_add-result c =
     let a = c.args in
-    let i = add-index a.disk.shape a.disk.n a.head.now a.tail.now a.p c.requires.0 _ _ c.entries_in-table.ensures.0
+    let i = add-index a.disk.shape a.disk.n a.head.now a.tail.now a.p c.requires.0 _ _ c.table_in-table.ensures
     (lowest_is _ c.as_table.ensures c.first_unused.ensures c.unwrap-i.ensures) in
     omega arith
 
@@ -45,5 +42,5 @@ pub returns : goal.returns
 returns c =
     let a = c.args in
     edit-made a.disk.shape a.disk.n a.head.now a.tail.now (add a.p) c.requires.0 _ _ _
-    (add_is a.disk.shape a.disk.n a.head.now a.tail.now a.p c.requires.0 _ _ c.entries_in-table.ensures.0 (lowest_is _ c.as_table.ensures c.first_unused.ensures c.unwrap-i.ensures) _ _ c.requires.1 c.added-new.ensures.0)
+    (add_is a.disk.shape a.disk.n a.head.now a.tail.now a.p c.requires.0 _ _ c.table_in-table.ensures (lowest_is _ c.as_table.ensures c.first_unused.ensures c.unwrap-i.ensures) _ _ c.requires.1 c.added-new.ensures.0)
     c.put_both.ensures.0 c.put_both.ensures.1

@@ -4,7 +4,6 @@ use Rattle.gpt_checks.proofs.Judged.{edit-facts}
 use Rattle.gpt_edits.proofs.Outcomes.{same_tables, edit-made, delete-slot}
 use Rattle.gpt_model.specs.Calls.{delete}
 use Rattle.octets.specs.Bytes.{zeros}
-use borrow.Author.Rules.{rules}
 use Rattle.gpt_edits.proofs.delete.Goals as goal
 
 pub overflow_sub-slot : goal.overflow_sub-slot

@@ -13,8 +13,8 @@ overflow_sub-i c =
     let a = c.args in
     omega (arith, (rename-slot a.disk.shape a.disk.n a.head.now a.tail.now a.slot a.name.now c.requires).0)
 
-pub entries_in-requires : goal.entries_in-requires
-entries_in-requires c =
+pub table_in-requires : goal.table_in-requires
+table_in-requires c =
     let a = c.args in
     ((edit-facts a.disk.shape a.disk.n a.head.now a.tail.now (rename a.slot a.name.now) c.requires).head, a.disk.fits.legal)
 
@@ -50,5 +50,5 @@ pub returns : goal.returns
 returns c =
     let a = c.args in
     edit-made a.disk.shape a.disk.n a.head.now a.tail.now (rename a.slot a.name.now) c.requires _ _ _
-    (renamed-is a.disk.shape a.disk.n a.head.now a.tail.now a.slot _ _ c.entries_in.ensures.0 (ap (λ (es : List (List ℕ)). get_or es (a.slot - 1) []) c.as_table.ensures) _ a.name.now c.renamed-new.ensures.0)
+    (renamed-is a.disk.shape a.disk.n a.head.now a.tail.now a.slot _ _ c.table_in.ensures (ap (λ (es : List (List ℕ)). get_or es (a.slot - 1) []) c.as_table.ensures) _ a.name.now c.renamed-new.ensures.0)
     c.put_both.ensures.0 c.put_both.ensures.1

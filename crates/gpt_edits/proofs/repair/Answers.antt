@@ -9,4 +9,4 @@ returns c =
     let good = c.args.good.now in
     let e = c.other-from.ensures in
     copied _ _ _ _ _ _ _ _ _ (c.guid_in-guid.ensures ∙ ap (λ (s : Side). guid_in g s good) e)
-    (c.entries_in-table.ensures.0 ∙ ap (λ (s : Side). entries_in g s good) e) c.put_copy.ensures
+    (c.table_in-table.ensures ∙ ap (λ (s : Side). entries_in g s good) e) c.put_copy.ensures

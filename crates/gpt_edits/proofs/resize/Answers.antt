@@ -13,8 +13,8 @@ overflow_sub-i c =
     let a = c.args in
     omega (arith, (resize-slot a.disk.shape a.disk.n a.head.now a.tail.now a.slot a.size c.requires).0)
 
-pub entries_in-requires : goal.entries_in-requires
-entries_in-requires c =
+pub table_in-requires : goal.table_in-requires
+table_in-requires c =
     let a = c.args in
     ((edit-facts a.disk.shape a.disk.n a.head.now a.tail.now (resize a.slot a.size) c.requires).head, a.disk.fits.legal)
 
@@ -34,7 +34,7 @@ pub resized-new-requires : goal.resized-new-requires
 resized-new-requires c =
     let a = c.args in (
       (resize-slot a.disk.shape a.disk.n a.head.now a.tail.now a.slot a.size c.requires).2,
-      resize-bound a.disk.shape a.disk.n a.head.now a.tail.now a.slot _ _ c.entries_in.ensures.0 (ap (λ (es : List (List ℕ)). get_or es (a.slot - 1) []) c.as_table.ensures) a.size c.requires,
+      resize-bound a.disk.shape a.disk.n a.head.now a.tail.now a.slot _ _ c.table_in.ensures (ap (λ (es : List (List ℕ)). get_or es (a.slot - 1) []) c.as_table.ensures) a.size c.requires,
     )
 
 pub put_both-requires : goal.put_both-requires
@@ -52,5 +52,5 @@ pub returns : goal.returns
 returns c =
     let a = c.args in
     edit-made a.disk.shape a.disk.n a.head.now a.tail.now (resize a.slot a.size) c.requires _ _ _
-    (resized-is a.disk.shape a.disk.n a.head.now a.tail.now a.slot _ _ c.entries_in.ensures.0 (ap (λ (es : List (List ℕ)). get_or es (a.slot - 1) []) c.as_table.ensures) _ a.size c.resized-new.ensures.0)
+    (resized-is a.disk.shape a.disk.n a.head.now a.tail.now a.slot _ _ c.table_in.ensures (ap (λ (es : List (List ℕ)). get_or es (a.slot - 1) []) c.as_table.ensures) _ a.size c.resized-new.ensures.0)
     c.put_both.ensures.0 c.put_both.ensures.1

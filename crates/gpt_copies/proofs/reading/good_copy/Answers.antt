@@ -9,7 +9,7 @@ use Rattle.gpt_copies.proofs.reading.good_copy.Goals as goal
 
 pub good-requires : goal.good-requires
 good-requires c =
-    (c.requires, c.crc32.ensures ∙ ap crc32 c.entries_in-table.ensures.0)
+    (c.requires, c.crc32.ensures ∙ ap crc32 c.table_in-table.ensures)
 
 pub returns-then-not-good : goal.returns-then-not-good
 returns-then-not-good c =
@@ -17,5 +17,5 @@ returns-then-not-good c =
 
 pub returns : goal.returns
 returns c =
-    let w = c.table_ok.ensures ∙ good_is _ _ _ _ c.as_table.ensures ∙ ap₂ (λ (f l : ℕ). good_table f l c.entries_in-table.result.now) c.first_usable.ensures c.last_usable.ensures in
-    copy-table c.args.disk.shape c.args.disk.n (side_of c.args.side) c.args.b.now _ _ _ c.entries_in-table.ensures.0 c.good.ensures w c.if-not-good.false
+    let w = c.table_ok.ensures ∙ good_is _ _ _ _ c.as_table.ensures ∙ ap₂ (λ (f l : ℕ). good_table f l c.table_in-table.result.now) c.first_usable.ensures c.last_usable.ensures in
+    copy-table c.args.disk.shape c.args.disk.n (side_of c.args.side) c.args.b.now _ _ _ c.table_in-table.ensures c.good.ensures w c.if-not-good.false

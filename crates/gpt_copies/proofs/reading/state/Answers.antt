@@ -5,8 +5,8 @@ use Rattle.gpt_copies.proofs.reading.state.Goals as goal
 
 pub state_alike-requires : goal.state_alike-requires
 state_alike-requires c =
-    (c.requires.0, c.requires.1, sym c.entries_in.ensures.0 ∙ same_true _ _ (sym c.same.ensures ∙ c.if-same.true) ∙ c.entries_in-2.ensures.0)
+    (c.requires.0, c.requires.1, sym c.table_in.ensures ∙ same_true _ _ (sym c.same.ensures ∙ c.if-same.true) ∙ c.table_in-2.ensures)
 
 pub state_apart-requires : goal.state_apart-requires
 state_apart-requires c =
-    (c.requires.0, c.requires.1, ap₂ same (sym c.entries_in.ensures.0) (sym c.entries_in-2.ensures.0) ∙ sym c.same.ensures ∙ c.if-same.false)
+    (c.requires.0, c.requires.1, ap₂ same (sym c.table_in.ensures) (sym c.table_in-2.ensures) ∙ sym c.same.ensures ∙ c.if-same.false)

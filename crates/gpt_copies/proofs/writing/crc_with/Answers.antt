@@ -3,5 +3,5 @@ use Rattle.gpt_copies.proofs.writing.crc_with.Goals as goal
 
 pub returns : goal.returns
 returns c =
-    crc-changed c.args.table.now c.args.e.now c.args.i _ _ _ c.requires.0 c.requires.1 c.told-e c.update-before.ensures c.update-with.ensures
+    crc-changed c.args.table.now c.args.e.now c.args.i _ _ _ c.told-table c.requires c.told-e c.update-before.ensures c.update-with.ensures
     c.update.ensures

@@ -1,4 +1,3 @@
-use mathlib.Core.Path.{sym, ap, ◌∙◌}
 use Rattle.gpt_copies.proofs.Writes.{block0-put}
 use Rattle.gpt_copies.proofs.writing.put_block0.Goals as goal
 

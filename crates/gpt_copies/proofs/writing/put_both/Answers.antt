@@ -11,14 +11,14 @@ put_entry-requires c = (
   c.requires.0,
   c.requires.2,
   c.crc_with-crc.ensures
-      ∙ ap (λ (es : List ℕ). crc32 (put_chunk 128 c.args.i c.args.e.now es)) c.entries_in.ensures.0,
+      ∙ ap (λ (es : List ℕ). crc32 (put_chunk 128 c.args.i c.args.e.now es)) c.table_in.ensures,
 )
 
 pub put_entry-requires-2 : goal.put_entry-requires-2
 put_entry-requires-2 c = (
   c.requires.1,
   c.requires.2,
-  c.crc_with-crc.ensures ∙ ap (λ (es : List ℕ). crc32 (put_chunk 128 c.args.i c.args.e.now es)) (c.entries_in.ensures.0 ∙ c.requires.3),
+  c.crc_with-crc.ensures ∙ ap (λ (es : List ℕ). crc32 (put_chunk 128 c.args.i c.args.e.now es)) (c.table_in.ensures ∙ c.requires.3),
 )
 
 pub returns : goal.returns
