@@ -6,7 +6,8 @@ use Prim.Native.Nat.{ℕ}
 use native.Mathlib.Omega.{arith}
 use Rattle.octets.specs.Rows.{code_of}
 use Rattle.guid.specs.Calls.{Outcome}
-use Rattle.guid.specs.declared.Answer.TheVariants.{Done, WrongLength, NotGuidText}
+use Rattle.std.specs.Prelude.{Ok, Err}
+use Rattle.guid.specs.declared.Refusal.TheVariants.{WrongLength, NotGuidText}
 use Rattle.c_text.specs.Effects.{Effect, effect}
 use Rattle.c_text.specs.Claims.{ZeroIsAccepted}
 
@@ -16,6 +17,6 @@ pub tells : (n : Option ℕ) (r : ℕ) (b : List ℕ) (o : Outcome) → record {
 tells n r b o e q = ap (λ (k : ℕ). record { result = k; buffer = b }) q ∙ ap effect e
 
 pub zero-is-accepted : ZeroIsAccepted
-zero-is-accepted Done e = refl
-zero-is-accepted WrongLength e = absurd (omega arith)
-zero-is-accepted NotGuidText e = absurd (omega arith)
+zero-is-accepted A (Ok v) e = refl
+zero-is-accepted A (Err WrongLength) e = absurd (omega arith)
+zero-is-accepted A (Err NotGuidText) e = absurd (omega arith)

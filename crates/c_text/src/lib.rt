@@ -7,7 +7,7 @@ ghost use Rattle.crc_lanes.specs.Crc.{crc32 as crc_of};
 ghost use Rattle.guid.specs.Calls.{number_of, read_of, read_type_of, write_of};
 ghost use Rattle.c_text.specs.Effects.{effect};
 
-use guid::Answer;
+use guid::Refusal;
 
 #[unsafe(no_mangle)]
 pub extern "C" fn usi_crc32(bytes: &[u8]) -> u32
@@ -16,13 +16,13 @@ pub extern "C" fn usi_crc32(bytes: &[u8]) -> u32
     crc32::crc32(bytes)
 }
 
-fn code(a: Answer) -> u32
-    ensures { result ≡ code_of (number_of a) }
+fn code(answer: Result<(), Refusal>) -> u32
+    ensures { result ≡ code_of (number_of answer) }
 {
-    match a {
-        Answer::Done => 0,
-        Answer::WrongLength => 1,
-        Answer::NotGuidText => 30,
+    match answer {
+        Ok(()) => 0,
+        Err(Refusal::WrongLength) => 1,
+        Err(Refusal::NotGuidText) => 30,
     }
 }
 

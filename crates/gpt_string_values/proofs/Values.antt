@@ -23,7 +23,9 @@ use Rattle.octets.proofs.Equal.{same_true, same_length}
 use Rattle.octets.proofs.Parts.{rest-slice}
 use Rattle.octets.proofs.Puts.{put-snoc, put-eq, put_all}
 use Rattle.guid.specs.Text.{is_guid_text, stored_of}
-use Rattle.guid.specs.Calls.{Outcome, read_of}
+use Rattle.guid.specs.Calls.{Outcome, number_of, read_of}
+use Rattle.guid.specs.declared.Refusal.{Refusal}
+use Rattle.guid.specs.declared.Refusal.TheVariants.{WrongLength, NotGuidText}
 use Rattle.guid.proofs.Calls.{length-stored, read-text, read_done}
 use Rattle.gpt_model.specs.Calls.{is_none}
 use Rattle.text_words.specs.Numerals.{Begun, some_digits}
@@ -156,3 +158,7 @@ guid-read v g a b l e = go (bool_cases (is_guid_text v))
     go : (is_guid_text v ≡ true) ⊎ (is_guid_text v ≡ false) → cond (is_none a) (Some b) None ≡ cond (is_guid_text v) (Some (stored_of v)) None
     go (inl t) = rw t (by _ (e ∙ sym (read_done v g (stored_of v) l t (sym (put_all (stored_of v) g (length-stored v t ∙ sym l))))))
     go (inr t) = rw t (by _ (e ∙ sym (read-text v g l t)))
+
+pub unread : (r : Refusal) (b : List ℕ) → cond (is_none (number_of {A = Unit {0}} (Err r))) (Some b) None ≡ None
+unread WrongLength b = refl
+unread NotGuidText b = refl

@@ -8,8 +8,6 @@ ghost use Rattle.guid.specs.Text.{is_guid_text, stored_of};
 ghost use Rattle.guid.specs.Types.{expand};
 ghost use Rattle.gpt_string_model.specs.Text.{units, factor_in, multiplied, byte_count, is_partition_name, name_units, type_named};
 
-use guid::Answer;
-
 // What stands before the first byte c, and what stands behind it: all, and nothing, where there is none.
 pub fn cut(s: &[u8], c: u8) -> (&[u8], &[u8])
     ensures before { result.0.now ≡ take (find_ix (λ b. eqb b c) s.now) s.now }
@@ -95,9 +93,8 @@ pub fn guid_in(v: &[u8]) -> Option<[u8; 16]>
 {
     let mut guid = [0; 16];
     match guid::read(v, &mut guid) {
-        Answer::Done => Some(guid),
-        Answer::WrongLength => None,
-        Answer::NotGuidText => None,
+        Ok(()) => Some(guid),
+        Err(_) => None,
     }
 }
 
@@ -107,8 +104,7 @@ pub fn type_in(v: &[u8]) -> Option<[u8; 16]>
 {
     let mut guid = [0; 16];
     match guid::read_type(v, &mut guid) {
-        Answer::Done => Some(guid),
-        Answer::WrongLength => None,
-        Answer::NotGuidText => None,
+        Ok(()) => Some(guid),
+        Err(_) => None,
     }
 }

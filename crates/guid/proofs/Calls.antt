@@ -1,24 +1,46 @@
 -- Laws of the judgement of a text, and of each way out of the calls.
-use mathlib.Core.Path.{◌≡◌, sym, ◌∙◌}
-use mathlib.Core.Bool.{true, false}
+use mathlib.Core.Path.{◌≡◌, refl, sym, ap, ◌∙◌}
+use mathlib.Core.Bool.{true, false, not}
+use lib.Dec.{eqb}
+use Rattle.std.specs.Cmp.Lexicographic.{pointwise}
 use mathlib.Core.List.{List}
 use mathlib.Core.Option.{none, some}
+use Rattle.std.specs.Prelude.{Option, Some, None, Result, Ok, Err}
+use Rattle.std.specs.Option.{ok_or}
+use Rattle.std.specs.Result.{IsErr, IsErrAnd}
 use Prim.Native.Nat.{ℕ}
 use native.Mathlib.Omega.{arith}
 use lib.ListN.{length}
+use borrow.Author.Rules.{rules}
 use borrow.Author.Tests.{eqb-true, eq-eqb, ne_eqb}
 use Rattle.octets.specs.Ascii.{ascii}
 use Rattle.octets.specs.Bytes.{put, same}
 use Rattle.octets.specs.Rows.{pick_row}
 use Rattle.octets.specs.Tests.{◌and◌, ◌or◌, all}
-use Rattle.octets.proofs.Bools.{and_l, and_r}
-use Rattle.octets.proofs.Equal.{same_true}
+use Rattle.octets.proofs.Bools.{and_l, and_r, not_t, not_f}
+use Rattle.octets.proofs.Equal.{same_true, same-pointwise}
 use Rattle.octets.proofs.Puts.{put_all}
 use Rattle.guid.specs.Hex.{is_hex_digit, bytes_of, digits_of}
 use Rattle.guid.specs.Text.{digits_in, dashes_in, is_guid_text, reordered, stored_of, text_of}
 use Rattle.guid.specs.Calls.{unless_refused, read_of, write_of}
+use Rattle.guid.specs.declared.Refusal.{Refusal}
 use Rattle.guid.proofs.Hex.{length-bytes, length_digits}
 use Rattle.guid.proofs.Text.{length-digits_in, length-reordered, length-grouped}
+
+-- ---- a refusal handed on by `?`
+
+module _ {A : Type 0} where
+  pub err_is : (y : Result A Refusal) (r : Refusal) → IsErr y → IsErrAnd y (λ z. z ≡ r) → y ≡ Err r
+  err_is (Ok v) r h e = absurd (search rules)
+  err_is (Err z) r h e = ap Err e
+
+  pub ok_or-err : (o : Option A) (e : Refusal) {f : Refusal} → ok_or o e ≡ Err f → (o ≡ None) × (f ≡ e)
+  ok_or-err None e q = (refl, cc)
+  ok_or-err (Some x) e q = absurd (cc)
+
+  pub ok_or-ok : (o : Option A) (e : Refusal) {x : A} → ok_or o e ≡ Ok x → o ≡ Some x
+  ok_or-ok None e q = absurd (cc)
+  ok_or-ok (Some y) e q = cc
 
 -- ---- the judgement
 
@@ -30,6 +52,13 @@ module _ (t : List ℕ) where
   pub text-other : length t ≡ 36 → same (dashes_in t) (ascii "----") ≡ false → false ≡ is_guid_text t
   unfolding is_guid_text ◌and◌
   text-other l e = rw (eq-eqb (length t) 36 l, e)
+
+  -- by the four bytes of u, which is t
+  pub no_dashes : (u : List ℕ) → u ≡ t → not (pointwise eqb (dashes_in u) (ascii "----")) ≡ true → same (dashes_in t) (ascii "----") ≡ false
+  no_dashes u e f = rw (← e) (sym (same-pointwise (dashes_in u) (ascii "----")) ∙ not_t _ f)
+
+  pub all_dashes : (u : List ℕ) → u ≡ t → not (pointwise eqb (dashes_in u) (ascii "----")) ≡ false → same (dashes_in t) (ascii "----") ≡ true
+  all_dashes u e f = rw (← e) (sym (same-pointwise (dashes_in u) (ascii "----")) ∙ not_f _ f)
 
   pub text-digits : length t ≡ 36 → same (dashes_in t) (ascii "----") ≡ true → all is_hex_digit (digits_in t) ≡ is_guid_text t
   unfolding is_guid_text ◌and◌

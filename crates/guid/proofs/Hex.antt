@@ -8,9 +8,12 @@ use native.Mathlib.Omega.{arith}
 use lib.Dec.{leb, ltb}
 use lib.ListN.{length, get_or, set}
 use borrow.Author.Tests.{leb-true, ltb-true, ltb-false, le-leb, lt-leb, lt-ltb, le-ltb}
+use Rattle.std.specs.Prelude.{Option, Some, None}
+use Rattle.std.specs.Bool.{then_some}
+use Rattle.std.proofs.lemmas.Bool.{cases_lt, cases_eq}
 use Rattle.octets.specs.Tests.{◌and◌, all}
-use Rattle.octets.proofs.Bools.{and_l, and_r, and_i, and-false-l, bool_cases}
-use Rattle.octets.proofs.Tests.{all-get}
+use Rattle.octets.proofs.Bools.{and_l, and_r, and_i, and-false-l, bool_cases, clash}
+use Rattle.octets.proofs.Tests.{all-get, all-make}
 use Rattle.octets.proofs.Filled.{Filled, filled_on}
 use Rattle.guid.specs.Claims.{are_bytes}
 use Rattle.guid.specs.Hex.{hex_value, is_hex_digit, bytes_of, hex_digit_of, digits_of, upper}
@@ -50,6 +53,38 @@ module _ (b : ℕ) where
   pub value_none : (leb 48 b and leb b 57) ≡ false → (leb 65 b and leb b 70) ≡ false → (leb 97 b and leb b 102) ≡ false → 16 ≡ hex_value b
   unfolding hex_value
   value_none p q r = rw (p, q, r)
+
+-- ---- what `value` answers
+
+none_within : (lo hi b : ℕ) → (lo ≤ b → b ≤ hi → ⊥) → (leb lo b and leb b hi) ≡ false
+none_within lo hi b f = go (bool_cases (leb lo b and leb b hi))
+  where
+    go : (leb lo b and leb b hi ≡ true) ⊎ (leb lo b and leb b hi ≡ false) → (leb lo b and leb b hi) ≡ false
+    go (inl t) = absurd (f (leb-true lo b (and_l _ _ t)) (leb-true b hi (and_r _ _ t)))
+    go (inr n) = n
+
+module _ (b : ℕ) where
+  pub value_some : (v : ℕ) → v ≡ hex_value b → v < 16 → Some v ≡ then_some (is_hex_digit b) (hex_value b)
+  value_some v e h = rw (← e, lt-ltb v 16 h)
+
+  pub value_other : (48 ≤ b → b ≤ 57 → ⊥) → (65 ≤ b → b ≤ 70 → ⊥) → (97 ≤ b → b ≤ 102 → ⊥) → None ≡ then_some (is_hex_digit b) (hex_value b)
+  value_other f g h = rw (← value_none b (none_within 48 57 b f) (none_within 65 70 b g) (none_within 97 102 b h))
+
+-- a test's value, by what was found
+module _ {A : Type 0} (t : Bool) (v : A) {r : Option A} (e : r ≡ then_some t v) where
+  pub found : {x : A} → r ≡ Some x → (t ≡ true) × (v ≡ x)
+  found {x} f = go t (sym e ∙ f)
+    where
+      go : (s : Bool) → then_some s v ≡ Some x → (s ≡ true) × (v ≡ x)
+      go true y = (refl, cc)
+      go false y = absurd (cc)
+
+  pub missed : r ≡ None → t ≡ false
+  missed f = go t (sym e ∙ f)
+    where
+      go : (s : Bool) → then_some s v ≡ None → s ≡ false
+      go true y = absurd (cc)
+      go false y = refl
 
 -- ---- a digit and its value
 
@@ -159,6 +194,36 @@ unfolding digits_of
 low-at i [] h = absurd (omega arith)
 low-at zero (b ∷ bs) h = refl
 low-at (suc i) (b ∷ bs) h = let a : 2 * suc i + 1 ≡ suc (suc (2 * i + 1)) = omega arith in rw a (low-at i bs (omega arith))
+
+-- one byte that is no digit
+pub not_all : (ds : List ℕ) (i : ℕ) → i < length ds → is_hex_digit (get_or ds i 0) ≡ false → all is_hex_digit ds ≡ false
+not_all ds i h e = go (bool_cases (all is_hex_digit ds))
+  where
+    go : (all is_hex_digit ds ≡ true) ⊎ (all is_hex_digit ds ≡ false) → all is_hex_digit ds ≡ false
+    go (inl t) = absurd (clash (all-get is_hex_digit ds 0 t i h) e)
+    go (inr n) = n
+
+-- the first n bytes are digits
+abbrev pub Digits : List ℕ → ℕ → Type 0
+Digits ds n = (k : ℕ) → k < n → is_hex_digit (get_or ds k 0) ≡ true
+
+pub two_more : (ds : List ℕ) (i : ℕ) → is_hex_digit (get_or ds (2 * i) 0) ≡ true → is_hex_digit (get_or ds (2 * i + 1) 0) ≡ true → Digits ds (2 * i)
+    → Digits ds (2 * (i + 1))
+two_more ds i p q f k h = go (cases_lt k (2 * i))
+  where
+    at : {j : ℕ} → j ≡ k → is_hex_digit (get_or ds j 0) ≡ true → is_hex_digit (get_or ds k 0) ≡ true
+    at e t = rw (← e) t
+
+    last : (2 * i ≡ k) ⊎ (2 * i ≡ k → ⊥) → 2 * i ≤ k → is_hex_digit (get_or ds k 0) ≡ true
+    last (inl e) l = at e p
+    last (inr n) l = at (omega (arith, n)) q
+
+    go : (k < 2 * i) ⊎ (2 * i ≤ k) → is_hex_digit (get_or ds k 0) ≡ true
+    go (inl l) = f k l
+    go (inr l) = last (cases_eq (2 * i) k) l
+
+pub all_digits : (ds : List ℕ) (n : ℕ) → length ds ≤ n → Digits ds n → all is_hex_digit ds ≡ true
+all_digits ds n h f = all-make is_hex_digit ds 0 (λ i l. f i (omega arith))
 
 -- both digits of byte i of 16 are put in place
 pub digits-on : (bs a : List ℕ) (i u v : ℕ) → length bs ≡ 16 → i < 16 → u ≡ hex_digit_of (get_or bs i 0 / 16) → v ≡ hex_digit_of (get_or bs i 0 % 16)

@@ -1,18 +1,18 @@
 -- What each call answers and leaves in the lent buffer. Definitions only.
-use Rattle.std.specs.Prelude.{Bool, not, List, [], ◌∷◌, ℕ, eqb, length}
+use Rattle.std.specs.Prelude.{Bool, not, List, [], ◌∷◌, ℕ, eqb, length, Result, Ok, Err}
 use Rattle.std.proofs.Math.Option.{Option, none, some}
 use Rattle.octets.specs.Tests.{◌or◌}
 use Rattle.octets.specs.Rows.{Row, row, refusal}
 use Rattle.guid.specs.Text.{is_guid_text, stored_of, text_of}
 use Rattle.guid.specs.Types.{expand}
-use Rattle.guid.specs.declared.Answer.{Answer}
-use Rattle.guid.specs.declared.Answer.TheVariants.{Done, WrongLength, NotGuidText}
+use Rattle.guid.specs.declared.Refusal.{Refusal}
+use Rattle.guid.specs.declared.Refusal.TheVariants.{WrongLength, NotGuidText}
 
 -- W15: When an answer is an enum, a definition states this paper's number and values for each enum case. `none`: accepted.
-abbrev pub number_of : Answer → Option ℕ
-number_of Done = none
-number_of WrongLength = some 1
-number_of NotGuidText = some 30
+abbrev pub number_of : {A : Type 0} → Result A Refusal → Option ℕ
+number_of (Ok v) = none
+number_of (Err WrongLength) = some 1
+number_of (Err NotGuidText) = some 30
 
 -- a call's number and the lent buffer afterwards
 pub record Outcome : Type 0 where

@@ -1,5 +1,5 @@
 -- The constant table of short names against the rules' list. Definitions only.
-use Rattle.std.specs.Prelude.{Bool, true, false, List, [], ◌∷◌, eqb, leb, length, take}
+use Rattle.std.specs.Prelude.{Bool, true, false, List, [], ◌∷◌}
 use Rattle.octets.specs.Tests.{◌and◌}
 use Rattle.octets.specs.Bytes.{same}
 use Rattle.guid.specs.Text.{is_guid_text, stored_of}
@@ -11,8 +11,7 @@ use Rattle.guid.specs.declared.ShortType.{ShortType}
 -- an entry of the table has the name of the list's entry, and its GUID is what that entry's text is stored as
 abbrev pub entry_agrees : ShortType → ShortName → Bool
 entry_agrees c s =
-    (eqb (length c.name) 6 and leb c.length 6)
-    and (same (take c.length c.name) s.name and (is_guid_text s.text and same c.guid (stored_of s.text)))
+    same c.name.now s.name and (is_guid_text s.text and same c.guid (stored_of s.text))
 
 abbrev pub entries_agree : List ShortType → List ShortName → Bool
 entries_agree [] [] = true

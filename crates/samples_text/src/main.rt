@@ -8,7 +8,7 @@
 //     text BYTES TEXT     stored bytes and the text written for them
 //
 // The lines of `disk` follow. A second program that shares no code with this one prints the same lines (host/second).
-use guid::Answer;
+use guid::Refusal;
 use std::io;
 
 fn crc(rt: &impl Print, label: &[u8], input: &[u8]) -> io::Result<()> {
@@ -50,11 +50,11 @@ fn more_crc_samples(rt: &impl Print) -> io::Result<()> {
 }
 
 // The stored bytes, or the refusal.
-fn print_read(rt: &impl Print, answer: Answer, guid: &[u8]) -> io::Result<()> {
+fn print_read(rt: &impl Print, answer: Result<(), Refusal>, guid: &[u8]) -> io::Result<()> {
     match answer {
-        Answer::Done => print_out::hex(rt, guid)?,
-        Answer::WrongLength => print_out::bytes(rt, b"refused 1")?,
-        Answer::NotGuidText => print_out::bytes(rt, b"refused 30")?,
+        Ok(()) => print_out::hex(rt, guid)?,
+        Err(Refusal::WrongLength) => print_out::bytes(rt, b"refused 1")?,
+        Err(Refusal::NotGuidText) => print_out::bytes(rt, b"refused 30")?,
     }
     print_out::bytes(rt, b"\n")
 }
@@ -82,7 +82,7 @@ fn text_line(rt: &impl Print, stored: &[u8]) -> io::Result<()> {
     print_out::hex(rt, stored)?;
     print_out::bytes(rt, b" ")?;
     let mut text = [0u8; 36];
-    guid::write(stored, &mut text);
+    let _ = guid::write(stored, &mut text);
     print_out::bytes(rt, &text)?;
     print_out::bytes(rt, b"\n")
 }

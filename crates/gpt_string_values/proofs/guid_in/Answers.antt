@@ -1,12 +1,9 @@
-use mathlib.Core.Path.{refl}
-use Rattle.gpt_string_values.proofs.Values.{guid-read}
+use mathlib.Core.Path.{refl, sym, ◌∙◌}
+use Rattle.gpt_string_values.proofs.Values.{guid-read, unread}
 use Rattle.gpt_string_values.proofs.guid_in.Goals as goal
 
-pub returns-in-Done : goal.returns-in-Done
-returns-in-Done c = guid-read c.args.v.now _ _ _ refl (rw c.in-Done.is at c.read.ensures)
+pub returns-in-Ok : goal.returns-in-Ok
+returns-in-Ok c = guid-read c.args.v.now _ _ _ refl (rw c.in-Ok.is at c.read.ensures)
 
-pub returns-in-WrongLength : goal.returns-in-WrongLength
-returns-in-WrongLength c = guid-read c.args.v.now _ _ _ refl (rw c.in-WrongLength.is at c.read.ensures)
-
-pub returns-in-NotGuidText : goal.returns-in-NotGuidText
-returns-in-NotGuidText c = guid-read c.args.v.now _ _ _ refl (rw c.in-NotGuidText.is at c.read.ensures)
+pub returns-in-Err : goal.returns-in-Err
+returns-in-Err c = sym (unread c.in-Err.field-0 _) ∙ guid-read c.args.v.now _ _ _ refl (rw c.in-Err.is at c.read.ensures)

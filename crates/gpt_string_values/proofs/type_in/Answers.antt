@@ -1,13 +1,10 @@
-use mathlib.Core.Path.{refl}
+use mathlib.Core.Path.{refl, sym, ◌∙◌}
 use Rattle.guid.specs.Types.{expand}
-use Rattle.gpt_string_values.proofs.Values.{guid-read}
+use Rattle.gpt_string_values.proofs.Values.{guid-read, unread}
 use Rattle.gpt_string_values.proofs.type_in.Goals as goal
 
-pub returns-in-Done : goal.returns-in-Done
-returns-in-Done c = guid-read (expand c.args.v.now) _ _ _ refl (rw c.in-Done.is at c.read_type.ensures)
+pub returns-in-Ok : goal.returns-in-Ok
+returns-in-Ok c = guid-read (expand c.args.v.now) _ _ _ refl (rw c.in-Ok.is at c.read_type.ensures)
 
-pub returns-in-WrongLength : goal.returns-in-WrongLength
-returns-in-WrongLength c = guid-read (expand c.args.v.now) _ _ _ refl (rw c.in-WrongLength.is at c.read_type.ensures)
-
-pub returns-in-NotGuidText : goal.returns-in-NotGuidText
-returns-in-NotGuidText c = guid-read (expand c.args.v.now) _ _ _ refl (rw c.in-NotGuidText.is at c.read_type.ensures)
+pub returns-in-Err : goal.returns-in-Err
+returns-in-Err c = sym (unread c.in-Err.field-0 _) ∙ guid-read (expand c.args.v.now) _ _ _ refl (rw c.in-Err.is at c.read_type.ensures)

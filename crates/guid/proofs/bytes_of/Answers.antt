@@ -1,35 +1,32 @@
-use mathlib.Core.Path.{refl}
-use Prim.Native.Nat.{◌+◌, ◌*◌}
-use native.Mathlib.Omega.{arith}
+use Rattle.std.proofs.Common.{◌+◌, ◌*◌, refl, ap, rules, arith, Some}
 use Rattle.octets.proofs.Filled.{filled_on, filled-all}
-use Rattle.guid.proofs.Hex.{length-bytes, bytes-at, digit-below}
-use borrow.Author.Rules.{rules}
+use Rattle.guid.proofs.Hex.{length-bytes, bytes-at, found, missed, not_all, two_more, all_digits}
 use Rattle.guid.proofs.bytes_of.Goals as goal
 
 pub loop-i-init : goal.loop-i-init
-loop-i-init c = record { below = search rules; width = refl; same = refl }
+loop-i-init c = (record { below = omega arith; width = refl; same = refl }, λ k h. absurd (omega (arith, h)))
 
-pub overflow_mul-bytes : goal.overflow_mul-bytes
-overflow_mul-bytes c =
-    let i = c.loop-i.i in
-    omega (arith, c.value.ensures, digit-below c.args.digits.now c.requires.1 (2 * i) (omega arith))
+pub returns-in_err-high : goal.returns-in_err-high
+returns-in_err-high c =
+    rw (not_all c.args.digits.now (2 * c.loop-i.i) (omega arith) (missed _ _ c.value.ensures c.in_err-high.was)) (search rules)
 
-pub overflow_add-bytes : goal.overflow_add-bytes
-overflow_add-bytes c =
-    let i = c.loop-i.i in
-    let below = digit-below c.args.digits.now c.requires.1 in
-    omega (arith, c.value.ensures, c.value-in-loop-i.ensures, below (2 * i) (omega arith), below (2 * i + 1) (omega arith))
-
-pub bounds-bytes-i : goal.bounds-bytes-i
-bounds-bytes-i c = let w = c.loop-i.invariant.width in search rules
+pub returns-in_err-low : goal.returns-in_err-low
+returns-in_err-low c =
+    rw (not_all c.args.digits.now (2 * c.loop-i.i + 1) (omega arith) (missed _ _ c.value-in-loop-i.ensures c.in_err-low.was)) (search rules)
 
 pub loop-i-preserved : goal.loop-i-preserved
 loop-i-preserved c =
     let ds = c.args.digits.now in
     let l = c.loop-i in
-    filled_on _ (length-bytes 16 ds c.requires.0) c.loop-i-test.true
-    (omega (arith, bytes-at l.i ds (omega arith), c.value.ensures, c.value-in-loop-i.ensures))
-    l.invariant
+    let p = found _ _ c.value.ensures c.in_ok-high.was in
+    let q = found _ _ c.value-in-loop-i.ensures c.in_ok-low.was in (
+      filled_on _ (length-bytes 16 ds c.told-digits) c.loop-i-test.true (omega (arith, bytes-at l.i ds (omega arith), p.1, q.1)) l.invariant.0,
+      two_more ds l.i p.0 q.0 l.invariant.1,
+    )
 
 pub returns : goal.returns
-returns c = filled-all (length-bytes 16 c.args.digits.now c.requires.0) c.loop-i-test.false c.loop-i.invariant
+returns c =
+    let ds = c.args.digits.now in
+    let l = c.loop-i in
+    rw (all_digits ds (2 * l.i) (omega (arith, c.told-digits)) l.invariant.1)
+    (ap Some (filled-all (length-bytes 16 ds c.told-digits) c.loop-i-test.false l.invariant.0))

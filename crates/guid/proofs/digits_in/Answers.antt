@@ -5,7 +5,7 @@ use Rattle.guid.proofs.digits_in.Goals as goal
 pub returns : goal.returns
 unfolding part
 returns c =
-    digits-copied c.args.text.now c.requires _ _ _ _ _
+    digits-copied c.args.text.now c.told-text _ _ _ _ _
     c.copy.ensures
     c.copy-2.ensures
     c.copy-3.ensures

@@ -5,4 +5,4 @@ use Rattle.guid.proofs.reordered.Goals as goal
 
 pub returns : goal.returns
 unfolding reordered part rest
-returns c = reordered-each c.args.b.now c.requires
+returns c = reordered-each c.args.b.now c.told-b
