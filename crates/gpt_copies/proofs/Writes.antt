@@ -10,7 +10,7 @@ use lib.Seq.{take_all}
 use Rattle.octets.specs.Bytes.{le, part, put, zeros, put_chunk}
 use Rattle.octets.proofs.Numbers.{length-le}
 use Rattle.octets.proofs.Parts.{length-zeros, part-zeros}
-use Rattle.octets.proofs.Puts.{then, put_all, put-eq, put_back, part-put-out}
+use Rattle.octets.proofs.Puts.{then, put-eq, put_back, part-put-out}
 use Rattle.octets.proofs.Chunks.{length_put_chunk, put_chunk-put}
 use Rattle.crc_lanes.specs.Crc.{crc_update, crc32}
 use Rattle.crc_lanes.proofs.Parts.{crc-parts}
@@ -18,10 +18,10 @@ use Rattle.gpt_model.specs.Table.{write_all}
 use Rattle.gpt_model.specs.Disk.{Shape, Side, primary, backup, lent_bytes, header_at, entries_at, guid_in, entries_in, header, with_table}
 use Rattle.gpt_model.specs.Disk.{lent, with_copy}
 use Rattle.gpt_model.specs.Disk.{block0, fresh_head, fresh_tail}
-use Rattle.gpt_model.proofs.Copies.{length-header, places-apart, length-guid, length-entries}
+use Rattle.gpt_model.proofs.Copies.{places-apart, length-entries}
 use Rattle.gpt_model.proofs.Writes.{entry-written, fresh-head, fresh-tail}
 use Rattle.gpt_places.specs.Invariants.{Legal}
-use Rattle.gpt_places.proofs.Places.{wide, header-end, block-end, length_cut}
+use Rattle.gpt_places.proofs.Places.{wide, block-end, length_cut}
 
 -- a list filled with zeros
 pub filled : (xs : List ℕ) (k : ℕ) → length xs ≡ k → replicate (length xs) 0 ≡ zeros k
@@ -38,12 +38,6 @@ back xs ys at a k e p q h l =
 module _ (g : Shape) (ok : Legal g) (side : Side) (b : List ℕ) (lb : length b ≡ lent_bytes g side) where
   -- ---- the header
 
-  pub header-back : (n : ℕ) (guid es hdr : List ℕ) (at : ℕ) → at ≡ header_at g side → hdr ≡ header g n side guid es
-      → take at b ++ (hdr ++ drop (at + 92 - at) (drop at b)) ≡ put (header_at g side) (header g n side guid es) b
-  header-back n guid es hdr at p q =
-      ap (λ (x : List ℕ). take at b ++ (x ++ drop (at + 92 - at) (drop at b))) q
-      ∙ back b (header g n side guid es) at _ 92 _ p refl (let h = header-end g ok side in omega arith) (length-header g n side guid es)
-
   -- its block set to zero
   pub block-cleared : (zs : List ℕ) (at : ℕ) → at ≡ header_at g side → zs ≡ replicate (length (take (at + g.block - at) (drop at b))) 0
       → take at b ++ (zs ++ drop (at + g.block - at) (drop at b)) ≡ put (header_at g side) (zeros g.block) b
@@ -52,14 +46,6 @@ module _ (g : Shape) (ok : Legal g) (side : Side) (b : List ℕ) (lb : length b 
       let w : zs ≡ zeros g.block = q ∙ filled (take (at + g.block - at) (drop at b)) g.block (length_cut b at g.block (at + g.block) refl (omega arith)) in
       ap (λ (x : List ℕ). take at b ++ (x ++ drop (at + g.block - at) (drop at b))) w
       ∙ back b (zeros g.block) at _ g.block _ p refl (omega arith) (length-zeros g.block)
-
-  -- its disk GUID, copied into an array first
-  pub header-renewed : (n : ℕ) (old copied es b1 : List ℕ) (d : List ℕ) → length d ≡ 16 → old ≡ guid_in g side b → copied ≡ put 0 old d
-      → b1 ≡ put (header_at g side) (header g n side copied es) b
-      → b1 ≡ put (header_at g side) (header g n side (guid_in g side b) es) b
-  header-renewed n old copied es b1 d l p q r =
-      let w : length (guid_in g side b) ≡ 16 = length-guid g (wide g ok) side b lb in
-      r ∙ ap (λ (x : List ℕ). put (header_at g side) (header g n side x es) b) (q ∙ put_all old d (ap length p ∙ w ∙ sym l) ∙ p)
 
   -- ---- the table
 

@@ -25,14 +25,12 @@ fn good_copy(b: &[u8], side: Side, disk: Disk) -> bool
     ensures { result ≡ good_copy disk.shape disk.n (side_of side) b.now }
 {
     let table = gpt_places::table_in(b, side, disk.shape);
-    if !gpt_places::header::good(b, side, disk, crc32::crc32(table)) {
-        return false;
-    }
-    gpt_table::rules::table_ok(
-        gpt_table::as_table(table),
-        disk.first_usable(),
-        disk.last_usable(),
-    )
+    gpt_places::header::good(b, side, disk, crc32::crc32(table))
+        && gpt_table::rules::table_ok(
+            gpt_table::as_table(table),
+            disk.first_usable(),
+            disk.last_usable(),
+        )
 }
 
 // Where the tables differ, each copy is judged by itself.

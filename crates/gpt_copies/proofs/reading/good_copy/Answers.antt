@@ -11,11 +11,11 @@ pub good-requires : goal.good-requires
 good-requires c =
     (c.requires, c.crc32.ensures ∙ ap crc32 c.table_in-table.ensures)
 
-pub returns-then-not-good : goal.returns-then-not-good
-returns-then-not-good c =
-    bad-header c.args.disk.shape c.args.disk.n (side_of c.args.side) c.args.b.now _ c.good.ensures c.if-not-good.true
+pub returns-else-good : goal.returns-else-good
+returns-else-good c =
+    rw c.if-good.false (bad-header c.args.disk.shape c.args.disk.n (side_of c.args.side) c.args.b.now _ c.good.ensures c.if-good.false)
 
-pub returns : goal.returns
-returns c =
+pub returns-then-good : goal.returns-then-good
+returns-then-good c =
     let w = c.table_ok.ensures ∙ good_is _ _ _ _ c.as_table.ensures ∙ ap₂ (λ (f l : ℕ). good_table f l c.table_in-table.result.now) c.first_usable.ensures c.last_usable.ensures in
-    copy-table c.args.disk.shape c.args.disk.n (side_of c.args.side) c.args.b.now _ _ _ c.table_in-table.ensures c.good.ensures w c.if-not-good.false
+    copy-table c.args.disk.shape c.args.disk.n (side_of c.args.side) c.args.b.now _ _ _ c.table_in-table.ensures c.good.ensures w c.if-good.true
