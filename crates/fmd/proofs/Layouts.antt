@@ -13,7 +13,9 @@ use Rattle.fmap_write.proofs.Fields.{map-written}
 use Rattle.fmd_table.specs.Table.{sections_in, placed_in, HasRows, HasSpots}
 use Rattle.fmd_table.proofs.Table.{length-sections}
 use Rattle.fmd_head.specs.declared.TextImage.{TextImage}
-use Rattle.fmd_table.proofs.Spots.{length-placed}
+use Rattle.fmd_table.proofs.Table.{length-placed}
+use Rattle.fmd_table.specs.declared.SectionRow.{SectionRow}
+use Rattle.fmd_table.specs.declared.Placed.{Placed}
 use Rattle.fmd_check.specs.Check.{good, check_text}
 use Rattle.fmd_check.proofs.Facts.{check-facts}
 use Rattle.fmd_check.specs.Areas.{area_from, area_at, layout_areas}
@@ -28,11 +30,11 @@ use Rattle.fmd.specs.declared.Image.{Image as SaidImage}
 -- ---- the tables of a text that is accepted
 
 -- what a check of the text answers, with the tables afterwards
-pub held : (s : List ℕ) (i : TextImage) (rows spots : List ℕ) (n m : ℕ) → HasRows 129 rows → HasSpots 128 spots
+pub held : (s : List ℕ) (i : TextImage) (rows : List SectionRow) (spots : List Placed) (n m : ℕ) → HasRows 129 rows → HasSpots 128 spots
     → good i (sections_in n rows) (placed_in n spots) m ≡ check_text s → Held s i rows spots n m
 held s i rows spots n m p q e = record { rows_room = p; spots_room = q; accepted = rw (sym e) at (check-facts s) }
 
-module _ {s : List ℕ} {i : TextImage} {rows spots : List ℕ} {n m : ℕ} (g : Held s i rows spots n m) where
+module _ {s : List ℕ} {i : TextImage} {rows : List SectionRow} {spots : List Placed} {n m : ℕ} (g : Held s i rows spots n m) where
   pub few : n ≤ 128
   few = omega (arith, g.accepted.tree.room, length-sections n rows)
 

@@ -19,7 +19,7 @@ use fmap_write::put_header;
 use fmd_check::areas::{area_at, put_areas, stored_name};
 use fmd_check::{GoodLayout, LayoutFault};
 use fmd_head::{Refusal as TextRefusal, TextImage};
-use fmd_table::{ROWS, SPOTS};
+use fmd_table::{NO_PLACE, NO_ROW, Placed, ROWS, SPOTS, SectionRow};
 
 // Why a call is refused.
 #[derive(Clone, Copy)]
@@ -100,14 +100,20 @@ fn need_length(length: usize, needed: usize) -> Result<(), Refusal>
 pub fn read(text: &[u8]) -> Result<Image, Refusal>
     ensures { reading result ≡ read_text text.now }
 {
-    let mut rows = [0u32; ROWS];
-    let mut spots = [0u32; SPOTS];
+    let mut rows = [NO_ROW; ROWS];
+    let mut spots = [NO_PLACE; SPOTS];
     let l = fmd_check::check(text, &mut rows, &mut spots)?;
     Ok(image_of(text, l.image, l.count))
 }
 
 // Section k of n, as the list has it.
-fn section_at(text: &[u8], rows: &[u32], spots: &[u32], n: usize, k: usize) -> SectionRecord
+fn section_at(
+    text: &[u8],
+    rows: &[SectionRow],
+    spots: &[Placed],
+    n: usize,
+    k: usize,
+) -> SectionRecord
     requires { Laid text.now rows.now spots.now n × (k < n) }
     ensures { result ≡ list_record (area_at text.now (sections_in n rows.now) (placed_in n spots.now) k) }
 {
@@ -122,7 +128,13 @@ fn section_at(text: &[u8], rows: &[u32], spots: &[u32], n: usize, k: usize) -> S
 }
 
 // The sections, one at a time, from the start of the list on.
-fn fill(sections: &mut [SectionRecord], text: &[u8], rows: &[u32], spots: &[u32], n: usize)
+fn fill(
+    sections: &mut [SectionRecord],
+    text: &[u8],
+    rows: &[SectionRow],
+    spots: &[Placed],
+    n: usize,
+)
     requires { Laid text.now rows.now spots.now n × (n ≤ length sections.old) }
     ensures { sections.new
         ≡ filled (map list_record (layout_areas text.now (sections_in n rows.now) (placed_in n spots.now)))
@@ -138,8 +150,8 @@ pub fn list(text: &[u8], sections: &mut [SectionRecord]) -> Result<Image, Refusa
     ensures { list_of result sections.new ≡ list_text text.now sections.old }
 {
     need_length(sections.len(), 128)?;
-    let mut rows = [0u32; ROWS];
-    let mut spots = [0u32; SPOTS];
+    let mut rows = [NO_ROW; ROWS];
+    let mut spots = [NO_PLACE; SPOTS];
     let l = fmd_check::check(text, &mut rows, &mut spots)?;
     fill(sections, text, &rows, &spots, l.count);
     Ok(image_of(text, l.image, l.count))
@@ -150,8 +162,8 @@ pub fn put_records(text: &[u8], records: &mut [u8]) -> Result<Image, Refusal>
     ensures { recorded result records.new ≡ record_text text.now records.old }
 {
     need_length(records.len(), 5376)?;
-    let mut rows = [0u32; ROWS];
-    let mut spots = [0u32; SPOTS];
+    let mut rows = [NO_ROW; ROWS];
+    let mut spots = [NO_PLACE; SPOTS];
     let l = fmd_check::check(text, &mut rows, &mut spots)?;
     put_areas(text, &rows, &spots, l.count, records, 0);
     Ok(image_of(text, l.image, l.count))
@@ -161,8 +173,8 @@ pub fn put_records(text: &[u8], records: &mut [u8]) -> Result<Image, Refusal>
 fn put_layout(
     text: &[u8],
     l: GoodLayout,
-    rows: &[u32],
-    spots: &[u32],
+    rows: &[SectionRow],
+    spots: &[Placed],
     image: &mut [u8],
 ) -> Result<ImagePosition, Refusal>
     requires { Held text.now l.image rows.now spots.now l.count l.map }
@@ -190,8 +202,8 @@ fn put_layout(
 pub fn write_map(text: &[u8], image: &mut [u8]) -> Result<ImagePosition, Refusal>
     ensures { written result image.new ≡ write_text text.now image.old }
 {
-    let mut rows = [0u32; ROWS];
-    let mut spots = [0u32; SPOTS];
+    let mut rows = [NO_ROW; ROWS];
+    let mut spots = [NO_PLACE; SPOTS];
     let l = fmd_check::check(text, &mut rows, &mut spots)?;
     put_layout(text, l, &rows, &spots, image)
 }

@@ -13,11 +13,11 @@ use lib.Seq.{ext_get_or, get_or-take, length-take-le}
 use borrow.Author.Tests.{eqb-true, eqb-false}
 use Rattle.octets.proofs.Bools.{bool_cases}
 use Rattle.fmd_parse.specs.Trees.{blank_section}
-use Rattle.fmd_table.specs.Table.{blank_placed, offset_word}
+use Rattle.fmd_table.specs.Table.{blank_placed}
 use Rattle.fmd_table.specs.declared.ParentOffset.{ParentOffset}
 use Rattle.fmd_table.specs.declared.Section.{Section}
 use Rattle.fmd_table.specs.declared.Placed.{Placed}
-use Rattle.fmd_check.specs.Plans.{placed_end, room_of}
+use Rattle.fmd_check.specs.Plans.{placed_end, room_of, start_of}
 use Rattle.fmd_check.specs.Fitted.{Siblings, Neighbours, BeginsAt, EndsAt, Fitted}
 use Rattle.fmd_check.specs.Claims.{FittedOnce}
 
@@ -98,7 +98,7 @@ module _ (z : ℕ) (l : List Section) (ps qs : List Placed) (k : ℕ) (h : k < l
     ends-once None p q e f a b = by (next l k (length l - suc k) (suc k) (omega arith) (omega arith) (λ j u v. absurd (omega arith)))
       where
         by : ((i : ℕ) × (i < length l) × Neighbours l k i) ⊎ ((j : ℕ) → suc k ≤ j → j < length l → Siblings l j k → ⊥) → p.size ≡ q.size
-        by (inl (i, u, n)) = let w : placed_end p ≡ placed_end q = ap offset_word (sym (a.0 i u n) ∙ b.0 i u n) in omega arith
+        by (inl (i, u, n)) = let w : placed_end p ≡ placed_end q = ap (λ (o : Option ParentOffset). start_of o 0) (sym (a.0 i u n) ∙ b.0 i u n) in omega arith
         by (inr g) = let w : placed_end p ≡ placed_end q = a.1 g ∙ one-room p.parent q.parent f ∙ sym (b.1 g) in omega arith
 
 placed_same : (p q : Placed) → p.offset.0 ≡ q.offset.0 → p.size ≡ q.size → p.parent ≡ q.parent → p.level ≡ q.level → p ≡ q

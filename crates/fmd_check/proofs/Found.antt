@@ -20,9 +20,10 @@ use Rattle.fmd_check.specs.Fitted.{Sized}
 use Rattle.fmd_check.specs.Claims.{ResolvedFacts}
 use Rattle.fmd_check.proofs.Fitted.{resolve-facts}
 use Rattle.fmd_table.specs.declared.Placed.{Placed}
+use Rattle.fmd_table.specs.declared.SectionRow.{SectionRow}
 use Rattle.fmd_check.proofs.Stages.{unsized-here, all-sized}
 
-module _ (n : ℕ) (rows : List ℕ) where
+module _ (n : ℕ) (rows : List SectionRow) where
   pub found_below : (p : ℕ → Bool) (k : ℕ) → found_from p (length (sections_in n rows)) 0 ≡ Some k → k < n
   found_below p k e =
       let w : FirstFacts p (length (sections_in n rows)) 0 (Some k) = rw e at (first-facts p (length (sections_in n rows)) 0) in
@@ -49,7 +50,7 @@ module _ (n : ℕ) (rows : List ℕ) where
       all-sized (sections_in n rows) n (length-sections n rows) (rw (length-sections n rows) at w.1)
 
 -- what is read of a text stands in it
-pub ready : (s : List ℕ) (i : TextImage) (n : ℕ) (rows : List ℕ) → layout i (sections_in n rows) ≡ layout_of s → Inside s (sections_in n rows)
+pub ready : (s : List ℕ) (i : TextImage) (n : ℕ) (rows : List SectionRow) → layout i (sections_in n rows) ≡ layout_of s → Inside s (sections_in n rows)
 ready s i n rows e =
     let w : LayoutFacts s (layout i (sections_in n rows)) = rw (sym e) at (layout-facts s) in
     inside w.1

@@ -16,7 +16,8 @@ use Rattle.fmd_table.specs.declared.Section.{Section}
 use Rattle.fmd_table.proofs.Table.{length-sections, section-in}
 use Rattle.fmd_parse.specs.Trees.{blank_section}
 use Rattle.fmd_table.specs.declared.Placed.{Placed}
-use Rattle.fmd_table.proofs.Spots.{length-placed, placed-in}
+use Rattle.fmd_table.proofs.Table.{length-placed, placed-in}
+use Rattle.fmd_table.specs.declared.SectionRow.{SectionRow}
 use Rattle.fmd_check.specs.Areas.{position_in, stored_name, area_from, area_at, layout_areas}
 use Rattle.fmd_check.specs.Invariants.{Climbs, Laid}
 use Rattle.fmd_check.proofs.Places.{climbs, ends}
@@ -59,7 +60,7 @@ unfolding position_in
 below zero ps k n = absurd (n refl)
 below (suc lv) ps k n = rw sub-one
 
-module _ (n : ℕ) (spots : List ℕ) (lv k : ℕ) (d : lv ≡ 0 → ⊥) (c : Climbs lv (placed_in n spots) k) where
+module _ (n : ℕ) (spots : List Placed) (lv k : ℕ) (d : lv ≡ 0 → ⊥) (c : Climbs lv (placed_in n spots) k) where
   pub listed : k < n
   listed = omega (arith, (climb lv (placed_in n spots) k d c).0, length-placed n spots)
 
@@ -72,7 +73,7 @@ module _ (n : ℕ) (spots : List ℕ) (lv k : ℕ) (d : lv ≡ 0 → ⊥) (c : C
 
 -- ---- section k, and the loops over all
 
-module _ {s rows spots : List ℕ} {n : ℕ} (g : Laid s rows spots n) where
+module _ {s : List ℕ} {rows : List SectionRow} {spots : List Placed} {n : ℕ} (g : Laid s rows spots n) where
   pub many : length (layout_areas s (sections_in n rows) (placed_in n spots)) ≡ n
   many = length-areas s (sections_in n rows) (placed_in n spots) ∙ length-placed n spots
 

@@ -11,8 +11,9 @@ use borrow.Author.Tests.{eq-eqb, ne_eqb}
 use Rattle.fmd_table.specs.Table.{listed, sections_in, placed_at, placed_in}
 use Rattle.fmd_table.proofs.Listed.{listed_more}
 use Rattle.fmd_table.proofs.Table.{length-sections}
-use Rattle.fmd_table.proofs.Spots.{length-placed, none-placed}
+use Rattle.fmd_table.proofs.Table.{length-placed, none-placed}
 use Rattle.fmd_table.specs.declared.Placed.{Placed}
+use Rattle.fmd_table.specs.declared.SectionRow.{SectionRow}
 use Rattle.fmd_parse.specs.Trees.{blank_section}
 use Rattle.fmd_check.specs.Plans.{end_with, sibling_end, spot_for, stopped_at, plan, resolve_from}
 use Rattle.fmd_check.specs.declared.plan.Misfit.{Misfit}
@@ -24,7 +25,7 @@ unfolding sibling_end
 end_snoc par e [] p = refl
 end_snoc par e (q ∷ ps) p = end_snoc par (end_with par e q) ps p
 
-module _ (spots : List ℕ) (par j : ℕ) {q : Placed} (p : q ≡ placed_at spots j) where
+module _ (spots : List Placed) (par j : ℕ) {q : Placed} (p : q ≡ placed_at spots j) where
   -- row j, and those below it
   last : sibling_end par 0 (placed_in (suc j) spots) ≡ end_with par (sibling_end par 0 (placed_in j spots)) q
   unfolding placed_in
@@ -38,13 +39,13 @@ module _ (spots : List ℕ) (par j : ℕ) {q : Placed} (p : q ≡ placed_at spot
   unfolding end_with
   end_on i w e = rw (w, last, ne_eqb q.parent par e)
 
-pub end-done : (spots : List ℕ) (par j : ℕ) → j ≡ 0 → 0 ≡ sibling_end par 0 (placed_in j spots)
+pub end-done : (spots : List Placed) (par j : ℕ) → j ≡ 0 → 0 ≡ sibling_end par 0 (placed_in j spots)
 unfolding sibling_end
 end-done spots par j e = rw (e, none-placed spots)
 
 -- ---- section k of the first n rows, with the plan of those before it
 
-module _ (n : ℕ) (rows : List ℕ) (k : ℕ) (spots : List ℕ) (z : ℕ) where
+module _ (n : ℕ) (rows : List SectionRow) (k : ℕ) (spots : List Placed) (z : ℕ) where
   here : k < n → drop k (sections_in n rows) ≡ get_or (sections_in n rows) k blank_section ∷ drop (k + 1) (sections_in n rows)
   here h =
       drop-cons (sections_in n rows) k blank_section (omega (arith, length-sections n rows))
@@ -56,7 +57,7 @@ module _ (n : ℕ) (rows : List ℕ) (k : ℕ) (spots : List ℕ) (z : ℕ) wher
   unfolding resolve_from
   resolve-stop w h q = rw (here h, q, length-placed k spots)
 
-  pub resolve-on : (new : List ℕ) (x : Placed) → k < n
+  pub resolve-on : (new : List Placed) (x : Placed) → k < n
       → spot_for z (placed_in k spots) (get_or (sections_in n rows) k blank_section) (drop (k + 1) (sections_in n rows)) ≡ Ok x
       → placed_in (k + 1) new ≡ placed_in k spots ++ (x ∷ [])
       → resolve_from z (placed_in (k + 1) new) (drop (k + 1) (sections_in n rows)) ≡ resolve_from z (placed_in k spots) (drop k (sections_in n rows))

@@ -12,6 +12,7 @@ use Rattle.fmd_table.specs.Table.{section_at, sections_in}
 use Rattle.fmd_table.proofs.Table.{section-in}
 use Rattle.fmd_table.specs.declared.Section.{Section}
 use Rattle.fmd_table.specs.declared.Placed.{Placed}
+use Rattle.fmd_table.specs.declared.SectionRow.{SectionRow}
 use Rattle.fmd_parse.specs.Trees.{blank_section}
 use Rattle.fmd_head.specs.declared.TextImage.{TextImage}
 use Rattle.fmd_parse.specs.Rows.{found_from, first_repeat, first_cbfs, undecided, first_undecided, fmap_in}
@@ -31,7 +32,7 @@ abbrev pub named : List Section → ℕ → Option ℕ
 named l k = Some (get_or l k blank_section).place
 
 -- .. where it stands in row k
-pub named-in : (n : ℕ) (rows : List ℕ) (k : ℕ) → k < n → Some (section_at rows k).place ≡ named (sections_in n rows) k
+pub named-in : (n : ℕ) (rows : List SectionRow) (k : ℕ) → k < n → Some (section_at rows k).place ≡ named (sections_in n rows) k
 named-in n rows k h = ap (λ (x : Section). Some x.place) (sym (section-in n rows k blank_section h))
 
 module _ (s : List ℕ) (i : TextImage) (l : List Section) where

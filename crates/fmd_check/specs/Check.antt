@@ -7,6 +7,7 @@ use Rattle.octets.specs.Rows.{Row, row, refusal}
 use Rattle.fmap_rules.specs.Map.{map_size}
 use Rattle.fmd_table.specs.Table.{blank_placed, sections_in, placed_in}
 use Rattle.fmd_table.specs.declared.Section.{Section}
+use Rattle.fmd_table.specs.declared.SectionRow.{SectionRow}
 use Rattle.fmd_table.specs.declared.Placed.{Placed}
 use Rattle.fmd_parse.specs.Trees.{blank_section}
 use Rattle.fmd_parse.specs.Layouts.{Layout, layout, refused, layout_of}
@@ -89,6 +90,6 @@ check_text s = cond (ltb 32768 (length s)) (fault 50 None) (check_layout s (layo
 
 -- ---- what the values of the code say, with the tables that were lent
 
-abbrev pub verdict_of : Result GoodLayout LayoutFault → List ℕ → List ℕ → Checked
+abbrev pub verdict_of : Result GoodLayout LayoutFault → List SectionRow → List Placed → Checked
 verdict_of (Ok g) rows spots = good g.image (sections_in g.count rows) (placed_in g.count spots) g.map
 verdict_of (Err f) rows spots = fault (number_of f.refusal) f.place

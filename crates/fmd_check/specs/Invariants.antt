@@ -4,6 +4,7 @@ use Rattle.octets.specs.Rows.{refusal}
 use Rattle.fmd_table.specs.Table.{blank_placed, sections_in, placed_in, HasRows, HasSpots}
 use Rattle.fmd_table.specs.declared.Section.{Section}
 use Rattle.fmd_table.specs.declared.Placed.{Placed}
+use Rattle.fmd_table.specs.declared.SectionRow.{SectionRow}
 use Rattle.fmd_head.specs.declared.TextImage.{TextImage}
 use Rattle.fmd_parse.specs.Trees.{Tree}
 use Rattle.fmd_check.specs.Plans.{Resolved}
@@ -23,7 +24,7 @@ Climbs zero ps k = Unit {0}
 Climbs (suc lv) ps k = (k < length ps) × Climbs lv ps (get_or ps k blank_placed).parent
 
 -- n sections of the text s and their places, in an image whose size fits 32 bits
-pub record Laid (s rows spots : List ℕ) (n : ℕ) : Type 0 where
+pub record Laid (s : List ℕ) (rows : List SectionRow) (spots : List Placed) (n : ℕ) : Type 0 where
   pub rows_room : HasRows n rows
   pub spots_room : HasSpots n spots
   pub tree : Tree s (sections_in n rows)

@@ -8,10 +8,10 @@ ghost use Rattle.fmd_check.specs.Invariants.{Climbs, Laid};
 
 use fmap_rules::{Area, Extent, ImagePosition};
 use fmap_write::put_area;
-use fmd_table::{Placed, Section, placed_at, row_at};
+use fmd_table::{Placed, Section, SectionRow, placed_at, row_at};
 
 // The position of section k of n, of a level: its offset plus its parent's position. Level 0 is the image.
-fn position(spots: &[u32], n: usize, k: usize, level: u32) -> ImagePosition
+fn position(spots: &[Placed], n: usize, k: usize, level: u32) -> ImagePosition
     requires { HasSpots n spots.now × Climbs level (placed_in n spots.now) k × (position_in level (placed_in n spots.now) k ≤ 4294967295) }
     ensures { result.0 ≡ position_in level (placed_in n spots.now) k }
 {
@@ -53,7 +53,7 @@ fn area_from(text: &[u8], h: Section, q: Placed, at: ImagePosition) -> Area
 }
 
 // The area of section k of n.
-pub fn area_at(text: &[u8], rows: &[u32], spots: &[u32], n: usize, k: usize) -> Area
+pub fn area_at(text: &[u8], rows: &[SectionRow], spots: &[Placed], n: usize, k: usize) -> Area
     requires { Laid text.now rows.now spots.now n × (k < n) }
     ensures { result ≡ area_at text.now (sections_in n rows.now) (placed_in n spots.now) k }
 {
@@ -64,7 +64,14 @@ pub fn area_at(text: &[u8], rows: &[u32], spots: &[u32], n: usize, k: usize) -> 
 }
 
 // The bytes of all areas, one after the other.
-pub fn put_areas(text: &[u8], rows: &[u32], spots: &[u32], n: usize, to: &mut [u8], at: usize)
+pub fn put_areas(
+    text: &[u8],
+    rows: &[SectionRow],
+    spots: &[Placed],
+    n: usize,
+    to: &mut [u8],
+    at: usize,
+)
     requires { Laid text.now rows.now spots.now n × (at + 42 * n ≤ length to.old) }
     ensures { to.new
         ≡ put at (flat (map area_bytes (layout_areas text.now (sections_in n rows.now) (placed_in n spots.now))))

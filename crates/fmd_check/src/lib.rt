@@ -15,7 +15,7 @@ ghost use Rattle.fmd_check.specs.Invariants.{check_from};
 
 use crate::plan::Misfit;
 use fmd_head::{Refusal, TextFault, TextImage};
-use fmd_table::{placed_at, row_at};
+use fmd_table::{Placed, SectionRow, placed_at, row_at};
 
 pub mod areas; // areas.rt: the sections as areas of a map
 mod plan; // plan.rt: offsets and sizes of the sections
@@ -47,7 +47,7 @@ pub struct GoodLayout {
 }
 
 // A fault at the name of section k.
-fn fault_at(refusal: Refusal, rows: &[u32], k: usize) -> LayoutFault
+fn fault_at(refusal: Refusal, rows: &[SectionRow], k: usize) -> LayoutFault
     requires { HasRows (k + 1) rows.now }
     ensures { result ≡ record { refusal = refusal; place = Some (section_at rows.now k).place } }
 {
@@ -58,7 +58,7 @@ fn fault_at(refusal: Refusal, rows: &[u32], k: usize) -> LayoutFault
 }
 
 // Section k has children, or is too small for a map.
-fn no_map(rows: &[u32], spots: &[u32], n: usize, k: usize) -> bool
+fn no_map(rows: &[SectionRow], spots: &[Placed], n: usize, k: usize) -> bool
     requires { HasRows n rows.now × HasSpots n spots.now × Linked n rows.now × (k < n) }
     ensures { result ≡ no_map (sections_in n rows.now) (placed_in n spots.now) (Some k) }
 {
@@ -72,8 +72,8 @@ fn no_map(rows: &[u32], spots: &[u32], n: usize, k: usize) -> bool
 fn check_map(
     text: &[u8],
     image: TextImage,
-    rows: &[u32],
-    spots: &[u32],
+    rows: &[SectionRow],
+    spots: &[Placed],
     n: usize,
 ) -> Result<GoodLayout, LayoutFault>
     requires { HasRows n rows.now × HasSpots n spots.now × Linked n rows.now × Inside text.now (sections_in n rows.now) }
@@ -97,9 +97,9 @@ fn check_map(
 }
 
 // Rows 57 and 58, where section k is the first that does not fit.
-fn unfit_at(rows: &[u32], n: usize, k: usize) -> LayoutFault
+fn unfit_at(rows: &[SectionRow], n: usize, k: usize) -> LayoutFault
     requires { HasRows n rows.now × (k < n) × Sized (sections_in n rows.now) (k + 1) × Linked n rows.now }
-    ensures { (s : List ℕ) (i : TextImage) (spots : List ℕ) → fault (number_of result.refusal) result.place
+    ensures { (s : List ℕ) (i : TextImage) (spots : List Placed) → fault (number_of result.refusal) result.place
         ≡ check_from 2 s i (sections_in n rows.now) (unfit k) }
 {
     match fmd_parse::rows::first_undecided(rows, n, k + 1) {
@@ -112,8 +112,8 @@ fn unfit_at(rows: &[u32], n: usize, k: usize) -> LayoutFault
 fn check_list(
     text: &[u8],
     image: TextImage,
-    rows: &[u32],
-    spots: &mut [u32],
+    rows: &[SectionRow],
+    spots: &mut [Placed],
     n: usize,
 ) -> Result<GoodLayout, LayoutFault>
     requires { HasRows n rows.now × HasSpots n spots.old × Linked n rows.now × Inside text.now (sections_in n rows.now) }
@@ -136,7 +136,11 @@ fn check_list(
 }
 
 // Image, sections and their places of a layout text, or its first fault.
-pub fn check(text: &[u8], rows: &mut [u32], spots: &mut [u32]) -> Result<GoodLayout, LayoutFault>
+pub fn check(
+    text: &[u8],
+    rows: &mut [SectionRow],
+    spots: &mut [Placed],
+) -> Result<GoodLayout, LayoutFault>
     requires { HasRows 129 rows.old × HasSpots 128 spots.old }
     ensures { verdict_of result rows.new spots.new ≡ check_text text.now }
 {

@@ -6,7 +6,7 @@ ghost use Rattle.fmd_parse.specs.Trees.{blank_section};
 ghost use Rattle.fmd_check.specs.Plans.{sibling_end, room_of, start_of, spot_of, spot_in, spot_for, resolve_from, resolved_by};
 
 use fmd_parse::rows::Reach;
-use fmd_table::{ParentOffset, Placed, Section, placed_at, put_placed, row_at};
+use fmd_table::{ParentOffset, Placed, Section, SectionRow, placed_at, put_placed, row_at};
 
 // Why a section has no place.
 #[derive(Clone, Copy)]
@@ -23,7 +23,7 @@ pub struct Unplaced {
 }
 
 // The end of the last section with the parent, sought from the last row back.
-fn end_in(spots: &[u32], k: usize, parent: u32) -> u64
+fn end_in(spots: &[Placed], k: usize, parent: u32) -> u64
     requires { HasSpots k spots.now }
     ensures { (result ≡ sibling_end parent 0 (placed_in k spots.now)) × (result ≤ 8589934590) }
 {
@@ -37,7 +37,7 @@ fn end_in(spots: &[u32], k: usize, parent: u32) -> u64
 }
 
 // The parent's size.
-fn room_of(spots: &[u32], k: usize, parent: u32, size: u32) -> u32
+fn room_of(spots: &[Placed], k: usize, parent: u32, size: u32) -> u32
     requires { HasSpots k spots.now }
     ensures { result ≡ room_of size parent (placed_in k spots.now) }
 {
@@ -103,7 +103,13 @@ fn spot_in(h: Section, e: u64, room: u32, reach: Reach) -> Result<Placed, Misfit
 }
 
 // Section k.
-fn place_at(rows: &[u32], n: usize, k: usize, spots: &[u32], size: u32) -> Result<Placed, Misfit>
+fn place_at(
+    rows: &[SectionRow],
+    n: usize,
+    k: usize,
+    spots: &[Placed],
+    size: u32,
+) -> Result<Placed, Misfit>
     requires { HasRows n rows.now × HasSpots n spots.now × (k < n) × Linked n rows.now }
     ensures { result ≡ spot_for size (placed_in k spots.now) (get_or (sections_in n rows.now) k blank_section)
         (drop (k + 1) (sections_in n rows.now)) }
@@ -116,7 +122,12 @@ fn place_at(rows: &[u32], n: usize, k: usize, spots: &[u32], size: u32) -> Resul
 }
 
 // Offsets and sizes of the sections of an image of size bytes.
-pub fn resolve(rows: &[u32], n: usize, size: u32, spots: &mut [u32]) -> Result<(), Unplaced>
+pub fn resolve(
+    rows: &[SectionRow],
+    n: usize,
+    size: u32,
+    spots: &mut [Placed],
+) -> Result<(), Unplaced>
     requires { HasRows n rows.now × HasSpots n spots.old × Linked n rows.now }
     ensures { resolved_by result (placed_in n spots.new) ≡ resolve_from size [] (sections_in n rows.now) }
 {

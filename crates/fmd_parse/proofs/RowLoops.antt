@@ -1,6 +1,6 @@
 -- Laws of the rows' loops over the places of a section list.
 use Rattle.fmd_head.specs.Heads.{read}
-use Rattle.std.specs.Prelude.{Option, Some, None}
+use Rattle.std.specs.Prelude.{is_some, Option, Some, None}
 use mathlib.Core.Path.{◌≡◌, refl, sym, ap, ◌∙◌}
 use mathlib.Core.Bool.{Bool, true, false}
 use mathlib.Core.Logic.{◌⊎◌, inl, inr}
@@ -20,8 +20,9 @@ use Rattle.octets.proofs.Tests.{any-make, any_false, any-on, any-stop, any-done}
 use Rattle.fmd_parse.specs.Trees.{blank_section, Tree}
 use Rattle.fmd_table.specs.declared.Section.{Section}
 use Rattle.fmd_table.specs.Table.{section_at, sections_in}
-use Rattle.fmd_table.specs.Invariants.{next_sibling_at, last_child_at, parent_at, NextIn, LastIn, Linked}
+use Rattle.fmd_table.specs.Invariants.{row_of, next_link, last_link, last_child_at, parent_at, NextIn, LastIn, Linked}
 use Rattle.fmd_table.proofs.Table.{length-sections, section-in}
+use Rattle.fmd_table.specs.declared.SectionRow.{SectionRow}
 use Rattle.fmd_parse.specs.Rows.{found_from, section_name, repeats, has_child, sibling_in}
 use Rattle.fmd_parse.specs.Invariants.{Inside}
 
@@ -72,7 +73,7 @@ first-facts p (suc n) k =
 
 -- ---- the first n rows of a table: the section e of row j
 
-module _ (n : ℕ) (rows : List ℕ) where
+module _ (n : ℕ) (rows : List SectionRow) where
   pub first-start : (p : ℕ → Bool) → found_from p (n - 0) 0 ≡ found_from p (length (sections_in n rows)) 0
   first-start p = rw (length-sections n rows, sub-zero)
 
@@ -110,40 +111,48 @@ module _ (n : ℕ) (rows : List ℕ) where
   -- ---- the links tell the next sibling of section k, and whether it has a child
 
   module _ (w : Linked n rows) (k : ℕ) (b : k < n) where
-    pub next-is : {j : ℕ} {e : Section} → j ≡ next_sibling_at rows k → j < n → e ≡ section_at rows j
-        → Some e.offset ≡ sibling_in (parent_at rows k) (drop (k + 1) (sections_in n rows))
-    next-is {j} {e} q h p = cases (w.after k b)
+    pub next-below : {j : ℕ} → next_link rows k ≡ Some j → j < n
+    next-below {j} q = cases (w.after k b)
       where
-        cases : NextIn n rows k → Some e.offset ≡ sibling_in (parent_at rows k) (drop (k + 1) (sections_in n rows))
-        cases (inl x) = absurd (omega (arith, w.room))
-        cases (inr x) =
-            let d : k + 1 + (j - (k + 1)) ≡ j = omega (arith, x.0) in
-            sibling-stop j p (parent_at rows k) h (ap (λ (f : Section). f.parent) p ∙ rw q x.2)
-            ∙ rw d at (siblings-on (parent_at rows k) (j - (k + 1)) (k + 1) (omega arith)
-            (λ i y z f. let m = w.between k i (omega arith) (omega arith) f in omega arith))
+        cases : NextIn n rows k → j < n
+        cases (inl x) = absurd (cc)
+        cases (inr x) = let e = ap row_of q in omega (arith, x.1)
 
-    pub next-none : {j : ℕ} → j ≡ next_sibling_at rows k → n ≤ j → None ≡ sibling_in (parent_at rows k) (drop (k + 1) (sections_in n rows))
-    next-none {j} q h =
+    pub next-is : {j : ℕ} → next_link rows k ≡ Some j → Some (section_at rows j).offset ≡ sibling_in (parent_at rows k) (drop (k + 1) (sections_in n rows))
+    next-is {j} q = cases (w.after k b)
+      where
+        cases : NextIn n rows k → Some (section_at rows j).offset ≡ sibling_in (parent_at rows k) (drop (k + 1) (sections_in n rows))
+        cases (inl x) = absurd (cc)
+        cases (inr x) =
+            let e = ap row_of q in
+            let d : k + 1 + (j - (k + 1)) ≡ j = omega (arith, x.0) in
+            sibling-stop j refl (parent_at rows k) (next-below q) (ap (parent_at rows) (sym e) ∙ x.2)
+            ∙ rw d at (siblings-on (parent_at rows k) (j - (k + 1)) (k + 1) (omega (arith, x.1))
+            (λ i y z f. let m = w.between k i (omega arith) (omega (arith, x.1)) f in omega arith))
+
+    pub next-none : next_link rows k ≡ None → None ≡ sibling_in (parent_at rows k) (drop (k + 1) (sections_in n rows))
+    next-none q =
+        let e = ap row_of q in
         let d : k + 1 + (n - (k + 1)) ≡ n = omega arith in
         sibling-done (parent_at rows k) n (omega arith)
         ∙ rw d at (siblings-on (parent_at rows k) (n - (k + 1)) (k + 1) (omega arith)
-        (λ i y z f. let m = w.between k i (omega arith) (omega arith) f in omega arith))
+        (λ i y z f. let m = w.between k i (omega arith) (omega arith) f in omega (arith, w.room)))
 
-    pub child-is : {j : ℕ} → j ≡ last_child_at rows k → ltb j n ≡ has_child (sections_in n rows) k
+    pub child-is : is_some (last_link rows k) ≡ has_child (sections_in n rows) k
     unfolding has_child
-    child-is {j} q = cases (bool_cases (ltb j n)) (w.last k (inr b))
+    child-is = cases (last_link rows k) refl (w.last k (inr b))
       where
-        cases : (ltb j n ≡ true) ⊎ (ltb j n ≡ false) → LastIn n rows k → ltb j n ≡ any (λ x. eqb x.parent k) (sections_in n rows)
-        cases (inl x) (inl y) = absurd (omega (arith, ltb-true j n x, w.room))
-        cases (inl x) (inr y) =
-            x ∙ sym (any-make (λ x. eqb x.parent k) (sections_in n rows) blank_section (last_child_at rows k) (omega (arith, y.0, length-sections n rows))
+        cases : (o : Option ℕ) → last_link rows k ≡ o → LastIn n rows k → is_some o ≡ any (λ x. eqb x.parent k) (sections_in n rows)
+        cases (Some j) e (inl y) = absurd (cc)
+        cases (Some j) e (inr y) =
+            sym (any-make (λ x. eqb x.parent k) (sections_in n rows) blank_section (last_child_at rows k) (omega (arith, y.0, length-sections n rows))
             (rw (item (last_child_at rows k) y.0) (eq-eqb (parent_at rows (last_child_at rows k)) k y.1)))
-        cases (inr x) y =
-            x ∙ sym (any_false (λ x. eqb x.parent k) (sections_in n rows) blank_section
+        cases None e y =
+            sym (any_false (λ x. eqb x.parent k) (sections_in n rows) blank_section
             (λ i h.
             let a : i < n = omega (arith, h, length-sections n rows) in
             rw (item i a) (ne_eqb (parent_at rows i) k
-            (λ e. let m = rw e at (w.greatest i a) in absurd (omega (arith, m.1, ltb-false j n x))))))
+            (λ p. let m = rw p at (w.greatest i a) in let z = ap row_of e in omega (arith, m.1, w.room)))))
 
   -- ---- names of the sections before the section h of row k
 

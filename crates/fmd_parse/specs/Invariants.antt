@@ -5,6 +5,7 @@ use Rattle.fmd_lex.specs.declared.Token.{Token}
 use Rattle.fmd_table.specs.Table.{sections_in}
 use Rattle.fmd_table.specs.Invariants.{IsParent, Linked}
 use Rattle.fmd_table.specs.declared.Section.{Section}
+use Rattle.fmd_table.specs.declared.SectionRow.{SectionRow}
 use Rattle.fmd_head.specs.Refusals.{number_of}
 use Rattle.fmd_head.specs.Heads.{ReadPart}
 use Rattle.fmd_parse.specs.Layouts.{Parsed, fault, parsed, section_from, list_from}
@@ -16,27 +17,27 @@ use Rattle.fmd_parse.specs.declared.TextLayout.{TextLayout}
 -- ---- the two readers that call each other: the sections l before, the table rows after
 
 -- what a step says
-abbrev pub step_of : ReadPart ℕ → List ℕ → Parsed
+abbrev pub step_of : ReadPart ℕ → List SectionRow → Parsed
 step_of (Ok r) rows = parsed (sections_in r.0 rows) r.1
 step_of (Err f) rows = fault (number_of f.refusal) f.place
 
 -- and the sections are linked; par is still a parent that a further one may have
-abbrev pub StepIn : ℕ → ℕ → ℕ → List ℕ → ReadPart ℕ → Type 0
+abbrev pub StepIn : ℕ → ℕ → ℕ → List SectionRow → ReadPart ℕ → Type 0
 StepIn n at par rows (Ok r) = Within n at r.1 × IsParent r.0 par × Linked r.0 rows
 StepIn n at par rows (Err f) = Unit {0}
 
-pub record SectionRead (s : List ℕ) (t : Token) (lv par : ℕ) (l : List Section) (rows : List ℕ) (r : ReadPart ℕ) : Type 0 where
+pub record SectionRead (s : List ℕ) (t : Token) (lv par : ℕ) (l : List Section) (rows : List SectionRow) (r : ReadPart ℕ) : Type 0 where
   pub within : StepIn (length s) (t.start + 1) par rows r
   pub same : (f : ℕ) → 2 * (length s - t.start) < f → step_of r rows ≡ section_from f s t lv par l
 
-pub record ListRead (s : List ℕ) (t : Token) (lv par : ℕ) (l : List Section) (rows : List ℕ) (r : ReadPart ℕ) : Type 0 where
+pub record ListRead (s : List ℕ) (t : Token) (lv par : ℕ) (l : List Section) (rows : List SectionRow) (r : ReadPart ℕ) : Type 0 where
   pub within : StepIn (length s) (t.start + 1) par rows r
   pub same : (f : ℕ) → 2 * (length s - t.start) + 1 < f → step_of r rows ≡ list_from f s t lv par l
 
 -- ---- the whole text
 
 -- the sections are linked
-abbrev pub AnswerIn : List ℕ → Result TextLayout TextFault → Type 0
+abbrev pub AnswerIn : List SectionRow → Result TextLayout TextFault → Type 0
 AnswerIn rows (Ok t) = Linked t.count rows
 AnswerIn rows (Err f) = Unit {0}
 

@@ -8,6 +8,7 @@ use Rattle.fmd_head.specs.Refusals.{number_of}
 use Rattle.fmd_head.specs.Heads.{ReadPart, next, is_kind, head_at, read}
 use Rattle.fmd_head.specs.Images.{image_at}
 use Rattle.fmd_table.specs.declared.Section.{Section}
+use Rattle.fmd_table.specs.declared.SectionRow.{SectionRow}
 use Rattle.fmd_head.specs.declared.TextImage.{TextImage}
 use Rattle.fmd_head.specs.declared.TextFault.{TextFault}
 use Rattle.fmd_parse.specs.declared.TextLayout.{TextLayout}
@@ -72,6 +73,6 @@ layout_of s =
 
 -- ---- what the answer says, with the table that was lent
 
-abbrev pub answer_of : Result TextLayout TextFault → List ℕ → Layout
+abbrev pub answer_of : Result TextLayout TextFault → List SectionRow → Layout
 answer_of (Ok t) rows = layout t.image (sections_in t.count rows)
 answer_of (Err f) rows = refused (number_of f.refusal) f.place

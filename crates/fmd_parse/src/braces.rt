@@ -8,6 +8,7 @@ ghost use Rattle.fmd_parse.specs.Invariants.{SectionRead, ListRead};
 use fmd_head::ReadPart;
 use fmd_head::section::head_at;
 use fmd_lex::{Kind, Token, next_token};
+use fmd_table::SectionRow;
 
 // A section, put into row n, with the sections in its braces: how many sections the table then has.
 #[cycle(read_list_read_section)]
@@ -16,7 +17,7 @@ fn read_section(
     t: Token,
     level: u32,
     parent: u32,
-    rows: &mut [u32],
+    rows: &mut [SectionRow],
     n: usize,
 ) -> ReadPart<usize>
     requires { (length text.now ≤ 32768) × Within (length text.now) 0 t × HasRows 129 rows.old
@@ -39,7 +40,7 @@ pub fn read_list(
     t: Token,
     level: u32,
     parent: u32,
-    rows: &mut [u32],
+    rows: &mut [SectionRow],
     n: usize,
 ) -> ReadPart<usize>
     requires { (length text.now ≤ 32768) × Within (length text.now) 0 t × HasRows 129 rows.old

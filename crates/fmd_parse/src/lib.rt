@@ -9,6 +9,7 @@ ghost use Rattle.fmd_parse.specs.Invariants.{AnswerIn};
 
 use fmd_head::{Refusal, TextFault, TextImage, fault_at};
 use fmd_lex::{Kind, next_token};
+use fmd_table::SectionRow;
 
 pub mod rows; // rows.rt: the rows of the whole section list
 mod braces; // braces.rt: a section, and the sections in braces
@@ -21,7 +22,7 @@ pub struct TextLayout {
 }
 
 // Image and sections of a layout text, or its first fault.
-pub fn read_layout(text: &[u8], rows: &mut [u32]) -> Result<TextLayout, TextFault>
+pub fn read_layout(text: &[u8], rows: &mut [SectionRow]) -> Result<TextLayout, TextFault>
     requires { (length text.now ≤ 32768) × HasRows 129 rows.old }
     ensures rows_after { answer_of result rows.new ≡ layout_of text.now }
     ensures linked { AnswerIn rows.new result }

@@ -1,4 +1,3 @@
 pub mod Listed
 pub mod Table
-pub mod Spots
 pub mod Links

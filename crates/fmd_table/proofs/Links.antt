@@ -1,24 +1,23 @@
 -- Laws of the links among the sections of a table.
+use Rattle.std.specs.Prelude.{Option, Some, None}
 use mathlib.Core.Path.{◌≡◌, refl, sym, ap, ◌∙◌}
 use mathlib.Core.Bool.{true, false}
 use mathlib.Core.Logic.{◌⊎◌, inl, inr}
 use mathlib.Core.List.{List, [], ◌∷◌, ◌++◌}
-use Prim.Native.Nat.{ℕ, ◌+◌, ◌*◌, ◌≤◌, ◌<◌}
-use native.Mathlib.Nat.{add-zero, eq-or-lt_of_le, not-suc-le-zero}
+use Prim.Native.Nat.{ℕ, ◌+◌, ◌≤◌, ◌<◌}
+use native.Mathlib.Nat.{eq-or-lt_of_le, not-suc-le-zero}
 use native.Mathlib.Omega.{arith}
 use lib.Dec.{eqb, ltb}
 use lib.ListN.{length, get_or, set, length-set, get_or-append}
 use lib.Seq.{get_or_at, get_or-set_same, get_or-set_other}
 use borrow.Author.Tests.{eqb-true, eqb-false, ltb-true, ltb-false}
-use Rattle.octets.specs.Bytes.{put}
 use Rattle.octets.proofs.Bools.{bool_cases}
-use Rattle.octets.proofs.Parts.{get_d_part}
-use Rattle.octets.proofs.Puts.{get_or-put-out, part-put-same}
-use Rattle.fmd_table.specs.Table.{image_row, words_of, section_at, sections_in, HasRows}
-use Rattle.fmd_table.specs.Invariants.{next_sibling_at, last_child_at, parent_at, IsParent, NextIn, LastIn, Linked, linked_to}
+use Rattle.fmd_table.specs.Table.{image_row, blank_row, section_at, sections_in, HasRows}
+use Rattle.fmd_table.specs.Invariants.{row_of, next_link, last_link, next_sibling_at, last_child_at, linked_behind, parent_at, IsParent, NextIn, LastIn, Linked, linked_to}
 use Rattle.fmd_table.specs.declared.Section.{Section}
 use Rattle.fmd_table.proofs.Listed.{listed_same}
-use Rattle.fmd_table.proofs.Table.{row_put, row_read, length-sections, section-in}
+use Rattle.fmd_table.specs.declared.SectionRow.{SectionRow}
+use Rattle.fmd_table.proofs.Table.{row_put, length-sections, section-in}
 
 either : (a b : ℕ) → (a ≡ b) ⊎ (a ≡ b → ⊥)
 either a b = cases (bool_cases (eqb a b))
@@ -27,111 +26,133 @@ either a b = cases (bool_cases (eqb a b))
     cases (inl e) = inl (eqb-true a b e)
     cases (inr e) = inr (eqb-false a b e)
 
--- ---- a section stands in the first ten words of its row
+-- ---- a row written
 
-same-section : (xs ys : List ℕ) (k : ℕ) → ((i : ℕ) → i < 10 → get_or xs (12 * k + i) 0 ≡ get_or ys (12 * k + i) 0) → section_at xs k ≡ section_at ys k
-same-section xs ys k e =
-    let e0 : get_or xs (12 * k) 0 ≡ get_or ys (12 * k) 0 = rw (sym (add-zero (12 * k))) (e 0 (omega arith)) in
-    sym (row_read xs k _ _ refl refl)
-    ∙ rw (
-      e0,
-      e 1 (omega arith),
-      e 2 (omega arith),
-      e 3 (omega arith),
-      e 4 (omega arith),
-      e 5 (omega arith),
-      e 6 (omega arith),
-      e 7 (omega arith),
-      e 8 (omega arith),
-      e 9 (omega arith),
-    )
-    (row_read ys k _ _ refl refl)
+-- what a written row has as before
+keep : {B : Type 0} (f : SectionRow → B) (rows : List SectionRow) (a k : ℕ) (v : SectionRow) → a < length rows → f v ≡ f (get_or rows a blank_row)
+    → f (get_or (set rows a v) k blank_row) ≡ f (get_or rows k blank_row)
+keep f rows a k v room e = cases (either k a)
+  where
+    cases : (k ≡ a) ⊎ (k ≡ a → ⊥) → f (get_or (set rows a v) k blank_row) ≡ f (get_or rows k blank_row)
+    cases (inl q) = rw q (ap f (get_or-set_same rows a v blank_row room) ∙ e)
+    cases (inr d) = ap f (get_or-set_other rows a k v blank_row d)
 
--- a link written
-link-section : (rows : List ℕ) (a w v k : ℕ) → 10 ≤ w → w < 12 → section_at (set rows (12 * a + w) v) k ≡ section_at rows k
-link-section rows a w v k p q = same-section (set rows (12 * a + w) v) rows k (λ i h. get_or-set_other rows (12 * a + w) (12 * k + i) v 0 (λ e. omega arith))
+-- a link to a row of a section
+link-some : (o : Option ℕ) (j : ℕ) → j ≡ row_of o → j < image_row → o ≡ Some j
+link-some (Some k) j e b = ap (λ (i : ℕ). Some i) (sym e)
+link-some None j e b = absurd (omega arith)
 
-module _ (n p : ℕ) (rows : List ℕ) where
+-- ---- the next sibling of the last child
+
+module _ (n : ℕ) (rows : List SectionRow) (room : HasRows 129 rows) where
+  length-behind : (o : Option ℕ) → length (linked_behind o n rows) ≡ length rows
+  length-behind (Some j) = length-set rows j _
+  length-behind None = refl
+
+  behind-section : (o : Option ℕ) → row_of o ≤ image_row → (k : ℕ) → section_at (linked_behind o n rows) k ≡ section_at rows k
+  unfolding section_at
+  behind-section (Some j) c k = keep (λ (r : SectionRow). r.section) rows j k _ (omega (arith, room)) refl
+  behind-section None c k = refl
+
+  behind-last : (o : Option ℕ) → row_of o ≤ image_row → (k : ℕ) → last_link (linked_behind o n rows) k ≡ last_link rows k
+  unfolding last_link
+  behind-last (Some j) c k = keep (λ (r : SectionRow). r.last) rows j k _ (omega (arith, room)) refl
+  behind-last None c k = refl
+
+  behind-next : (o : Option ℕ) (k : ℕ) → (k ≡ row_of o → ⊥) → next_link (linked_behind o n rows) k ≡ next_link rows k
+  unfolding next_link
+  behind-next (Some j) k d = ap (λ (r : SectionRow). r.next) (get_or-set_other rows j k _ blank_row d)
+  behind-next None k d = refl
+
+  behind-own : (j : ℕ) → j ≤ image_row → next_link (linked_behind (Some j) n rows) j ≡ Some n
+  unfolding next_link
+  behind-own j b = ap (λ (r : SectionRow). r.next) (get_or-set_same rows j _ blank_row (omega (arith, room)))
+
+-- ---- the links of row n written, p its parent
+
+module _ (n p : ℕ) (rows : List SectionRow) (room : HasRows 129 rows) (b : p ≤ image_row) (c : last_child_at rows p ≤ image_row) where
+  inner : List SectionRow
+  inner = linked_behind (last_link rows p) n rows
+
+  length-inner : length inner ≡ length rows
+  unfolding inner
+  length-inner = length-behind n rows room (last_link rows p)
+
+  own : p < length inner
+  own = omega (arith, length-inner, room)
+
   linked-section : (k : ℕ) → section_at (linked_to n p rows) k ≡ section_at rows k
-  unfolding linked_to
-  linked-section k = link-section _ p 11 n k (omega arith) (omega arith) ∙ link-section rows (last_child_at rows p) 10 n k (omega arith) (omega arith)
+  unfolding linked_to section_at inner
+  linked-section k = keep (λ (r : SectionRow). r.section) inner p k _ own refl ∙ behind-section n rows room (last_link rows p) c k
 
   linked-sections : (k : ℕ) → sections_in k (linked_to n p rows) ≡ sections_in k rows
   unfolding sections_in
   linked-sections k = listed_same (section_at (linked_to n p rows)) (section_at rows) k (λ j h. linked-section j)
 
   length-linked : length (linked_to n p rows) ≡ length rows
-  unfolding linked_to
-  length-linked = length-set (set rows (12 * last_child_at rows p + 10) n) (12 * p + 11) n ∙ length-set rows (12 * last_child_at rows p + 10) n
+  unfolding linked_to inner
+  length-linked = length-set inner p _ ∙ length-inner
 
-  linked-next : HasRows 129 rows → last_child_at rows p ≤ image_row → next_sibling_at (linked_to n p rows) (last_child_at rows p) ≡ n
-  unfolding linked_to next_sibling_at
-  linked-next room b =
-      get_or-set_other (set rows (12 * last_child_at rows p + 10) n) (12 * p + 11) (12 * last_child_at rows p + 10) n 0 (λ e. omega arith)
-      ∙ get_or-set_same rows (12 * last_child_at rows p + 10) n 0 (omega (arith, room))
+  next-kept : (j : ℕ) → next_link (linked_to n p rows) j ≡ next_link inner j
+  unfolding linked_to next_link inner
+  next-kept j = keep (λ (r : SectionRow). r.next) inner p j _ own refl
 
-  linked-next-other : (j : ℕ) → (j ≡ last_child_at rows p → ⊥) → next_sibling_at (linked_to n p rows) j ≡ next_sibling_at rows j
-  unfolding linked_to next_sibling_at
-  linked-next-other j d =
-      get_or-set_other (set rows (12 * last_child_at rows p + 10) n) (12 * p + 11) (12 * j + 10) n 0 (λ e. omega arith)
-      ∙ get_or-set_other rows (12 * last_child_at rows p + 10) (12 * j + 10) n 0 (λ e. d (omega arith))
+  linked-next : (j : ℕ) → j < image_row → j ≡ last_child_at rows p → next_link (linked_to n p rows) j ≡ Some n
+  unfolding inner
+  linked-next j h e =
+      let o : last_link rows p ≡ Some j = link-some (last_link rows p) j e h in
+      next-kept j ∙ ap (λ (l : Option ℕ). next_link (linked_behind l n rows) j) o ∙ behind-own n rows room j (omega arith)
 
-  linked-last : HasRows 129 rows → p ≤ image_row → last_child_at (linked_to n p rows) p ≡ n
-  unfolding linked_to last_child_at
-  linked-last room b = get_or-set_same (set rows (12 * last_child_at rows p + 10) n) (12 * p + 11) n 0
-      (omega (arith, room, length-set rows (12 * last_child_at rows p + 10) n))
+  linked-next-other : (j : ℕ) → (j ≡ last_child_at rows p → ⊥) → next_link (linked_to n p rows) j ≡ next_link rows j
+  unfolding inner
+  linked-next-other j d = next-kept j ∙ behind-next n rows room (last_link rows p) j d
 
-  linked-last-other : (j : ℕ) → (j ≡ p → ⊥) → last_child_at (linked_to n p rows) j ≡ last_child_at rows j
-  unfolding linked_to last_child_at
+  linked-last : last_link (linked_to n p rows) p ≡ Some n
+  unfolding linked_to last_link inner
+  linked-last = ap (λ (r : SectionRow). r.last) (get_or-set_same inner p _ blank_row own)
+
+  linked-last-other : (j : ℕ) → (j ≡ p → ⊥) → last_link (linked_to n p rows) j ≡ last_link rows j
+  unfolding linked_to last_link inner
   linked-last-other j d =
-      get_or-set_other (set rows (12 * last_child_at rows p + 10) n) (12 * p + 11) (12 * j + 11) n 0 (λ e. d (omega arith))
-      ∙ get_or-set_other rows (12 * last_child_at rows p + 10) (12 * j + 11) n 0 (λ e. omega arith)
+      ap (λ (r : SectionRow). r.last) (get_or-set_other inner p j _ blank_row d) ∙ behind-last n rows room (last_link rows p) c j
 
 -- ---- row n written
 
-module _ (n : ℕ) (h : Section) (rows : List ℕ) where
-  outside : (j w : ℕ) → w < 12 → (j ≡ n → ⊥) → get_or (put (12 * n) (words_of h) rows) (12 * j + w) 0 ≡ get_or rows (12 * j + w) 0
-  outside j w b d = get_or-put-out (words_of h) rows (12 * n) (12 * j + w) (side (bool_cases (ltb j n)))
-    where
-      side : (ltb j n ≡ true) ⊎ (ltb j n ≡ false) → (12 * j + w < 12 * n) ⊎ (12 * n + 12 ≤ 12 * j + w)
-      side (inl q) = inl (omega (arith, ltb-true j n q))
-      side (inr q) = inr (omega (arith, ltb-false j n q))
+-- the row of a section without links
+abbrev pub bare_row : Section → SectionRow
+bare_row h = record { section = h; next = None; last = None }
 
-  put-next-other : (j : ℕ) → (j ≡ n → ⊥) → next_sibling_at (put (12 * n) (words_of h) rows) j ≡ next_sibling_at rows j
-  unfolding next_sibling_at
-  put-next-other j d = outside j 10 (omega arith) d
+module _ (n : ℕ) (h : Section) (rows : List SectionRow) where
+  put-next-other : (j : ℕ) → (j ≡ n → ⊥) → next_link (set rows n (bare_row h)) j ≡ next_link rows j
+  unfolding next_link
+  put-next-other j d = ap (λ (r : SectionRow). r.next) (get_or-set_other rows n j (bare_row h) blank_row d)
 
-  put-last-other : (j : ℕ) → (j ≡ n → ⊥) → last_child_at (put (12 * n) (words_of h) rows) j ≡ last_child_at rows j
-  unfolding last_child_at
-  put-last-other j d = outside j 11 (omega arith) d
+  put-last-other : (j : ℕ) → (j ≡ n → ⊥) → last_link (set rows n (bare_row h)) j ≡ last_link rows j
+  unfolding last_link
+  put-last-other j d = ap (λ (r : SectionRow). r.last) (get_or-set_other rows n j (bare_row h) blank_row d)
 
-  inside : (w : ℕ) → w < 12 → HasRows (n + 1) rows → get_or (put (12 * n) (words_of h) rows) (12 * n + w) 0 ≡ get_or (words_of h) w 0
-  inside w b room =
-      sym (get_d_part (put (12 * n) (words_of h) rows) (12 * n) 12 w b)
-      ∙ ap (λ (l : List ℕ). get_or l w 0) (part-put-same (words_of h) rows (12 * n) (omega (arith, room)))
+  put_next : HasRows (n + 1) rows → next_link (set rows n (bare_row h)) n ≡ None
+  unfolding next_link
+  put_next room = ap (λ (r : SectionRow). r.next) (get_or-set_same rows n (bare_row h) blank_row (omega (arith, room)))
 
-  put_next : HasRows (n + 1) rows → next_sibling_at (put (12 * n) (words_of h) rows) n ≡ image_row
-  unfolding next_sibling_at
-  put_next room = inside 10 (omega arith) room
-
-  put_last : HasRows (n + 1) rows → last_child_at (put (12 * n) (words_of h) rows) n ≡ image_row
-  unfolding last_child_at
-  put_last room = inside 11 (omega arith) room
+  put_last : HasRows (n + 1) rows → last_link (set rows n (bare_row h)) n ≡ None
+  unfolding last_link
+  put_last room = ap (λ (r : SectionRow). r.last) (get_or-set_same rows n (bare_row h) blank_row (omega (arith, room)))
 
 -- ---- what is known of the table with h in row n, linked
 
-record Pushed (n : ℕ) (h : Section) (rows new : List ℕ) : Type 0 where
+record Pushed (n : ℕ) (h : Section) (rows new : List SectionRow) : Type 0 where
   pub sections : sections_in (n + 1) new ≡ sections_in n rows ++ (h ∷ [])
   pub old : (j : ℕ) → j < n → parent_at new j ≡ parent_at rows j
   pub own : parent_at new n ≡ h.parent
-  pub no-next : next_sibling_at new n ≡ image_row
-  pub no-child : last_child_at new n ≡ image_row
-  pub next : (j : ℕ) → j < n → j ≡ last_child_at rows h.parent → next_sibling_at new j ≡ n
-  pub next-other : (j : ℕ) → j < n → (j ≡ last_child_at rows h.parent → ⊥) → next_sibling_at new j ≡ next_sibling_at rows j
-  pub child : last_child_at new h.parent ≡ n
-  pub child-other : (p : ℕ) → IsParent n p → (p ≡ h.parent → ⊥) → last_child_at new p ≡ last_child_at rows p
+  pub no-next : next_link new n ≡ None
+  pub no-child : last_link new n ≡ None
+  pub next : (j : ℕ) → j < n → j ≡ last_child_at rows h.parent → next_link new j ≡ Some n
+  pub next-other : (j : ℕ) → j < n → (j ≡ last_child_at rows h.parent → ⊥) → next_link new j ≡ next_link rows j
+  pub child : last_link new h.parent ≡ Some n
+  pub child-other : (p : ℕ) → IsParent n p → (p ≡ h.parent → ⊥) → last_link new p ≡ last_link rows p
 
-module _ (n : ℕ) (h : Section) (rows : List ℕ) (room : HasRows 129 rows) (few : n < image_row) (p : IsParent n h.parent) (l : Linked n rows) where
+module _ (n : ℕ) (h : Section) (rows : List SectionRow) (room : HasRows 129 rows) (few : n < image_row) (p : IsParent n h.parent) (l : Linked n rows) where
   parent_in : (q : ℕ) → IsParent n q → (q ≡ n → ⊥) × (q ≤ image_row)
   parent_in q (inl e) = ((λ d. omega arith), omega arith)
   parent_in q (inr e) = ((λ d. omega arith), omega arith)
@@ -140,23 +161,23 @@ module _ (n : ℕ) (h : Section) (rows : List ℕ) (room : HasRows 129 rows) (fe
   last-in = cases (l.last h.parent p)
     where
       cases : LastIn n rows h.parent → last_child_at rows h.parent ≤ image_row
-      cases (inl e) = omega arith
+      cases (inl e) = rw e (omega arith)
       cases (inr e) = omega (arith, e.0)
 
   pub linkable : (h.parent ≤ image_row) × (last_child_at rows h.parent ≤ image_row)
   linkable = ((parent_in h.parent p).1, last-in)
 
   room-left : HasRows (n + 1) (linked_to n h.parent rows)
-  room-left = omega (arith, room, length-linked n h.parent rows)
+  room-left = let l = linkable in omega (arith, room, length-linked n h.parent rows room l.0 l.1)
 
-  grown : sections_in (n + 1) (put (12 * n) (words_of h) (linked_to n h.parent rows)) ≡ sections_in n rows ++ (h ∷ [])
-  grown = row_put (linked_to n h.parent rows) n h room-left ∙ rw (linked-sections n h.parent rows n)
+  grown : sections_in (n + 1) (set (linked_to n h.parent rows) n (bare_row h)) ≡ sections_in n rows ++ (h ∷ [])
+  grown = let l = linkable in row_put (linked_to n h.parent rows) n (bare_row h) room-left ∙ rw (linked-sections n h.parent rows room l.0 l.1 n)
 
   -- the section of row j, by the lists
-  at : (xs : List ℕ) (k j : ℕ) → j < k → section_at xs j ≡ get_or (sections_in k xs) j h
+  at : (xs : List SectionRow) (k j : ℕ) → j < k → section_at xs j ≡ get_or (sections_in k xs) j h
   at xs k j b = sym (section-in k xs j h b)
 
-  pushed : Pushed n h rows (put (12 * n) (words_of h) (linked_to n h.parent rows))
+  pushed : Pushed n h rows (set (linked_to n h.parent rows) n (bare_row h))
   pushed = record {
     sections = grown;
     old = λ j b. ap (λ (e : Section). e.parent)
@@ -166,15 +187,15 @@ module _ (n : ℕ) (h : Section) (rows : List ℕ) (room : HasRows 129 rows) (fe
         (at _ (n + 1) n (omega arith) ∙ ap (λ (l : List Section). get_or l n h) grown ∙ get_or_at (sections_in n rows) h [] h n (length-sections n rows));
     no-next = put_next n h _ room-left;
     no-child = put_last n h _ room-left;
-    next = λ j b e. put-next-other n h _ j (λ d. omega arith) ∙ rw e (linked-next n h.parent rows room last-in);
-    next-other = λ j b d. put-next-other n h _ j (λ e. omega arith) ∙ linked-next-other n h.parent rows j d;
-    child = put-last-other n h _ h.parent (parent_in h.parent p).0 ∙ linked-last n h.parent rows room (parent_in h.parent p).1;
-    child-other = λ q i d. put-last-other n h _ q (parent_in q i).0 ∙ linked-last-other n h.parent rows q d;
+    next = λ j b e. put-next-other n h _ j (λ d. omega arith) ∙ linked-next n h.parent rows room linkable.0 linkable.1 j (omega arith) e;
+    next-other = λ j b d. put-next-other n h _ j (λ e. omega arith) ∙ linked-next-other n h.parent rows room linkable.0 linkable.1 j d;
+    child = put-last-other n h _ h.parent (parent_in h.parent p).0 ∙ linked-last n h.parent rows room linkable.0 linkable.1;
+    child-other = λ q i d. put-last-other n h _ q (parent_in q i).0 ∙ linked-last-other n h.parent rows room linkable.0 linkable.1 q d;
   }
 
 -- ---- it is linked
 
-module _ (n : ℕ) (h : Section) (rows new : List ℕ) (few : n < image_row) (p : IsParent n h.parent) (l : Linked n rows) (u : Pushed n h rows new) where
+module _ (n : ℕ) (h : Section) (rows new : List SectionRow) (few : n < image_row) (p : IsParent n h.parent) (l : Linked n rows) (u : Pushed n h rows new) where
   split : (j : ℕ) → j < n + 1 → (j ≡ n) ⊎ (j < n)
   split j b = eq-or-lt_of_le {n = j} {m = n} (omega arith)
 
@@ -187,7 +208,7 @@ module _ (n : ℕ) (h : Section) (rows new : List ℕ) (few : n < image_row) (p 
   of-parent j b e = cases (l.last h.parent p)
     where
       cases : LastIn n rows h.parent → parent_at rows j ≡ h.parent
-      cases (inl d) = absurd (omega arith)
+      cases (inl d) = let z : j ≡ image_row = e ∙ ap row_of d in absurd (omega arith)
       cases (inr d) = rw e d.1
 
   under : (j : ℕ) → (j ≡ n) ⊎ (j < n) → IsParent j (parent_at new j)
@@ -199,7 +220,7 @@ module _ (n : ℕ) (h : Section) (rows new : List ℕ) (few : n < image_row) (p 
   after j (inr b) = cases (either j (last_child_at rows h.parent))
     where
       older : NextIn n rows j
-          → (next_sibling_at rows j ≡ image_row) ⊎ ((j < next_sibling_at rows j) × (next_sibling_at rows j < n + 1)
+          → (next_link rows j ≡ None) ⊎ ((j < next_sibling_at rows j) × (next_sibling_at rows j < n + 1)
           × (parent_at new (next_sibling_at rows j) ≡ parent_at new j))
       older (inl e) = inl e
       older (inr e) = inr (e.0, omega (arith, e.1), u.old (next_sibling_at rows j) e.1 ∙ e.2 ∙ sym (u.old j b))
@@ -243,7 +264,7 @@ module _ (n : ℕ) (h : Section) (rows new : List ℕ) (few : n < image_row) (p 
   last q i (inr d) = place i
     where
       older : LastIn n rows q
-          → (last_child_at rows q ≡ image_row) ⊎ ((last_child_at rows q < n + 1) × (parent_at new (last_child_at rows q) ≡ q))
+          → (last_link rows q ≡ None) ⊎ ((last_child_at rows q < n + 1) × (parent_at new (last_child_at rows q) ≡ q))
       older (inl e) = inl e
       older (inr e) = inr (omega (arith, e.0), u.old (last_child_at rows q) e.0 ∙ e.1)
 
@@ -279,16 +300,16 @@ module _ (n : ℕ) (h : Section) (rows new : List ℕ) (few : n < image_row) (p 
     greatest = λ j b. greatest j (split j b);
   }
 
-pub push-linked : (n : ℕ) (h : Section) (rows : List ℕ) → HasRows 129 rows → n < image_row → IsParent n h.parent → Linked n rows
-    → (sections_in (n + 1) (put (12 * n) (words_of h) (linked_to n h.parent rows)) ≡ sections_in n rows ++ (h ∷ []))
-    × Linked (n + 1) (put (12 * n) (words_of h) (linked_to n h.parent rows))
+pub push-linked : (n : ℕ) (h : Section) (rows : List SectionRow) → HasRows 129 rows → n < image_row → IsParent n h.parent → Linked n rows
+    → (sections_in (n + 1) (set (linked_to n h.parent rows) n (bare_row h)) ≡ sections_in n rows ++ (h ∷ []))
+    × Linked (n + 1) (set (linked_to n h.parent rows) n (bare_row h))
 push-linked n h rows room few p l = let u = pushed n h rows room few p l in (u.sections, linked_on n h rows _ few p l u)
 
 -- ---- no section
 
-pub none-linked : (rows : List ℕ) → HasRows 129 rows → Linked 0 (set rows 1547 image_row)
-unfolding last_child_at
-none-linked rows room = record {
+pub none-linked : (rows : List SectionRow) (r : SectionRow) → HasRows 129 rows → r.last ≡ None → Linked 0 (set rows 128 r)
+unfolding last_link
+none-linked rows r room none = record {
   room = omega arith;
   under = λ j b. absurd (not-suc-le-zero b);
   after = λ j b. absurd (not-suc-le-zero b);
@@ -297,6 +318,6 @@ none-linked rows room = record {
   greatest = λ j b. absurd (not-suc-le-zero b);
 }
   where
-    image-only : (q : ℕ) → IsParent 0 q → get_or (set rows 1547 image_row) (12 * q + 11) 0 ≡ image_row
-    image-only q (inl e) = let k : 12 * q + 11 ≡ 1547 = omega arith in rw k (get_or-set_same rows 1547 image_row 0 (omega (arith, room)))
+    image-only : (q : ℕ) → IsParent 0 q → last_link (set rows 128 r) q ≡ None
+    image-only q (inl e) = rw e (ap (λ (s : SectionRow). s.last) (get_or-set_same rows 128 r blank_row (omega (arith, room))) ∙ none)
     image-only q (inr e) = absurd (not-suc-le-zero e)

@@ -1,15 +1,13 @@
--- Laws of a list that is given by index, and of one that stands in a table of words, w a row.
+-- Laws of a list that is given by index.
 use mathlib.Core.Path.{◌≡◌, refl, sym, ap, ◌∙◌}
 use mathlib.Core.Logic.{◌⊎◌, inl, inr}
 use mathlib.Core.List.{List, [], ◌∷◌, ◌++◌}
-use Prim.Native.Nat.{ℕ, zero, suc, ◌+◌, ◌*◌, ◌≤◌, ◌<◌}
-use native.Mathlib.Nat.{eq-or-lt_of_le, mul-suc, mul-le-mul_left}
+use Prim.Native.Nat.{ℕ, zero, suc, ◌+◌, ◌<◌}
+use native.Mathlib.Nat.{eq-or-lt_of_le}
 use native.Mathlib.Numerals.{add-one}
 use native.Mathlib.Omega.{arith}
-use lib.ListN.{length, get_or, length-append, get_or-append}
-use lib.Seq.{get_or_at}
-use Rattle.octets.specs.Bytes.{part, put}
-use Rattle.octets.proofs.Puts.{part-put-same, part-put-above}
+use lib.ListN.{length, get_or, set, length-append, get_or-append}
+use lib.Seq.{get_or_at, get_or-set_same, get_or-set_other}
 use Rattle.fmd_table.specs.Table.{listed}
 
 module _ {A : Type 0} where
@@ -40,20 +38,13 @@ module _ {A : Type 0} where
       cases (inl p) r = rw p (get_or_at (listed f n) (f n) [] d n (length-listed f n))
       cases (inr p) r = get_or-append (listed f n) (f n ∷ []) d k (omega (arith, length-listed f n)) ∙ r p
 
--- ---- a table: f says what the w words of a row mean
-
-apart : (w j k : ℕ) → j < k → w * j + w ≤ w * k
-apart w j k h = rw (sym (mul-suc w j)) (mul-le-mul_left w h)
-
--- row k written, after those below it
-pub rows-put : {A : Type 0} (w : ℕ) (f : List ℕ → A) (rows vs : List ℕ) (k : ℕ) → length vs ≡ w → w * k + w ≤ length rows
-    → listed (λ j. f (part (w * j) w (put (w * k) vs rows))) (k + 1) ≡ listed (λ j. f (part (w * j) w rows)) k ++ (f vs ∷ [])
+-- element k written, after those below it: f says what is listed of an element, d stands past the end
+pub set-listed : {A B : Type 0} (f : A → B) (d : A) (xs : List A) (k : ℕ) (v : A) → k < length xs
+    → listed (λ j. f (get_or (set xs k v) j d)) (k + 1) ≡ listed (λ j. f (get_or xs j d)) k ++ (f v ∷ [])
 unfolding listed
-rows-put w f rows vs k e room =
+set-listed {A} f d xs k v room =
     rw (
       add-one k,
-      listed_same (λ j. f (part (w * j) w (put (w * k) vs rows))) (λ j. f (part (w * j) w rows)) k
-          (λ j h. ap f (part-put-above vs rows (w * j) w (w * k) (apart w j k h))),
+      listed_same (λ j. f (get_or (set xs k v) j d)) (λ j. f (get_or xs j d)) k (λ j h. ap f (get_or-set_other xs k j v d (λ e. omega arith))),
     )
-    (ap (λ (l : List ℕ). listed (λ j. f (part (w * j) w rows)) k ++ (f l ∷ []))
-    (ap (λ (n : ℕ). part (w * k) n (put (w * k) vs rows)) (sym e) ∙ part-put-same vs rows (w * k) (omega arith)))
+    (ap (λ (w : A). listed (λ j. f (get_or xs j d)) k ++ (f w ∷ [])) (get_or-set_same xs k v d room))

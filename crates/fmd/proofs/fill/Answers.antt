@@ -8,7 +8,9 @@ use lib.ListN.{length, set, take}
 use Rattle.fmap_rules.specs.Map.{blank_area}
 use Rattle.fmap_rules.specs.declared.Area.{Area}
 use Rattle.fmd_table.specs.Table.{sections_in, placed_in}
-use Rattle.fmd_table.proofs.Spots.{length-placed}
+use Rattle.fmd_table.proofs.Table.{length-placed}
+use Rattle.fmd_table.specs.declared.SectionRow.{SectionRow}
+use Rattle.fmd_table.specs.declared.Placed.{Placed}
 use Rattle.fmd_check.specs.Areas.{layout_areas}
 use Rattle.fmd_check.proofs.Shape.{length-areas}
 use Rattle.fmd_check.proofs.Listed.{area-in}
@@ -18,7 +20,7 @@ use Rattle.fmd.proofs.Filled.{filled_on}
 use Rattle.fmd.proofs.fill.Goals as goal
 
 -- so many areas are listed
-count : (s rows spots : List ℕ) (n : ℕ) → length (layout_areas s (sections_in n rows) (placed_in n spots)) ≡ n
+count : (s : List ℕ) (rows : List SectionRow) (spots : List Placed) (n : ℕ) → length (layout_areas s (sections_in n rows) (placed_in n spots)) ≡ n
 count s rows spots n = length-areas s (sections_in n rows) (placed_in n spots) ∙ length-placed n spots
 
 pub loop-i-preserved : goal.loop-i-preserved

@@ -1,5 +1,5 @@
 use Rattle.fmd_table.proofs.Table.{length-sections}
-use Rattle.fmd_table.proofs.Spots.{placed-in}
+use Rattle.fmd_table.proofs.Table.{placed-in}
 use Rattle.octets.specs.Tests.{◌or◌}
 use mathlib.Core.Path.{sym, ◌∙◌}
 use Rattle.fmd_check.proofs.no_map.Goals as goal

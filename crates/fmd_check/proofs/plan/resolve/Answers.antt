@@ -1,5 +1,5 @@
 use Rattle.fmd_check.proofs.Plans.{resolve-stop, resolve-on, resolve-done}
-use Rattle.fmd_table.proofs.Spots.{none-placed}
+use Rattle.fmd_table.proofs.Table.{none-placed}
 use native.Mathlib.Omega.{arith}
 use mathlib.Core.Path.{sym, ◌∙◌}
 use Rattle.fmd_check.proofs.plan.resolve.Goals as goal

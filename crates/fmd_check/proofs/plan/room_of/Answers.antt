@@ -1,4 +1,4 @@
-use Rattle.fmd_table.proofs.Spots.{length-placed, placed-in}
+use Rattle.fmd_table.proofs.Table.{length-placed, placed-in}
 use Rattle.fmd_check.specs.Plans.{room_of}
 use borrow.Author.Tests.{lt-ltb, le-ltb}
 use mathlib.Core.Path.{sym}

@@ -4,6 +4,7 @@ use lib.ListN.{length}
 use Rattle.fmd_lex.specs.Invariants.{Within}
 use Rattle.fmd_table.specs.Table.{sections_in}
 use Rattle.fmd_table.specs.Invariants.{IsParent, Linked}
+use Rattle.fmd_table.specs.declared.SectionRow.{SectionRow}
 use Rattle.fmd_parse.specs.Invariants.{ListRead}
 use Rattle.fmd_head.specs.Heads.{ReadPart}
 use Prim.Native.Nat.{ℕ, ◌+◌, ◌*◌, ◌-◌}
@@ -18,7 +19,7 @@ decreases-read_section l = 2 * (length l.text.now - l.t.start)
 abbrev pub invariant-read_list-sections : goal.invariant-read_list-sections
 invariant-read_list-sections l =
     Within (length l.text) l.initial.now.start l.now × (length l.rows ≡ length l.initial.rows) × IsParent l.m l.parent × Linked l.m l.rows
-    × ((after : List ℕ) (r : ReadPart ℕ) → ListRead l.text l.now l.level l.parent (sections_in l.m l.rows) after r
+    × ((after : List SectionRow) (r : ReadPart ℕ) → ListRead l.text l.now l.level l.parent (sections_in l.m l.rows) after r
     → ListRead l.text l.initial.now l.level l.parent (sections_in l.initial.m l.initial.rows) after r)
 
 abbrev pub decreases-read_list-sections : goal.decreases-read_list-sections

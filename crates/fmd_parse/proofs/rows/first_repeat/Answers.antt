@@ -1,37 +1,27 @@
+use mathlib.Core.Path.{sym, ◌∙◌}
+use native.Mathlib.Omega.{arith}
+use Rattle.fmd_parse.specs.Rows.{first_repeat}
 use Rattle.fmd_parse.proofs.RowLoops.{first-start, first_on, first-stop, first_done}
 use Rattle.fmd_parse.proofs.Keys.{none_seen, seen-mark}
-use Rattle.fmd_parse.specs.Rows.{first_repeat}
-use native.Mathlib.Omega.{arith}
-use Prim.Native.Nat.{◌-◌}
-use mathlib.Core.Path.{sym, ◌∙◌}
 use borrow.Author.Rules.{rules}
 use Rattle.fmd_parse.proofs.rows.first_repeat.Goals as goal
 
 pub loop-k-init : goal.loop-k-init
 unfolding first_repeat
-loop-k-init c = (search rules, search rules, none_seen _ _ _, first-start _ _ _)
-
-pub key_at-key-requires : goal.key_at-key-requires
-key_at-key-requires c = let p = c.requires in
-    (p.0, p.1, c.loop-k-test.true)
-
-pub repeats_seen-requires : goal.repeats_seen-requires
-repeats_seen-requires c = let p = c.requires in
-    let v = c.loop-k.invariant in
-    let e = c.key_at-key.ensures in
-    (p.0, p.1, c.loop-k-test.true, e.0, omega (arith, e.1, v.1), v.2)
+loop-k-init c = (search rules, none_seen _ _ _, first-start _ _ _)
 
 pub returns-then-repeats_seen : goal.returns-then-repeats_seen
-returns-then-repeats_seen c = first-stop _ _ _ c.loop-k-test.true (sym c.repeats_seen.ensures ∙ c.if-repeats_seen.true) ∙ c.loop-k.invariant.3
+returns-then-repeats_seen c =
+    first-stop _ _ _ c.loop-k-test.true (sym c.repeats_seen.ensures ∙ c.if-repeats_seen.true) ∙ c.loop-k.invariant.2
 
 pub loop-k-preserved : goal.loop-k-preserved
-loop-k-preserved c = let v = c.loop-k.invariant in
+loop-k-preserved c =
+    let v = c.loop-k.invariant in
     let e = c.key_at-key.ensures in (
       search rules,
-      search rules,
-      seen-mark _ _ _ _ v.2 _ e.0 (omega (arith, e.1, v.1)),
-      first_on _ _ _ c.loop-k-test.true (sym c.repeats_seen.ensures ∙ c.if-repeats_seen.false) ∙ v.3,
+      seen-mark _ _ _ _ v.1 _ e.0 (omega (arith, e.1, v.0)),
+      first_on _ _ _ c.loop-k-test.true (sym c.repeats_seen.ensures ∙ c.if-repeats_seen.false) ∙ v.2,
     )
 
 pub returns : goal.returns
-returns c = first_done _ _ _ c.loop-k-test.false ∙ c.loop-k.invariant.3
+returns c = first_done _ _ _ c.loop-k-test.false ∙ c.loop-k.invariant.2

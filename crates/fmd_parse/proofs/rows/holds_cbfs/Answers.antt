@@ -1,13 +1,13 @@
-use Rattle.fmd_parse.proofs.RowLoops.{item}
-use Rattle.fmd_parse.specs.Rows.{holds_cbfs}
+use mathlib.Core.Path.{refl, sym}
 use Rattle.octets.proofs.Bools.{and-t, and-f}
-use mathlib.Core.Path.{sym}
+use Rattle.fmd_parse.specs.Rows.{holds_cbfs}
+use Rattle.fmd_parse.proofs.RowLoops.{item}
 use Rattle.fmd_parse.proofs.rows.holds_cbfs.Goals as goal
 
-pub returns-then-h : goal.returns-then-h
+pub returns-then-row_at : goal.returns-then-row_at
 unfolding holds_cbfs
-returns-then-h c = rw (item c.args.n c.args.rows.now c.args.k c.requires.1, sym c.row_at-h.ensures) (and-t c.if-h.true c.has_child.ensures)
+returns-then-row_at c = rw (item c.args.n c.args.rows.now c.args.k c.requires.1, sym c.row_at.ensures) (and-t c.if-row_at.true c.has_child.ensures)
 
-pub returns : goal.returns
+pub returns-else-row_at : goal.returns-else-row_at
 unfolding holds_cbfs
-returns c = rw (item c.args.n c.args.rows.now c.args.k c.requires.1, sym c.row_at-h.ensures) (and-f _ c.if-h.false)
+returns-else-row_at c = rw (item c.args.n c.args.rows.now c.args.k c.requires.1, sym c.row_at.ensures, c.if-row_at.false) (and-f _ refl)

@@ -1,8 +1,13 @@
-use Rattle.fmd_parse.proofs.RowLoops.{next-is, next-none}
+use mathlib.Core.Path.{sym, ap, ◌∙◌}
+use native.Mathlib.Omega.{arith}
+use Rattle.fmd_parse.proofs.RowLoops.{next-below, next-is, next-none}
 use Rattle.fmd_parse.proofs.rows.next_sibling.Goals as goal
 
-pub returns-then-j-n : goal.returns-then-j-n
-returns-then-j-n c = next-is _ _ c.requires.2 _ c.requires.1 c.next_at-j.ensures c.if-j-n.true c.row_at-e.ensures
+pub returns-in_err-j : goal.returns-in_err-j
+returns-in_err-j c = c.from_residual.ensures ∙ next-none _ _ c.requires.2 _ c.requires.1 (sym c.next_at.ensures ∙ c.in_err-j.was)
+
+pub row_at-requires : goal.row_at-requires
+row_at-requires c = let b = next-below _ _ c.requires.2 _ c.requires.1 (sym c.next_at.ensures ∙ c.in_ok-j.was) in omega arith
 
 pub returns : goal.returns
-returns c = next-none _ _ c.requires.2 _ c.requires.1 c.next_at-j.ensures c.if-j-n.false
+returns c = rw c.row_at.ensures (next-is _ _ c.requires.2 _ c.requires.1 (sym c.next_at.ensures ∙ c.in_ok-j.was))
