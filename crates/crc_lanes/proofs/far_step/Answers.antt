@@ -1,8 +1,14 @@
-use mathlib.Core.Path.{ap, ◌∙◌}
-use Prim.Native.Nat.{ℕ}
+use mathlib.Core.Path.{◌≡◌, sym, ap, ◌∙◌}
+use Prim.Native.Nat.{ℕ, ◌+◌, ◌*◌}
+use native.Mathlib.Omega.{arith}
 use lib.Bits.{bit_xor}
+use Rattle.octets.specs.Bytes.{field}
+use Rattle.octets.proofs.Numbers.{field-add}
 use Rattle.crc_lanes.specs.Crc.{bit_steps}
 use Rattle.crc_lanes.proofs.far_step.Goals as goal
 
 pub returns : goal.returns
-returns c = c.far_word.ensures ∙ ap (λ (n : ℕ). bit_steps 256 (bit_xor c.args.c n)) c.load.ensures
+returns c =
+    let e : c.load-low.result + 4294967296 * c.load-high.result ≡ field c.args.i 8 c.args.s.now =
+        omega (arith, c.load-low.ensures, c.load-high.ensures, field-add 4 4 c.args.i c.args.s.now) in
+    c.far_word.ensures ∙ ap (λ (n : ℕ). bit_steps 256 (bit_xor c.args.c n)) e
