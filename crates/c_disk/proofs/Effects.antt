@@ -2,18 +2,17 @@
 use mathlib.Core.Path.{◌≡◌, refl, sym, ap, ap₂, ◌∙◌}
 use mathlib.Core.Logic.{◌≢◌}
 use mathlib.Core.List.{List, []}
-use Rattle.std.specs.Prelude.{Option, None, Some}
+use Rattle.std.specs.Prelude.{Option, None, Some, Result, Ok, Err}
 use Prim.Native.Nat.{ℕ, zero, suc}
 use native.Mathlib.Omega.{arith}
 use Rattle.gpt_model.specs.Disk.{Shape}
-use Rattle.gpt_model.specs.Calls.{Answer, refused, accepted, Outcome, outcome, read, step}
+use Rattle.gpt_model.specs.Calls.{Answer, Outcome, outcome, read, step}
 use Rattle.gpt_model.specs.Sizes.{shape_of, on_shape, step_by}
 use Rattle.gpt_model.proofs.Sizes.{on_its_shape}
 use Rattle.gpt_model.specs.declared.Rule.TheVariants.{Earlier}
-use Rattle.gpt_calls.specs.Answers.{done_of, reading_of}
-use Rattle.gpt_calls.specs.declared.Done.{Done}
-use Rattle.gpt_calls.specs.declared.Done.TheVariants as done
-use Rattle.gpt_calls.specs.declared.Reading.{Reading}
+use Rattle.gpt_calls.proofs.Refusals.{handed_refusal}
+use Rattle.gpt_calls.specs.Answers.{done_of}
+use Rattle.gpt_checks.specs.declared.Refusal.{Refusal}
 use Rattle.gpt_checks.specs.declared.Refusal.TheVariants.{BlockSize, WrongLength, BlockCount, NoDiskGuid, NeitherGood, NotTheSame, NoSuchSlot}
 use Rattle.gpt_checks.specs.declared.Refusal.TheVariants.{SlotUnused, NoSize, Alignment, NoType, NoUniqueGuid, BadName, NameTaken}
 use Rattle.gpt_checks.specs.declared.Refusal.TheVariants.{AttributeBits, NoUnusedSlot, NoRoom}
@@ -26,30 +25,18 @@ pub gpt-tells : (a : Answer) (r : ℕ) (old new h t : List ℕ) (o : Outcome) �
 gpt-tells a r old new h t o e p q = ap₂ (λ (k : ℕ) (vs : List ℕ). record { result = k; head = h; tail = t; values = vs }) p q ∙ ap (gpt_effect old) e
 
 -- the same for an answer without values
-pub gpt-tells-done : (d : Done) (r : ℕ) (h t : List ℕ) (o : Outcome) → outcome (done_of d) h t ≡ o → r ≡ result_of (done_of d)
+pub gpt-tells-done : (d : Result Unit Refusal) (r : ℕ) (h t : List ℕ) (o : Outcome) → outcome (done_of d) h t ≡ o → r ≡ result_of (done_of d)
     → ◌≡◌ {A = GptEffect} (record { result = r; head = h; tail = t; values = [] }) (gpt_effect [] o)
 gpt-tells-done d r h t o e q = gpt-tells (done_of d) r [] [] h t o e q (no-values d)
   where
-    no-values : (d : Done) → ◌≡◌ {A = List ℕ} [] (values_of [] (done_of d))
-    no-values done.Accepted = refl
-    no-values (done.Refused k) = refl
-
--- a refused answer a, by its number k
-pub gpt-refused : (a : Answer) (k r : ℕ) (old : List ℕ) → a ≡ refused k → r ≡ k → (r ≡ result_of a) × (old ≡ values_of old a)
-gpt-refused a k r old e q = (q ∙ ap result_of (sym e), ap (values_of old) (sym e))
-
--- an accepted answer a, by its values
-pub gpt-accepted : (a : Answer) (old vs : List ℕ) → a ≡ accepted vs → (0 ≡ result_of a) × (vs ≡ values_of old a)
-gpt-accepted a old vs e = (ap result_of (sym e), ap (values_of old) (sym e))
+    no-values : (d : Result Unit Refusal) → ◌≡◌ {A = List ℕ} [] (values_of [] (done_of d))
+    no-values (Ok u) = refl
+    no-values (Err k) = refl
 
 -- every number but 0 names the earlier rule
 pub rule-other : (k : ℕ) → k ≢ 0 → Earlier ≡ rule_numbered k
 rule-other zero n = absurd (n refl)
 rule-other (suc k) n = refl
-
--- where the entries begin, by a reading
-abbrev pub place_by : Shape → Reading → Answer
-place_by g r = table_place g (reading_of r)
 
 module _ (size n : ℕ) (h t : List ℕ) where
   pub place-by : (g : Shape) → shape_of size ≡ Some g → (a : Answer) → outcome a h t ≡ step_by size n h t read
@@ -82,3 +69,5 @@ no-refusal-is-zero NameTaken e = omega arith
 no-refusal-is-zero AttributeBits e = omega arith
 no-refusal-is-zero NoUnusedSlot e = omega arith
 no-refusal-is-zero NoRoom e = omega arith
+
+pub ruleset told = (handed_refusal, rule-other)

@@ -1,20 +1,24 @@
-#![tactic(auto)]
+#![tactic(auto, using(crate::proofs::Reading::by_shape))]
 
 // The GPT calls on a disk of 512-byte or 4,096-byte blocks. The caller lends the head (blocks 0 to 33, or 0 to 5) and the tail (the last 33 blocks, or 5),
 // and says N, the number of blocks, and the bytes of a block.
 // Every call takes any buffers and any numbers; its contract is one equation with `format_by` or `step_by` of gpt_model, for its answer and both buffers.
 // A call asks for the shape of its block size first, then gpt_calls on a disk of that shape.
-ghost use Rattle.std.specs.Prelude.{◌≡◌};
+ghost use Rattle.std.specs.Prelude.{◌≡◌, ok_or, IfOk};
 ghost use Rattle.gpt_model.specs.Calls.{outcome, read as read_call, free_counts, repair as repair_call, check as check_call, edit};
 ghost use Rattle.gpt_model.specs.Calls.{add as add_call, delete as delete_call, resize as resize_call, rename as rename_call};
-ghost use Rattle.gpt_model.specs.Sizes.{step_by, format_by};
+ghost use Rattle.gpt_model.specs.Sizes.{shape_of, step_by, format_by};
+ghost use Rattle.gpt_places.specs.Invariants.{Legal};
 ghost use Rattle.gpt_checks.specs.Refusals.{number_of};
+ghost use Rattle.gpt_checks.specs.declared.Refusal.TheVariants.{BlockSize};
 ghost use Rattle.gpt_calls.specs.Answers.{done_of, reading_of, added_of, counted_of, offending_of, handed};
 ghost use Rattle.gpt.specs.Parts.{entries_by, handed_part};
 
-use gpt_calls::{Added, Counted, Done, Offending, Reading};
+use gpt_calls::Added;
 use gpt_checks::Refusal;
-use gpt_model::{NewPartition, Rule};
+use gpt_copies::State;
+use gpt_model::{NewPartition, Rule, Shape};
+use gpt_room::Free;
 
 // The number of a refusal.
 pub fn number(a: Refusal) -> u32
@@ -41,59 +45,77 @@ pub fn number(a: Refusal) -> u32
     }
 }
 
+// 6, before all others: the block size has no shape.
+fn shape_of(block: u64) -> Result<Shape, Refusal>
+    ensures shape { result ≡ ok_or (shape_of block) BlockSize }
+    ensures legal { IfOk result Legal }
+{
+    gpt_places::shape_of(block).ok_or(Refusal::BlockSize)
+}
+
 // Writes both copies with no entries, and block 0.
-pub fn format(head: &mut [u8], tail: &mut [u8], n: u64, block: u64, guid: [u8; 16]) -> Done
+pub fn format(
+    head: &mut [u8],
+    tail: &mut [u8],
+    n: u64,
+    block: u64,
+    guid: [u8; 16],
+) -> Result<(), Refusal>
     ensures { outcome (done_of result) head.new tail.new
         ≡ format_by block n guid head.old tail.old }
 {
-    match gpt_places::shape_of(block) {
-        Some(shape) => gpt_calls::format(head, tail, n, shape, guid),
-        None => Done::Refused(Refusal::BlockSize),
-    }
+    gpt_calls::format(head, tail, n, shape_of(block)?, guid)
 }
 
 // The state of the two copies.
-pub fn read(head: &[u8], tail: &[u8], n: u64, block: u64) -> Reading
+pub fn read(head: &[u8], tail: &[u8], n: u64, block: u64) -> Result<State, Refusal>
     ensures { outcome (reading_of result) head.now tail.now
         ≡ step_by block n head.now tail.now read_call }
 {
-    match gpt_places::shape_of(block) {
-        Some(shape) => gpt_calls::read(head, tail, n, shape),
-        None => Reading::Refused(Refusal::BlockSize),
-    }
+    gpt_calls::read(head, tail, n, shape_of(block)?)
 }
 
 // Gives a partition's slot back.
-pub fn delete(head: &mut [u8], tail: &mut [u8], n: u64, block: u64, slot: u64) -> Done
+pub fn delete(
+    head: &mut [u8],
+    tail: &mut [u8],
+    n: u64,
+    block: u64,
+    slot: u64,
+) -> Result<(), Refusal>
     ensures { outcome (done_of result) head.new tail.new
         ≡ step_by block n head.old tail.old (edit (delete_call slot)) }
 {
-    match gpt_places::shape_of(block) {
-        Some(shape) => gpt_calls::delete(head, tail, n, shape, slot),
-        None => Done::Refused(Refusal::BlockSize),
-    }
+    gpt_calls::delete(head, tail, n, shape_of(block)?, slot)
 }
 
 // Takes the lowest unused slot and the lowest multiple of the alignment with enough free blocks from it on.
-pub fn add(head: &mut [u8], tail: &mut [u8], n: u64, block: u64, p: NewPartition) -> Added
+pub fn add(
+    head: &mut [u8],
+    tail: &mut [u8],
+    n: u64,
+    block: u64,
+    p: NewPartition,
+) -> Result<Added, Refusal>
     ensures { outcome (added_of result) head.new tail.new
         ≡ step_by block n head.old tail.old (edit (add_call p)) }
 {
-    match gpt_places::shape_of(block) {
-        Some(shape) => gpt_calls::add(head, tail, n, shape, p),
-        None => Added::Refused(Refusal::BlockSize),
-    }
+    gpt_calls::add(head, tail, n, shape_of(block)?, p)
 }
 
 // Sets a partition's last block, for the size asked.
-pub fn resize(head: &mut [u8], tail: &mut [u8], n: u64, block: u64, slot: u64, size: u64) -> Done
+pub fn resize(
+    head: &mut [u8],
+    tail: &mut [u8],
+    n: u64,
+    block: u64,
+    slot: u64,
+    size: u64,
+) -> Result<(), Refusal>
     ensures { outcome (done_of result) head.new tail.new
         ≡ step_by block n head.old tail.old (edit (resize_call slot size)) }
 {
-    match gpt_places::shape_of(block) {
-        Some(shape) => gpt_calls::resize(head, tail, n, shape, slot, size),
-        None => Done::Refused(Refusal::BlockSize),
-    }
+    gpt_calls::resize(head, tail, n, shape_of(block)?, slot, size)
 }
 
 // Sets a partition's name.
@@ -104,35 +126,34 @@ pub fn rename(
     block: u64,
     slot: u64,
     name: [u16; 36],
-) -> Done
+) -> Result<(), Refusal>
     ensures { outcome (done_of result) head.new tail.new
         ≡ step_by block n head.old tail.old (edit (rename_call slot name)) }
 {
-    match gpt_places::shape_of(block) {
-        Some(shape) => gpt_calls::rename(head, tail, n, shape, slot, name),
-        None => Done::Refused(Refusal::BlockSize),
-    }
+    gpt_calls::rename(head, tail, n, shape_of(block)?, slot, name)
 }
 
 // Writes the other copy from the good one, and answers the state found.
-pub fn repair(head: &mut [u8], tail: &mut [u8], n: u64, block: u64) -> Reading
+pub fn repair(head: &mut [u8], tail: &mut [u8], n: u64, block: u64) -> Result<State, Refusal>
     ensures { outcome (reading_of result) head.new tail.new
         ≡ step_by block n head.old tail.old repair_call }
 {
-    match gpt_places::shape_of(block) {
-        Some(shape) => gpt_calls::repair(head, tail, n, shape),
-        None => Reading::Refused(Refusal::BlockSize),
-    }
+    gpt_calls::repair(head, tail, n, shape_of(block)?)
 }
 
 // The 16,384 entry bytes inside the buffer whose copy a reading of head and tail uses, so that the disk is judged once for state and part.
 // Empty where the reading was refused, where the block size has no shape, or where head or tail has a wrong length.
-pub fn entries<'a>(head: &'a [u8], tail: &'a [u8], block: u64, found: Reading) -> &'a [u8]
+pub fn entries<'a>(
+    head: &'a [u8],
+    tail: &'a [u8],
+    block: u64,
+    found: Result<State, Refusal>,
+) -> &'a [u8]
     ensures { handed result.now result.ref_ptr ≡ entries_by block head.now tail.now head.entry.ref_ptr tail.entry.ref_ptr found }
 {
-    match gpt_places::shape_of(block) {
-        Some(shape) => gpt_calls::entries(head, tail, shape, found),
-        None => &head[0..0],
+    match shape_of(block) {
+        Ok(shape) => gpt_calls::entries(head, tail, shape, found),
+        Err(_) => &head[0..0],
     }
 }
 
@@ -144,23 +165,23 @@ pub fn table<'a>(head: &'a [u8], tail: &'a [u8], n: u64, block: u64) -> &'a [u8]
 }
 
 // Usable blocks in no partition, and the longest run of such.
-pub fn free_counts(head: &[u8], tail: &[u8], n: u64, block: u64) -> Counted
+pub fn free_counts(head: &[u8], tail: &[u8], n: u64, block: u64) -> Result<Free, Refusal>
     ensures { outcome (counted_of result) head.now tail.now
         ≡ step_by block n head.now tail.now free_counts }
 {
-    match gpt_places::shape_of(block) {
-        Some(shape) => gpt_calls::free_counts(head, tail, n, shape),
-        None => Counted::Refused(Refusal::BlockSize),
-    }
+    gpt_calls::free_counts(head, tail, n, shape_of(block)?)
 }
 
-// k3: the check answers the first used slot that offends, or 0. By the copy that reading uses
-pub fn check(head: &[u8], tail: &[u8], n: u64, block: u64, rule: Rule) -> Offending
+// k3: the check answers the first used slot that offends, if one does. By the copy that reading uses
+pub fn check(
+    head: &[u8],
+    tail: &[u8],
+    n: u64,
+    block: u64,
+    rule: Rule,
+) -> Result<Option<u64>, Refusal>
     ensures { outcome (offending_of result) head.now tail.now
         ≡ step_by block n head.now tail.now (check_call rule) }
 {
-    match gpt_places::shape_of(block) {
-        Some(shape) => gpt_calls::check(head, tail, n, shape, rule),
-        None => Offending::Refused(Refusal::BlockSize),
-    }
+    gpt_calls::check(head, tail, n, shape_of(block)?, rule)
 }

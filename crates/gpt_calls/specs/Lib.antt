@@ -1,3 +1,2 @@
 -- What the calls answer, in the rules' numbers and values.
 pub mod Answers
-pub mod Invariants

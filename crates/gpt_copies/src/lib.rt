@@ -5,11 +5,11 @@
 pub mod reading;
 pub mod writing;
 
-// D10: both good with equal disk GUID and entries, both good but different (primary used), primary only, backup only.
+// D10: 1 both good with equal disk GUID and entries, 2 both good but different (primary used), 3 primary only, 4 backup only.
 #[derive(Clone, Copy, PartialEq, Eq)]
 pub enum State {
-    Both,
-    Differ,
-    PrimaryOnly,
-    BackupOnly,
+    Both = 1,
+    Differ = 2,
+    PrimaryOnly = 3,
+    BackupOnly = 4,
 }

@@ -10,4 +10,4 @@ returns c =
     let a = c.args in
     gpt-tells _ _ _ _ _ _ _
     (c.check.ensures ∙ ap (λ (rule : Rule). step_by a.block a.n a.head.now a.tail.now (check rule)) c.rule_of.ensures)
-    c.offending.ensures.0 c.offending.ensures.1
+    (c.code.ensures ∙ c.offending.ensures.code) c.offending.ensures.values

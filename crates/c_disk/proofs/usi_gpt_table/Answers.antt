@@ -10,10 +10,9 @@ place-requires c =
 pub returns-in-Some : goal.returns-in-Some
 returns-in-Some c =
     let a = c.args in
-    gpt-tells _ _ _ _ _ _ _ (place-by a.block a.n a.head.now a.tail.now _ (sym c.shape_of.ensures ∙ c.in-Some.is) _ c.read.ensures) c.place.ensures.0
-    c.place.ensures.1
+    gpt-tells _ _ _ _ _ _ _ (place-by a.block a.n a.head.now a.tail.now _ (sym c.shape_of.ensures ∙ c.in-Some.is) _ c.read.ensures) (c.code.ensures ∙ c.place.ensures.code) c.place.ensures.values
 
 pub returns-in-None : goal.returns-in-None
 returns-in-None c =
     let a = c.args in
-    place_other a.block a.n a.head.now a.tail.now _ (sym c.shape_of.ensures ∙ c.in-None.is)
+    rw c.number.ensures (place_other a.block a.n a.head.now a.tail.now _ (sym c.shape_of.ensures ∙ c.in-None.is))

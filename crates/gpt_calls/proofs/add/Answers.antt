@@ -1,20 +1,17 @@
-use Rattle.gpt_model.specs.Calls.{edit, add}
-use Rattle.gpt_calls.proofs.Refusals.{stop_step}
-use Rattle.gpt_checks.proofs.Judged.{edit-facts}
 use mathlib.Core.Path.{sym}
+use Rattle.gpt_model.specs.Calls.{edit, add}
+use Rattle.gpt_checks.proofs.Judged.{edit-facts}
+use Rattle.gpt_calls.proofs.Refusals.{stops}
 use borrow.Author.Rules.{rules}
 use Rattle.gpt_calls.proofs.add.Goals as goal
 
-pub invariant_of-disk : goal.invariant_of-disk
-invariant_of-disk c =
+pub returns-in_err-first : goal.returns-in_err-first
+returns-in_err-first c =
     let a = c.args in
-    let f = edit-facts a.shape a.n a.head.now a.tail.now (add a.p) (sym c.in-Ok.ensures.refused) in
+    stops a.shape a.n a.head.now a.tail.now _ (edit (add a.p)) _ _ c.from_residual.ensures c.in_err-first.ensures.refused
+
+pub invariant_of-add : goal.invariant_of-add
+invariant_of-add c =
+    let a = c.args in
+    let f = edit-facts a.shape a.n a.head.now a.tail.now (add a.p) (sym c.in_ok-first.ensures.refused) in
     record { fits = record { legal = search rules; least = f.least } }
-
-pub add-slot-requires : goal.add-slot-requires
-add-slot-requires c = (sym c.in-Ok.ensures.refused, c.in-Ok.ensures.start)
-
-pub returns-in-Err : goal.returns-in-Err
-returns-in-Err c =
-    let a = c.args in
-    stop_step a.shape a.n a.head.now a.tail.now (edit (add a.p)) _ (sym c.in-Err.ensures.refused)

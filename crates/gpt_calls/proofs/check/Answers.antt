@@ -1,38 +1,24 @@
-use mathlib.Core.Path.{sym}
-use Rattle.gpt_model.specs.Disk.{primary, backup}
-use Rattle.gpt_model.specs.Calls.{check}
-use Rattle.gpt_model.proofs.Outcomes.{step-refused}
-use Rattle.gpt_calls.specs.declared.UsedCopy.TheVariants.{Primary, Backup}
-use Rattle.gpt_calls.proofs.Found.{common-lent, uses, first-is}
 use borrow.Author.Rules.{rules}
+use Rattle.gpt_calls.proofs.Found.{found-lengths, first-is}
+use Rattle.gpt_attributes.proofs.First.{first-is as slot-is}
+use mathlib.Core.Path.{sym}
+use Rattle.gpt_model.specs.Calls.{check}
+use Rattle.gpt_calls.proofs.Found.{answer-refused}
+use Rattle.gpt_calls.proofs.Refusals.{stops}
 use Rattle.gpt_calls.proofs.check.Goals as goal
 
-pub entries_in-requires : goal.entries_in-requires
-entries_in-requires c =
+pub returns-in_err-state : goal.returns-in_err-state
+returns-in_err-state c =
     let a = c.args in
-    let u = uses a.shape a.n a.head.now a.tail.now _ Primary c.used_copy.ensures c.in-Primary.is in
-    ((common-lent a.shape a.n a.head.now a.tail.now u.0).head, search rules)
+    stops a.shape a.n a.head.now a.tail.now _ (check a.rule) _ _ c.from_residual.ensures (sym (answer-refused a.shape a.n a.head.now a.tail.now _ c.in_err-state.ensures))
 
-pub entries_in-requires-in-Backup : goal.entries_in-requires-in-Backup
-entries_in-requires-in-Backup c =
+pub used_table-requires : goal.used_table-requires
+used_table-requires c =
     let a = c.args in
-    let u = uses a.shape a.n a.head.now a.tail.now _ Backup c.used_copy.ensures c.in-Backup.is in
-    ((common-lent a.shape a.n a.head.now a.tail.now u.0).tail, search rules)
+    (found-lengths a.shape a.n a.head.now a.tail.now _ c.in_ok-state.ensures, search rules)
 
-pub returns-in-Primary : goal.returns-in-Primary
-returns-in-Primary c =
+pub returns : goal.returns
+returns c =
     let a = c.args in
-    let u = uses a.shape a.n a.head.now a.tail.now _ Primary c.used_copy.ensures c.in-Primary.is in
-    first-is a.shape a.n a.head.now a.tail.now primary u _ c.entries_in.ensures.0 a.rule _ c.first_offending.ensures
-
-pub returns-in-Backup : goal.returns-in-Backup
-returns-in-Backup c =
-    let a = c.args in
-    let u = uses a.shape a.n a.head.now a.tail.now _ Backup c.used_copy.ensures c.in-Backup.is in
-    first-is a.shape a.n a.head.now a.tail.now backup u _ c.entries_in-in-Backup.ensures.0 a.rule _ c.first_offending-in-Backup.ensures
-
-pub returns-in-Refused : goal.returns-in-Refused
-returns-in-Refused c =
-    let a = c.args in
-    sym (step-refused a.shape a.n a.head.now a.tail.now (check a.rule) _
-    (uses a.shape a.n a.head.now a.tail.now _ _ c.used_copy.ensures c.in-Refused.is))
+    first-is a.shape a.n a.head.now a.tail.now _ c.in_ok-state.ensures _ _ _ _ c.used_table.ensures.part a.rule _
+    (slot-is a.rule _ c.as_table-table.ensures c.first_offending.ensures)

@@ -1,50 +1,33 @@
-use mathlib.Core.Path.{sym}
-use Rattle.gpt_model.specs.Disk.{primary, backup}
-use Rattle.gpt_model.specs.Calls.{free_counts}
-use Rattle.gpt_model.proofs.Outcomes.{step-refused}
-use Rattle.gpt_calls.specs.declared.UsedCopy.TheVariants.{Primary, Backup}
-use Rattle.gpt_calls.proofs.Found.{common-lent, uses, counts-are}
 use borrow.Author.Rules.{rules}
+use Rattle.gpt_model.specs.Calls.{outcome}
+use Rattle.gpt_room.specs.declared.Free.{Free}
+use Rattle.gpt_calls.specs.Answers.{counted_of}
+use Rattle.std.specs.Prelude.{Ok}
+use Rattle.gpt_calls.proofs.Found.{found-lent, found-lengths, counts-are}
+use mathlib.Core.Path.{sym, ap, ◌∙◌}
+use Rattle.gpt_model.specs.Calls.{free_counts}
+use Rattle.gpt_calls.proofs.Found.{answer-refused}
+use Rattle.gpt_calls.proofs.Refusals.{stops}
 use Rattle.gpt_calls.proofs.free_counts.Goals as goal
 
-pub entries_in-requires : goal.entries_in-requires
-entries_in-requires c =
+pub returns-in_err-state : goal.returns-in_err-state
+returns-in_err-state c =
     let a = c.args in
-    let u = uses a.shape a.n a.head.now a.tail.now _ Primary c.used_copy.ensures c.in-Primary.is in
-    ((common-lent a.shape a.n a.head.now a.tail.now u.0).head, search rules)
+    stops a.shape a.n a.head.now a.tail.now _ free_counts _ _ c.from_residual.ensures (sym (answer-refused a.shape a.n a.head.now a.tail.now _ c.in_err-state.ensures))
 
-pub invariant_of-count_in : goal.invariant_of-count_in
-invariant_of-count_in c =
+pub used_table-requires : goal.used_table-requires
+used_table-requires c =
     let a = c.args in
-    let u = uses a.shape a.n a.head.now a.tail.now _ Primary c.used_copy.ensures c.in-Primary.is in
-    record { fits = record { legal = search rules; least = (common-lent a.shape a.n a.head.now a.tail.now u.0).least } }
+    (found-lengths a.shape a.n a.head.now a.tail.now _ c.in_ok-state.ensures, search rules)
 
-pub entries_in-requires-in-Backup : goal.entries_in-requires-in-Backup
-entries_in-requires-in-Backup c =
+pub invariant_of-disk : goal.invariant_of-disk
+invariant_of-disk c =
     let a = c.args in
-    let u = uses a.shape a.n a.head.now a.tail.now _ Backup c.used_copy.ensures c.in-Backup.is in
-    ((common-lent a.shape a.n a.head.now a.tail.now u.0).tail, search rules)
+    record { fits = record { legal = search rules; least = (found-lent a.shape a.n a.head.now a.tail.now _ c.in_ok-state.ensures).least } }
 
-pub invariant_of-count_in-in-Backup : goal.invariant_of-count_in-in-Backup
-invariant_of-count_in-in-Backup c =
+pub returns : goal.returns
+returns c =
     let a = c.args in
-    let u = uses a.shape a.n a.head.now a.tail.now _ Backup c.used_copy.ensures c.in-Backup.is in
-    record { fits = record { legal = search rules; least = (common-lent a.shape a.n a.head.now a.tail.now u.0).least } }
-
-pub returns-in-Primary : goal.returns-in-Primary
-returns-in-Primary c =
-    let a = c.args in
-    let u = uses a.shape a.n a.head.now a.tail.now _ Primary c.used_copy.ensures c.in-Primary.is in
-    counts-are a.shape a.n a.head.now a.tail.now primary u _ c.entries_in.ensures.0 _ c.count_in.ensures
-
-pub returns-in-Backup : goal.returns-in-Backup
-returns-in-Backup c =
-    let a = c.args in
-    let u = uses a.shape a.n a.head.now a.tail.now _ Backup c.used_copy.ensures c.in-Backup.is in
-    counts-are a.shape a.n a.head.now a.tail.now backup u _ c.entries_in-in-Backup.ensures.0 _ c.count_in-in-Backup.ensures
-
-pub returns-in-Refused : goal.returns-in-Refused
-returns-in-Refused c =
-    let a = c.args in
-    sym (step-refused a.shape a.n a.head.now a.tail.now free_counts _
-    (uses a.shape a.n a.head.now a.tail.now _ _ c.used_copy.ensures c.in-Refused.is))
+    ap (λ (f : Free). outcome (counted_of (Ok f)) a.head.now a.tail.now) (rw c.as_table-table.ensures at c.free_counts.ensures)
+    ∙ counts-are a.shape a.n a.head.now a.tail.now _ c.in_ok-state.ensures _ _ _ _ c.used_table.ensures.part _ _
+    c.first_usable.ensures c.last_usable.ensures
