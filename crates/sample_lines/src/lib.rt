@@ -4,68 +4,45 @@
 
 ghost use Rattle.std.specs.Prelude.{◌≡◌, length};
 
-use gpt_calls::{Added, Counted, Done, Reading};
+use gpt_calls::Added;
 use gpt_checks::Refusal;
+use gpt_copies::State;
+use gpt_room::Free;
 use std::io;
 
 // The samples are on disks of 512-byte blocks.
 pub const BLOCK: u64 = 512;
 
-pub fn begin(rt: &impl Print, n: u64, call: &[u8]) -> io::Result<()> {
-    print_out::bytes(rt, b"disk ")?;
-    print_out::decimal(rt, n)?;
-    print_out::bytes(rt, b" ")?;
-    print_out::bytes(rt, call)
-}
-
-fn named(rt: &impl Print, name: &[u8], x: u64) -> io::Result<()> {
-    print_out::bytes(rt, name)?;
-    print_out::decimal(rt, x)
-}
-
 fn refused(rt: &impl Print, r: Refusal) -> io::Result<()> {
-    named(rt, b" refused ", gpt::number(r) as u64)
+    println!(rt; " refused {}", gpt::number(r))
 }
 
-pub fn done(rt: &impl Print, answer: Done) -> io::Result<()> {
+pub fn done(rt: &impl Print, answer: Result<(), Refusal>) -> io::Result<()> {
     match answer {
-        Done::Accepted => (),
-        Done::Refused(r) => refused(rt, r)?,
+        Ok(()) => println!(rt),
+        Err(r) => refused(rt, r),
     }
-    print_out::bytes(rt, b"\n")
 }
 
-pub fn added(rt: &impl Print, answer: Added) -> io::Result<()> {
+pub fn added(rt: &impl Print, answer: Result<Added, Refusal>) -> io::Result<()> {
     match answer {
-        Added::At { slot, first } => {
-            named(rt, b" slot ", slot)?;
-            named(rt, b" first ", first.0)?;
-        }
-        Added::Refused(r) => refused(rt, r)?,
+        Ok(new) => println!(rt; " slot {} first {}", new.slot, new.first.0),
+        Err(r) => refused(rt, r),
     }
-    print_out::bytes(rt, b"\n")
 }
 
-fn state(rt: &impl Print, answer: Reading) -> io::Result<()> {
+fn state(rt: &impl Print, answer: Result<State, Refusal>) -> io::Result<()> {
     match answer {
-        Reading::Same => print_out::bytes(rt, b" 1")?,
-        Reading::Different => print_out::bytes(rt, b" 2")?,
-        Reading::PrimaryOnly => print_out::bytes(rt, b" 3")?,
-        Reading::BackupOnly => print_out::bytes(rt, b" 4")?,
-        Reading::Refused(r) => refused(rt, r)?,
+        Ok(found) => println!(rt; " {}", found as u64),
+        Err(r) => refused(rt, r),
     }
-    print_out::bytes(rt, b"\n")
 }
 
-fn free(rt: &impl Print, answer: Counted) -> io::Result<()> {
+fn free(rt: &impl Print, answer: Result<Free, Refusal>) -> io::Result<()> {
     match answer {
-        Counted::Free { blocks, longest } => {
-            named(rt, b" ", blocks)?;
-            named(rt, b" longest ", longest)?;
-        }
-        Counted::Refused(r) => refused(rt, r)?,
+        Ok(counts) => println!(rt; " {} longest {}", counts.blocks, counts.longest),
+        Err(r) => refused(rt, r),
     }
-    print_out::bytes(rt, b"\n")
 }
 
 // State, free counts, what was granted and given back since formatting, and bytes.
@@ -77,36 +54,28 @@ pub fn close(
     granted: u64,
     back: u64,
 ) -> io::Result<()> {
-    begin(rt, n, b"state")?;
+    print!(rt; "disk {n} state")?;
     state(rt, gpt::read(head, tail, n, BLOCK))?;
-    begin(rt, n, b"free")?;
+    print!(rt; "disk {n} free")?;
     free(rt, gpt::free_counts(head, tail, n, BLOCK))?;
-    begin(rt, n, b"granted")?;
-    named(rt, b" ", granted)?;
-    named(rt, b" back ", back)?;
-    print_out::bytes(rt, b"\n")?;
-    crcs(rt, head, tail, n)
-}
-
-fn crcs(rt: &impl Print, head: &[u8], tail: &[u8], n: u64) -> io::Result<()> {
-    begin(rt, n, b"crc32 ")?;
-    print_out::hex32(rt, crc32::crc32(head))?;
-    print_out::bytes(rt, b" ")?;
-    print_out::hex32(rt, crc32::crc32(tail))?;
-    print_out::bytes(rt, b"\n")
+    println!(rt; "disk {n} granted {granted} back {back}")?;
+    println!(rt;
+        "disk {n} crc32 {:08X} {:08X}",
+        crc32::crc32(head),
+        crc32::crc32(tail)
+    )
 }
 
 // Of a header's bytes: its own block and the other header's, the usable blocks, where the entries begin.
 fn header(rt: &impl Print, h: &[u8], n: u64) -> io::Result<()>
     requires { length h.now ≡ 92 }
 {
-    begin(rt, n, b"header ")?;
-    print_out::decimal(rt, octets::load(h, 24))?;
-    named(rt, b" other ", octets::load(h, 32))?;
-    named(rt, b" usable ", octets::load(h, 40))?;
-    named(rt, b" ", octets::load(h, 48))?;
-    named(rt, b" entries ", octets::load(h, 72))?;
-    print_out::bytes(rt, b"\n")
+    let own: u64 = octets::load(h, 24);
+    let other: u64 = octets::load(h, 32);
+    let first: u64 = octets::load(h, 40);
+    let last: u64 = octets::load(h, 48);
+    let entries: u64 = octets::load(h, 72);
+    println!(rt; "disk {n} header {own} other {other} usable {first} {last} entries {entries}")
 }
 
 pub fn headers(rt: &impl Print, head: &[u8], tail: &[u8], n: u64) -> io::Result<()>

@@ -1,21 +1,14 @@
 // The disk calls of the samples: each prints its line and tells what it changed.
-use crate::ledger::SumChange;
-use gpt_calls::{Added, Done};
+use crate::ledger::SlotSize;
+use gpt_checks::Refusal;
 use gpt_model::{NewPartition, Rule};
 use sample_lines::BLOCK;
 use std::io;
 
-pub fn format(rt: &impl Print, head: &mut [u8], tail: &mut [u8], n: u64) -> io::Result<SumChange> {
-    sample_lines::begin(rt, n, b"format")?;
-    let answer = gpt::format(
-        head,
-        tail,
-        n,
-        BLOCK,
-        *b"\x00\x01\x02\x03\x04\x05\x06\x07\x08\x09\x0a\x0b\x0c\x0d\x0e\x0f",
-    );
-    sample_lines::done(rt, answer)?;
-    Ok(SumChange::Nothing)
+pub fn format(rt: &impl Print, head: &mut [u8], tail: &mut [u8], n: u64) -> io::Result<()> {
+    print!(rt; "disk {n} format")?;
+    let guid = *b"\x00\x01\x02\x03\x04\x05\x06\x07\x08\x09\x0a\x0b\x0c\x0d\x0e\x0f";
+    sample_lines::done(rt, gpt::format(head, tail, n, BLOCK, guid))
 }
 
 // Type linux (G4), as stored.
@@ -38,9 +31,8 @@ pub fn add(
     n: u64,
     k: u8,
     size: u64,
-) -> io::Result<SumChange> {
-    sample_lines::begin(rt, n, b"add ")?;
-    print_out::decimal(rt, size)?;
+) -> io::Result<Option<SlotSize>> {
+    print!(rt; "disk {n} add {size}")?;
     let p = NewPartition {
         kind: linux(),
         unique: [k; 16],
@@ -52,19 +44,23 @@ pub fn add(
     };
     let answer = gpt::add(head, tail, n, BLOCK, p);
     sample_lines::added(rt, answer)?;
-    Ok(match answer {
-        Added::At { slot, .. } => SumChange::Size { slot, size },
-        Added::Refused(_) => SumChange::Nothing,
-    })
+    Ok(
+        answer.ok().map(|new| SlotSize {
+            slot: new.slot,
+            size,
+        }),
+    )
 }
 
 // After an accepted call the slot has this size.
-fn done(rt: &impl Print, answer: Done, slot: u64, size: u64) -> io::Result<SumChange> {
+fn done(
+    rt: &impl Print,
+    answer: Result<(), Refusal>,
+    slot: u64,
+    size: u64,
+) -> io::Result<Option<SlotSize>> {
     sample_lines::done(rt, answer)?;
-    Ok(match answer {
-        Done::Accepted => SumChange::Size { slot, size },
-        Done::Refused(_) => SumChange::Nothing,
-    })
+    Ok(answer.is_ok().then_some(SlotSize { slot, size }))
 }
 
 pub fn delete(
@@ -73,9 +69,8 @@ pub fn delete(
     tail: &mut [u8],
     n: u64,
     slot: u64,
-) -> io::Result<SumChange> {
-    sample_lines::begin(rt, n, b"delete ")?;
-    print_out::decimal(rt, slot)?;
+) -> io::Result<Option<SlotSize>> {
+    print!(rt; "disk {n} delete {slot}")?;
     done(rt, gpt::delete(head, tail, n, BLOCK, slot), slot, 0)
 }
 
@@ -86,11 +81,8 @@ pub fn resize(
     n: u64,
     slot: u64,
     size: u64,
-) -> io::Result<SumChange> {
-    sample_lines::begin(rt, n, b"resize ")?;
-    print_out::decimal(rt, slot)?;
-    print_out::bytes(rt, b" ")?;
-    print_out::decimal(rt, size)?;
+) -> io::Result<Option<SlotSize>> {
+    print!(rt; "disk {n} resize {slot} {size}")?;
     done(
         rt,
         gpt::resize(head, tail, n, BLOCK, slot, size),

@@ -1,45 +1,26 @@
 // What the calls on a disk granted and gave back, by calls and replies alone (D22).
 
 // The sums, and the size last accepted for each slot, by its number; the samples use no slot above 7.
-#[derive(Clone, Copy)]
+#[derive(Clone, Copy, Default)]
 pub struct Sums {
     pub granted: u64,
     pub back: u64,
-    pub sizes: [u64; 8],
+    sizes: [u64; 8],
 }
 
-// What a step changed: the slot has this size now, 0 where it was deleted.
+// The size that a slot has after a step, 0 where it was deleted.
 #[derive(Clone, Copy)]
-pub enum SumChange {
-    Size { slot: u64, size: u64 },
-    Nothing,
+pub struct SlotSize {
+    pub slot: u64,
+    pub size: u64,
 }
 
-pub fn empty() -> Sums {
-    Sums {
-        granted: 0,
-        back: 0,
-        sizes: [0u64; 8],
-    }
-}
-
-fn set(before: Sums, slot: u64, size: u64) -> Sums {
-    let at = (slot % 8) as usize;
-    let sizes = before.sizes;
-    let last = sizes[at];
-    let mut after = before;
-    after.sizes[at] = size;
-    if last < size {
-        after.granted = std::num::wrapping_add_u64(before.granted, size - last);
-    } else {
-        after.back = std::num::wrapping_add_u64(before.back, last - size);
-    }
-    after
-}
-
-pub fn booked(before: Sums, change: SumChange) -> Sums {
-    match change {
-        SumChange::Size { slot, size } => set(before, slot, size),
-        SumChange::Nothing => before,
+impl Sums {
+    pub fn book(&mut self, new: SlotSize) {
+        let at = (new.slot % 8) as usize;
+        let last = self.sizes[at];
+        self.sizes[at] = new.size;
+        self.granted = self.granted.wrapping_add(new.size.saturating_sub(last));
+        self.back = self.back.wrapping_add(last.saturating_sub(new.size));
     }
 }

@@ -16,7 +16,7 @@ mod ledger;
 
 ghost use Rattle.std.specs.Prelude.{◌≡◌, length};
 
-use ledger::{SumChange, Sums};
+use ledger::{SlotSize, Sums};
 use std::io;
 
 const HEAD: usize = 17408;
@@ -33,73 +33,46 @@ const TAIL: usize = 16896;
 //     aKSS    the K-th add, of SS blocks
 //     mK00    the K-th add, of 2^64 − 1 blocks
 //     wK00    the K-th add, of all usable blocks
-fn show(rt: &impl Print, head: &[u8], tail: &[u8], n: u64, sums: Sums, letter: u8) -> io::Result<()>
-    requires { (length head.now ≡ 17408) × (length tail.now ≡ 16896) }
-{
-    match letter {
-        b'h' => sample_lines::headers(rt, head, tail, n),
-        b'c' => sample_lines::close(rt, head, tail, n, sums.granted, sums.back),
-        _ => Ok(()),
-    }
-}
-
-fn call(
+fn step(
     rt: &impl Print,
-    head: &mut [u8],
-    tail: &mut [u8],
+    head: &mut [u8; HEAD],
+    tail: &mut [u8; TAIL],
     n: u64,
-    letter: u8,
-    k: u8,
-    size: u64,
-) -> io::Result<SumChange> {
-    match letter {
-        b'f' => calls::format(rt, head, tail, n),
-        b'd' => calls::delete(rt, head, tail, n, k as u64),
-        b'r' => calls::resize(rt, head, tail, n, k as u64, size),
-        b'a' | b'm' | b'w' => calls::add(rt, head, tail, n, k, asked(n, letter, size)),
-        _ => Ok(SumChange::Nothing),
+    sums: &mut Sums,
+    step: &[u8; 5],
+) -> io::Result<()> {
+    let [letter, k, tens, ones, _] = *step;
+    let k = digit(k);
+    let size = 10 * digit(tens) as u64 + digit(ones) as u64;
+    let change = match letter {
+        b'h' => sample_lines::headers(rt, head, tail, n).map(|()| None)?,
+        b'c' => sample_lines::close(rt, head, tail, n, sums.granted, sums.back).map(|()| None)?,
+        b'f' => calls::format(rt, head, tail, n).map(|()| None)?,
+        b'd' => calls::delete(rt, head, tail, n, k as u64)?,
+        b'r' => calls::resize(rt, head, tail, n, k as u64, size)?,
+        b'a' => calls::add(rt, head, tail, n, k, size)?,
+        b'm' => calls::add(rt, head, tail, n, k, u64::MAX)?,
+        b'w' => calls::add(rt, head, tail, n, k, n.wrapping_sub(67))?,
+        _ => None,
+    };
+    if let Some(new) = change {
+        sums.book(new);
     }
-}
-
-// The blocks that an add asks for.
-fn asked(n: u64, letter: u8, size: u64) -> u64 {
-    match letter {
-        b'm' => 18446744073709551615,
-        b'w' => std::num::wrapping_sub_u64(n, 67),
-        _ => size,
-    }
+    Ok(())
 }
 
 fn digit(letter: u8) -> u8 {
     letter % 16
 }
 
-fn number(tens: u8, ones: u8) -> u64 {
-    10 * (digit(tens) as u64) + digit(ones) as u64
-}
-
 // The steps, each with a blank behind it, on a disk of n blocks.
 fn steps(rt: &impl Print, n: u64, script: &[u8]) -> io::Result<()> {
     let mut head = [0u8; HEAD];
     let mut tail = [0u8; TAIL];
-    let mut sums = ledger::empty();
-    let count = script.len() / 5;
-    let mut i = 0;
-    while i < count {
-        let at = 5 * i;
-        let letter = script[at];
-        show(rt, &head, &tail, n, sums, letter)?;
-        let change = call(
-            rt,
-            &mut head,
-            &mut tail,
-            n,
-            letter,
-            digit(script[at + 1]),
-            number(script[at + 2], script[at + 3]),
-        )?;
-        sums = ledger::booked(sums, change);
-        i += 1;
+    let mut sums = Sums::default();
+    let (all, _) = script.as_chunks::<5>();
+    for s in all {
+        step(rt, &mut head, &mut tail, n, &mut sums, s)?;
     }
     Ok(())
 }
