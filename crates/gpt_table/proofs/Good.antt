@@ -1,44 +1,31 @@
--- Laws of the table's rules, over used entries decoded into numbers.
+-- Laws of the table's rules, over what is read of used entries and put in order.
 use mathlib.Core.Path.{◌≡◌, refl, sym, ap, ap₂, subst, ◌∙◌}
 use mathlib.Core.Logic.{◌⊎◌, inl, inr, ⊎_elim}
-use mathlib.Core.Bool.{Bool, true, false, not, ◌||◌}
-use mathlib.Core.List.{List, [], ◌∷◌, ◌++◌, map}
-use Prim.Native.Nat.{ℕ, ◌+◌, ◌-◌, ◌≤◌, ◌<◌}
-use native.Mathlib.Nat.{zero-add}
-use native.Mathlib.Decide.{ℕ_discrete}
-use native.Mathlib.Numerals.{add-one}
+use mathlib.Core.Bool.{Bool, true, false, not}
+use mathlib.Core.List.{List, [], ◌∷◌, map}
+use Prim.Native.Nat.{ℕ, zero, suc, ◌+◌, ◌≤◌, ◌<◌, suc-le-suc}
+use native.Mathlib.Nat.{zero-lt-suc}
 use native.Mathlib.Omega.{arith}
-use lib.Dec.{eqb, leb, ltb}
-use lib.ListN.{length, get_or, take, drop, length-map}
-use lib.Seq.{take-add, drop-drop, drop-cons}
-use borrow.Author.Tests.{leb-true, eqb-true, eq-eqb, ne_eqb, lt-leb, le-leb, lt-ltb, le-ltb}
+use lib.Dec.{eqb, ltb}
+use lib.ListN.{length, get_or, length-map}
+use borrow.Author.Tests.{leb-true, eqb-true, eq-eqb, ne_eqb, lt-ltb, le-ltb, ltb-true, ltb-false}
+use Rattle.std.specs.List.{IsAllAdjacentAnswer}
+use Rattle.std.specs.List.Sorted.{IsNonDecreasingBy, IsPermutation}
+use Rattle.std.proofs.lemmas.List.Sorted.{IsPermutation-map, All-permutation}
 use Rattle.octets.specs.Tests.{◌and◌, ◌or◌, all, pairs}
-use Rattle.octets.specs.Bytes.{unle, part, field, is_zero, same}
+use Rattle.octets.specs.Bytes.{unle, is_zero, same}
 use Rattle.octets.proofs.Bools.{and_l, and_r, and_i, bool_cases, eq-from, clash}
-use Rattle.octets.proofs.Tests.{pairs-get, pairs-make, all-get, all-make, all_done, get_d_map}
-use Rattle.octets.proofs.Parts.{part-part}
+use Rattle.octets.proofs.Tests.{pairs-get, pairs-make, all-get, get_d_map}
 use Rattle.octets.proofs.Equal.{same_true, same_refl, field-same}
-use Rattle.gpt_model.specs.Table.{BlockRange, no_blocks, spans, range_of, bounded, apart, unique_of, first_of, last_of, unused, entry_ok, pair_ok, entries, good_table}
+use Rattle.gpt_model.specs.Table.{BlockRange, no_blocks, spans, range_of, bounded, apart, unique_of, first_of, last_of, unused, entry_ok, pair_ok}
+use Rattle.gpt_model.specs.Table.{entries, good_table}
 use Rattle.gpt_model.proofs.Entries.{range-used, pair-make}
-use Rattle.gpt_table.specs.Invariants.{good_entries, Whole, used, Decoded, differ, Guids, ranges, Ascending, InOrder}
-use Rattle.gpt_table.proofs.Used.{used-yes, used-no, used-each, low-at, high-at, length-ranges, get_or-ranges}
-use Rattle.gpt_table.proofs.Reorders.{reordered-all, reordered-pairs}
-use Rattle.gpt_table.proofs.Exchanges.{ascends}
+use Rattle.gpt_table.specs.Invariants.{Whole, good_entries, used, differ, guid_of, range_in, blocks_of, NoneEmpty, InOrder}
+use Rattle.gpt_table.specs.declared.order.Range.{Range}
+use Rattle.gpt_table.proofs.Used.{used-yes, used-no, used-each}
+use Rattle.gpt_table.proofs.Permuted.{pairs-permuted}
 
 -- ---- one entry
-
-module _ (first last f l : ℕ) where
-  pub bounded-low : f < first → bounded first last (spans f l) ≡ false
-  unfolding bounded ◌and◌
-  bounded-low h = rw (lt-leb first f h)
-
-  pub bounded-empty : first ≤ f → l < f → bounded first last (spans f l) ≡ false
-  unfolding bounded ◌and◌
-  bounded-empty g h = rw (le-leb first f g, lt-leb f l h)
-
-  pub bounded-last : first ≤ f → f ≤ l → bounded first last (spans f l) ≡ leb l last
-  unfolding bounded ◌and◌
-  bounded-last g h = rw (le-leb first f g, le-leb f l h)
 
 module _ (first last : ℕ) (e : List ℕ) where
   module _ (u : unused e ≡ false) where
@@ -58,115 +45,70 @@ ok-bounded : (first last : ℕ) (e : List ℕ) → unused e ≡ false → entry_
 unfolding entry_ok ◌or◌
 ok-bounded first last e u h = and_r _ _ (rw u at h)
 
--- ---- two ranges, two GUIDs as numbers
+-- ---- GUIDs as numbers
 
-module _ (a b f l : ℕ) where
-  pub apart-before : b < f → apart (spans a b) (spans f l) ≡ true
-  unfolding apart ◌or◌
-  apart-before h = rw (lt-ltb b f h)
-
-  pub apart-behind : f ≤ b → apart (spans a b) (spans f l) ≡ ltb l a
-  unfolding apart ◌or◌
-  apart-behind h = rw (le-ltb b f h)
-
--- ---- equal GUIDs counted: n of the elements before i
-
-pub nots : (a b : Bool) → (not a || not b) ≡ not (a and b)
-unfolding ◌and◌
-nots true true = refl
-nots true false = refl
-nots false b = refl
-
-none-sum : (n m : ℕ) → eqb (n + m) 0 ≡ (eqb n 0 and eqb m 0)
-unfolding ◌and◌
-none-sum n m = go (ℕ_discrete n 0)
-  where
-    go : Dec (n ≡ 0) → eqb (n + m) 0 ≡ (eqb n 0 and eqb m 0)
-    go (yes e) = rw (e, zero-add m)
-    go (no e) = rw (ne_eqb n 0 e) (ne_eqb (n + m) 0 (λ q. e (omega arith)))
-
-and-join : (a b c : Bool) → (a and b and c) ≡ (a and (b and c))
-unfolding ◌and◌
-and-join true b c = refl
-and-join false b c = refl
-
-module _ {A : Type 0} (p : A → Bool) (xs : List A) (n i : ℕ) where
-  pub none-on : (d : A) → i < length xs → (m : ℕ) → eqb m 0 ≡ p (get_or xs i d) → (eqb (n + m) 0 and all p (drop (i + 1) xs)) ≡ (eqb n 0 and all p (drop i xs))
-  none-on d h m e =
-      ap (λ (b : Bool). b and all p (drop (i + 1) xs)) (none-sum n m) ∙ and-join _ _ _
-      ∙ ap (λ (b : Bool). eqb n 0 and b) (ap₂ (λ (b : Bool) (k : ℕ). b and all p (drop k xs)) e (add-one i) ∙ sym (ap (all p) (drop-cons xs i d h)))
-
-  pub none_done : length xs ≤ i → (eqb n 0 and all p (drop i xs)) ≡ eqb n 0
-  unfolding ◌and◌
-  none_done h = rw (all_done p xs i h) (go (eqb n 0))
+module _ (e d : List ℕ) (we : Whole e) (wd : Whole d) where
+  same_number : same (unique_of e) (unique_of d) ≡ eqb (guid_of e) (guid_of d)
+  same_number = eq-from _ _ (λ h. eq-eqb _ _ (ap unle (same_true _ _ h))) back
     where
-      go : (b : Bool) → (b and true) ≡ b
-      go true = refl
-      go false = refl
-
--- ---- two entries
-
-halves : (e : List ℕ) → part 16 16 e ≡ part 16 8 e ++ part 24 8 e
-unfolding part
-halves e = take-add 8 8 (drop 16 e) ∙ ap (λ (r : List ℕ). take 8 (drop 16 e) ++ take 8 r) (drop-drop 8 16 e)
-
-module _ (e d : List ℕ) (le : length e ≡ 128) (ld : length d ≡ 128)
-    (be : (j : ℕ) → j < 128 → get_or e j 0 < 256) (bd : (j : ℕ) → j < 128 → get_or d j 0 < 256) where
-  same_half : (at : ℕ) → at + 8 ≤ 128 → eqb (field at 8 e) (field at 8 d) ≡ true → part at 8 e ≡ part at 8 d
-  same_half at h q =
-      field-same at 8 e d (omega arith) (omega arith) (λ j k. be j (omega arith)) (λ j k. bd j (omega arith)) (eqb-true _ _ q)
-
-  half-same : (i : ℕ) → i + 8 ≤ 16 → part 16 16 e ≡ part 16 16 d → eqb (field (16 + i) 8 e) (field (16 + i) 8 d) ≡ true
-  half-same i h q =
-      eq-eqb _ _ (ap unle (sym (part-part i 8 16 16 e h) ∙ ap (part i 8) q ∙ part-part i 8 16 16 d h))
-
-  same_numbers : same (unique_of e) (unique_of d) ≡ (eqb (field 16 8 e) (field 16 8 d) and eqb (field 24 8 e) (field 24 8 d))
-  same_numbers = eq-from _ _ forth back
-    where
-      forth : same (unique_of e) (unique_of d) ≡ true → (eqb (field 16 8 e) (field 16 8 d) and eqb (field 24 8 e) (field 24 8 d)) ≡ true
-      forth h = let q = same_true _ _ h in and_i _ _ (half-same 0 (omega arith) q) (half-same 8 (omega arith) q)
-
-      back : (eqb (field 16 8 e) (field 16 8 d) and eqb (field 24 8 e) (field 24 8 d)) ≡ true → same (unique_of e) (unique_of d) ≡ true
+      back : eqb (guid_of e) (guid_of d) ≡ true → same (unique_of e) (unique_of d) ≡ true
       back h =
-          let q : part 16 16 e ≡ part 16 16 d =
-          halves e ∙ ap₂ ◌++◌ (same_half 16 (omega arith) (and_l _ _ h)) (same_half 24 (omega arith) (and_r _ _ h)) ∙ sym (halves d) in
-          subst (λ (r : List ℕ). same (part 16 16 e) r ≡ true) q (same_refl (part 16 16 e))
+          let q = field-same 16 16 e d (omega (arith, we.0)) (omega (arith, wd.0)) (λ j k. we.1 j) (λ j k. wd.1 j) (eqb-true _ _ h) in
+          subst (λ (r : List ℕ). same (unique_of e) r ≡ true) q (same_refl (unique_of e))
 
--- ---- entry i and entry j, from the numbers
+abbrev other : ℕ → ℕ → Bool
+other a b = not (eqb a b)
 
-module _ {es : List (List ℕ)} {u v : List ℕ} {n : ℕ} (w : Guids es u v n) (i j : ℕ) (p : i < n) (q : j < n) where
-  pub differ-at : differ (get_or es i []) (get_or es j []) ≡ not (eqb (get_or u i 0) (get_or u j 0) and eqb (get_or v i 0) (get_or v j 0))
-  differ-at =
-      ap not (same_numbers (get_or es i []) (get_or es j []) (w.long i p) (w.long j q) (λ k h. w.bytes i k p h) (λ k h. w.bytes j k q h))
-      ∙ sym (rw (low-at w.halves i p, high-at w.halves i p, low-at w.halves j q, high-at w.halves j q))
+other-both : (a b : ℕ) → other a b ≡ other b a
+other-both a b = ap not (eq-from _ _ (λ h. eq-eqb b a (sym (eqb-true a b h))) (λ h. eq-eqb a b (sym (eqb-true b a h))))
+
+abbrev Each : List (List ℕ) → Type 0
+Each es = (i : ℕ) → i < length es → Whole (get_or es i [])
+
+all-numbered : (e : List ℕ) → Whole e → (es : List (List ℕ)) → Each es → all (differ e) es ≡ all (other (guid_of e)) (map guid_of es)
+all-numbered e w [] f = refl
+all-numbered e w (d ∷ es) f =
+    ap₂ (λ (a b : Bool). a and b) (ap not (same_number e d w (f zero (zero-lt-suc _)))) (all-numbered e w es (λ i h. f (suc i) (suc-le-suc h)))
+
+pub pairs-numbered : (es : List (List ℕ)) → Each es → pairs differ es ≡ pairs other (map guid_of es)
+pairs-numbered [] f = refl
+pairs-numbered (e ∷ es) f =
+    ap₂ (λ (a b : Bool). a and b) (all-numbered e (f zero (zero-lt-suc _)) es (λ i h. f (suc i) (suc-le-suc h)))
+    (pairs-numbered es (λ i h. f (suc i) (suc-le-suc h)))
+
+-- numbers in order differ where each is below the next
+module _ (gs : List ℕ) (up : IsNonDecreasingBy (λ x. x) gs) where
+  rising : (r : Bool) → IsAllAdjacentAnswer (λ x y b. b ≡ ltb x y) gs r → r ≡ pairs other gs
+  rising true w =
+      sym (pairs-make other gs 0
+      (λ i j h k.
+      let below : get_or gs i 0 < get_or gs (i + 1) 0 = ltb-true _ _ (sym (w i 0 (omega arith))) in
+      let far = up (i + 1) j 0 (omega arith) k in
+      ap not (ne_eqb _ _ (λ e. omega arith))))
+  rising false (k, h, w) = ⊎_elim (λ q. absurd (go q)) (λ q. sym q) (bool_cases (pairs other gs))
+    where
+      go : pairs other gs ≡ true → ⊥
+      go q =
+          let here = up k (k + 1) 0 (omega arith) h in
+          let not-below : get_or gs (k + 1) 0 ≤ get_or gs k 0 = ltb-false _ _ (sym (w 0)) in
+          clash (pairs-get other gs 0 q k (k + 1) (omega arith) h) (ap not (eq-eqb _ _ (omega arith)))
+
+pub guids-in_order : (es : List (List ℕ)) → Each es → (gs : List ℕ) → IsPermutation (map guid_of es) gs
+    → IsNonDecreasingBy (λ x. x) gs → (r : Bool) → IsAllAdjacentAnswer (λ x y b. b ≡ ltb x y) gs r
+    → r ≡ pairs differ es
+guids-in_order es each gs same up r w =
+    rising gs up r w ∙ sym (pairs-permuted other other-both (map guid_of es) gs same) ∙ sym (pairs-numbered es each)
 
 -- ---- ranges in order
 
-module _ (f l : List ℕ) (n : ℕ) (asc : Ascending 1 n f) where
-  apart-at : (i j : ℕ) → i < j → j < n → get_or l i 0 < get_or f (i + 1) 0
-      → apart (get_or (ranges f l n) i no_blocks) (get_or (ranges f l n) j no_blocks) ≡ true
-  apart-at i j h k e =
-      let z = ascends n f asc (i + 1) (j - (i + 1)) (omega arith) in
-      let y : i + 1 + (j - (i + 1)) ≡ j = omega arith in
-      let x : get_or f (i + 1) 0 ≤ get_or f j 0 = subst (λ (m : ℕ). get_or f (i + 1) 0 ≤ get_or f m 0) y z in
-      ap₂ apart (get_or-ranges f l n i (omega arith)) (get_or-ranges f l n j k) ∙ apart-before _ _ _ _ (omega arith)
+module _ (a b f l : ℕ) where
+  apart-before : b < f → apart (spans a b) (spans f l) ≡ true
+  unfolding apart ◌or◌
+  apart-before h = rw (lt-ltb b f h)
 
-  pub apart-all : ((k : ℕ) → k + 1 < n → get_or l k 0 < get_or f (k + 1) 0) → pairs apart (ranges f l n) ≡ true
-  apart-all g =
-      pairs-make apart (ranges f l n) no_blocks
-      (λ i j h k. let k' : j < n = omega (arith, length-ranges f l n) in apart-at i j h k' (g i (omega arith)))
-
-  pub apart-not : (i : ℕ) → i + 1 < n → get_or f (i + 1) 0 ≤ get_or l (i + 1) 0 → get_or f (i + 1) 0 ≤ get_or l i 0 → pairs apart (ranges f l n) ≡ false
-  apart-not i h own e = ⊎_elim (λ q. absurd (go q)) (λ q. q) (bool_cases (pairs apart (ranges f l n)))
-    where
-      not-apart : apart (get_or (ranges f l n) i no_blocks) (get_or (ranges f l n) (i + 1) no_blocks) ≡ false
-      not-apart =
-          let z = asc i h in
-          ap₂ apart (get_or-ranges f l n i (omega arith)) (get_or-ranges f l n (i + 1) h) ∙ apart-behind _ _ _ _ e
-          ∙ le-ltb (get_or l (i + 1) 0) (get_or f i 0) (omega arith)
-
-      go : pairs apart (ranges f l n) ≡ true → ⊥
-      go q = clash (pairs-get apart (ranges f l n) no_blocks q i (i + 1) (omega arith) (omega (arith, length-ranges f l n))) not-apart
+  apart-behind : f ≤ b → apart (spans a b) (spans f l) ≡ ltb l a
+  unfolding apart ◌or◌
+  apart-behind h = rw (le-ltb b f h)
 
 -- ---- the whole table
 
@@ -247,54 +189,83 @@ apart-both no_blocks (spans g m) = refl
 apart-both (spans f l) no_blocks = refl
 apart-both (spans f l) (spans g m) = or-both (ltb l g) (ltb m f)
 
+abbrev none_range : Range
+none_range = record { first = record { 0 = 0 }; last = record { 0 = 0 } }
+
+pub blocks-in : (es : List (List ℕ)) → ((i : ℕ) → i < length es → unused (get_or es i []) ≡ false) → map blocks_of (map range_in es) ≡ map range_of es
+blocks-in [] f = refl
+blocks-in (e ∷ es) f = ap₂ (λ s l. s ∷ l) (sym (range-used e (f zero (zero-lt-suc _)))) (blocks-in es (λ i h. f (suc i) (suc-le-suc h)))
+
+each-used : (t : List (List ℕ)) (i : ℕ) → i < length (used t) → unused (get_or (used t) i []) ≡ false
+each-used t i h = (used-each (λ e. ℕ) t (λ j k. 0) i h).0
+
+-- ranges that ascend share no block where each ends before the next begins
+module _ (rs : List Range) (up : IsNonDecreasingBy (λ r. r.first.0) rs) (proper : (k : ℕ) → k < length rs → (get_or rs k none_range).first.0 ≤ (get_or rs k none_range).last.0) where
+  block_at : (k : ℕ) → k < length rs → get_or (map blocks_of rs) k no_blocks ≡ blocks_of (get_or rs k none_range)
+  block_at k h = get_d_map blocks_of rs k no_blocks none_range h
+
+  apart_in : (r : Bool) → IsAllAdjacentAnswer (λ x y b. b ≡ ltb x.last.0 y.first.0) rs r → r ≡ pairs apart (map blocks_of rs)
+  apart_in true w =
+      sym (pairs-make apart (map blocks_of rs) no_blocks
+      (λ i j h k.
+      let k' : j < length rs = omega (arith, length-map rs blocks_of) in
+      let below : (get_or rs i none_range).last.0 < (get_or rs (i + 1) none_range).first.0 = ltb-true _ _ (sym (w i none_range (omega arith))) in
+      let far = up (i + 1) j none_range (omega arith) k' in
+      ap₂ apart (block_at i (omega arith)) (block_at j k') ∙ apart-before _ _ _ _ (omega arith)))
+  apart_in false (k, h, w) = ⊎_elim (λ q. absurd (go q)) (λ q. sym q) (bool_cases (pairs apart (map blocks_of rs)))
+    where
+      not-apart : apart (get_or (map blocks_of rs) k no_blocks) (get_or (map blocks_of rs) (k + 1) no_blocks) ≡ false
+      not-apart =
+          let here = up k (k + 1) none_range (omega arith) h in
+          let own = proper (k + 1) h in
+          ap₂ apart (block_at k (omega arith)) (block_at (k + 1) h) ∙ apart-behind _ _ _ _ (ltb-false _ _ (sym (w none_range)))
+          ∙ le-ltb _ _ (omega arith)
+
+      go : pairs apart (map blocks_of rs) ≡ true → ⊥
+      go q = clash (pairs-get apart (map blocks_of rs) no_blocks q k (k + 1) (omega arith) (omega (arith, length-map rs blocks_of))) not-apart
+
+proper-in : (es : List (List ℕ)) → NoneEmpty es → (rs : List Range) → IsPermutation (map range_in es) rs → (k : ℕ) → k < length rs
+    → (get_or rs k none_range).first.0 ≤ (get_or rs k none_range).last.0
+proper-in es f rs same k h = All-permutation (λ r. r.first.0 ≤ r.last.0) (map range_in es) rs same start k none_range h
+  where
+    start : (i : ℕ) (d : Range) → i < length (map range_in es) → (get_or (map range_in es) i d).first.0 ≤ (get_or (map range_in es) i d).last.0
+    start i d z =
+        let z' : i < length es = omega (arith, length-map es range_in) in
+        subst (λ (r : Range). r.first.0 ≤ r.last.0) (sym (get_d_map range_in es i d [] z')) (f i z')
+
+pub ranges-in_order : (t : List (List ℕ)) → NoneEmpty (used t) → {rs : List Range} → InOrder t rs → (r : Bool)
+    → IsAllAdjacentAnswer (λ x y b. b ≡ ltb x.last.0 y.first.0) rs r → r ≡ pairs apart (map range_of (used t))
+ranges-in_order t f {rs} w r a =
+    apart_in rs w.ascending (proper-in (used t) f rs w.same) r a
+    ∙ sym (pairs-permuted apart apart-both _ _ (IsPermutation-map blocks_of (map range_in (used t)) rs w.same))
+    ∙ ap (pairs apart) (blocks-in (used t) (each-used t))
+
+-- ---- all rules together
+
 module _ (first last : ℕ) (t : List (List ℕ)) where
-  pub good-not : all (entry_ok first last) t ≡ false → good_entries first last t ≡ false
+  pub good-not : all (entry_ok first last) t ≡ false → false ≡ good_entries first last t
   unfolding good_entries ◌and◌
-  good-not h = rw h
+  good-not h = sym (rw h)
 
   module _ (ok : all (entry_ok first last) t ≡ true) where
     good-split : (pairs differ (used t) and pairs apart (map range_of (used t))) ≡ good_entries first last t
     unfolding good_entries ◌and◌
-    good-split =
-        sym (pairs-split (used t) (λ i h. (used-each (λ e. ℕ) t (λ j k. 0) i h).0)) ∙ pairs-used t ∙ sym (rw ok)
+    good-split = sym (pairs-split (used t) (each-used t)) ∙ pairs-used t ∙ sym (rw ok)
 
-    all-bounded : all (bounded first last) (map range_of (used t)) ≡ true
-    all-bounded =
-        all-make (bounded first last) (map range_of (used t)) no_blocks
-        (λ i h.
-        let h' : i < length (used t) = omega (arith, length-map (used t) range_of) in
-        let w = used-each (λ e. entry_ok first last e ≡ true) t (λ j k. all-get (entry_ok first last) t [] ok j k) i h' in
-        ap (bounded first last) (get_d_map range_of (used t) i no_blocks [] h') ∙ ok-bounded first last _ w.0 w.1)
-
-    pub good-guids : pairs differ (used t) ≡ false → good_entries first last t ≡ false
+    pub good-guids : pairs differ (used t) ≡ false → false ≡ good_entries first last t
     unfolding ◌and◌
-    good-guids h = sym good-split ∙ rw h
+    good-guids h = rw h at good-split
 
-    module _ {f l : List ℕ} {n : ℕ} (w : InOrder t f l n) where
-      pub good-ranges : pairs differ (used t) ≡ true → pairs apart (ranges f l n) ≡ good_entries first last t
-      unfolding ◌and◌
-      good-ranges h = reordered-pairs apart apart-both w.same ∙ rw h at good-split
+    pub good-ranges : pairs differ (used t) ≡ true → pairs apart (map range_of (used t)) ≡ good_entries first last t
+    unfolding ◌and◌
+    good-ranges h = rw h at good-split
 
-      -- no range is empty
-      pub ranges-proper : (k : ℕ) → k < n → get_or f k 0 ≤ get_or l k 0
-      unfolding bounded
-      ranges-proper k h =
-          let b = subst (λ (s : BlockRange). bounded first last s ≡ true) (get_or-ranges f l n k h)
-          (all-get (bounded first last) (ranges f l n) no_blocks (reordered-all (bounded first last) w.same all-bounded) k
-          (omega (arith, length-ranges f l n))) in
-          leb-true _ _ (and_r _ _ (and_l _ _ b))
-
--- a table's unique GUIDs decoded
-module _ (t : List (List ℕ)) (size : length t ≡ 128) (whole : (i : ℕ) → i < 128 → Whole (get_or t i [])) where
-  pub used-guids : {u v : List ℕ} {n : ℕ} → Decoded (used t) 16 u v n → Guids (used t) u v n
-  used-guids d =
-      let c = d.count in
-      let both = used-each Whole t (λ i h. whole i (omega arith)) in
-      record {
-        halves = d;
-        long = λ i h. (both i (omega arith)).1.0;
-        bytes = λ i j h k. (both i (omega arith)).1.1 j;
-      }
+    pub none-empty : NoneEmpty (used t)
+    unfolding bounded
+    none-empty i h =
+        let w = used-each (λ e. entry_ok first last e ≡ true) t (λ j k. all-get (entry_ok first last) t [] ok j k) i h in
+        let b = subst (λ (s : BlockRange). bounded first last s ≡ true) (range-used _ w.0) (ok-bounded first last _ w.0 w.1) in
+        leb-true _ _ (and_r _ _ (and_l _ _ b))
 
 -- the entries of a table's bytes
 pub good_is : (first last : ℕ) (bytes : List ℕ) (t : List (List ℕ)) → t ≡ entries bytes → good_entries first last t ≡ good_table first last bytes

@@ -1,6 +1,5 @@
 pub mod Entries
 pub mod Names
 pub mod Used
-pub mod Exchanges
-pub mod Reorders
+pub mod Permuted
 pub mod Good

@@ -7,17 +7,14 @@ use Prim.Native.Nat.{ℕ, zero, suc, ◌+◌, ◌≤◌, ◌<◌, suc-le-suc}
 use native.Mathlib.Nat.{not-suc-le-zero, le_of_suc-le-suc}
 use native.Mathlib.Numerals.{add-one}
 use native.Mathlib.Omega.{arith}
-use lib.ListN
-use lib.ListN.{length, get_or, set, take, drop, length-append, length-map, length-set}
-use lib.Seq.{take-suc, take-suc-set, take_all, get_or-take, ext_get_or}
+use lib.ListN.{length, get_or, set, take, length-set}
+use lib.Seq.{take-suc, take-suc-set, take_all}
 use Rattle.octets.specs.Tests.{◌or◌}
-use Rattle.octets.specs.Bytes.{field}
 use Rattle.octets.proofs.Bools.{bool_cases}
 use Rattle.gpt_model.specs.Ranges.{block_in, in_some}
-use Rattle.gpt_model.specs.Table.{no_blocks, spans, unused, range_of}
-use Rattle.gpt_model.proofs.Walk.{get_d_map}
-use Rattle.gpt_model.proofs.Entries.{range-unused, range-used, range-nil}
-use Rattle.gpt_table.specs.Invariants.{used, Decoded, ranges}
+use Rattle.gpt_model.specs.Table.{no_blocks, unused, range_of}
+use Rattle.gpt_model.proofs.Entries.{range-unused, range-nil}
+use Rattle.gpt_table.specs.Invariants.{Whole, used, Decoded}
 
 -- ---- the used ones of a list
 
@@ -66,107 +63,55 @@ module _ (es : List (List ℕ)) (i : ℕ) (h : i < length es) where
       ap (λ (k : ℕ). used (take k es)) (add-one i) ∙ ap used (take-suc es i [] h) ∙ used-append (take i es) (get_or es i [] ∷ [])
       ∙ ap (λ (l : List (List ℕ)). used (take i es) ++ l) (used-yes (get_or es i []) [] q)
 
-map_more : (p : List ℕ → ℕ) (es : List (List ℕ)) (e : List ℕ) → map p (es ++ (e ∷ [])) ≡ map p es ++ (p e ∷ [])
-map_more p [] e = refl
-map_more p (d ∷ es) e = ap (λ (l : List ℕ). p d ∷ l) (map_more p es e)
+map_more : {X : Type 0} (f : List ℕ → X) (es : List (List ℕ)) (e : List ℕ) → map f (es ++ (e ∷ [])) ≡ map f es ++ (f e ∷ [])
+map_more f [] e = refl
+map_more f (d ∷ es) e = ap (λ l. f d ∷ l) (map_more f es e)
 
-column-more : (p : List ℕ → ℕ) (es : List (List ℕ)) (e x : List ℕ) (n v : ℕ) → n < length x → v ≡ p e → take n x ≡ map p es
-    → take (n + 1) (set x n v) ≡ map p (es ++ (e ∷ []))
-column-more p es e x n v h q f =
-    ap (λ (k : ℕ). take k (set x n v)) (add-one n) ∙ take-suc-set x n v h ∙ ap₂ (λ (l : List ℕ) (w : ℕ). l ++ (w ∷ [])) f q ∙ sym (map_more p es e)
-
-pub record Decoding (es : List (List ℕ)) (at : ℕ) (x y : List ℕ) (n i : ℕ) : Type 0 where
+-- the first n of xs, of 128, are what f makes of the used ones of the first i of es
+pub record Decoding {X : Type 0} (f : List ℕ → X) (es : List (List ℕ)) (xs : List X) (n i : ℕ) : Type 0 where
   pub turn : i ≤ 128
   pub fewer : n ≤ i
-  pub so_far : Decoded (used (take i es)) at x y n
+  pub long : length xs ≡ 128
+  pub taken : take n xs ≡ map f (used (take i es))
 
-pub decoding-start : (es : List (List ℕ)) (at : ℕ) (x y : List ℕ) → length x ≡ 128 → length y ≡ 128 → Decoding es at x y 0 0
-decoding-start es at x y p q =
+pub decoding-start : {X : Type 0} (f : List ℕ → X) (es : List (List ℕ)) (xs : List X) → length xs ≡ 128 → Decoding f es xs 0 0
+decoding-start f es xs l = record { turn = omega arith; fewer = omega arith; long = l; taken = refl }
+
+module _ {X : Type 0} {f : List ℕ → X} {es : List (List ℕ)} {xs : List X} {n i : ℕ} (size : length es ≡ 128) (h : i < 128) (d : Decoding f es xs n i) where
+  pub decoding-skip : unused (get_or es i []) ≡ true → Decoding f es xs n (i + 1)
+  decoding-skip q =
+      record { turn = omega arith; fewer = omega (arith, d.fewer); long = d.long; taken = d.taken ∙ ap (map f) (sym (used-skip es i (omega arith) q)) }
+
+  pub decoding-more : {x : X} → unused (get_or es i []) ≡ false → x ≡ f (get_or es i []) → Decoding f es (set xs n x) (n + 1) (i + 1)
+  decoding-more {x} q e =
+      let fewer = d.fewer in
+      let long = d.long in
+      record {
+        turn = omega arith;
+        fewer = omega arith;
+        long = length-set xs n x ∙ long;
+        taken = ap (λ (k : ℕ). take k (set xs n x)) (add-one n) ∙ take-suc-set xs n x (omega arith) ∙ ap₂ (λ l w. l ++ (w ∷ [])) d.taken e
+            ∙ sym (map_more f (used (take i es)) (get_or es i [])) ∙ ap (map f) (sym (used-more es i (omega arith) q));
+      }
+
+pub decoding-as : {X : Type 0} {f : List ℕ → X} {es : List (List ℕ)} {xs xs' : List X} {n n' i : ℕ} → xs' ≡ xs → n' ≡ n → Decoding f es xs n i
+    → Decoding f es xs' n' i
+decoding-as p q d = rw (p, q) d
+
+-- the entries es are those of t but the one left out, each of t has 128 bytes
+pub decoding-end : {X : Type 0} {f : List ℕ → X} {es : List (List ℕ)} {xs : List X} {n i : ℕ} → length es ≡ 128 → 128 ≤ i
+    → ((k : ℕ) → k < length es → unused (get_or es k []) ≡ false → Whole (get_or es k [])) → Decoding f es xs n i → Decoded f (used es) xs n
+decoding-end {f} {es} {n = n} {i = i} size h whole d =
     record {
-      turn = omega arith;
-      fewer = omega arith;
-      so_far = record { most = omega arith; count = refl; long_x = p; long_y = q; low = refl; high = refl };
+      most = omega (arith, d.fewer, d.turn);
+      taken = d.taken ∙ ap (λ (l : List (List ℕ)). map f (used l)) (take_all i es (omega arith));
+      whole = λ k z. let w = used-each (λ e. unused e ≡ false → Whole e) es whole k z in w.1 w.0;
     }
 
-module _ {es : List (List ℕ)} {at : ℕ} {x y : List ℕ} {n i : ℕ} (size : length es ≡ 128) (h : i < 128) (d : Decoding es at x y n i) where
-  pub decoding-skip : unused (get_or es i []) ≡ true → Decoding es at x y n (i + 1)
-  decoding-skip q =
-      record {
-        turn = omega arith;
-        fewer = omega (arith, d.fewer);
-        so_far = subst (λ (l : List (List ℕ)). Decoded l at x y n) (sym (used-skip es i (omega arith) q)) d.so_far;
-      }
-
-  pub decoding-more : {a b : ℕ} → unused (get_or es i []) ≡ false → a ≡ field at 8 (get_or es i []) → b ≡ field (at + 8) 8 (get_or es i [])
-      → Decoding es at (set x n a) (set y n b) (n + 1) (i + 1)
-  decoding-more {a} {b} q ea eb =
-      let e : List ℕ = get_or es i [] in
-      let k : n < 128 = omega (arith, d.fewer) in
-      let s' = d.so_far in
-      let r = s'.long_x in
-      let s = s'.long_y in
-      record {
-        turn = omega arith;
-        fewer = omega (arith, d.fewer);
-        so_far = subst (λ (l : List (List ℕ)). Decoded l at (set x n a) (set y n b) (n + 1)) (sym (used-more es i (omega arith) q))
-            (record {
-              most = omega arith;
-              count = length-append (used (take i es)) (e ∷ []) ∙ omega (arith, s'.count);
-              long_x = length-set x n a ∙ r;
-              long_y = length-set y n b ∙ s;
-              low = column-more (field at 8) (used (take i es)) e x n a (omega arith) ea s'.low;
-              high = column-more (field (at + 8) 8) (used (take i es)) e y n b (omega arith) eb s'.high;
-            });
-      }
-
-pub decoding-as : {es : List (List ℕ)} {at : ℕ} {x y x' y' : List ℕ} {n n' i : ℕ} → x' ≡ x → y' ≡ y → n' ≡ n → Decoding es at x y n i
-    → Decoding es at x' y' n' i
-decoding-as p q r d = rw (p, q, r) d
-
-pub decoding-end : {es : List (List ℕ)} {at : ℕ} {x y : List ℕ} {n i : ℕ} → length es ≡ 128 → 128 ≤ i → Decoding es at x y n i → Decoded (used es) at x y n
-decoding-end {es} {at} {x} {y} {n} {i} size h d = subst (λ (l : List (List ℕ)). Decoded (used l) at x y n) (take_all i es (omega arith)) d.so_far
-
--- ---- what the numbers say
-
-module _ (es : List (List ℕ)) (x : List ℕ) (n : ℕ) (p : List ℕ → ℕ) (c : length es ≡ n) (f : take n x ≡ map p es) where
-  column-at : (i : ℕ) → i < n → get_or x i 0 ≡ p (get_or es i [])
-  column-at i h = sym (get_or-take n x i 0 h) ∙ ap (λ (l : List ℕ). get_or l i 0) f ∙ get_d_map p es i 0 [] (omega arith)
-
-module _ {es : List (List ℕ)} {at : ℕ} {x y : List ℕ} {n : ℕ} (d : Decoded es at x y n) where
-  pub low-at : (i : ℕ) → i < n → get_or x i 0 ≡ field at 8 (get_or es i [])
-  low-at i h = column-at es x n (field at 8) d.count d.low i h
-
-  pub high-at : (i : ℕ) → i < n → get_or y i 0 ≡ field (at + 8) 8 (get_or es i [])
-  high-at i h = column-at es y n (field (at + 8) 8) d.count d.high i h
-
-pub length-ranges : (f l : List ℕ) (n : ℕ) → length (ranges f l n) ≡ n
-length-ranges f l zero = refl
-length-ranges f l (suc n) = ap suc (length-ranges (drop 1 f) (drop 1 l) n)
-
-get_d_tail : (f : List ℕ) (i : ℕ) → get_or (drop 1 f) i 0 ≡ get_or f (suc i) 0
-get_d_tail [] zero = refl
-get_d_tail [] (suc i) = refl
-get_d_tail (x ∷ f) i = refl
-
-pub get_or-ranges : (f l : List ℕ) (n i : ℕ) → i < n → get_or (ranges f l n) i no_blocks ≡ spans (get_or f i 0) (get_or l i 0)
-get_or-ranges f l zero i h = absurd (not-suc-le-zero h)
-get_or-ranges f l (suc n) zero h = refl
-get_or-ranges f l (suc n) (suc i) h = get_or-ranges (drop 1 f) (drop 1 l) n i (le_of_suc-le-suc h) ∙ ap₂ spans (get_d_tail f i) (get_d_tail l i)
+-- ---- blocks
 
 pub slot-nil : range_of [] ≡ no_blocks
 slot-nil = range-nil
-
-pub ranges-slots : (es : List (List ℕ)) (f l : List ℕ) (n : ℕ) → Decoded es 32 f l n → ((i : ℕ) → i < n → unused (get_or es i []) ≡ false)
-    → ranges f l n ≡ map range_of es
-ranges-slots es f l n d u =
-    let c = d.count in
-    ext_get_or no_blocks (ranges f l n) (map range_of es) (omega (arith, length-ranges f l n, length-map es range_of))
-    (λ i h. go i (omega (arith, length-ranges f l n)))
-  where
-    go : (i : ℕ) → i < n → get_or (ranges f l n) i no_blocks ≡ get_or (map range_of es) i no_blocks
-    go i h =
-        get_or-ranges f l n i h ∙ ap₂ spans (low-at d i h) (high-at d i h) ∙ sym (range-used (get_or es i []) (u i h))
-        ∙ sym (ap (get_or (map range_of es) i) (sym slot-nil) ∙ ListN.get_or-map range_of es i [])
 
 inside-none : (b : ℕ) → block_in b no_blocks ≡ false
 unfolding block_in

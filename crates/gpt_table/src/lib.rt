@@ -5,7 +5,7 @@
 pub mod order;
 pub mod rules;
 
-ghost use Rattle.std.specs.Prelude.{◌≡◌, [], ℕ, ◌+◌, ◌≤◌, ◌<◌, length, get_or, position};
+ghost use Rattle.std.specs.Prelude.{◌≡◌, List, [], ℕ, ◌+◌, ◌≤◌, ◌<◌, length, get_or, position};
 ghost use Rattle.octets.specs.Tests.{any};
 ghost use Rattle.octets.specs.Bytes.{part};
 ghost use Rattle.gpt_model.specs.Table.{entry_bytes, slot_count, table_bytes, unused, entries};
@@ -85,22 +85,22 @@ pub fn bad_name(name: &[u16]) -> bool
     false
 }
 
-// Two numbers of each used entry but the one left out: of the 8 bytes from `at` on, and of the 8 bytes behind them. Returns how many entries.
-fn decode(
-    t: &Table,
-    but: Option<usize>,
-    at: usize,
-    x: &mut [u64; SLOTS],
-    y: &mut [u64; SLOTS],
-) -> usize
-    requires { (at + 16 ≤ entry_bytes) × (length x.old ≡ slot_count) × (length y.old ≡ slot_count) }
-    ensures { Decoded (used (without but t.now)) at x.new y.new result × ((i : ℕ) → i < slot_count → Whole (get_or t.now i [])) }
+// What is read of a used entry.
+pub trait FromEntry: Copy {
+    ghost meaning: { List ℕ → Self };
+
+    fn from_entry(e: &Entry) -> Self
+        ensures { result ≡ meaning e.now };
+}
+
+// What is read of each used entry but the one left out, in front in `items`. Returns how many.
+fn decode<T: FromEntry>(t: &Table, but: Option<usize>, items: &mut [T; SLOTS]) -> usize
+    ensures { Decoded T.meaning (used (without but t.now)) items.new result }
 {
-    let mut n: usize = 0;
+    let mut n = 0;
     for (i, e) in t.iter().enumerate() {
         if wanted(but, i, e) {
-            x[n] = octets::load(e, at);
-            y[n] = octets::load(e, at + 8);
+            items[n] = T::from_entry(e);
             n += 1;
         }
     }

@@ -1,39 +1,24 @@
-// The rules of a table: of each entry by itself, then of each two used entries, on numbers decoded once and on ranges in order.
-ghost use Rattle.std.specs.Prelude.{◌≡◌, not, List, [], ℕ, ◌+◌, ◌≤◌, ◌<◌, eqb, length, get_or, drop};
-ghost use Rattle.octets.specs.Tests.{◌and◌, all, pairs};
-ghost use Rattle.gpt_model.specs.Table.{spans, bounded as bounded_in, apart, slot_count, entry_ok};
-ghost use Rattle.gpt_table.specs.Invariants.{good_entries, differ, Guids, ranges, Ascending};
+// The rules of a table: of each entry by itself, then of each two used entries, on numbers decoded once and put in order.
+ghost use Rattle.std.specs.Prelude.{◌≡◌, map};
+ghost use Rattle.octets.specs.Tests.{all, pairs};
+ghost use Rattle.gpt_model.specs.Table.{bounded as bounded_in, apart, range_of, entry_ok};
+ghost use Rattle.gpt_table.specs.Invariants.{good_entries, blocks_of, used, differ, guid_of, NoneEmpty};
 
-use crate::{Entry, FIRST_AT, LAST_AT, SLOTS, Table, UNIQUE_AT, order};
+use crate::order::{self, Range};
+use crate::{Entry, FIRST_AT, FromEntry, SLOTS, Table, UNIQUE_AT};
 use gpt_model::Block;
 
-fn bounded(f: Block, l: Block, first: Block, last: Block) -> bool
-    ensures { result ≡ bounded_in first.0 last.0 (spans f.0 l.0) }
+fn bounded(r: Range, first: Block, last: Block) -> bool
+    ensures { result ≡ bounded_in first.0 last.0 (blocks_of r) }
 {
-    if f.0 < first.0 {
-        return false;
-    }
-    if l.0 < f.0 {
-        return false;
-    }
-    l.0 <= last.0
+    first.0 <= r.first.0 && r.first.0 <= r.last.0 && r.last.0 <= last.0
 }
 
 fn entry_ok(e: &Entry, first: Block, last: Block) -> bool
     ensures { result ≡ entry_ok first.0 last.0 e.now }
 {
-    if crate::is_unused(e) {
-        return true;
-    }
-    if octets::is_zero(&e[UNIQUE_AT..FIRST_AT]) {
-        return false;
-    }
-    bounded(
-        Block(octets::load(e, FIRST_AT)),
-        Block(octets::load(e, LAST_AT)),
-        first,
-        last,
-    )
+    crate::is_unused(e)
+        || !octets::is_zero(&e[UNIQUE_AT..FIRST_AT]) && bounded(Range::from_entry(e), first, last)
 }
 
 fn entries_ok(t: &Table, first: Block, last: Block) -> bool
@@ -42,77 +27,41 @@ fn entries_ok(t: &Table, first: Block, last: Block) -> bool
     t.iter().all(|e| entry_ok(e, first, last))
 }
 
-// 0 where two unique GUIDs, as two numbers each, differ, else 1.
-fn same(x: u64, y: u64, u: u64, v: u64) -> u64
-    ensures { (eqb result 0 ≡ not (eqb x u and eqb y v)) × (result ≤ 1) }
-{
-    if (x != u) | (y != v) {
-        return 0;
+// A unique GUID as one number.
+impl FromEntry for u128 {
+    ghost meaning = { guid_of };
+
+    fn from_entry(e: &Entry) -> u128 {
+        let low: u64 = octets::load(e, UNIQUE_AT);
+        let high: u64 = octets::load(e, UNIQUE_AT + 8);
+        u128::from(low) + 18446744073709551616 * u128::from(high)
     }
-    1
 }
 
-// GUID i differs from each behind it; lows and highs are the halves of the GUIDs. Those that are the same are counted: with no way out of the loop, two are
-// compared at once.
-fn differs_from_rest(lows: &[u64; SLOTS], highs: &[u64; SLOTS], count: usize, i: usize) -> bool
-    requires { (i < count) × (count ≤ slot_count) }
-    ensures { (es : List (List ℕ)) → Guids es lows.now highs.now count → result ≡ all (differ (get_or es i [])) (drop (i + 1) es) }
+// The unique GUIDs of used entries differ: in order, each is below the next.
+fn guids_differ(t: &Table) -> bool
+    ensures { result ≡ pairs differ (used t.now) }
 {
-    let x = lows[i];
-    let y = highs[i];
-    let mut found: u64 = 0;
-    let mut j = i + 1;
-    while j < count {
-        found += same(x, y, lows[j], highs[j]);
-        j += 1;
-    }
-    found == 0
+    let mut room = [0; SLOTS];
+    let count = crate::decode(t, None, &mut room);
+    let guids = &mut room[..count];
+    guids.sort_unstable();
+    guids.is_sorted_by(|a, b| a < b)
 }
 
-fn guids_differ(lows: &[u64; SLOTS], highs: &[u64; SLOTS], count: usize) -> bool
-    requires { count ≤ slot_count }
-    ensures { (es : List (List ℕ)) → Guids es lows.now highs.now count → result ≡ pairs differ es }
+// The ranges of used entries share no block: in order, each begins behind the one before it.
+fn ranges_apart(t: &Table) -> bool
+    requires { NoneEmpty (used t.now) }
+    ensures { result ≡ pairs apart (map range_of (used t.now)) }
 {
-    let mut i = 0;
-    while i < count {
-        if !differs_from_rest(lows, highs, count, i) {
-            return false;
-        }
-        i += 1;
-    }
-    true
-}
-
-// Ranges in order share no block: each begins behind the one before it.
-fn ranges_apart(firsts: &[u64; SLOTS], lasts: &[u64; SLOTS], count: usize) -> bool
-    requires { (count ≤ slot_count) × Ascending 1 count firsts.now × ((k : ℕ) → k < count → get_or firsts.now k 0 ≤ get_or lasts.now k 0) }
-    ensures { result ≡ pairs apart (ranges firsts.now lasts.now count) }
-{
-    let mut i = 0;
-    while i + 1 < count {
-        if firsts[i + 1] <= lasts[i] {
-            return false;
-        }
-        i += 1;
-    }
-    true
+    let mut room = [Range::NONE; SLOTS];
+    let ranges = order::ranges(t, None, &mut room);
+    ranges.is_sorted_by(|a, b| a.last.0 < b.first.0)
 }
 
 // All entries keep the rules.
 pub fn table_ok(t: &Table, first: Block, last: Block) -> bool
     ensures { result ≡ good_entries first.0 last.0 t.now }
 {
-    if !entries_ok(t, first, last) {
-        return false;
-    }
-    let mut lows = [0u64; SLOTS];
-    let mut highs = [0u64; SLOTS];
-    let guids = crate::decode(t, None, UNIQUE_AT, &mut lows, &mut highs);
-    if !guids_differ(&lows, &highs, guids) {
-        return false;
-    }
-    let mut firsts = [0u64; SLOTS];
-    let mut lasts = [0u64; SLOTS];
-    let count = order::ranges(t, None, &mut firsts, &mut lasts);
-    ranges_apart(&firsts, &lasts, count)
+    entries_ok(t, first, last) && guids_differ(t) && ranges_apart(t)
 }

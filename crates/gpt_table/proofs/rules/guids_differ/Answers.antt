@@ -1,30 +1,14 @@
-use mathlib.Core.List.{[]}
-use mathlib.Core.Path.{refl, sym, ◌∙◌}
-use native.Mathlib.Omega.{arith}
-use Rattle.octets.proofs.Tests.{pairs-on, pairs-stop, pairs-done}
-use Rattle.gpt_table.specs.Invariants.{differ}
+use Rattle.std.proofs.Common.{ℕ, ltb, rules}
+use borrow.Author.Tests.{tests}
+use Rattle.std.proofs.lemmas.List.Sorted.{answers_always, IsNonDecreasingBy-from_sort}
+use Rattle.gpt_table.specs.Invariants.{used}
+use Rattle.gpt_table.proofs.Good.{guids-in_order}
 use Rattle.gpt_table.proofs.rules.guids_differ.Goals as goal
 
-pub loop-i-init : goal.loop-i-init
-loop-i-init c = (omega arith, λ es w. refl)
-
-pub returns-then-not-differs_from_rest : goal.returns-then-not-differs_from_rest
-returns-then-not-differs_from_rest c = λ es w.
-    let l = c.loop-i in
-    let k = w.halves.count in
-    sym (sym (l.invariant.1 es w) ∙ pairs-stop differ es [] l.i (omega arith) (sym (c.differs_from_rest.ensures es w) ∙ c.if-not-differs_from_rest.true))
-
-pub loop-i-preserved : goal.loop-i-preserved
-loop-i-preserved c = (
-  omega arith,
-  λ es w.
-      let l = c.loop-i in
-      let k = w.halves.count in
-      sym (pairs-on differ es [] l.i (omega arith) (sym (c.differs_from_rest.ensures es w) ∙ c.if-not-differs_from_rest.false)) ∙ l.invariant.1 es w,
-)
-
 pub returns : goal.returns
-returns c = λ es w.
-    let l = c.loop-i in
-    let k = w.halves.count in
-    sym (sym (l.invariant.1 es w) ∙ pairs-done differ es l.i (omega arith))
+returns c =
+    let read = c.decode-count.ensures in
+    let sorted = c.sort_unstable.ensures in
+    guids-in_order (used c.args.t.now) read.whole c.sort_unstable.new.self (rw read.taken at sorted.permutation)
+    (IsNonDecreasingBy-from_sort (λ (x : ℕ). x) _ sorted.sorted) c.is_sorted_by.result
+    (c.is_sorted_by.ensures.cases (λ (x y : ℕ). ltb x y) (answers_always _ _ _ (λ f a r g k. search (rules, tests))))

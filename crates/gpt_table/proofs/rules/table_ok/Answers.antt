@@ -1,28 +1,35 @@
 use mathlib.Core.Path.{sym, ◌∙◌}
-use Rattle.gpt_table.proofs.Good.{good-not, good-guids, good-ranges, ranges-proper, used-guids}
+use Rattle.octets.proofs.Bools.{clash}
+use Rattle.gpt_table.proofs.Good.{good-not, good-guids, good-ranges, none-empty}
 use Rattle.gpt_table.proofs.rules.table_ok.Goals as goal
-
-pub returns-then-not-entries_ok : goal.returns-then-not-entries_ok
-returns-then-not-entries_ok c = sym (good-not _ _ _ (sym c.entries_ok.ensures ∙ c.if-not-entries_ok.true))
-
-pub returns-then-not-guids_differ : goal.returns-then-not-guids_differ
-returns-then-not-guids_differ c =
-    let a = c.args in
-    let ok = sym c.entries_ok.ensures ∙ c.if-not-entries_ok.false in
-    let g = used-guids a.t.now c.told-t c.decode-guids.ensures.1 c.decode-guids.ensures.0 in
-    sym (good-guids a.first.0 a.last.0 a.t.now ok (sym (c.guids_differ.ensures _ g) ∙ c.if-not-guids_differ.true))
+use Rattle.gpt_table.proofs.rules.table_ok.Goals.{then-entries_ok, else-entries_ok}
 
 pub ranges_apart-requires : goal.ranges_apart-requires
 ranges_apart-requires c =
     let a = c.args in
-    let w = c.ranges-count.ensures in
-    let ok = sym c.entries_ok.ensures ∙ c.if-not-entries_ok.false in
-    (w.most, w.ascending, ranges-proper a.first.0 a.last.0 a.t.now ok w)
+    elim c.if-entries_ok.branch [
+      | then-entries_ok w ↦ none-empty a.first.0 a.last.0 a.t.now (sym c.entries_ok.ensures ∙ w.if-entries_ok.true)
+      | else-entries_ok w ↦ absurd (clash c.if-guids_differ.true (w.value-is ∙ w.if-entries_ok.false))
+    ]
 
-pub returns : goal.returns
-returns c =
+pub returns-then-guids_differ : goal.returns-then-guids_differ
+returns-then-guids_differ c =
     let a = c.args in
-    let ok = sym c.entries_ok.ensures ∙ c.if-not-entries_ok.false in
-    let g = used-guids a.t.now c.told-t c.decode-guids.ensures.1 c.decode-guids.ensures.0 in
-    c.ranges_apart.ensures
-    ∙ good-ranges a.first.0 a.last.0 a.t.now ok c.ranges-count.ensures (sym (c.guids_differ.ensures _ g) ∙ c.if-not-guids_differ.false)
+    elim c.if-entries_ok.branch [
+      | then-entries_ok w ↦
+          c.ranges_apart.ensures
+          ∙ good-ranges a.first.0 a.last.0 a.t.now (sym c.entries_ok.ensures ∙ w.if-entries_ok.true)
+          (sym w.guids_differ.ensures ∙ sym w.value-is ∙ c.if-guids_differ.true)
+      | else-entries_ok w ↦ absurd (clash c.if-guids_differ.true (w.value-is ∙ w.if-entries_ok.false))
+    ]
+
+pub returns-else-guids_differ : goal.returns-else-guids_differ
+returns-else-guids_differ c =
+    let a = c.args in
+    elim c.if-entries_ok.branch [
+      | then-entries_ok w ↦
+          c.if-guids_differ.false
+          ∙ good-guids a.first.0 a.last.0 a.t.now (sym c.entries_ok.ensures ∙ w.if-entries_ok.true)
+          (sym w.guids_differ.ensures ∙ sym w.value-is ∙ c.if-guids_differ.false)
+      | else-entries_ok w ↦ c.if-guids_differ.false ∙ good-not a.first.0 a.last.0 a.t.now (sym c.entries_ok.ensures ∙ w.if-entries_ok.false)
+    ]
