@@ -2,27 +2,30 @@
 use mathlib.Core.Path.{◌≡◌, refl, sym, ap, subst, ◌∙◌}
 use mathlib.Core.Logic.{⊎_elim}
 use mathlib.Core.Bool.{Bool, true, false, not}
-use mathlib.Core.List.{List}
-use Prim.Native.Nat.{ℕ, suc, ◌+◌, ◌-◌, ◌≤◌, ◌<◌}
-use native.Mathlib.Nat.{le_refl}
+use mathlib.Core.List.{List, [], ◌∷◌, map}
+use Prim.Native.Nat.{ℕ, suc, ◌+◌, ◌-◌, ◌≤◌, ◌<◌, min}
+use native.Mathlib.Nat.{le_refl, add-zero, zero-lt-suc, min-eq_left, min-eq_right}
+use Rattle.std.specs.Prelude.{Some, None, slice_get}
 use native.Mathlib.Decide.{dec_le, dec_lt}
 use native.Mathlib.Omega.{arith}
 use lib.Dec.{leb}
-use lib.ListN.{get_or}
-use borrow.Author.Count.{below_more}
+use lib.ListN.{length, get_or, take, drop, length-map, length-drop}
+use lib.Seq.{get_or-drop, take_all, drop-drop}
+use Rattle.std.specs.List.{position_or_len}
+use Rattle.std.proofs.lemmas.List.Sums.{fails_before_first, passes_at_first}
 use borrow.Author.Tests.{lt-leb, le-leb, leb-true}
 use Rattle.octets.specs.Tests.{◌and◌}
 use Rattle.octets.proofs.Bools.{and_l, and_r, and_i, and-f, and-t, not_t, bool_cases, clash}
-use Rattle.octets.proofs.Tests.{any-make, any_false}
+use Rattle.octets.proofs.Tests.{any-make, any_false, get_d_map}
 use Rattle.gpt_model.specs.declared.Block.{Block}
 use Rattle.gpt_model.specs.Ranges.{block_in, in_some, in_none, room_at, run_from}
 use Rattle.gpt_model.specs.Table.{BlockRange, no_blocks, spans}
 use Rattle.gpt_model.proofs.Room.{Room, block_in-make, block_in-get, room-get, room-make}
 use Rattle.gpt_model.proofs.Longest.{run-gap, run_holds, run-bound}
-use Rattle.gpt_room.specs.Invariants.{Passed, Next, Full, Clear, Stands, taken, gap}
-use Rattle.gpt_table.specs.Invariants.{ranges, Ascending}
-use Rattle.gpt_table.proofs.Used.{length-ranges, get_or-ranges}
-use Rattle.gpt_table.proofs.Exchanges.{ascends}
+use Rattle.gpt_room.specs.Invariants.{Passed, Behind, Next, Full, Clear, Stands, taken, gap}
+use Rattle.gpt_table.specs.Invariants.{blocks_of}
+use Rattle.gpt_table.specs.declared.order.Range.{Range}
+use Rattle.std.specs.List.Sorted.{IsNonDecreasingBy}
 use Rattle.gpt_room.specs.declared.Ahead.{Ahead}
 use Rattle.gpt_room.specs.declared.Ahead.TheVariants.{Taken, Gap}
 
@@ -55,63 +58,160 @@ passed-more h p = record { over = λ k u c v. p.over k u c (omega arith) }
 pub passed_none : {s : List BlockRange} {a : ℕ} → Passed s a 0
 passed_none = record { over = λ k u. absurd (omega arith) }
 
-module _ (f l : List ℕ) (n a : ℕ) where
-  pub next-over : (i : ℕ) → i < n → Passed (ranges f l n) a i → (leb (get_or f i 0) (get_or l i 0) and leb a (get_or l i 0)) ≡ false
-      → Passed (ranges f l n) a (i + 1)
-  next-over i h p e =
-      record {
-        over = below_more (λ (k : ℕ). (c : ℕ) → a ≤ c → block_in c (get_or (ranges f l n) k no_blocks) ≡ false) i p.over
-            (λ c v. ap (block_in c) (get_or-ranges f l n i h) ∙ reaches-no _ _ a e c v);
-      }
+abbrev none_range : Range
+none_range = record { first = record { 0 = 0 }; last = record { 0 = 0 } }
 
-  pub next-found : (i : ℕ) → i < n → Passed (ranges f l n) a i → (leb (get_or f i 0) (get_or l i 0) and leb a (get_or l i 0)) ≡ true → Next f l n a i
-  next-found i h p e = record { most = omega arith; passed = p; reaches = λ u. reaches-yes _ _ a e }
+module _ (rs : List Range) where
+  abbrev from_at : ℕ → ℕ
+  from_at i = (get_or rs i none_range).first.0
 
-  pub next-none : (i : ℕ) → i ≤ n → n ≤ i → Passed (ranges f l n) a i → Next f l n a i
-  next-none i g h p = record { most = g; passed = p; reaches = λ u. absurd (omega arith) }
+  abbrev last_at : ℕ → ℕ
+  last_at i = (get_or rs i none_range).last.0
 
--- ---- what begins at a, where range i is the next
+  pub block_at : (i : ℕ) → i < length rs → get_or (map blocks_of rs) i no_blocks ≡ spans (from_at i) (last_at i)
+  block_at i h = get_d_map blocks_of rs i no_blocks none_range h
 
-module _ (f l : List ℕ) (n i a last : ℕ) (asc : Ascending 1 n f) (next : Next f l n a i) where
+  -- k ranges more are passed, none of which reaches a
+  pub passed-on : (a i k : ℕ) → i + k ≤ length rs → Passed (map blocks_of rs) a i
+      → ((j : ℕ) → j < k → (leb (from_at (i + j)) (last_at (i + j)) and leb a (last_at (i + j))) ≡ false) → Passed (map blocks_of rs) a (i + k)
+  passed-on a i k h p f = record { over = λ j u c v. go j u c v (dec_lt j i) }
+    where
+      go : (j : ℕ) → j < i + k → (c : ℕ) → a ≤ c → Dec (j < i) → block_in c (get_or (map blocks_of rs) j no_blocks) ≡ false
+      go j u c v (yes w) = p.over j w c v
+      go j u c v (no w) =
+          let e : i + (j - i) ≡ j = omega arith in
+          let no = subst (λ (m : ℕ). (leb (from_at m) (last_at m) and leb a (last_at m)) ≡ false) e (f (j - i) (omega arith)) in
+          ap (block_in c) (block_at j (omega arith)) ∙ reaches-no _ _ a no c v
+
+-- what is left of the ranges: to begin with all, and the same further on
+pub behind_all : (rs : List Range) {a : ℕ} → Behind rs a rs
+behind_all rs = record { count = 0; within = omega arith; left = refl; passed = passed_none }
+
+pub behind-more : {rs rest : List Range} {a b : ℕ} → a ≤ b → Behind rs a rest → Behind rs b rest
+behind-more h p = record { count = p.count; within = p.within; left = p.left; passed = passed-more h p.passed }
+
+abbrev pub reaching : ℕ → Range → Bool
+reaching a r = leb r.first.0 r.last.0 and leb a r.last.0
+
+module _ {rs rest : List Range} {a : ℕ} (p : Behind rs a rest) (k : ℕ) (e : k ≡ position_or_len (reaching a) rest) (h : k ≤ length rest) where
+  left_at : (j : ℕ) (d : Range) → get_or rest j d ≡ get_or rs (p.count + j) d
+  left_at j d = ap (λ (l : List Range). get_or l j d) p.left ∙ get_or-drop p.count rs j d
+
+  pub next_is : Next rs a (take (length rest - k) (drop k rest))
+  next_is =
+      let long : length rest ≡ length rs - p.count = ap length p.left ∙ length-drop p.count rs in
+      let whole : take (length rest - k) (drop k rest) ≡ drop k rest = take_all (length rest - k) (drop k rest) (omega (arith, length-drop k rest)) in
+      rw whole
+      (record {
+        behind = record {
+          count = p.count + k;
+          within = omega (arith, p.within);
+          left = ap (drop k) p.left ∙ drop-drop k p.count rs;
+          passed = passed-on rs a p.count k (omega (arith, p.within)) p.passed
+              (λ j l. ap (reaching a) (sym (left_at j none_range)) ∙ fails_before_first (reaching a) rest j none_range (omega (arith, e)));
+        };
+        reaches = λ d l.
+            let l' : k < length rest = omega (arith, length-drop k rest) in
+            let here = get_or-drop k rest 0 d ∙ ap (λ (m : ℕ). get_or rest m d) (add-zero k ∙ e) in
+            reaches-yes _ _ a (ap (reaching a) here ∙ passes_at_first (reaching a) rest d (omega arith));
+      })
+
+-- ---- what begins at a, where rest begins with the next range
+
+module _ (rs rest : List Range) (a last : ℕ) (asc : IsNonDecreasingBy (λ r. r.first.0) rs) (next : Next rs a rest) where
   abbrev s : List BlockRange
-  s = ranges f l n
+  s = map blocks_of rs
 
-  behind : (k : ℕ) → i ≤ k → k < n → get_or f i 0 ≤ get_or f k 0
-  behind k g h = let e : i + (k - i) ≡ k = omega arith in subst (λ (m : ℕ). get_or f i 0 ≤ get_or f m 0) e (ascends n f asc i (k - i) (omega arith))
+  abbrev i : ℕ
+  i = next.behind.count
+
+  long : length rest ≡ length rs - i
+  long = ap length next.behind.left ∙ length-drop i rs
+
+  here : get_or rest 0 none_range ≡ get_or rs i none_range
+  here = ap (λ (l : List Range). get_or l 0 none_range) next.behind.left ∙ get_or-drop i rs 0 none_range ∙ ap (λ (k : ℕ). get_or rs k none_range) (add-zero i)
 
   -- free from a up to g, if no range from i on begins before g
-  clear : (g : ℕ) → a < g → g ≤ last + 1 → (i < n → g ≤ get_or f i 0) → (g ≤ last → in_some s g ≡ true) → Clear s a last g
+  clear : (g : ℕ) → a < g → g ≤ last + 1 → (i < length rs → g ≤ from_at rs i) → (g ≤ last → in_some s g ≡ true) → Clear s a last g
   clear g p q r t =
       record {
         past = p;
         end = q;
-        free = λ c u v. any_false (block_in c) s no_blocks (λ k h. each c u v k (omega (arith, length-ranges f l n)) (dec_lt k i));
+        free = λ c u v. any_false (block_in c) s no_blocks (λ k h. each c u v k (omega (arith, length-map rs blocks_of)) (dec_lt k i));
         stop = t;
       }
     where
-      each : (c : ℕ) → a ≤ c → c < g → (k : ℕ) → k < n → Dec (k < i) → block_in c (get_or s k no_blocks) ≡ false
-      each c u v k h (yes w) = next.passed.over k w c u
+      each : (c : ℕ) → a ≤ c → c < g → (k : ℕ) → k < length rs → Dec (k < i) → block_in c (get_or s k no_blocks) ≡ false
+      each c u v k h (yes w) = next.behind.passed.over k w c u
       each c u v k h (no w) =
-          let z = behind k (omega arith) h in
+          let z = asc i k none_range (omega arith) h in
           let y = r (omega arith) in
-          ap (block_in c) (get_or-ranges f l n k h) ∙ inside-below c _ _ (omega arith)
+          ap (block_in c) (block_at rs k h) ∙ inside-below c _ _ (omega arith)
 
-  pub clear_none : a ≤ last → n ≤ i → Clear s a last (last + 1)
-  clear_none h g = clear (last + 1) (omega arith) (omega arith) (λ u. absurd (omega arith)) (λ u. absurd (omega arith))
+  clear_none : a ≤ last → length rest ≤ 0 → Clear s a last (last + 1)
+  clear_none h g =
+      let w = next.behind.within in
+      let l = long in
+      clear (last + 1) (omega arith) (omega arith) (λ u. absurd (omega arith)) (λ u. absurd (omega arith))
 
-  pub clear-far : a ≤ last → last < get_or f i 0 → Clear s a last (last + 1)
-  clear-far h g = clear (last + 1) (omega arith) (omega arith) (λ u. omega arith) (λ u. absurd (omega arith))
+  module _ (h : 0 < length rest) where
+    inside : i < length rs
+    inside = omega (arith, long)
 
-  module _ (h : i < n) where
-    holds : (b : ℕ) → block_in b (spans (get_or f i 0) (get_or l i 0)) ≡ true → in_some s b ≡ true
-    holds b e = any-make (block_in b) s no_blocks i (omega (arith, length-ranges f l n)) (ap (block_in b) (get_or-ranges f l n i h) ∙ e)
+    holds : (b : ℕ) → block_in b (spans (from_at rs i) (last_at rs i)) ≡ true → in_some s b ≡ true
+    holds b e = any-make (block_in b) s no_blocks i (omega (arith, length-map rs blocks_of, inside)) (ap (block_in b) (block_at rs i inside) ∙ e)
 
-    pub full : get_or f i 0 ≤ a → Full s a (get_or l i 0)
-    full g = record { from = (next.reaches h).1; taken = λ c u v. holds c (block_in-make c _ _ (omega arith) v) }
+    proper : (from_at rs i ≤ last_at rs i) × (a ≤ last_at rs i)
+    proper = rw here at (next.reaches none_range h)
 
-    pub clear-gap : a < get_or f i 0 → get_or f i 0 ≤ last → Clear s a last (get_or f i 0)
-    clear-gap p q =
-        clear (get_or f i 0) p (omega arith) (λ u. le_refl (get_or f i 0)) (λ u. holds _ (block_in-make _ _ _ (le_refl (get_or f i 0)) (next.reaches h).0))
+    full : (get_or rest 0 none_range).first.0 ≤ a → Full s a (get_or rest 0 none_range).last.0
+    full g =
+        let e = ap (λ (r : Range). r.first.0) here in
+        subst (λ (r : Range). Full s a r.last.0) (sym here)
+        (record { from = proper.1; taken = λ c u v. holds c (block_in-make c _ _ (omega arith) v) })
+
+    -- up to the next range or the last usable block
+    clear_to : a ≤ last → a < (get_or rest 0 none_range).first.0 → Clear s a last (min (get_or rest 0 none_range).first.0 (last + 1))
+    clear_to k p = subst (λ (r : Range). Clear s a last (min r.first.0 (last + 1))) (sym here) (go (dec_le (from_at rs i) last))
+      where
+        p' : a < from_at rs i
+        p' = subst (λ (r : Range). a < r.first.0) here p
+
+        go : Dec (from_at rs i ≤ last) → Clear s a last (min (from_at rs i) (last + 1))
+        go (yes q) =
+            let ahead = p' in
+            let low : min (from_at rs i) (last + 1) ≡ from_at rs i = min-eq_left (omega arith) in
+            rw low
+            (clear (from_at rs i) (omega arith) (omega arith) (λ u. le_refl (from_at rs i))
+            (λ u. holds _ (block_in-make _ _ _ (le_refl (from_at rs i)) proper.0)))
+        go (no q) =
+            let low : min (from_at rs i) (last + 1) ≡ last + 1 = min-eq_right (omega arith) in
+            rw low (clear (last + 1) (omega arith) (omega arith) (λ u. omega arith) (λ u. absurd (omega arith)))
+
+-- what `first` answers
+first_is : (rest : List Range) (r : Range) → Some r ≡ slice_get rest 0 → (0 < length rest) × (get_or rest 0 none_range ≡ r)
+first_is [] r e = cc
+first_is (x ∷ rest) r e = (zero-lt-suc _, sym (cc))
+
+first_none : (rest : List Range) → None ≡ slice_get rest 0 → length rest ≤ 0
+first_none [] e = omega arith
+first_none (x ∷ rest) e = cc
+
+module _ {rs rest : List Range} {a : ℕ} (last : ℕ) (asc : IsNonDecreasingBy (λ r. r.first.0) rs) (next : Next rs a rest) where
+  pub stands-none : None ≡ slice_get rest 0 → a ≤ last → Clear (map blocks_of rs) a last (last + 1)
+  stands-none e h = clear_none rs rest a last asc next h (first_none rest e)
+
+  pub stands-taken : {r : Range} → Some r ≡ slice_get rest 0 → r.first.0 ≤ a → Full (map blocks_of rs) a r.last.0
+  stands-taken {r} e h =
+      let w = first_is rest r e in
+      subst (λ (x : Range). Full (map blocks_of rs) a x.last.0) w.1
+      (full rs rest a last asc next w.0 (subst (λ (x : Range). x.first.0 ≤ a) (sym w.1) h))
+
+  pub stands-gap : {r : Range} → Some r ≡ slice_get rest 0 → a ≤ last → a < r.first.0 → Clear (map blocks_of rs) a last (min r.first.0 (last + 1))
+  stands-gap {r} e h g =
+      let w = first_is rest r e in
+      subst (λ (x : Range). Clear (map blocks_of rs) a last (min x.first.0 (last + 1))) w.1
+      (clear_to rs rest a last asc next w.0 h (subst (λ (x : Range). a < x.first.0) (sym w.1) g))
 
 -- ---- the two answers
 

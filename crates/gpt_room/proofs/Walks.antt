@@ -16,21 +16,22 @@ use Rattle.gpt_model.proofs.Entries.{map-set}
 use Rattle.gpt_model.proofs.Multiples.{Up, up_is}
 use Rattle.gpt_model.proofs.Walk.{Low, low-start, low-over, low-gap, low-found, low-none, Counted, Longest, counted_start, longest-start, counted-over}
 use Rattle.gpt_model.proofs.Walk.{longest-over, counted-gap, longest-step, counted-end, longest-end}
-use Rattle.gpt_table.specs.Invariants.{ranges, InOrder}
+use Rattle.gpt_table.specs.Invariants.{blocks_of, InOrder}
+use Rattle.gpt_table.specs.declared.order.Range.{Range}
 use Rattle.gpt_table.proofs.Used.{lies-used, slot-nil}
-use Rattle.gpt_table.proofs.Reorders.{reordered-any}
+use Rattle.gpt_table.proofs.Good.{some_in_order}
 use Rattle.gpt_room.specs.Answers.{free_of}
 use Rattle.gpt_room.specs.Invariants.{Full, Clear}
 
 -- ---- the same blocks are free
 
 -- the ranges of used entries in order leave the same blocks free as the entries
-pub free-ranges : (es : List (List ℕ)) {f l : List ℕ} {n : ℕ} → InOrder es f l n → in_none (ranges f l n) ≡ in_none (map range_of es)
-free-ranges es w = fun_ext (λ b. ap not (reordered-any (block_in b) w.same ∙ lies-used b es))
+pub free-ranges : (es : List (List ℕ)) {rs : List Range} → InOrder es rs → in_none (map blocks_of rs) ≡ in_none (map range_of es)
+free-ranges es w = fun_ext (λ b. ap not (some_in_order es w (block_in b) ∙ lies-used b es))
 
 -- and as the slots but slot `but`
-pub free-but : (t : List (List ℕ)) (but : ℕ) {f l : List ℕ} {n : ℕ} → InOrder (set t but []) f l n
-    → in_none (ranges f l n) ≡ in_none (set (map range_of t) but no_blocks)
+pub free-but : (t : List (List ℕ)) (but : ℕ) {rs : List Range} → InOrder (set t but []) rs
+    → in_none (map blocks_of rs) ≡ in_none (set (map range_of t) but no_blocks)
 free-but t but w = free-ranges (set t but []) w ∙ ap in_none (map-set range_of t but [] ∙ ap (set (map range_of t) but) slot-nil)
 
 pub run-same : (p q : ℕ → Bool) → p ≡ q → (last a : ℕ) → run_from p a (suc last - a) ≡ run_from q a (suc last - a)

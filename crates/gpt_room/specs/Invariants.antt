@@ -1,9 +1,10 @@
 -- What a look ahead from block a finds among the ranges s: what only contracts and proofs cite.
-use Rattle.std.specs.Prelude.{◌≡◌, true, false, List, ℕ, ◌+◌, ◌≤◌, ◌<◌, get_or}
+use Rattle.std.specs.Prelude.{◌≡◌, true, false, List, map, ℕ, ◌+◌, ◌≤◌, ◌<◌, length, get_or, drop}
 use Rattle.gpt_model.specs.declared.Block.{Block}
 use Rattle.gpt_model.specs.Ranges.{block_in, in_some}
 use Rattle.gpt_model.specs.Table.{BlockRange, no_blocks}
-use Rattle.gpt_table.specs.Invariants.{ranges}
+use Rattle.gpt_table.specs.Invariants.{blocks_of}
+use Rattle.gpt_table.specs.declared.order.Range.{Range}
 use Rattle.gpt_room.specs.declared.Ahead.{Ahead}
 use Rattle.gpt_room.specs.declared.Ahead.TheVariants.{Taken, Gap}
 
@@ -11,11 +12,17 @@ use Rattle.gpt_room.specs.declared.Ahead.TheVariants.{Taken, Gap}
 pub record Passed (s : List BlockRange) (a i : ℕ) : Type 0 where
   pub over : (k : ℕ) → k < i → (c : ℕ) → a ≤ c → block_in c (get_or s k no_blocks) ≡ false
 
--- range i of the n ranges f to l is the first that has a block at a or behind it; i is n where none has
-pub record Next (f l : List ℕ) (n a i : ℕ) : Type 0 where
-  pub most : i ≤ n
-  pub passed : Passed (ranges f l n) a i
-  pub reaches : (i < n → (get_or f i 0 ≤ get_or l i 0) × (a ≤ get_or l i 0))
+-- rest is what is left of the ranges rs behind the first ones, which have no block at a or behind it
+pub record Behind (rs : List Range) (a : ℕ) (rest : List Range) : Type 0 where
+  pub count : ℕ
+  pub within : count ≤ length rs
+  pub left : rest ≡ drop count rs
+  pub passed : Passed (map blocks_of rs) a count
+
+-- and the first of rest, if there is one, has such a block
+pub record Next (rs : List Range) (a : ℕ) (rest : List Range) : Type 0 where
+  pub behind : Behind rs a rest
+  pub reaches : (d : Range) → 0 < length rest → ((get_or rest 0 d).first.0 ≤ (get_or rest 0 d).last.0) × (a ≤ (get_or rest 0 d).last.0)
 
 -- all blocks from a to x lie in ranges
 pub record Full (s : List BlockRange) (a x : ℕ) : Type 0 where

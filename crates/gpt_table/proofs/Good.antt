@@ -12,7 +12,7 @@ use borrow.Author.Tests.{leb-true, eqb-true, eq-eqb, ne_eqb, lt-ltb, le-ltb, ltb
 use Rattle.std.specs.List.{IsAllAdjacentAnswer}
 use Rattle.std.specs.List.Sorted.{IsNonDecreasingBy, IsPermutation}
 use Rattle.std.proofs.lemmas.List.Sorted.{IsPermutation-map, All-permutation}
-use Rattle.octets.specs.Tests.{◌and◌, ◌or◌, all, pairs}
+use Rattle.octets.specs.Tests.{◌and◌, ◌or◌, all, any, pairs}
 use Rattle.octets.specs.Bytes.{unle, is_zero, same}
 use Rattle.octets.proofs.Bools.{and_l, and_r, and_i, bool_cases, eq-from, clash}
 use Rattle.octets.proofs.Tests.{pairs-get, pairs-make, all-get, get_d_map}
@@ -23,7 +23,7 @@ use Rattle.gpt_model.proofs.Entries.{range-used, pair-make}
 use Rattle.gpt_table.specs.Invariants.{Whole, good_entries, used, differ, guid_of, range_in, blocks_of, NoneEmpty, InOrder}
 use Rattle.gpt_table.specs.declared.order.Range.{Range}
 use Rattle.gpt_table.proofs.Used.{used-yes, used-no, used-each}
-use Rattle.gpt_table.proofs.Permuted.{pairs-permuted}
+use Rattle.gpt_table.proofs.Permuted.{any-permuted, pairs-permuted}
 
 -- ---- one entry
 
@@ -192,7 +192,7 @@ apart-both (spans f l) (spans g m) = or-both (ltb l g) (ltb m f)
 abbrev none_range : Range
 none_range = record { first = record { 0 = 0 }; last = record { 0 = 0 } }
 
-pub blocks-in : (es : List (List ℕ)) → ((i : ℕ) → i < length es → unused (get_or es i []) ≡ false) → map blocks_of (map range_in es) ≡ map range_of es
+blocks-in : (es : List (List ℕ)) → ((i : ℕ) → i < length es → unused (get_or es i []) ≡ false) → map blocks_of (map range_in es) ≡ map range_of es
 blocks-in [] f = refl
 blocks-in (e ∷ es) f = ap₂ (λ s l. s ∷ l) (sym (range-used e (f zero (zero-lt-suc _)))) (blocks-in es (λ i h. f (suc i) (suc-le-suc h)))
 
@@ -239,6 +239,11 @@ ranges-in_order t f {rs} w r a =
     apart_in rs w.ascending (proper-in (used t) f rs w.same) r a
     ∙ sym (pairs-permuted apart apart-both _ _ (IsPermutation-map blocks_of (map range_in (used t)) rs w.same))
     ∙ ap (pairs apart) (blocks-in (used t) (each-used t))
+
+-- some range in order passes a test where some used entry's does
+pub some_in_order : (t : List (List ℕ)) {rs : List Range} → InOrder t rs → (p : BlockRange → Bool) → any p (map blocks_of rs) ≡ any p (map range_of (used t))
+some_in_order t {rs} w p =
+    sym (any-permuted p _ _ (IsPermutation-map blocks_of (map range_in (used t)) rs w.same)) ∙ ap (any p) (blocks-in (used t) (each-used t))
 
 -- ---- all rules together
 

@@ -13,8 +13,8 @@ returns-then-rest-eq0 c =
 pub overflow_sub-result : goal.overflow_sub-result
 overflow_sub-result c = let a = c.args in omega (arith, mod-lt a.a.0 c.requires)
 
-pub returns : goal.returns
-returns c =
+pub returns-else-rest-eq0 : goal.returns-else-rest-eq0
+returns-else-rest-eq0 c =
     let a = c.args in
     let l = mod-lt a.a.0 c.requires in
     (omega (arith, c.if-rest-eq0.false), next_multiple a.alignment a.a.0 c.requires c.if-rest-eq0.false)

@@ -1,8 +1,12 @@
-use Rattle.gpt_room.proofs.Looks.{reaches-empty, reaches-last}
+use Rattle.std.proofs.Common.{arith}
+use Rattle.std.proofs.lemmas.Grind.{common_steps}
+use Rattle.octets.specs.Tests.{◌and◌}
 use Rattle.gpt_room.proofs.reaches.Goals as goal
 
-pub returns-then-l-f : goal.returns-then-l-f
-returns-then-l-f c = reaches-empty _ _ _ c.if-l-f.true
+pub returns-then-r : goal.returns-then-r
+unfolding ◌and◌
+returns-then-r c = grind (arith, common_steps)
 
-pub returns : goal.returns
-returns c = reaches-last _ _ _ c.if-l-f.false
+pub returns-else-r : goal.returns-else-r
+unfolding ◌and◌
+returns-else-r c = grind (arith, common_steps)
