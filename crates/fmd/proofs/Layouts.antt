@@ -4,7 +4,7 @@ use mathlib.Core.List.{List, map}
 use mathlib.Core.Option.{none}
 use Prim.Native.Nat.{ℕ, ◌+◌, ◌*◌, ◌≤◌, ◌<◌}
 use native.Mathlib.Omega.{arith}
-use lib.ListN.{length}
+use lib.ListN.{length, get_or}
 use borrow.Author.Tests.{eq-eqb}
 use Rattle.octets.specs.Bytes.{part, put, flat}
 use Rattle.fmap_rules.specs.Written.{area_bytes, map_bytes}
@@ -19,15 +19,23 @@ use Rattle.fmd_table.specs.declared.Placed.{Placed}
 use Rattle.fmd_check.specs.Check.{good, check_text}
 use Rattle.fmd_check.proofs.Facts.{check-facts}
 use Rattle.fmd_check.specs.Areas.{area_from, area_at, layout_areas}
+use Rattle.fmd_check.specs.Claims.{Accepted}
 use Rattle.fmd_check.specs.Invariants.{Laid}
+use Rattle.fmd_check.proofs.Listed.{area-in}
+use Rattle.fmap_rules.specs.Map.{blank_area}
 use Rattle.fmd_check.proofs.Names.{name-short, length-stored}
 use Rattle.fmd_check.proofs.Places.{ends}
 use Rattle.fmd_check.proofs.Shape.{length-areas}
 use Rattle.fmd.specs.Calls.{image_of, said_by, Read, Written, with_map, write_by}
-use Rattle.fmd.specs.Invariants.{Held}
 use Rattle.fmd.specs.declared.Image.{Image as SaidImage}
 
 -- ---- the tables of a text that is accepted
+
+-- a text that is accepted, with the tables of its n sections; section m is FMAP
+pub record Held (s : List ℕ) (i : TextImage) (rows : List SectionRow) (spots : List Placed) (n m : ℕ) : Type 0 where
+  pub rows_room : HasRows 129 rows
+  pub spots_room : HasSpots 128 spots
+  pub accepted : Accepted s i (sections_in n rows) (placed_in n spots) m
 
 -- what a check of the text answers, with the tables afterwards
 pub held : (s : List ℕ) (i : TextImage) (rows : List SectionRow) (spots : List Placed) (n m : ℕ) → HasRows 129 rows → HasSpots 128 spots
@@ -54,8 +62,10 @@ module _ {s : List ℕ} {i : TextImage} {rows : List SectionRow} {spots : List P
   pub named : (i.place + i.length ≤ length s) × (i.length ≤ 32) × (n ≤ 128)
   named = let w = name-short g.accepted.image.named in (w.0, w.1, few)
 
-  pub small : i.size ≤ 16777216
-  small = g.accepted.image.high
+  -- the area of section FMAP, asked of the areas
+  pub fmap-area : {areas : List Area} {a : Area} → areas ≡ layout_areas s (sections_in n rows) (placed_in n spots) → a ≡ get_or areas m blank_area
+      → a ≡ area_at s (sections_in n rows) (placed_in n spots) m
+  fmap-area e d = d ∙ (ap (λ (xs : List Area). get_or xs m blank_area) e ∙ area-in laid m there)
 
   -- the map fits between the start of section FMAP and the image's end
   pub map-room : {a : Area} → a ≡ area_at s (sections_in n rows) (placed_in n spots) m → a.place.start.0 + 56 + 42 * n ≤ i.size

@@ -1,4 +1,3 @@
 -- The layout language: its calls, and what users rely on besides.
 pub mod Calls
-pub mod Invariants
 pub mod Claims

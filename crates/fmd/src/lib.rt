@@ -1,25 +1,17 @@
 #![tactic(auto)]
 
 // The layout language: a layout text read, listed as sections, and written as a map into an image.
-ghost use Rattle.std.specs.Prelude.{map, ◌≡◌, ◌≢◌, ◌+◌, ◌≤◌, ◌<◌, length, MatchResult};
-ghost use Rattle.std.proofs.Math.Option.{none};
+ghost use Rattle.std.specs.Prelude.{map, ◌≡◌, ◌≢◌, ◌+◌, ◌≤◌, length, MatchResult};
 ghost use Rattle.octets.specs.Rows.{code_of};
-ghost use Rattle.fmap_rules.specs.Map.{position};
-ghost use Rattle.fmd_table.specs.Table.{sections_in, placed_in, HasRows, HasSpots};
-ghost use Rattle.fmd_check.specs.Check.{verdict_of};
-ghost use Rattle.fmd_check.specs.Areas.{area_at, layout_areas};
-ghost use Rattle.fmd_check.specs.Invariants.{Laid};
-ghost use Rattle.fmd.specs.Calls.{number_of, address_of, image_of, said_by, reading, read_text, list_record, filled, list_of};
-ghost use Rattle.fmd.specs.Calls.{list_text, recorded, record_text, written, write_by, write_text};
-ghost use Rattle.fmd.specs.Invariants.{Held};
+ghost use Rattle.fmd.specs.Calls.{number_of, image_of, reading, read_text, list_record, filled, list_of, list_text, recorded, record_text, written, write_text};
 ghost use Rattle.fmd.specs.declared.Refusal.TheVariants.{OfText};
 
-use fmap_rules::ImagePosition;
+use fmap_rules::{Area, ImagePosition};
 use fmap_write::put_header;
-use fmd_check::areas::{area_at, put_areas, stored_name};
+use fmd_check::areas::{Areas, stored_name};
 use fmd_check::{GoodLayout, LayoutFault};
-use fmd_head::{Refusal as TextRefusal, TextImage};
-use fmd_table::{NO_PLACE, NO_ROW, Placed, ROWS, SPOTS, SectionRow};
+use fmd_head::Refusal as TextRefusal;
+use fmd_table::{NO_PLACE, NO_ROW, ROWS, SPOTS};
 
 // Why a call is refused.
 #[derive(Clone, Copy)]
@@ -54,6 +46,20 @@ pub struct SectionRecord {
     pub name: [u8; 32],
 }
 
+impl From<Area> for SectionRecord {
+    ghost from_gives = { λ a r. r ≡ list_record a };
+
+    fn from(a: Area) -> SectionRecord {
+        let name = a.name;
+        SectionRecord {
+            position: a.place.start,
+            size: a.place.size,
+            flags: a.flags,
+            name,
+        }
+    }
+}
+
 // The number of what a call answers; 0 where the call is accepted.
 pub fn number<T>(answer: &Result<T, Refusal>) -> u32
     ensures { result ≡ code_of (number_of answer.now) }
@@ -65,24 +71,15 @@ pub fn number<T>(answer: &Result<T, Refusal>) -> u32
     }
 }
 
-fn base_of(a: Option<u32>) -> u32
-    ensures { result ≡ address_of a }
-{
-    match a {
-        Some(n) => n,
-        None => 0,
-    }
-}
-
-fn image_of(text: &[u8], i: TextImage, count: usize) -> Image
-    requires { (i.place + i.length ≤ length text.now) × (i.length ≤ 32) × (count ≤ 128) }
-    ensures { result ≡ image_of text.now i count }
+fn image_of(text: &[u8], l: GoodLayout) -> Image
+    requires { (l.image.place + l.image.length ≤ length text.now) × (l.image.length ≤ 32) × (l.count ≤ 128) }
+    ensures { result ≡ image_of text.now l.image l.count }
 {
     Image {
-        name: stored_name(text, i.place as u32, i.length as u32),
-        size: i.size,
-        address: base_of(i.address),
-        count: count as u32,
+        name: stored_name(text, l.image.place as u32, l.image.length as u32),
+        size: l.image.size,
+        address: l.image.address.unwrap_or(0),
+        count: l.count as u32,
     }
 }
 
@@ -103,45 +100,16 @@ pub fn read(text: &[u8]) -> Result<Image, Refusal>
     let mut rows = [NO_ROW; ROWS];
     let mut spots = [NO_PLACE; SPOTS];
     let l = fmd_check::check(text, &mut rows, &mut spots)?;
-    Ok(image_of(text, l.image, l.count))
-}
-
-// Section k of n, as the list has it.
-fn section_at(
-    text: &[u8],
-    rows: &[SectionRow],
-    spots: &[Placed],
-    n: usize,
-    k: usize,
-) -> SectionRecord
-    requires { Laid text.now rows.now spots.now n × (k < n) }
-    ensures { result ≡ list_record (area_at text.now (sections_in n rows.now) (placed_in n spots.now) k) }
-{
-    let a = area_at(text, rows, spots, n, k);
-    let name = a.name;
-    SectionRecord {
-        position: a.place.start,
-        size: a.place.size,
-        flags: a.flags,
-        name,
-    }
+    Ok(image_of(text, l))
 }
 
 // The sections, one at a time, from the start of the list on.
-fn fill(
-    sections: &mut [SectionRecord],
-    text: &[u8],
-    rows: &[SectionRow],
-    spots: &[Placed],
-    n: usize,
-)
-    requires { Laid text.now rows.now spots.now n × (n ≤ length sections.old) }
-    ensures { sections.new
-        ≡ filled (map list_record (layout_areas text.now (sections_in n rows.now) (placed_in n spots.now)))
-        sections.old }
+fn fill(sections: &mut [SectionRecord], areas: &Areas)
+    requires { length areas.now ≤ length sections.old }
+    ensures { sections.new ≡ filled (map list_record areas.now) sections.old }
 {
-    for i in 0..n {
-        sections[i] = section_at(text, rows, spots, n, i);
+    for k in 0..areas.count() {
+        sections[k] = SectionRecord::from(areas.at(k));
     }
 }
 
@@ -153,8 +121,8 @@ pub fn list(text: &[u8], sections: &mut [SectionRecord]) -> Result<Image, Refusa
     let mut rows = [NO_ROW; ROWS];
     let mut spots = [NO_PLACE; SPOTS];
     let l = fmd_check::check(text, &mut rows, &mut spots)?;
-    fill(sections, text, &rows, &spots, l.count);
-    Ok(image_of(text, l.image, l.count))
+    fill(sections, &Areas::new(text, &rows, &spots, l.count));
+    Ok(image_of(text, l))
 }
 
 // Reads a layout text into the bytes that the caller lends: 128 records of 42 bytes, each as an area of a map.
@@ -165,37 +133,8 @@ pub fn put_records(text: &[u8], records: &mut [u8]) -> Result<Image, Refusal>
     let mut rows = [NO_ROW; ROWS];
     let mut spots = [NO_PLACE; SPOTS];
     let l = fmd_check::check(text, &mut rows, &mut spots)?;
-    put_areas(text, &rows, &spots, l.count, records, 0);
-    Ok(image_of(text, l.image, l.count))
-}
-
-// Writes the map of a layout into an image.
-fn put_layout(
-    text: &[u8],
-    l: GoodLayout,
-    rows: &[SectionRow],
-    spots: &[Placed],
-    image: &mut [u8],
-) -> Result<ImagePosition, Refusal>
-    requires { Held text.now l.image rows.now spots.now l.count l.map }
-    ensures { written result image.new
-        ≡ write_by (said_by text.now (verdict_of (Ok l) rows.now spots.now)) image.old none }
-{
-    need_length(image.len(), l.image.size as usize)?;
-    let at = area_at(text, rows, spots, l.count, l.map).place.start;
-    let start = at.0 as usize;
-    let x = image_of(text, l.image, l.count);
-    put_header(
-        image,
-        start,
-        x.size,
-        x.name,
-        x.address as u64,
-        1,
-        l.count as u16,
-    );
-    put_areas(text, rows, spots, l.count, image, start + 56);
-    Ok(at)
+    Areas::new(text, &rows, &spots, l.count).put(records, 0);
+    Ok(image_of(text, l))
 }
 
 // Writes the map of a layout text into an image, and answers where the map stands.
@@ -205,5 +144,20 @@ pub fn write_map(text: &[u8], image: &mut [u8]) -> Result<ImagePosition, Refusal
     let mut rows = [NO_ROW; ROWS];
     let mut spots = [NO_PLACE; SPOTS];
     let l = fmd_check::check(text, &mut rows, &mut spots)?;
-    put_layout(text, l, &rows, &spots, image)
+    need_length(image.len(), l.image.size as usize)?;
+    let areas = Areas::new(text, &rows, &spots, l.count);
+    let at = areas.at(l.map).place.start;
+    let start = at.0 as usize;
+    let x = image_of(text, l);
+    put_header(
+        image,
+        start,
+        x.size,
+        x.name,
+        x.address as u64,
+        1,
+        l.count as u16,
+    );
+    areas.put(image, start + 56);
+    Ok(at)
 }

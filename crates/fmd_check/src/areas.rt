@@ -1,14 +1,17 @@
 // The sections of a layout as areas of a map: position in the image, size, flags, name.
-ghost use Rattle.std.specs.Prelude.{map, ◌≡◌, ℕ, ◌+◌, ◌*◌, ◌≤◌, ◌<◌, length};
+ghost use Rattle.std.specs.Prelude.{List, map, ◌≡◌, ℕ, ◌+◌, ◌*◌, ◌≤◌, ◌<◌, length, get_or};
 ghost use Rattle.octets.specs.Bytes.{put, flat};
+ghost use Rattle.fmap_rules.specs.Map.{blank_area};
 ghost use Rattle.fmap_rules.specs.Written.{area_bytes};
+ghost use Rattle.fmap_rules.specs.declared.Area.{Area};
 ghost use Rattle.fmd_table.specs.Table.{sections_in, placed_in, HasSpots};
-ghost use Rattle.fmd_check.specs.Areas.{position_in, stored_name, area_from, area_at, layout_areas};
+ghost use Rattle.fmd_check.specs.Areas.{position_in, stored_name, area_from, layout_areas};
 ghost use Rattle.fmd_check.specs.Invariants.{Climbs, Laid};
 
 use fmap_rules::{Area, Extent, ImagePosition};
 use fmap_write::put_area;
 use fmd_table::{Placed, Section, SectionRow, placed_at, row_at};
+use std::marker::Model;
 
 // The position of section k of n, of a level: its offset plus its parent's position. Level 0 is the image.
 fn position(spots: &[Placed], n: usize, k: usize, level: u32) -> ImagePosition
@@ -52,35 +55,65 @@ fn area_from(text: &[u8], h: Section, q: Placed, at: ImagePosition) -> Area
     }
 }
 
-// The area of section k of n.
-pub fn area_at(text: &[u8], rows: &[SectionRow], spots: &[Placed], n: usize, k: usize) -> Area
-    requires { Laid text.now rows.now spots.now n × (k < n) }
-    ensures { result ≡ area_at text.now (sections_in n rows.now) (placed_in n spots.now) k }
-{
-    let h = row_at(rows, k);
-    let q = placed_at(spots, k);
-    let at = position(spots, n, k, q.level);
-    area_from(text, h, q, at)
+// The areas of the sections of a text, which stand in the first rows of two tables; each is made when it is due.
+#[derive(Drop)]
+pub struct Areas<'a> {
+    text: &'a [u8],
+    rows: &'a [SectionRow],
+    spots: &'a [Placed],
+    count: usize,
 }
 
-// The bytes of all areas, one after the other.
-pub fn put_areas(
-    text: &[u8],
-    rows: &[SectionRow],
-    spots: &[Placed],
-    n: usize,
-    to: &mut [u8],
-    at: usize,
-)
-    requires { Laid text.now rows.now spots.now n × (at + 42 * n ≤ length to.old) }
-    ensures { to.new
-        ≡ put at (flat (map area_bytes (layout_areas text.now (sections_in n rows.now) (placed_in n spots.now))))
-        to.old }
-{
-    let mut k: usize = 0;
-    while k < n {
-        let a = area_at(text, rows, spots, n, k);
-        put_area(to, at + 42 * k, a);
-        k += 1;
+impl<'a> Model for Areas<'a> {
+    ghost Value = { List Area };
+
+    ghost view = { λ a. layout_areas a.text.now (sections_in a.count a.rows.now) (placed_in a.count a.spots.now) };
+
+    ghost invariant = { λ a. Laid a.text.now a.rows.now a.spots.now a.count };
+}
+
+impl<'a> Areas<'a> {
+    pub fn new(
+        text: &'a [u8],
+        rows: &'a [SectionRow],
+        spots: &'a [Placed],
+        count: usize,
+    ) -> Areas<'a>
+        requires { Laid text.now rows.now spots.now count }
+        ensures { result ≡ layout_areas text.now (sections_in count rows.now) (placed_in count spots.now) }
+    {
+        Areas {
+            text,
+            rows,
+            spots,
+            count,
+        }
+    }
+
+    pub fn count(&self) -> usize
+        ensures { result ≡ length self.now }
+    {
+        self.count
+    }
+
+    // The area of section k.
+    pub fn at(&self, k: usize) -> Area
+        requires { k < length self.now }
+        ensures { result ≡ get_or self.now k blank_area }
+    {
+        let h = row_at(self.rows, k);
+        let q = placed_at(self.spots, k);
+        let at = position(self.spots, self.count, k, q.level);
+        area_from(self.text, h, q, at)
+    }
+
+    // The bytes of all areas, one after the other.
+    pub fn put(&self, to: &mut [u8], at: usize)
+        requires { at + 42 * length self.now ≤ length to.old }
+        ensures { to.new ≡ put at (flat (map area_bytes self.now)) to.old }
+    {
+        for k in 0..self.count() {
+            put_area(to, at + 42 * k, self.at(k));
+        }
     }
 }

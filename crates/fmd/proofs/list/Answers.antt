@@ -1,8 +1,9 @@
 use Rattle.fmd.proofs.Layouts.{held, laid, named, read_is}
 use Rattle.fmd.proofs.Records.{stopped, list-wrong, list-good, list-fault}
-use Rattle.fmd_check.proofs.Listed.{few}
+use Rattle.fmd_check.proofs.Listed.{few, many}
+use lib.ListN.{length}
 use native.Mathlib.Omega.{arith}
-use mathlib.Core.Path.{refl}
+use mathlib.Core.Path.{refl, ap, ◌∙◌}
 use borrow.Author.Rules.{rules}
 use Rattle.fmd.proofs.list.Goals as goal
 
@@ -11,10 +12,13 @@ returns-in_err-need_length c =
     let w = c.in_err-need_length.ensures in
     rw (stopped _ c.from_residual.ensures.1 w.0) (list-wrong _ _ w.1)
 
+pub new-requires : goal.new-requires
+new-requires c = laid (held _ _ _ _ _ _ (search rules) (search rules) c.in_ok-l.ensures)
+
 pub fill-requires : goal.fill-requires
 fill-requires c =
-    let w = laid (held _ _ _ _ _ _ (search rules) (search rules) c.in_ok-l.ensures) in
-    (w, omega (arith, few w, c.in_ok-need_length.ensures))
+    let g = laid (held _ _ _ _ _ _ (search rules) (search rules) c.in_ok-l.ensures) in
+    omega (arith, ap length c.new.ensures ∙ many g, few g, c.in_ok-need_length.ensures)
 
 pub image_of-requires : goal.image_of-requires
 image_of-requires c = named (held _ _ _ _ _ _ (search rules) (search rules) c.in_ok-l.ensures)
@@ -22,7 +26,7 @@ image_of-requires c = named (held _ _ _ _ _ _ (search rules) (search rules) c.in
 pub returns : goal.returns
 returns c =
     list-good _ _ c.in_ok-l.ensures _
-    (read_is (held _ _ _ _ _ _ (search rules) (search rules) c.in_ok-l.ensures) c.image_of.ensures) _ _ c.in_ok-need_length.ensures c.fill.ensures
+    (read_is (held _ _ _ _ _ _ (search rules) (search rules) c.in_ok-l.ensures) c.image_of.ensures) _ _ c.in_ok-need_length.ensures (rw c.new.ensures at c.fill.ensures)
 
 pub returns-in_err-l : goal.returns-in_err-l
 returns-in_err-l c =
