@@ -15,54 +15,61 @@ use Rattle.octets.specs.Bytes.{put}
 use Rattle.octets.proofs.Puts.{put_all}
 use Rattle.fmap_rules.specs.Written.{area_bytes}
 use Rattle.fmap_carry.specs.Carry.{Outcome}
-use Rattle.fmap.specs.Find.{Reply, accepted, refused, found_reply}
+use Rattle.fmap.specs.Find.{Reply, accepted, refused, number_of, found_reply}
 use Rattle.fmap.specs.Faults.{fault_reply, fault_at}
 use Rattle.fmap.specs.Carry.{carried_number}
 use Rattle.fmap.proofs.Places.{rule-some, fault-behind}
 use Rattle.fmap.specs.Areas.{Looked, looked, lookup_reply, index_reply}
-use Rattle.fmap.specs.declared.MapFound.{MapFound}
-use Rattle.fmap.specs.declared.AreaIndex.{AreaIndex}
-use Rattle.fmap.specs.declared.AreaFound.{AreaFound}
-use Rattle.fmap.specs.declared.Lookup.{Lookup}
-use Rattle.fmap.specs.declared.Carried.{Carried}
+use Rattle.std.specs.Result.{OkIff, result_unwrap_or}
+use Rattle.std.specs.Prelude.{Result, Ok, Err, Option as Maybe, Some, None}
+use Rattle.fmap_rules.specs.declared.ImagePosition.{ImagePosition}
+use Rattle.fmap_rules.specs.declared.Area.{Area}
+use Rattle.fmap.specs.declared.NoMap.{NoMap}
 use Rattle.fmap.specs.declared.MapFault.{MapFault}
-use Rattle.fmap.specs.declared.MapFound.TheVariants as found
+use Rattle.fmap.specs.declared.CarryRefusal.{CarryRefusal}
+use Rattle.fmap.specs.declared.NoMap.TheVariants as missing
 use Rattle.fmap.specs.declared.MapFault.TheVariants as fault
-use Rattle.fmap.specs.declared.Lookup.TheVariants as lookup
-use Rattle.fmap.specs.declared.AreaIndex.TheVariants as index
-use Rattle.fmap.specs.declared.Carried.TheVariants as carried
-use Rattle.c_flash.specs.Effects.{BufferEffect, position_of, fault_effect, answer_effect, looked_effect, area_effect, carry_effect}
+use Rattle.fmap.specs.declared.CarryRefusal.TheVariants as carried
+use Rattle.fmap_carry.specs.declared.Conflict.TheVariants as conflict
+use Rattle.c_flash.specs.Effects.{BufferEffect, position_of, fault_effect, looked_effect, area_effect, carry_effect}
 use Rattle.c_flash.specs.Claims.{NoneIsZero}
 
--- an answer a that is x, and whose reply is r
-pub tells : {A B C : Type 0} (effect : B → C) (reply : A → B) {a x : A} {r : B} → a ≡ x → reply a ≡ r → effect (reply x) ≡ effect r
-tells effect reply p q = ap effect (sym (ap reply p) ∙ q)
-
-pub position-low : (n : ℕ) → n < 4294967295 → n ≡ position_of n
+position-low : (n : ℕ) → n < 4294967295 → n ≡ position_of n
 unfolding position_of
 position-low n h = rw (lt-ltb n 4294967295 h)
 
-pub position-high : (n : ℕ) → 4294967295 ≤ n → 4294967295 ≡ position_of n
+position-high : (n : ℕ) → 4294967295 ≤ n → 4294967295 ≡ position_of n
 unfolding position_of
 position-high n h = rw (le-ltb n 4294967295 h)
 
--- an answer f that is x, of the position r that n stands for
-pub fault-tells : (old : ℕ) (image : List ℕ) (n r : ℕ) {f x : MapFault} → r ≡ position_of n → f ≡ x → fault_reply f ≡ fault_at image r
-    → fault_effect old (fault_reply x) ≡ fault_effect old (fault_at image n)
-fault-tells old image n r {f} {x} p q e = tells (fault_effect old) fault_reply q (e ∙ go (bool_cases (ltb n 4294967295)))
+-- a number as one of 32 bits, or the highest of them
+pub position-by : {E : Type 0} (r : Result ℕ E) (n : ℕ) → OkIff r (n < 4294967296) n → result_unwrap_or r 4294967295 ≡ position_of n
+position-by (Ok x) n (h, e) = go (bool_cases (ltb n 4294967295))
+  where
+    go : (ltb n 4294967295 ≡ true) ⊎ (ltb n 4294967295 ≡ false) → x ≡ position_of n
+    go (inl w) = e ∙ position-low n (ltb-true _ _ w)
+    go (inr w) = let l : 4294967295 ≤ n = ltb-false _ _ w in omega (arith, e, h, position-high n l)
+position-by (Err d) n f = go (bool_cases (ltb n 4294967295))
+  where
+    go : (ltb n 4294967295 ≡ true) ⊎ (ltb n 4294967295 ≡ false) → 4294967295 ≡ position_of n
+    go (inl w) = let l : n < 4294967295 = ltb-true _ _ w in absurd (f (omega arith))
+    go (inr w) = position-high n (ltb-false _ _ w)
+
+-- the answer at the position r that n stands for
+pub fault-tells : (old : ℕ) (image : List ℕ) (n r : ℕ) (x : Reply (Option ℕ)) → r ≡ position_of n → x ≡ fault_at image r
+    → fault_effect old x ≡ fault_effect old (fault_at image n)
+fault-tells old image n r x p e = ap (fault_effect old) (e ∙ go (bool_cases (ltb n 4294967295)))
   where
     go : (ltb n 4294967295 ≡ true) ⊎ (ltb n 4294967295 ≡ false) → fault_at image r ≡ fault_at image n
     go (inl w) = ap (fault_at image) (p ∙ sym (position-low n (ltb-true _ _ w)))
     go (inr w) = let h : 4294967295 ≤ n = ltb-false _ _ w in fault-behind image r n (omega (arith, p, position-high n h)) (omega arith)
 
--- an area's answer x, and the bytes of an area that is there
-pub looked-tells : (old : List ℕ) (a : AreaFound) (x : Lookup) → a.answer ≡ x → answer_effect old a.area (lookup_reply x) ≡ looked_effect old (looked a)
-looked-tells old a x p = ap (λ (y : Lookup). answer_effect old a.area (lookup_reply y)) (sym p)
-
-pub area-tells : (old new : List ℕ) (a : AreaFound) → a.answer ≡ lookup.There → length old ≡ 42
-    → (new ≡ put 0 (area_bytes a.area) old) × (length (area_bytes a.area) ≡ 42) → record { result = 0; buffer = new } ≡ looked_effect old (looked a)
-area-tells old new a p h (q, l) =
-    ap (λ (b : List ℕ). record { result = 0; buffer = b }) (q ∙ put_all (area_bytes a.area) old (l ∙ sym h)) ∙ looked-tells old a lookup.There p
+-- the bytes of an area that is there
+pub area-tells : (old new : List ℕ) (r : Result (Maybe Area) NoMap) (o : Maybe Area) (a : Area) → r ≡ Ok o → o ≡ Some a → length old ≡ 42
+    → (new ≡ put 0 (area_bytes a) old) × (length (area_bytes a) ≡ 42) → record { result = 0; buffer = new } ≡ looked_effect old (looked r)
+area-tells old new r o a p q h (e, l) =
+    ap (λ (b : List ℕ). record { result = 0; buffer = b }) (e ∙ put_all (area_bytes a) old (l ∙ sym h))
+    ∙ ap (λ (x : Result (Maybe Area) NoMap). looked_effect old (looked x)) (sym (p ∙ ap (λ (x : Maybe Area). Ok x) q))
 
 pub area-wrong : (old : List ℕ) (l : Looked) → length old ≢ 42 → record { result = 1; buffer = old } ≡ area_effect old l
 unfolding area_effect
@@ -82,40 +89,37 @@ abbrev number_in : {A : Type 0} → Reply A → ℕ
 number_in (accepted a) = 1
 number_in (refused k) = k
 
-found_none : (f : MapFound) → found_reply f ≡ refused 0 → ⊥
-found_none (found.At p) e = omega (arith, ap number_in e)
-found_none found.WrongLength e = omega (arith, ap number_in e)
-found_none found.NoSignature e = omega (arith, ap number_in e)
-found_none found.NoGoodMap e = omega (arith, ap number_in e)
+some-number : (e : NoMap) → number_of e ≡ 0 → ⊥
+some-number missing.WrongLength q = omega arith
+some-number missing.NoSignature q = omega arith
+some-number missing.NoGoodMap q = omega arith
 
-fault-refused : (f : MapFault) → fault_reply f ≡ refused 0 → ⊥
-fault-refused fault.Good e = omega (arith, ap number_in e)
-fault-refused (fault.Breaks k) e = omega (arith, ap number_in e)
-fault-refused fault.WrongLength e = omega (arith, ap number_in e)
+found_none : (f : Result ImagePosition NoMap) → found_reply f ≡ refused 0 → ⊥
+found_none (Ok p) e = omega (arith, ap number_in e)
+found_none (Err n) e = some-number n (ap number_in e)
 
-lookup-none : (a : Lookup) → lookup_reply a ≡ refused 0 → ⊥
-lookup-none lookup.There e = omega (arith, ap number_in e)
-lookup-none lookup.Nothing e = omega (arith, ap number_in e)
-lookup-none lookup.WrongLength e = omega (arith, ap number_in e)
-lookup-none lookup.NoSignature e = omega (arith, ap number_in e)
-lookup-none lookup.NoGoodMap e = omega (arith, ap number_in e)
+fault-refused : (f : Result (Unit {0}) MapFault) → fault_reply f ≡ refused 0 → ⊥
+fault-refused (Ok u) e = omega (arith, ap number_in e)
+fault-refused (Err (fault.Breaks k)) e = omega (arith, ap number_in e)
+fault-refused (Err fault.WrongLength) e = omega (arith, ap number_in e)
 
-index-none : (a : AreaIndex) → index_reply a ≡ refused 0 → ⊥
-index-none (index.At k) e = omega (arith, ap number_in e)
-index-none index.Nothing e = omega (arith, ap number_in e)
-index-none index.WrongLength e = omega (arith, ap number_in e)
-index-none index.NoSignature e = omega (arith, ap number_in e)
-index-none index.NoGoodMap e = omega (arith, ap number_in e)
+lookup-none : (a : Result (Maybe Area) NoMap) → lookup_reply a ≡ refused 0 → ⊥
+lookup-none (Ok (Some a)) e = omega (arith, ap number_in e)
+lookup-none (Ok None) e = omega (arith, ap number_in e)
+lookup-none (Err n) e = some-number n (ap number_in e)
 
-carried_none : (c : Carried) → code_of (carried_number c) ≡ 0 → carried_number c ≡ none
-carried_none carried.Done e = refl
-carried_none carried.WrongLength e = absurd (omega arith)
-carried_none carried.NoSignature e = absurd (omega arith)
-carried_none carried.NoGoodMap e = absurd (omega arith)
-carried_none carried.Missing e = absurd (omega arith)
-carried_none carried.OtherSize e = absurd (omega arith)
-carried_none carried.Shared e = absurd (omega arith)
-carried_none carried.OnMap e = absurd (omega arith)
+index-none : (a : Result (Maybe ℕ) NoMap) → index_reply a ≡ refused 0 → ⊥
+index-none (Ok (Some k)) e = omega (arith, ap number_in e)
+index-none (Ok None) e = omega (arith, ap number_in e)
+index-none (Err n) e = some-number n (ap number_in e)
+
+carried_none : (c : Result (Unit {0}) CarryRefusal) → code_of (carried_number c) ≡ 0 → carried_number c ≡ none
+carried_none (Ok u) e = refl
+carried_none (Err (carried.Map n)) e = absurd (some-number n e)
+carried_none (Err (carried.Areas conflict.Missing)) e = absurd (omega arith)
+carried_none (Err (carried.Areas conflict.OtherSize)) e = absurd (omega arith)
+carried_none (Err (carried.Areas conflict.Shared)) e = absurd (omega arith)
+carried_none (Err (carried.Areas conflict.OnMap)) e = absurd (omega arith)
 
 pub none_is_zero : NoneIsZero
 none_is_zero = record { find = found_none; fault = fault-refused; rule = rule-some; area = lookup-none; named = index-none; carry = carried_none }

@@ -3,27 +3,36 @@
 // The flash map calls for C.
 ghost use Rattle.std.specs.Prelude.{◌≡◌, length};
 ghost use Rattle.octets.specs.Rows.{code_of};
-ghost use Rattle.fmap.specs.Find.{find_map};
+ghost use Rattle.fmap.specs.Find.{number_of, find_map};
 ghost use Rattle.fmap.specs.Faults.{fault_at};
 ghost use Rattle.fmap.specs.Areas.{looked, area_numbered, index_named};
 ghost use Rattle.fmap.specs.Carry.{carried_number, carry_images};
 ghost use Rattle.c_flash.specs.Effects.{find_effect, position_of, fault_effect, area_effect, looked_effect, named_effect, carry_effect};
 
-use fmap::{AreaFound, AreaIndex, Carried, Lookup, MapFault, MapFound};
-use fmap_rules::ImagePosition;
+use fmap::{CarryRefusal, MapFault, NoMap};
+use fmap_carry::Conflict;
+use fmap_rules::{Area, ImagePosition};
+
+fn number_of(e: NoMap) -> u32
+    ensures { result ≡ number_of e }
+{
+    match e {
+        NoMap::WrongLength => 40,
+        NoMap::NoSignature => 41,
+        NoMap::NoGoodMap => 42,
+    }
+}
 
 #[unsafe(no_mangle)]
 pub extern "C" fn usi_fmap_find(image: &[u8], position: &mut u64) -> u32
     ensures { record { result = result; value = position.new } ≡ find_effect position.old (find_map image.now) }
 {
     match fmap::find(image) {
-        MapFound::At(p) => {
-            *position = p.0 as u64;
+        Ok(p) => {
+            *position = u64::from(p.0);
             0
         }
-        MapFound::WrongLength => 40,
-        MapFound::NoSignature => 41,
-        MapFound::NoGoodMap => 42,
+        Err(e) => number_of(e),
     }
 }
 
@@ -31,10 +40,7 @@ pub extern "C" fn usi_fmap_find(image: &[u8], position: &mut u64) -> u32
 fn position_of(n: u64) -> ImagePosition
     ensures { result.0 ≡ position_of n }
 {
-    if n < 4294967295 {
-        return ImagePosition(n as u32);
-    }
-    ImagePosition(4294967295)
+    ImagePosition(u32::try_from(n).unwrap_or(u32::MAX))
 }
 
 #[unsafe(no_mangle)]
@@ -42,34 +48,30 @@ pub extern "C" fn usi_fmap_fault(image: &[u8], position: u64, rule: &mut u64) ->
     ensures { record { result = result; value = rule.new } ≡ fault_effect rule.old (fault_at image.now position) }
 {
     match fmap::fault_at(image, position_of(position)) {
-        MapFault::Good => {
+        Ok(()) => {
             *rule = 0;
             0
         }
-        MapFault::Breaks(k) => {
-            *rule = k as u64;
+        Err(MapFault::Breaks(broken)) => {
+            *rule = u64::from(broken.number());
             0
         }
-        MapFault::WrongLength => 40,
+        Err(MapFault::WrongLength) => 40,
     }
 }
 
 // Writes the area that was found.
-fn area_found(a: AreaFound, area: &mut [u8]) -> u32
+fn area_found(found: Result<Option<Area>, NoMap>, area: &mut [u8]) -> u32
     requires { length area.old ≡ 42 }
-    ensures { record { result = result; buffer = area.new } ≡ looked_effect area.old (looked a) }
+    ensures { record { result = result; buffer = area.new } ≡ looked_effect area.old (looked found) }
 {
-    let answer = a.answer;
-    match answer {
-        Lookup::There => {
-            let found = a.area;
-            fmap_write::put_area(area, 0, found);
+    match found {
+        Ok(Some(a)) => {
+            fmap_write::put_area(area, 0, a);
             0
         }
-        Lookup::Nothing => 255,
-        Lookup::WrongLength => 40,
-        Lookup::NoSignature => 41,
-        Lookup::NoGoodMap => 42,
+        Ok(None) => 255, // no such area
+        Err(e) => number_of(e),
     }
 }
 
@@ -88,29 +90,25 @@ pub extern "C" fn usi_fmap_named(image: &[u8], name: &[u8], k: &mut u64) -> u32
     ensures { record { result = result; value = k.new } ≡ named_effect k.old (index_named image.now name.now) }
 {
     match fmap::area_index(image, name) {
-        AreaIndex::At(i) => {
-            *k = i as u64;
+        Ok(Some(i)) => {
+            *k = u64::from(i);
             0
         }
-        AreaIndex::Nothing => 255,
-        AreaIndex::WrongLength => 40,
-        AreaIndex::NoSignature => 41,
-        AreaIndex::NoGoodMap => 42,
+        Ok(None) => 255, // no area has the name
+        Err(e) => number_of(e),
     }
 }
 
-fn carried(c: Carried) -> u32
+fn carried(c: Result<(), CarryRefusal>) -> u32
     ensures { result ≡ code_of (carried_number c) }
 {
     match c {
-        Carried::Done => 0,
-        Carried::WrongLength => 40,
-        Carried::NoSignature => 41,
-        Carried::NoGoodMap => 42,
-        Carried::Missing => 60,
-        Carried::OtherSize => 61,
-        Carried::Shared => 62,
-        Carried::OnMap => 63,
+        Ok(()) => 0,
+        Err(CarryRefusal::Map(e)) => number_of(e),
+        Err(CarryRefusal::Areas(Conflict::Missing)) => 60,
+        Err(CarryRefusal::Areas(Conflict::OtherSize)) => 61,
+        Err(CarryRefusal::Areas(Conflict::Shared)) => 62,
+        Err(CarryRefusal::Areas(Conflict::OnMap)) => 63,
     }
 }
 

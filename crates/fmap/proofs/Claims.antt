@@ -27,7 +27,7 @@ use Rattle.fmap.specs.Find.{Reply, accepted, refused, signed_at, find_map}
 use Rattle.fmap.specs.Carry.{carry_at_rows, carry_at, carry_to, carry_from, carry_images}
 use Rattle.fmap.specs.Claims.{FindsLowest, CarriedOver, CarryArrives, WrittenIsFound, RefusedCarryStays, RefusedImagesStay}
 use Rattle.fmap.proofs.Lowest.{first-skip, first-stop, first-before}
-use Rattle.fmap.proofs.Finding.{found-length, found-good, found-lowest, finds}
+use Rattle.fmap.proofs.Finding.{found-length, found-good, found-lowest, finds, in-range}
 use Rattle.fmap.proofs.Places.{old-good, new-good, by-the-areas}
 
 -- ---- carrying
@@ -111,7 +111,7 @@ module _ (image : List ℕ) (at : ℕ) (g : good_map image at ≡ true) where
       ∙ first-stop (length image) at (good_map image) b g
 
   pub found-there : 98 ≤ length image → length image ≤ 16777216 → ((j : ℕ) → j < at → good_map image j ≡ false) → find_map image ≡ accepted (position at)
-  found-there lo hi none_lower = sym (finds image at lo hi some-signed below (lowest-is none_lower))
+  found-there lo hi none_lower = sym (finds image at (in-range (length image) lo hi) some-signed below (lowest-is none_lower))
 
 pub finds-lowest : FindsLowest
 finds-lowest image p = (

@@ -1,5 +1,7 @@
 -- From one signature to the next, and what is found.
-use mathlib.Core.Path.{◌≡◌, refl, sym, ap, ◌∙◌}
+use mathlib.Core.Path.{◌≡◌, refl, sym, ap, subst, ◌∙◌}
+use Rattle.std.specs.Prelude.{Option as Maybe, Some, None, IfSome}
+use Rattle.std.specs.Option.{option_map_or}
 use mathlib.Core.Bool.{Bool, true, false, not, true≢false}
 use mathlib.Core.List.{List}
 use mathlib.Core.Option.{Option, none, some}
@@ -165,6 +167,17 @@ module _ (image : List ℕ) (p : ℕ → Bool) (r : ℕ) (e : r ≡ first_from (
   pub none_below : length image ≤ r → some_below (length image) p ≡ false
   none_below h = le-ltb (lowest (length image) p) (length image) (omega (arith, first-lowest image p r e))
 
+-- what is told of the next signature, by whether there is one
+module _ (n : ℕ) {o : Maybe ImagePosition} {r : ℕ} (e : option_map_or (λ p. p.0) o n ≡ r) where
+  pub next-at : (p : ImagePosition) → o ≡ Some p → p.0 ≡ r
+  next-at p q = sym (ap (λ (x : Maybe ImagePosition). option_map_or (λ p. p.0) x n) q) ∙ e
+
+  pub next-none : o ≡ None → n ≡ r
+  next-none q = sym (ap (λ (x : Maybe ImagePosition). option_map_or (λ p. p.0) x n) q) ∙ e
+
+pub next-within : {o : Maybe ImagePosition} (n : ℕ) (p : ImagePosition) → o ≡ Some p → IfSome o (λ p. p.0 < n) → p.0 < n
+next-within n p q h = subst (λ (x : Maybe ImagePosition). IfSome x (λ p. p.0 < n)) q h
+
 -- what the loop of `find` knows at a position: no good map before it
 pub record Looking (image : List ℕ) (at : ℕ) : Type 0 where
   pub bound : at ≤ length image
@@ -210,11 +223,11 @@ module _ (image : List ℕ) (at : ℕ) (l : Looking image at) where
       (omega (arith, l.rest-decides ∙ first-end (length image) at (good_map image) h))
 
 -- the position that is found
-pub finds : (image : List ℕ) (at : ℕ) → 98 ≤ length image → length image ≤ 16777216 → some_below (length image) (signed_at image) ≡ true
+pub finds : (image : List ℕ) (at : ℕ) → out_of_range (length image) ≡ false → some_below (length image) (signed_at image) ≡ true
     → at < length image → lowest (length image) (good_map image) ≡ at → accepted (position at) ≡ find_map image
-finds image at a b s h e =
+finds image at a s h e =
     ap (λ (k : ℕ). accepted (position k)) (sym e)
-    ∙ find_at image (in-range (length image) a b) s (lt-ltb (lowest (length image) (good_map image)) (length image) (omega (arith, e)))
+    ∙ find_at image a s (lt-ltb (lowest (length image) (good_map image)) (length image) (omega (arith, e)))
 
 pub within : (len : ℕ) → out_of_range len ≡ false → (98 ≤ len) × (len ≤ 16777216)
 unfolding out_of_range

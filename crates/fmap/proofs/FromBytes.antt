@@ -1,16 +1,16 @@
 -- What the image's bytes say of a map makes it good.
-use mathlib.Core.Path.{◌≡◌, refl, sym, ap, ap₂, ◌∙◌}
+use mathlib.Core.Path.{◌≡◌, refl, sym, ap, ◌∙◌}
 use mathlib.Core.Logic.{◌⊎◌, inl, inr}
-use mathlib.Core.Bool.{Bool, true, false, not}
+use mathlib.Core.Bool.{true, false, not}
 use mathlib.Core.List.{List, [], ◌∷◌}
-use Prim.Native.Nat.{ℕ, zero, suc, ◌+◌, ◌-◌, ◌*◌, ◌≤◌, ◌<◌, suc-le-suc}
+use Prim.Native.Nat.{ℕ, zero, suc, ◌+◌, ◌-◌, ◌≤◌, ◌<◌, suc-le-suc}
 use native.Mathlib.Nat.{le_of_suc-le-suc, not-suc-le-zero, zero-lt-suc}
 use native.Mathlib.Omega.{arith}
-use lib.Dec.{eqb, leb, ltb}
+use lib.Dec.{eqb}
 use lib.ListN.{length, get_or}
 use lib.Seq.{get_or-drop}
 use borrow.Author.Tests.{eq-eqb, ne_eqb, le-leb, le-ltb}
-use Rattle.octets.specs.Tests.{◌and◌, ◌or◌, any, find_ix}
+use Rattle.octets.specs.Tests.{◌and◌, any, find_ix}
 use Rattle.octets.specs.Bytes.{unle, part, rest, field, same}
 use Rattle.octets.proofs.Bools.{and_i, or-il, or-ir}
 use Rattle.octets.proofs.Rows.{pick-false}
@@ -20,14 +20,14 @@ use Rattle.octets.proofs.Parts.{length_part, length_rest, get_d_part, part-of-re
 use Rattle.octets.proofs.Equal.{same_refl, same_false}
 use Rattle.fmap_rules.specs.declared.Extent.{Extent}
 use Rattle.fmap_rules.specs.declared.Area.{Area}
-use Rattle.fmap_rules.specs.Map.{signature, signed, major_of, minor_of, size_of, count_of, name_of, graphic, stops, name_length, legal_name, fmap_name}
+use Rattle.fmap_rules.specs.Map.{signature, minor_of, count_of, stops, name_length, legal_name, fmap_name}
 use Rattle.fmap_rules.specs.Map.{map_size, areas_of, blank_area, named, end_of, disjoint, inside, disjoint_or_nested, header_rows, good_map_header}
-use Rattle.fmap_rules.specs.Map.{good_map, holds_map}
+use Rattle.fmap_rules.specs.Map.{holds_map}
 use Rattle.fmap_rules.proofs.Rules.{none-holds}
 use Rattle.fmap_rules.proofs.Good.{areas-good, map-good}
 use Rattle.fmap_rules.proofs.Signature.{signed_part}
 use Rattle.fmap_rules.proofs.Records.{start-at, size-at, name-at, count-in, count-whole, record-whole}
-use Rattle.fmap.specs.InBytes.{record_of, count_in, start_in, size_in, name_in, NameAt, end_in, Apart, MapAt}
+use Rattle.fmap.specs.InBytes.{record_of, count_in, start_in, size_in, name_in, NameAt, MapAt}
 use Rattle.fmap.specs.Claims.{MapIsGood}
 
 first_stops : (xs : List ℕ) (k : ℕ) → ((i : ℕ) → i < k → stops (get_or xs i 0) ≡ false) → k < length xs → stops (get_or xs k 0) ≡ true → find_ix stops xs ≡ k

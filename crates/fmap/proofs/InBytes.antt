@@ -1,7 +1,7 @@
 -- A good map and a carry by the image's bytes.
-use mathlib.Core.Path.{◌≡◌, refl, sym, ap, ap₂, subst, ◌∙◌}
+use mathlib.Core.Path.{◌≡◌, refl, sym, ap, ◌∙◌}
 use mathlib.Core.Logic.{◌⊎◌, inl, inr}
-use mathlib.Core.Bool.{Bool, true, false, not, true≢false}
+use mathlib.Core.Bool.{Bool, true, false}
 use mathlib.Core.List.{List}
 use mathlib.Core.Option.{none}
 use Prim.Native.Nat.{ℕ, ◌+◌, ◌*◌, ◌/◌, ◌%◌, ◌≤◌, ◌<◌}
@@ -10,7 +10,7 @@ use lib.ListN.{length, get_or}
 use lib.Dec.{eqb, leb, ltb}
 use borrow.Author.Tests.{eq-eqb, eqb-true, eqb-false, leb-true, ltb-true, ltb-false}
 use Rattle.octets.specs.Rows.{refusal}
-use Rattle.octets.specs.Tests.{◌and◌, ◌or◌, any, find_ix}
+use Rattle.octets.specs.Tests.{◌and◌, ◌or◌, find_ix}
 use Rattle.octets.specs.Bytes.{unle, part, rest, field, same}
 use Rattle.octets.proofs.Bools.{and_l, and_r, or_cases, not_f, clash}
 use Rattle.octets.proofs.Rows.{passes}
@@ -20,7 +20,7 @@ use Rattle.octets.proofs.Parts.{get_d_part, part-of-rest}
 use Rattle.octets.proofs.Equal.{same_true, same_refl}
 use Rattle.fmap_rules.specs.declared.Extent.{Extent}
 use Rattle.fmap_rules.specs.declared.Area.{Area}
-use Rattle.fmap_rules.specs.Map.{signature, signed, minor_of, fmap_name, legal_name, map_size, area_of, areas_of, blank_area, named, end_of, disjoint}
+use Rattle.fmap_rules.specs.Map.{signature, minor_of, fmap_name, legal_name, map_size, areas_of, blank_area, named, end_of, disjoint}
 use Rattle.fmap_rules.specs.Map.{inside, disjoint_or_nested, header_rows, area_rows, good_map_header, good_areas, good_map, holds_map, empty, good_places}
 use Rattle.fmap_rules.proofs.Rules.{holds-none}
 use Rattle.fmap_rules.proofs.Good.{good-header, good-areas, good-fits, good-within, header-signed, holder, ends-in, legal, names_differ}
@@ -29,8 +29,7 @@ use Rattle.fmap_rules.proofs.Records.{start-at, size-at, name-at, flags-at, coun
 use Rattle.fmap_carry.specs.Carry.{preserved, with_name, target, carry_rows}
 use Rattle.fmap_carry.specs.Claims.{Arrived}
 use Rattle.fmap_carry.proofs.Passed.{present, size_same}
-use Rattle.fmap.specs.Carry.{carry_at}
-use Rattle.fmap.specs.InBytes.{record_of, count_in, start_in, size_in, name_in, NameAt, end_in, Apart, MapAt, Goes, CarriedBytes}
+use Rattle.fmap.specs.InBytes.{record_of, count_in, start_in, size_in, name_in, NameAt, Apart, Goes}
 use Rattle.fmap.specs.Claims.{GoodIsMap, CarriesBytes}
 use Rattle.fmap.proofs.NameBytes.{name-at as name-by-bytes}
 use Rattle.fmap.proofs.Places.{old-good, new-good, rows_pass}

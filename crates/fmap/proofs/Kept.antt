@@ -1,5 +1,5 @@
 -- An area's bytes are the map's own, and an accepted carry leaves the new map as it was.
-use mathlib.Core.Path.{◌≡◌, refl, sym, ap, subst, ◌∙◌}
+use mathlib.Core.Path.{◌≡◌, sym, ap, subst, ◌∙◌}
 use mathlib.Core.Logic.{◌⊎◌, inl, inr}
 use mathlib.Core.Bool.{Bool, true, false}
 use mathlib.Core.List.{List}
@@ -10,7 +10,6 @@ use lib.ListN.{length, get_or}
 use lib.Seq.{ext_get_or}
 use lib.Dec.{leb, ltb}
 use borrow.Author.Tests.{leb-true, ltb-true, ltb-false, eqb-true}
-use Rattle.octets.specs.Rows.{refusal}
 use Rattle.octets.specs.Bytes.{part, rest, field}
 use Rattle.octets.proofs.Bools.{and_l, and_r, and-skip, or_cases, or-false-l, or-false-r, not_f}
 use Rattle.octets.proofs.Rows.{passes}
@@ -20,16 +19,16 @@ use Rattle.octets.proofs.Equal.{same_true}
 use Rattle.fmap_rules.specs.declared.Extent.{Extent}
 use Rattle.fmap_rules.specs.declared.ImagePosition.{ImagePosition}
 use Rattle.fmap_rules.specs.declared.Area.{Area}
-use Rattle.fmap_rules.specs.Map.{position, count_of, area_of, areas_of, blank_area, named, fmap_name, end_of, disjoint, holds_map, map_size, good_map}
+use Rattle.fmap_rules.specs.Map.{position, area_of, areas_of, blank_area, named, fmap_name, end_of, disjoint, holds_map, map_size, good_map}
 use Rattle.fmap_rules.specs.Written.{area_bytes}
 use Rattle.fmap_rules.proofs.Good.{good-within}
 use Rattle.fmap_rules.proofs.Records.{count_at, areas-count, record-at, area-is-its-bytes, same_map}
 use Rattle.fmap_carry.specs.Carry.{preserved, with_name, target, on_map, carry_rows}
 use Rattle.fmap_carry.specs.Claims.{Arrived}
-use Rattle.fmap.specs.Find.{Reply, accepted, refused, out_of_range, find_map}
+use Rattle.fmap.specs.Find.{accepted, out_of_range, find_map}
 use Rattle.fmap.specs.Areas.{Looked, area_in, area_by, area_numbered}
 use Rattle.fmap.specs.Carry.{place_rows, carry_at}
-use Rattle.fmap.specs.Claims.{AreaBytesAreTheMaps, MapKept, CarryKeepsMap}
+use Rattle.fmap.specs.Claims.{AreaBytesAreTheMaps, CarryKeepsMap}
 use Rattle.fmap.proofs.Finding.{found-good}
 use Rattle.fmap.proofs.Places.{old-good, new-good, new-stands, rows_pass}
 use Rattle.fmap.proofs.Claims.{arrives, found-there}

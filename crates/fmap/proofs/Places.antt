@@ -1,22 +1,22 @@
 -- What stands at a position that is given, and a carry by two of them.
 use mathlib.Core.Path.{◌≡◌, refl, sym, ap, ◌∙◌}
 use mathlib.Core.Logic.{◌⊎◌, inl, inr}
-use mathlib.Core.Bool.{Bool, true, false, not, true≢false}
+use mathlib.Core.Bool.{true, false, not, true≢false}
 use mathlib.Core.List.{List, [], ◌∷◌, ◌++◌}
 use mathlib.Core.Option.{Option, none, some}
 use Prim.Native.Nat.{ℕ, ◌≤◌}
 use native.Mathlib.Omega.{arith}
-use Rattle.octets.specs.Rows.{row, refusal, code_of}
+use Rattle.octets.specs.Rows.{row, refusal}
 use Rattle.octets.specs.Bytes.{rest}
 use borrow.Author.Tests.{ltb-false}
-use Rattle.octets.proofs.Bools.{or-false-r, not_f, bool_cases, option_cases}
+use Rattle.octets.proofs.Bools.{or-false-r, not_f, bool_cases}
 use Rattle.octets.proofs.Rows.{pick_true, pick-false, passes, refusal-append, refusal-first, refusal-before, refusal-holds}
 use lib.ListN.{length}
 use Rattle.fmap_rules.specs.Map.{areas_of, map_rows, good_map}
-use Rattle.fmap_rules.proofs.Rules.{code-none, map-no-zero}
+use Rattle.fmap_rules.proofs.Rules.{map-no-zero}
 use Rattle.fmap_rules.proofs.Good.{unsigned-first}
 use Rattle.fmap_carry.specs.Carry.{Outcome, unless_refused, carry_rows, carried, carry_areas}
-use Rattle.fmap.specs.Find.{Reply, accepted, refused, reply, out_of_range, signed_at}
+use Rattle.fmap.specs.Find.{accepted, refused, reply, out_of_range, signed_at}
 use Rattle.fmap.specs.Faults.{fault_at}
 use Rattle.fmap.specs.Carry.{place_rows, carry_at_rows, carry_at}
 use Rattle.fmap.proofs.Finding.{reply-accepted, signed-short}
@@ -29,21 +29,11 @@ module _ (image : List ℕ) (at : ℕ) where
   fault-40 a = ap (λ (o : Option ℕ). reply o (refusal (map_rows image at))) (sym (pick_true _ 40 _ a))
 
   module _ (a : out_of_range (length image) ≡ false) where
-    looked : (o : Option ℕ) → o ≡ refusal (map_rows image at) → accepted o ≡ fault_at image at
+    pub fault-looked : (o : Option ℕ) → o ≡ refusal (map_rows image at) → accepted o ≡ fault_at image at
     unfolding fault_at
-    looked o e =
+    fault-looked o e =
         ap (λ (x : Option ℕ). accepted x) e
         ∙ ap (λ (x : Option ℕ). reply x (refusal (map_rows image at))) (sym (pick-false (out_of_range (length image)) 40 none a))
-
-    pub fault-none : (k : ℕ) → k ≡ code_of (refusal (map_rows image at)) → k ≡ 0 → accepted none ≡ fault_at image at
-    fault-none k e h = looked none (sym (code-none (map_rows image at) (map-no-zero image at) (sym h ∙ e)))
-
-    pub fault-some : (k : ℕ) → k ≡ code_of (refusal (map_rows image at)) → (k ≡ 0 → ⊥) → accepted (some k) ≡ fault_at image at
-    fault-some k e h = looked (some k) (go (option_cases (refusal (map_rows image at))))
-      where
-        go : (refusal (map_rows image at) ≡ none) ⊎ ((s : ℕ) × (refusal (map_rows image at) ≡ some s)) → some k ≡ refusal (map_rows image at)
-        go (inl q) = absurd (h (e ∙ ap code_of q))
-        go (inr (s, q)) = ap (λ (x : ℕ). some x) (e ∙ ap code_of q) ∙ sym q
 
 -- no rule has the number 0
 pub rule-some : (image : List ℕ) (at : ℕ) → fault_at image at ≡ accepted (some 0) → ⊥
@@ -69,7 +59,7 @@ fault-behind image at bt a b = go (bool_cases (out_of_range (length image)))
   where
     go : (out_of_range (length image) ≡ true) ⊎ (out_of_range (length image) ≡ false) → fault_at image at ≡ fault_at image bt
     go (inl w) = sym (fault-40 image at w) ∙ fault-40 image bt w
-    go (inr w) = sym (looked image at w (some 1) (sym (behind image at w a))) ∙ looked image bt w (some 1) (sym (behind image bt w b))
+    go (inr w) = sym (fault-looked image at w (some 1) (sym (behind image at w a))) ∙ fault-looked image bt w (some 1) (sym (behind image bt w b))
 
 -- ---- what stands at a position
 

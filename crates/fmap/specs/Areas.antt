@@ -1,49 +1,41 @@
 -- The areas of the map that is found. Definitions only.
-use Rattle.std.specs.Prelude.{Bool, true, false, cond, List, ℕ, length, get_or, ltb}
+use Rattle.std.specs.Prelude.{Bool, true, false, cond, List, ℕ, length, get_or, ltb, Result, Ok, Err, Option as Maybe, Some, None}
 use Rattle.std.proofs.Math.Option.{Option, none, some}
 use Rattle.octets.specs.Tests.{find_ix}
 use Rattle.octets.specs.Bytes.{part, rest, same}
 use Rattle.fmap_rules.specs.declared.ImagePosition.{ImagePosition}
 use Rattle.fmap_rules.specs.declared.Area.{Area}
 use Rattle.fmap_rules.specs.Map.{areas_of, blank_area, name_length}
-use Rattle.fmap.specs.Find.{Reply, accepted, refused, find_map}
-use Rattle.fmap.specs.declared.AreaCount.{AreaCount}
-use Rattle.fmap.specs.declared.AreaCount.TheVariants.{Count, WrongLength, NoSignature, NoGoodMap}
-use Rattle.fmap.specs.declared.Lookup.{Lookup}
-use Rattle.fmap.specs.declared.Lookup.TheVariants.{There, Nothing, WrongLength as LengthToo, NoSignature as SignatureToo, NoGoodMap as MapToo}
-use Rattle.fmap.specs.declared.AreaIndex.{AreaIndex}
-use Rattle.fmap.specs.declared.AreaIndex.TheVariants.{At as IndexAt, Nothing as NoIndex, WrongLength as IndexLength}
-use Rattle.fmap.specs.declared.AreaIndex.TheVariants.{NoSignature as IndexSignature, NoGoodMap as IndexMap}
-use Rattle.fmap.specs.declared.AreaFound.{AreaFound}
+use Rattle.fmap.specs.Find.{Reply, accepted, refused, number_of, find_map}
+use Rattle.fmap.specs.declared.NoMap.{NoMap}
 
 -- (W15) the number and the value of each answer; accepted false or none: no such area, to which the rules give no number
-abbrev pub count_reply : AreaCount → Reply ℕ
-count_reply (Count n) = accepted n
-count_reply WrongLength = refused 40
-count_reply NoSignature = refused 41
-count_reply NoGoodMap = refused 42
+abbrev pub count_reply : Result ℕ NoMap → Reply ℕ
+count_reply (Ok n) = accepted n
+count_reply (Err e) = refused (number_of e)
 
-abbrev pub lookup_reply : Lookup → Reply Bool
-lookup_reply There = accepted true
-lookup_reply Nothing = accepted false
-lookup_reply LengthToo = refused 40
-lookup_reply SignatureToo = refused 41
-lookup_reply MapToo = refused 42
+abbrev pub lookup_reply : Result (Maybe Area) NoMap → Reply Bool
+lookup_reply (Ok (Some a)) = accepted true
+lookup_reply (Ok None) = accepted false
+lookup_reply (Err e) = refused (number_of e)
 
-abbrev pub index_reply : AreaIndex → Reply (Option ℕ)
-index_reply (IndexAt k) = accepted (some k)
-index_reply NoIndex = accepted none
-index_reply IndexLength = refused 40
-index_reply IndexSignature = refused 41
-index_reply IndexMap = refused 42
+abbrev pub index_reply : Result (Maybe ℕ) NoMap → Reply (Option ℕ)
+index_reply (Ok (Some k)) = accepted (some k)
+index_reply (Ok None) = accepted none
+index_reply (Err e) = refused (number_of e)
 
 -- an outcome whole: the answer, and the area, blank where there is none
 pub record Looked : Type 0 where
   pub answer : Reply Bool
   pub area : Area
 
-abbrev pub looked : AreaFound → Looked
-looked r = record { answer = lookup_reply r.answer; area = r.area }
+abbrev pub looked_area : Result (Maybe Area) NoMap → Area
+looked_area (Ok (Some a)) = a
+looked_area (Ok None) = blank_area
+looked_area (Err e) = blank_area
+
+abbrev pub looked : Result (Maybe Area) NoMap → Looked
+looked r = record { answer = lookup_reply r; area = looked_area r }
 
 -- area k of a list, from 0
 abbrev pub area_in : List Area → ℕ → Looked

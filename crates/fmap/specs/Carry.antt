@@ -1,34 +1,30 @@
 -- Carrying preserved areas from one image to another. Definitions only.
-use Rattle.std.specs.Prelude.{not, List, [], ◌∷◌, ◌++◌, ℕ, length}
+use Rattle.std.specs.Prelude.{not, List, [], ◌∷◌, ◌++◌, ℕ, length, Result, Ok, Err}
 use Rattle.std.proofs.Math.Option.{Option, none, some}
 use Rattle.octets.specs.Rows.{Row, row, refusal}
 use Rattle.octets.specs.Bytes.{rest}
 use Rattle.fmap_rules.specs.declared.ImagePosition.{ImagePosition}
 use Rattle.fmap_rules.specs.Map.{areas_of, good_map}
-use Rattle.fmap_carry.specs.Carry.{Outcome, unless_refused, carry_rows, carried}
-use Rattle.fmap.specs.Find.{Reply, accepted, refused, out_of_range, signed_at, find_map}
-use Rattle.fmap.specs.declared.Standing.{Standing}
-use Rattle.fmap.specs.declared.Standing.TheVariants.{GoodMap, WrongLength as LengthToo, NoSignature as SignatureToo, NoGoodMap as MapToo}
-use Rattle.fmap.specs.declared.Carried.{Carried}
-use Rattle.fmap.specs.declared.Carried.TheVariants.{Done, WrongLength, NoSignature, NoGoodMap, Missing, OtherSize, Shared, OnMap}
+use Rattle.fmap_carry.specs.Carry.{number_of as conflict_number, Outcome, unless_refused, carry_rows, carried}
+use Rattle.fmap.specs.Find.{Reply, accepted, refused, number_of, out_of_range, signed_at, find_map}
+use Rattle.fmap.specs.declared.NoMap.{NoMap}
+use Rattle.fmap.specs.declared.CarryRefusal.{CarryRefusal}
+use Rattle.fmap.specs.declared.CarryRefusal.TheVariants.{Map, Areas}
+
+-- (W15) the number of each refusal
+abbrev pub refusal_number : CarryRefusal → ℕ
+refusal_number (Map e) = number_of e
+refusal_number (Areas e) = conflict_number e
 
 -- (W15) the number of each answer; a carry that is accepted answers only that
-abbrev pub carried_number : Carried → Option ℕ
-carried_number Done = none
-carried_number WrongLength = some 40
-carried_number NoSignature = some 41
-carried_number NoGoodMap = some 42
-carried_number Missing = some 60
-carried_number OtherSize = some 61
-carried_number Shared = some 62
-carried_number OnMap = some 63
+abbrev pub carried_number : Result (Unit {0}) CarryRefusal → Option ℕ
+carried_number (Ok _) = none
+carried_number (Err e) = some (refusal_number e)
 
 -- (W15) the number of what stands at a position
-abbrev pub standing_number : Standing → Option ℕ
-standing_number GoodMap = none
-standing_number LengthToo = some 40
-standing_number SignatureToo = some 41
-standing_number MapToo = some 42
+abbrev pub standing_number : Result (Unit {0}) NoMap → Option ℕ
+standing_number (Ok _) = none
+standing_number (Err e) = some (number_of e)
 
 -- R15, R16 for a position that is given: the eight signature bytes stand there, and so does a good map
 abbrev pub place_rows : List ℕ → ℕ → List Row

@@ -1,5 +1,5 @@
 -- Finding the map of an image. Definitions only.
-use Rattle.std.specs.Prelude.{Bool, not, List, [], ◌∷◌, ℕ, length, ltb}
+use Rattle.std.specs.Prelude.{Bool, not, List, [], ◌∷◌, ℕ, length, ltb, Result, Ok, Err}
 use Rattle.std.proofs.Math.Option.{Option, none, some}
 use Rattle.octets.specs.Tests.{◌or◌}
 use Rattle.octets.specs.Rows.{Row, row, refusal}
@@ -7,8 +7,8 @@ use Rattle.octets.specs.Bytes.{rest}
 use Rattle.fmap_rules.specs.declared.ImagePosition.{ImagePosition}
 use Rattle.fmap_rules.specs.Map.{position, signed, good_map}
 use Rattle.fmap.specs.Lowest.{lowest, some_below}
-use Rattle.fmap.specs.declared.MapFound.{MapFound}
-use Rattle.fmap.specs.declared.MapFound.TheVariants.{At, WrongLength, NoSignature, NoGoodMap}
+use Rattle.fmap.specs.declared.NoMap.{NoMap}
+use Rattle.fmap.specs.declared.NoMap.TheVariants.{WrongLength, NoSignature, NoGoodMap}
 
 -- R1, (R3) a call is accepted with a value, or refused with a number alone
 pub data Reply (A : Type 0) : Type 0 where
@@ -20,12 +20,16 @@ module _ {A : Type 0} where
   reply none a = accepted a
   reply (some k) a = refused k
 
+-- (W15) the number of each refusal
+abbrev pub number_of : NoMap → ℕ
+number_of WrongLength = 40
+number_of NoSignature = 41
+number_of NoGoodMap = 42
+
 -- (W15) the number and the value of each answer of finding
-abbrev pub found_reply : MapFound → Reply ImagePosition
-found_reply (At p) = accepted p
-found_reply WrongLength = refused 40
-found_reply NoSignature = refused 41
-found_reply NoGoodMap = refused 42
+abbrev pub found_reply : Result ImagePosition NoMap → Reply ImagePosition
+found_reply (Ok p) = accepted p
+found_reply (Err e) = refused (number_of e)
 
 -- Q4: A flash image is 98 to 16,777,216 bytes.
 unfoldable pub out_of_range : ℕ → Bool

@@ -1,5 +1,5 @@
 -- Laws of carrying.
-pub mod Match
+pub mod Moves
 pub mod Passed
 pub mod Carrying
 pub mod Accepted

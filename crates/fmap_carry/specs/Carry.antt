@@ -1,5 +1,5 @@
 -- Carrying preserved areas by the areas of two maps: the refusals, and the new image afterwards. Definitions only.
-use Rattle.std.specs.Prelude.{Bool, not, cond, List, [], ◌∷◌, ℕ, ◌/◌, ◌%◌, get_or, eqb}
+use Rattle.std.specs.Prelude.{Bool, not, cond, List, [], ◌∷◌, ℕ, ◌/◌, ◌%◌, get_or, eqb, Result, Ok, Err}
 use Rattle.std.proofs.Math.Option.{Option, none, some}
 use Rattle.octets.specs.Tests.{◌and◌, ◌or◌, any, pairs, find_ix}
 use Rattle.octets.specs.Rows.{Row, row, refusal}
@@ -7,8 +7,8 @@ use Rattle.octets.specs.Bytes.{part, put}
 use Rattle.fmap_rules.specs.declared.Extent.{Extent}
 use Rattle.fmap_rules.specs.declared.Area.{Area}
 use Rattle.fmap_rules.specs.Map.{blank_area, named, fmap_name, disjoint}
-use Rattle.fmap_carry.specs.declared.Judged.{Judged}
-use Rattle.fmap_carry.specs.declared.Judged.TheVariants.{Free, Missing, OtherSize, Shared, OnMap}
+use Rattle.fmap_carry.specs.declared.Conflict.{Conflict}
+use Rattle.fmap_carry.specs.declared.Conflict.TheVariants.{Missing, OtherSize, Shared, OnMap}
 
 -- (M2) the flag PRESERVE 8
 unfoldable pub preserved : Area → Bool
@@ -49,13 +49,17 @@ carry_rows olds news =
     ∷ row (any (on_map news) olds) 63
     ∷ []
 
--- (W15) the number of each judgement
-abbrev pub judged_number : Judged → Option ℕ
-judged_number Free = none
-judged_number Missing = some 60
-judged_number OtherSize = some 61
-judged_number Shared = some 62
-judged_number OnMap = some 63
+-- (W15) the number of each refusal
+abbrev pub number_of : Conflict → ℕ
+number_of Missing = 60
+number_of OtherSize = 61
+number_of Shared = 62
+number_of OnMap = 63
+
+-- the number of a judgement, if it is a refusal
+abbrev pub judged_number : Result (Unit {0}) Conflict → Option ℕ
+judged_number (Ok _) = none
+judged_number (Err e) = some (number_of e)
 
 -- ---- M11: its bytes go to the same-named area of the new image
 

@@ -1,14 +1,8 @@
--- For the proofs of the code, not to be believed: what the functions hand each other. Definitions only.
+-- For the proofs of the code, not to be believed: what of two maps lets areas be carried. Definitions only.
 use Rattle.std.specs.Prelude.{◌≡◌, Bool, true, List, ℕ, ◌≤◌, ◌<◌, length, get_or, leb}
-use Rattle.octets.specs.Tests.{find_ix}
 use Rattle.fmap_rules.specs.declared.Area.{Area}
-use Rattle.fmap_rules.specs.Map.{blank_area, named, end_of}
+use Rattle.fmap_rules.specs.Map.{blank_area, end_of}
 use Rattle.fmap_carry.specs.Carry.{preserved, target}
-
--- for each old area the number of the new one with its name; their count where there is none
-pub record Matched (olds news : List Area) (matches : List ℕ) : Type 0 where
-  pub long : length olds ≤ length matches
-  pub each : (i : ℕ) → i < length olds → get_or matches i 0 ≡ find_ix (named (get_or olds i blank_area).name) news
 
 -- an area that is carried lies in the old image, and where it goes lies in the new one and has its size
 pub record Fit (old_length new_length : ℕ) (news : List Area) (a : Area) : Type 0 where

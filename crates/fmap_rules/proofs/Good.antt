@@ -2,23 +2,23 @@
 use mathlib.Core.Path.{◌≡◌, refl, sym, ap, ◌∙◌}
 use mathlib.Core.Bool.{Bool, true, false, not}
 use mathlib.Core.List.{List}
-use mathlib.Core.Option.{none, some}
-use Prim.Native.Nat.{ℕ, ◌+◌, ◌-◌, ◌*◌, ◌≤◌, ◌<◌}
+use mathlib.Core.Option.{Option, none, some}
+use Prim.Native.Nat.{ℕ, ◌+◌, ◌≤◌, ◌<◌}
 use native.Mathlib.Omega.{arith}
-use lib.ListN.{length, get_or, take, drop}
+use lib.ListN.{length, get_or}
 use borrow.Author.Tests.{ltb-false, eqb-false, ne_eqb, le-ltb}
 use Rattle.octets.specs.Tests.{any, pairs}
-use Rattle.octets.specs.Rows.{refusal, code_of}
-use Rattle.octets.specs.Bytes.{part, rest}
+use Rattle.octets.specs.Rows.{refusal}
+use Rattle.octets.specs.Bytes.{rest}
 use Rattle.octets.proofs.Bools.{not_t, not_f}
-use Rattle.octets.proofs.Rows.{passes, pick_true, pick-false, refusal-before, refusal-append}
+use Rattle.octets.proofs.Rows.{passes, pick_true, pick-false, refusal-before, refusal-append, refusal-first}
 use Rattle.octets.proofs.Tests.{any_none, any_false, pairs-get, pairs-make}
-use Rattle.octets.proofs.Parts.{length_rest, rest-slice}
+use Rattle.octets.proofs.Parts.{length_rest}
 use Rattle.fmap_rules.specs.declared.Area.{Area}
-use Rattle.fmap_rules.specs.Map.{signed, count_of, map_size, areas_in, areas_of, blank_area, end_of, legal_name, named, disjoint_or_nested, empty}
+use Rattle.fmap_rules.specs.Map.{signed, count_of, map_size, areas_of, blank_area, end_of, legal_name, named, disjoint_or_nested, empty}
 use Rattle.fmap_rules.specs.Map.{ends_past, misnamed, other_name, good_places, header_rows, area_rows, map_rows, good_map_header, good_areas, good_map}
 use Rattle.fmap_rules.specs.Map.{holds_map}
-use Rattle.fmap_rules.proofs.Rules.{holds-none, none-holds, code-none, code-first, code-later, header-no-zero}
+use Rattle.fmap_rules.proofs.Rules.{holds-none, none-holds}
 use Rattle.fmap_rules.proofs.Signature.{short-unsigned}
 
 -- what lets a map's bytes be read; m is the bytes from its position on
@@ -84,27 +84,23 @@ map-good image at h a =
 pub unsigned-first : (image : List ℕ) (at : ℕ) → signed (rest at image) ≡ false → refusal (map_rows image at) ≡ some 1
 unsigned-first image at e = pick_true _ 1 _ (ap not e)
 
-pub past_end : (image : List ℕ) (at : ℕ) → length image < at → 1 ≡ code_of (refusal (map_rows image at))
-past_end image at h = sym (ap code_of (unsigned-first image at (short-unsigned (rest at image) (omega (arith, length_rest image at)))))
+pub past_end : (image : List ℕ) (at : ℕ) → length image < at → some 1 ≡ refusal (map_rows image at)
+past_end image at h = sym (unsigned-first image at (short-unsigned (rest at image) (omega (arith, length_rest image at))))
 
 -- m is the bytes from the position on
-module _ (image : List ℕ) (at : ℕ) (m : List ℕ) (q : m ≡ rest at image) (k : ℕ) (e : k ≡ code_of (refusal (header_rows (length image) m))) where
-  header-code : k ≡ code_of (refusal (header_rows (length image) (rest at image)))
-  header-code = e ∙ ap (λ (l : List ℕ). code_of (refusal (header_rows (length image) l))) q
+module _ (image : List ℕ) (at : ℕ) (m : List ℕ) (q : m ≡ rest at image) where
+  pub by-header : (k : ℕ) → some k ≡ refusal (header_rows (length image) m) → some k ≡ refusal (map_rows image at)
+  by-header k e =
+      sym (refusal-first (header_rows (length image) (rest at image)) (area_rows (length image) at (areas_of (rest at image))) k
+      (ap (λ (l : List ℕ). refusal (header_rows (length image) l)) (sym q) ∙ sym e))
 
-  pub by-header : (k ≡ 0 → ⊥) → k ≡ code_of (refusal (map_rows image at))
-  by-header h = code-first (header_rows (length image) (rest at image)) (area_rows (length image) at (areas_of (rest at image))) k header-code h
-
-  pub header_read : k ≡ 0 → Fits m
-  header_read h = rows_fit (length image) m (code-none (header_rows (length image) m) (header-no-zero (length image) m) (sym h ∙ e))
-
-  pub by-areas : {n : ℕ} → k ≡ 0 → n ≡ code_of (refusal (area_rows (length image) at (areas_in (part 56 (42 * count_of m) m))))
-      → n ≡ code_of (refusal (map_rows image at))
-  unfolding areas_of
-  by-areas {n} h f =
-      code-later (header_rows (length image) (rest at image)) (area_rows (length image) at (areas_of (rest at image))) k header-code
-      (header-no-zero (length image) (rest at image)) h
-      (f ∙ ap (λ (l : List ℕ). code_of (refusal (area_rows (length image) at (areas_in (part 56 (42 * count_of l) l))))) q)
+  pub by-areas : (o : Option ℕ) → none ≡ refusal (header_rows (length image) m) → o ≡ refusal (area_rows (length image) at (areas_of m))
+      → o ≡ refusal (map_rows image at)
+  by-areas o e f =
+      f
+      ∙ ap (λ (l : List ℕ). refusal (area_rows (length image) at (areas_of l))) q
+      ∙ sym (refusal-append (header_rows (length image) (rest at image)) (area_rows (length image) at (areas_of (rest at image)))
+      (ap (λ (l : List ℕ). refusal (header_rows (length image) l)) (sym q) ∙ sym e))
 
 -- an unsigned position has no good map
 pub unsigned-bad : (image : List ℕ) (at : ℕ) → signed (rest at image) ≡ false → good_map image at ≡ false
@@ -171,10 +167,3 @@ module _ (len at : ℕ) (areas : List Area)
         none-holds (area_rows len at areas)
         (pick-false _ 10 _ none-empty ∙ pick-false _ 11 _ none-past ∙ pick-false _ 12 _ none-misnamed ∙ pick-false _ 13 _ (ap not held)
         ∙ pick-false _ 14 _ (ap not all-differ) ∙ pick-false _ 15 _ (ap not all_apart))
-
--- the bytes of all areas, as a lent part
-pub areas-are : (image xs : List ℕ) (at : ℕ)
-    → xs ≡ part 56 (42 * count_of (take (length image - at) (drop at image))) (take (length image - at) (drop at image))
-    → areas_in xs ≡ areas_of (rest at image)
-unfolding areas_of
-areas-are image xs at e = ap areas_in e ∙ ap (λ (l : List ℕ). areas_in (part 56 (42 * count_of l) l)) (rest-slice at image)

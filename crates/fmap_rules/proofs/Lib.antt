@@ -3,7 +3,6 @@ pub mod Names
 pub mod Areas
 pub mod Rules
 pub mod Signature
-pub mod Header
 pub mod Good
 pub mod Written
 pub mod Records

@@ -1,11 +1,13 @@
 -- The signature as one number.
 use mathlib.Core.Path.{◌≡◌, refl, sym, ap, ◌∙◌}
-use mathlib.Core.Bool.{Bool, true, false}
-use mathlib.Core.List.{List}
+use mathlib.Core.Bool.{Bool, true, false, ◌&&◌}
+use mathlib.Core.List.{List, [], ◌∷◌}
 use Prim.Native.Nat.{ℕ, ◌+◌, ◌≤◌, ◌<◌}
 use native.Mathlib.Nat.{add-zero}
 use native.Mathlib.Omega.{arith}
 use lib.Dec.{eqb, ltb}
+use Rattle.std.proofs.lemmas.Bool.Decides.{nat_tests}
+use lib.Pointwise.{pointwise}
 use lib.ListN.{length, get_or, drop, length-take}
 use borrow.Author.Tests.{ltb-true, eqb-true, eqb-false}
 use Rattle.octets.specs.Bytes.{unle, part, rest, field, same}
@@ -44,3 +46,18 @@ module _ (m : List ℕ) (r : ℕ) (h : 8 ≤ length m) (f : (j : ℕ) → get_or
           unle-inj (part 0 8 m) signature l (λ j k. rw (get_d_part m 0 8 j (omega (arith, k, l))) (f (0 + j))) letters (sym e ∙ eqb-true _ _ w ∙ sym number) in
           sym (ap (λ (l : List ℕ). same l signature) q ∙ same_refl signature)
       go false w = sym (same_false _ _ (λ q. eqb-false _ _ w (e ∙ ap unle q ∙ number)))
+
+-- `starts_with` compares what it looks for with the first bytes
+eqb-turned : (x y : ℕ) → eqb x y ≡ eqb y x
+eqb-turned x y = grind (arith, nat_tests)
+
+pub pointwise-same : (xs ys : List ℕ) → pointwise eqb xs ys ≡ same ys xs
+unfolding same ◌and◌
+pointwise-same [] [] = refl
+pointwise-same [] (y ∷ ys) = refl
+pointwise-same (x ∷ xs) [] = refl
+pointwise-same (x ∷ xs) (y ∷ ys) = rw (eqb-turned x y) (go (eqb y x) (pointwise-same xs ys))
+  where
+    go : (t : Bool) → pointwise eqb xs ys ≡ same ys xs → (t && pointwise eqb xs ys) ≡ (t and same ys xs)
+    go true e = e
+    go false e = refl

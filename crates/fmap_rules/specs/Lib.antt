@@ -2,4 +2,4 @@
 pub mod Map
 pub mod Written
 pub mod Claims
-pub mod Invariants
+pub mod Rules

@@ -2,20 +2,21 @@
 
 // What a good flash map at a position of an image is.
 // An inner crate: no user calls it, so its functions may have a `requires`, which each caller meets.
-ghost use Rattle.std.specs.Prelude.{◌≡◌, true, ◌+◌, ◌*◌, ◌/◌, ◌≤◌, ◌<◌, length, get_or, drop};
-ghost use Rattle.octets.specs.Tests.{all, any, pairs, find_ix};
-ghost use Rattle.octets.specs.Bytes.{part, rest};
-ghost use Rattle.octets.specs.Rows.{refusal, code_of};
-ghost use Rattle.fmap_rules.specs.Map.{signed, name_length, legal_name, area_of, areas_in, areas_of, blank_area, named, end_of, disjoint, inside};
+ghost use Rattle.std.specs.Prelude.{◌≡◌, true, ◌+◌, ◌*◌, ◌≤◌, ◌<◌, length, map, position};
+ghost use Rattle.octets.specs.Tests.{any, pairs};
+ghost use Rattle.octets.specs.Bytes.{rest};
+ghost use Rattle.octets.specs.Rows.{refusal};
+ghost use Rattle.fmap_rules.specs.Map.{signed, name_length, legal_name, area_of, areas_in, areas_of, named, end_of, disjoint, inside};
 ghost use Rattle.fmap_rules.specs.Map.{disjoint_or_nested, map_size, count_of, holds_map, header_rows, area_rows, map_rows, good_map};
-ghost use Rattle.fmap_rules.specs.Invariants.{broken, good_pair};
+ghost use Rattle.fmap_rules.specs.Map.{empty, ends_past, misnamed, other_name, good_places};
+ghost use Rattle.fmap_rules.specs.Rules.{number_of, broken};
 
 // A byte's position in a flash image.
-#[derive(Clone, Copy)]
+#[derive(Clone, Copy, PartialEq, Eq, Default)]
 pub struct ImagePosition(pub u32);
 
 // A run of bytes in a flash image.
-#[derive(Clone, Copy)]
+#[derive(Clone, Copy, Default)]
 pub struct Extent {
     pub start: ImagePosition,
     pub size: u32,
@@ -29,48 +30,68 @@ pub struct Area {
     pub flags: u16,
 }
 
-// How many of the first bytes are a name's.
-pub fn name_length(n: &[u8]) -> usize
-    ensures { (result ≡ name_length n.now) × (result ≤ length n.now) }
-{
-    let mut i = 0;
-    while i < n.len() {
-        if n[i] < 33 {
-            return i;
-        }
-        if 126 < n[i] {
-            return i;
-        }
-        i += 1;
-    }
-    i
+// An area as a map holds it.
+pub type AreaBytes = [u8; 42];
+
+// "FMAP" as a map holds it.
+pub const FMAP_NAME: &[u8; 32] = b"FMAP\0\0\0\0\0\0\0\0\0\0\0\0\0\0\0\0\0\0\0\0\0\0\0\0\0\0\0\0";
+
+// The rules of a map in the order of their numbers, which begin at 1.
+#[derive(Clone, Copy, PartialEq, Eq)]
+pub enum MapRule {
+    Signature = 1,
+    HeaderEnd,
+    Major,
+    Minor,
+    ImageSize,
+    NoArea,
+    TooManyAreas,
+    MapEnd,
+    Name,
+    AreaSize,
+    AreaEnd,
+    AreaName,
+    MapArea,
+    SameName,
+    Crossing,
 }
 
-pub fn is_legal_name(n: &[u8]) -> bool
-    ensures { result ≡ legal_name n.now }
-{
-    let k = name_length(n);
-    if k < 1 {
-        return false;
+impl MapRule {
+    pub fn number(self) -> u32
+        ensures { result ≡ number_of self }
+    {
+        self as u32
     }
-    if 31 < k {
-        return false;
-    }
-    octets::is_zero(&n[k..])
 }
 
-// The 42 bytes of area i.
-pub fn area_at<'a>(areas: &'a [u8], i: usize) -> &'a [u8]
-    requires { i < length areas.now / 42 }
-    ensures { (area_of result.now ≡ get_or (areas_in areas.now) i blank_area) × (length result.now ≡ 42) }
-{
-    let a = 42 * i;
-    let e = a + 42;
-    &areas[a..e]
+impl Extent {
+    // One past the last byte.
+    pub fn end(self) -> u64
+        ensures { result ≡ end_of self }
+    {
+        u64::from(self.start.0) + u64::from(self.size)
+    }
+
+    pub fn is_disjoint(self, other: Extent) -> bool
+        ensures { result ≡ disjoint self other }
+    {
+        self.end() <= u64::from(other.start.0) || other.end() <= u64::from(self.start.0)
+    }
+
+    fn is_inside(self, other: Extent) -> bool
+        ensures { result ≡ inside self other }
+    {
+        other.start.0 <= self.start.0 && self.end() <= other.end()
+    }
+
+    fn is_disjoint_or_nested(self, other: Extent) -> bool
+        ensures { result ≡ disjoint_or_nested self other }
+    {
+        self.is_disjoint(other) || self.is_inside(other) || other.is_inside(self)
+    }
 }
 
-pub fn extent_of(a: &[u8]) -> Extent
-    requires { length a.now ≡ 42 }
+pub fn extent_of(a: &AreaBytes) -> Extent
     ensures { result ≡ (area_of a.now).place }
 {
     Extent {
@@ -79,287 +100,190 @@ pub fn extent_of(a: &[u8]) -> Extent
     }
 }
 
-// One past the last byte.
-pub fn end_of(x: Extent) -> u64
-    ensures { result ≡ end_of x }
+pub fn name_of(a: &AreaBytes) -> &[u8; 32]
+    ensures { result.now ≡ (area_of a.now).name }
 {
-    x.start.0 as u64 + x.size as u64
+    a[8..40].first_chunk().unwrap()
 }
 
-pub fn is_disjoint(x: Extent, y: Extent) -> bool
-    ensures { result ≡ disjoint x y }
+// How many of the first bytes are a name's.
+pub fn name_length(n: &[u8]) -> usize
+    ensures { (result ≡ name_length n.now) × (result ≤ length n.now) }
 {
-    if end_of(x) <= y.start.0 as u64 {
-        return true;
-    }
-    end_of(y) <= x.start.0 as u64
+    n.iter()
+        .position(|b| !b.is_ascii_graphic())
+        .unwrap_or(n.len())
 }
 
-fn is_inside(x: Extent, y: Extent) -> bool
-    ensures { result ≡ inside x y }
+pub fn is_legal_name(n: &[u8]) -> bool
+    ensures { result ≡ legal_name n.now }
 {
-    if x.start.0 < y.start.0 {
-        return false;
-    }
-    end_of(x) <= end_of(y)
+    let k = name_length(n);
+    1 <= k && k <= 31 && octets::is_zero(&n[k..])
 }
 
-fn is_disjoint_or_nested(x: Extent, y: Extent) -> bool
-    ensures { result ≡ disjoint_or_nested x y }
-{
-    if is_disjoint(x, y) {
-        return true;
-    }
-    if is_inside(x, y) {
-        return true;
-    }
-    is_inside(y, x)
-}
-
-// A rule for each area.
-#[derive(Clone, Copy)]
-enum AreaRule {
-    SomeByte,
-    InImage,
-    LegalName,
-}
-
-// A rule for each two areas.
-#[derive(Clone, Copy)]
-enum PairRule {
-    Names,
-    Places,
-}
-
-fn is_broken(a: &[u8], len: usize, rule: AreaRule) -> bool
-    requires { length a.now ≡ 42 }
-    ensures { result ≡ broken rule len (area_of a.now) }
-{
-    match rule {
-        AreaRule::SomeByte => extent_of(a).size == 0,
-        AreaRule::InImage => (len as u64) < end_of(extent_of(a)),
-        AreaRule::LegalName => !is_legal_name(&a[8..40]),
-    }
-}
-
-fn some_broken(areas: &[u8], len: usize, rule: AreaRule) -> bool
-    ensures { result ≡ any (broken rule len) (areas_in areas.now) }
-{
-    let n = areas.len() / 42;
-    let mut i = 0;
-    while i < n {
-        if is_broken(area_at(areas, i), len, rule) {
-            return true;
-        }
-        i += 1;
-    }
-    false
-}
-
-fn is_good_pair(a: &[u8], b: &[u8], rule: PairRule) -> bool
-    requires { (length a.now ≡ 42) × (length b.now ≡ 42) }
-    ensures { result ≡ good_pair rule (area_of a.now) (area_of b.now) }
-{
-    match rule {
-        PairRule::Names => !octets::same(&a[8..40], &b[8..40]),
-        PairRule::Places => is_disjoint_or_nested(extent_of(a), extent_of(b)),
-    }
-}
-
-// Area i goes with each later one.
-fn good_with_later(areas: &[u8], i: usize, rule: PairRule) -> bool
-    requires { i < length areas.now / 42 }
-    ensures { result ≡ all (good_pair rule (get_or (areas_in areas.now) i blank_area)) (drop (i + 1) (areas_in areas.now)) }
-{
-    let n = areas.len() / 42;
-    let mut j = i + 1;
-    while j < n {
-        if !is_good_pair(area_at(areas, i), area_at(areas, j), rule) {
-            return false;
-        }
-        j += 1;
-    }
-    true
-}
-
-fn pairs_good(areas: &[u8], rule: PairRule) -> bool
-    ensures { result ≡ pairs (good_pair rule) (areas_in areas.now) }
-{
-    let n = areas.len() / 42;
-    let mut i = 0;
-    while i < n {
-        if !good_with_later(areas, i, rule) {
-            return false;
-        }
-        i += 1;
-    }
-    true
-}
-
-fn is_holder(a: &[u8], at: ImagePosition, count: usize) -> bool
-    requires { (length a.now ≡ 42) × (count ≤ 128) }
+// A map's own area: it starts where the map does and holds all of its bytes.
+fn is_holder(a: &AreaBytes, at: ImagePosition, count: usize) -> bool
+    requires { count ≤ 128 }
     ensures { result ≡ holds_map at.0 count (area_of a.now) }
 {
-    if !octets::same(
-        b"FMAP\0\0\0\0\0\0\0\0\0\0\0\0\0\0\0\0\0\0\0\0\0\0\0\0\0\0\0\0",
-        &a[8..40],
-    ) {
-        return false;
-    }
-    let x = extent_of(a);
-    if x.start.0 != at.0 {
-        return false;
-    }
-    56 + 42 * (count as u64) <= x.size as u64
+    octets::same(FMAP_NAME, name_of(a))
+        && extent_of(a).start == at
+        && 56 + 42 * (count as u64) <= u64::from(extent_of(a).size)
 }
 
-fn some_holder(areas: &[u8], at: ImagePosition) -> bool
-    requires { length areas.now / 42 ≤ 128 }
-    ensures { result ≡ any (holds_map at.0 (length (areas_in areas.now))) (areas_in areas.now) }
+fn some_empty(areas: &[AreaBytes]) -> bool
+    ensures { result ≡ any empty (map area_of areas.now) }
 {
-    let n = areas.len() / 42;
-    let mut i = 0;
-    while i < n {
-        if is_holder(area_at(areas, i), at, n) {
-            return true;
-        }
-        i += 1;
-    }
-    false
+    areas.iter().any(|a| extent_of(a).size == 0)
 }
 
-// The number of the first rule that the areas break, or 0. Each area, the area FMAP, then each two: what costs least comes first.
-fn area_rule(areas: &[u8], len: usize, at: ImagePosition) -> u32
-    requires { length areas.now / 42 ≤ 128 }
-    ensures { result ≡ code_of (refusal (area_rows len at.0 (areas_in areas.now))) }
+fn some_past(areas: &[AreaBytes], len: usize) -> bool
+    ensures { result ≡ any (ends_past len) (map area_of areas.now) }
 {
-    if some_broken(areas, len, AreaRule::SomeByte) {
-        return 10;
+    areas.iter().any(|a| (len as u64) < extent_of(a).end())
+}
+
+fn some_misnamed(areas: &[AreaBytes]) -> bool
+    ensures { result ≡ any misnamed (map area_of areas.now) }
+{
+    areas.iter().any(|a| !is_legal_name(name_of(a)))
+}
+
+fn some_holder(areas: &[AreaBytes], at: ImagePosition) -> bool
+    requires { length areas.now ≤ 128 }
+    ensures { result ≡ any (holds_map at.0 (length areas.now)) (map area_of areas.now) }
+{
+    areas.iter().any(|a| is_holder(a, at, areas.len()))
+}
+
+fn names_differ(areas: &[AreaBytes]) -> bool
+    ensures { result ≡ pairs other_name (map area_of areas.now) }
+{
+    octets::pairs(areas, |a, b| !octets::same(name_of(a), name_of(b)))
+}
+
+fn none_cross(areas: &[AreaBytes]) -> bool
+    ensures { result ≡ pairs good_places (map area_of areas.now) }
+{
+    octets::pairs(areas, |a, b| {
+        extent_of(a).is_disjoint_or_nested(extent_of(b))
+    })
+}
+
+// The first rule that the areas break. Each area, the area FMAP, then each two: what costs least comes first.
+fn judge_areas(areas: &[AreaBytes], len: usize, at: ImagePosition) -> Result<(), MapRule>
+    requires { length areas.now ≤ 128 }
+    ensures { broken result ≡ refusal (area_rows len at.0 (map area_of areas.now)) }
+{
+    if some_empty(areas) {
+        return Err(MapRule::AreaSize);
     }
-    if some_broken(areas, len, AreaRule::InImage) {
-        return 11;
+    if some_past(areas, len) {
+        return Err(MapRule::AreaEnd);
     }
-    if some_broken(areas, len, AreaRule::LegalName) {
-        return 12;
+    if some_misnamed(areas) {
+        return Err(MapRule::AreaName);
     }
     if !some_holder(areas, at) {
-        return 13;
+        return Err(MapRule::MapArea);
     }
-    if !pairs_good(areas, PairRule::Names) {
-        return 14;
+    if !names_differ(areas) {
+        return Err(MapRule::SameName);
     }
-    if !pairs_good(areas, PairRule::Places) {
-        return 15;
+    if !none_cross(areas) {
+        return Err(MapRule::Crossing);
     }
-    0
+    Ok(())
 }
 
-// The number of the first area with a name, or their count.
-pub fn find_named(areas: &[u8], name: &[u8]) -> usize
-    ensures { (result ≡ find_ix (named name.now) (areas_in areas.now)) × (result ≤ length areas.now / 42) }
+// The number of the first area with a name.
+pub fn find_named(areas: &[AreaBytes], name: &[u8]) -> Option<usize>
+    ensures { result ≡ position (named name.now) (map area_of areas.now) }
 {
-    let n = areas.len() / 42;
-    let mut i = 0;
-    while i < n {
-        let a = area_at(areas, i);
-        if octets::same(name, &a[8..40]) {
-            return i;
-        }
-        i += 1;
-    }
-    i
+    areas.iter().position(|a| octets::same(name, name_of(a)))
 }
 
 fn count_of(m: &[u8]) -> usize
     requires { 56 ≤ length m.now }
     ensures { result ≡ count_of m.now }
 {
-    octets::load::<u16, _>(m, 54) as usize
+    usize::from(octets::load::<u16, _>(m, 54))
 }
 
-// The bytes of all areas.
-fn areas_part<'a>(m: &'a [u8]) -> &'a [u8]
+// All areas.
+fn areas_part(m: &[u8]) -> &[AreaBytes]
     requires { map_size (count_of m.now) ≤ length m.now }
-    ensures { (result.now ≡ part 56 (42 * count_of m.now) m.now) × (length result.now ≡ 42 * count_of m.now) }
+    ensures { (map area_of result.now ≡ areas_of m.now) × (length result.now ≡ count_of m.now) }
 {
-    let e = 56 + 42 * count_of(m);
-    &m[56..e]
+    let (areas, _) = m[56..56 + 42 * count_of(m)].as_chunks();
+    areas
 }
 
-// The bytes begin with the signature: its eight bytes as one number.
+// The bytes begin with the signature.
 pub fn is_signed(m: &[u8]) -> bool
-    requires { 8 ≤ length m.now }
     ensures { result ≡ signed m.now }
 {
-    octets::load::<u64, _>(m, 0) == 0x5f5f50414d465f5f
+    m.starts_with(b"__FMAP__")
 }
 
-// The number of the first rule that the header breaks, or 0. The fields that are compared with a number come before the name.
-fn header_rule(m: &[u8], len: usize) -> u32
-    ensures { result ≡ code_of (refusal (header_rows len m.now)) }
+// The first rule that the header breaks. The fields that are compared with a number come before the name.
+fn judge_header(m: &[u8], len: usize) -> Result<(), MapRule>
+    ensures { broken result ≡ refusal (header_rows len m.now) }
 {
-    if m.len() < 8 {
-        return 1;
-    }
     if !is_signed(m) {
-        return 1;
+        return Err(MapRule::Signature);
     }
     if m.len() < 56 {
-        return 2;
+        return Err(MapRule::HeaderEnd);
     }
     if m[8] != 1 {
-        return 3;
+        return Err(MapRule::Major);
     }
     if 1 < m[9] {
-        return 4;
+        return Err(MapRule::Minor);
     }
-    if octets::load::<u32, _>(m, 18) as u64 != len as u64 {
-        return 5;
+    if u64::from(octets::load::<u32, _>(m, 18)) != len as u64 {
+        return Err(MapRule::ImageSize);
     }
     let n = count_of(m);
     if n == 0 {
-        return 6;
+        return Err(MapRule::NoArea);
     }
     if 128 < n {
-        return 7;
+        return Err(MapRule::TooManyAreas);
     }
     if m.len() < 56 + 42 * n {
-        return 8;
+        return Err(MapRule::MapEnd);
     }
     if !is_legal_name(&m[22..54]) {
-        return 9;
+        return Err(MapRule::Name);
     }
-    0
+    Ok(())
 }
 
-// The number of the first rule that a map at a position breaks, or 0.
-pub fn map_rule(image: &[u8], at: ImagePosition) -> u32
-    ensures { result ≡ code_of (refusal (map_rows image.now at.0)) }
+// The first rule that a map at a position breaks.
+pub fn judge(image: &[u8], at: ImagePosition) -> Result<(), MapRule>
+    ensures { broken result ≡ refusal (map_rows image.now at.0) }
 {
-    let a = at.0 as usize;
-    if image.len() < a {
-        return 1;
-    }
-    let m = &image[a..];
-    let k = header_rule(m, image.len());
-    if k != 0 {
-        return k;
-    }
-    area_rule(areas_part(m), image.len(), at)
+    let Some(m) = image.get(at.0 as usize..) else {
+        return Err(MapRule::Signature);
+    };
+    judge_header(m, image.len())?;
+    judge_areas(areas_part(m), image.len(), at)
 }
 
 // A good map stands at a position.
 pub fn good_at(image: &[u8], at: ImagePosition) -> bool
     ensures { result ≡ good_map image.now at.0 }
 {
-    map_rule(image, at) == 0
+    judge(image, at).is_ok()
 }
 
-// The bytes of the areas of a good map.
-pub fn areas_at<'a>(image: &'a [u8], at: ImagePosition) -> &'a [u8]
+// The areas of a good map.
+pub fn areas_at(image: &[u8], at: ImagePosition) -> &[AreaBytes]
     requires { good_map image.now at.0 ≡ true }
-    ensures { (areas_in result.now ≡ areas_of (rest at.0 image.now)) × (length result.now ≤ 5376) }
+    ensures { (map area_of result.now ≡ areas_of (rest at.0 image.now)) × (length result.now ≤ 128) }
 {
-    let a = at.0 as usize;
-    areas_part(&image[a..])
+    areas_part(&image[at.0 as usize..])
 }

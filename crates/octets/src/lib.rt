@@ -97,12 +97,11 @@ pub fn fill(s: &mut [u8], v: u8)
     s.fill(v);
 }
 
-// Each two elements pass, the earlier first.
+// Each two elements pass, the earlier first; r is any test that the closure computes.
 pub fn pairs<T, F: Fn(&T, &T) -> bool>(xs: &[T], passes: F) -> bool
-    ghost r: { T → T → Bool }
-    requires callable { F.IsAlwaysCallable passes }
-    requires tests { (x y : T) (b : Bool) → FnReturnsAtPair F.Fn passes x y b → b ≡ r x y }
-    ensures { result ≡ pairs r xs.now }
+    requires { F.IsAlwaysCallable passes }
+    ensures { (r : T → T → Bool) → ((x y : T) (b : Bool) → FnReturnsAtPair F.Fn passes x y b → b ≡ r x y)
+        → result ≡ pairs r xs.now }
 {
     let mut left = xs;
     while let Some((x, later)) = left.split_first() {

@@ -1,11 +1,13 @@
 use Rattle.c_flash.proofs.Effects.{fault-tells}
 use Rattle.c_flash.proofs.usi_fmap_fault.Goals as goal
 
-pub returns-in-Good : goal.returns-in-Good
-returns-in-Good c = fault-tells _ _ _ _ c.position_of.ensures c.in-Good.is c.fault_at.ensures
+pub returns-in-Ok : goal.returns-in-Ok
+returns-in-Ok c = fault-tells _ _ _ _ _ c.position_of.ensures c.in-Ok.ensures
 
-pub returns-in-Breaks : goal.returns-in-Breaks
-returns-in-Breaks c = fault-tells _ _ _ _ c.position_of.ensures c.in-Breaks.is c.fault_at.ensures
+pub returns-in-Err-Breaks : goal.returns-in-Err-Breaks
+returns-in-Err-Breaks c =
+    rw (c.from.ensures, c.number.ensures) (fault-tells _ _ _ _ _ c.position_of.ensures (rw c.in-Err-Breaks.field-0-is at c.in-Err-Breaks.ensures))
 
-pub returns-in-WrongLength : goal.returns-in-WrongLength
-returns-in-WrongLength c = fault-tells _ _ _ _ c.position_of.ensures c.in-WrongLength.is c.fault_at.ensures
+pub returns-in-Err-WrongLength : goal.returns-in-Err-WrongLength
+returns-in-Err-WrongLength c =
+    fault-tells _ _ _ _ _ c.position_of.ensures (rw c.in-Err-WrongLength.field-0-is at c.in-Err-WrongLength.ensures)

@@ -1,10 +1,17 @@
-use mathlib.Core.Path.{◌∙◌}
-use native.Mathlib.Omega.{arith}
+use Rattle.std.proofs.Common.{arith, sym, ap, ◌∙◌, map, []}
+use lib.ListN.{length-map}
+use Rattle.octets.proofs.Tests.{get_d_map}
+use Rattle.fmap_rules.specs.Map.{area_of, blank_area}
 use Rattle.fmap.proofs.Reading.{area-none, area-there}
 use Rattle.fmap.proofs.area_in.Goals as goal
 
-pub returns-then-areas-k : goal.returns-then-areas-k
-returns-then-areas-k c = c.no_area.ensures ∙ area-none _ _ c.if-areas-k.true
+pub returns-in_err-get : goal.returns-in_err-get
+returns-in_err-get c =
+    rw c.from_residual.ensures (area-none (map area_of c.args.areas.now) c.args.k
+    (omega (arith, length-map c.args.areas.now area_of, c.in_err-get.ensures.lookup.3)))
 
 pub returns : goal.returns
-returns c = area-there _ _ _ (omega arith) (c.read_area.ensures ∙ c.area_at.ensures.0)
+returns c =
+    let at = c.in_ok-get.ensures.lookup.3 in
+    area-there (map area_of c.args.areas.now) c.args.k _ (omega (arith, length-map c.args.areas.now area_of, at.0))
+    (c.read_area.ensures ∙ ap area_of (at.1 []) ∙ sym (get_d_map area_of c.args.areas.now c.args.k blank_area [] at.0))

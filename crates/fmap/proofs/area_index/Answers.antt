@@ -1,22 +1,19 @@
-use mathlib.Core.Path.{sym, ap, ◌∙◌}
-use Rattle.fmap.proofs.Finding.{found-good}
-use Rattle.fmap.proofs.Reading.{index-by, index-found}
-use Rattle.fmap.specs.Find.{found_reply}
-use Rattle.fmap.specs.declared.MapFound.TheVariants.{WrongLength, NoSignature, NoGoodMap}
+use Rattle.std.proofs.Common.{sym, ap, ◌∙◌, List}
+use Rattle.std.proofs.lemmas.Result.{err_from_is_err_and}
+use Rattle.octets.specs.Tests.{find_ix}
+use Rattle.fmap_rules.specs.declared.Area.{Area}
+use Rattle.fmap.specs.Find.{accepted}
+use Rattle.fmap.specs.Areas.{called, index_by, index_in, index_named}
 use Rattle.fmap.proofs.area_index.Goals as goal
 
-pub areas_at-requires : goal.areas_at-requires
-areas_at-requires c = found-good _ _ (sym c.find.ensures ∙ ap found_reply c.in-At.is)
+pub returns-in_err-found_areas : goal.returns-in_err-found_areas
+unfolding index_named
+returns-in_err-found_areas c =
+    let p = err_from_is_err_and c.from_residual.result c.from_residual.ensures.1 in
+    rw (p.1, p.2) (ap (index_by c.args.image.now (find_ix (called c.args.name.now))) (sym c.in_err-found_areas.ensures))
 
-pub returns-in-WrongLength : goal.returns-in-WrongLength
-returns-in-WrongLength c = index-by _ _ _ WrongLength c.in-WrongLength.is c.find.ensures
-
-pub returns-in-NoSignature : goal.returns-in-NoSignature
-returns-in-NoSignature c = index-by _ _ _ NoSignature c.in-NoSignature.is c.find.ensures
-
-pub returns-in-NoGoodMap : goal.returns-in-NoGoodMap
-returns-in-NoGoodMap c = index-by _ _ _ NoGoodMap c.in-NoGoodMap.is c.find.ensures
-
-pub returns-in-At : goal.returns-in-At
-returns-in-At c = index-found _ _ _ _ _ _ c.in-At.is c.find.ensures
-    c.areas_at.ensures.0 c.index_called.ensures
+pub returns : goal.returns
+unfolding index_named
+returns c =
+    let w = c.in_ok-found_areas.ensures in
+    c.index_called.ensures ∙ ap (λ (l : List Area). accepted (index_in l (find_ix (called c.args.name.now) l))) w.2 ∙ ap (index_by c.args.image.now (find_ix (called c.args.name.now))) (sym w.1)

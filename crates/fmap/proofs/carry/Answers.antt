@@ -1,20 +1,24 @@
-use Rattle.fmap.specs.Carry.{carry_from, carry_images}
-use Rattle.fmap.specs.Find.{found_reply}
-use mathlib.Core.Path.{sym, ap, ◌∙◌}
+use Rattle.std.proofs.Common.{ap, ◌∙◌}
+use Rattle.std.proofs.lemmas.Result.{err_from_is_err_and}
+use Rattle.fmap.specs.Carry.{carry_to, carry_from, carry_images}
 use Rattle.fmap.proofs.carry.Goals as goal
 
-pub returns-in-WrongLength : goal.returns-in-WrongLength
+pub returns-in_err-at : goal.returns-in_err-at
 unfolding carry_images
-returns-in-WrongLength c = ap (carry_from c.args.old.now c.args.new.now) (sym (ap found_reply c.in-WrongLength.is) ∙ c.find.ensures)
+returns-in_err-at c =
+    let p = err_from_is_err_and c.from_residual.result c.from_residual.ensures.1 in
+    rw (p.1, p.2) (ap (carry_from c.args.old.now c.args.new.now) c.in_err-at.ensures)
 
-pub returns-in-NoSignature : goal.returns-in-NoSignature
+pub returns-in_err-bt : goal.returns-in_err-bt
 unfolding carry_images
-returns-in-NoSignature c = ap (carry_from c.args.old.now c.args.new.now) (sym (ap found_reply c.in-NoSignature.is) ∙ c.find.ensures)
+returns-in_err-bt c =
+    let p = err_from_is_err_and c.from_residual-in_err-bt.result c.from_residual-in_err-bt.ensures.1 in
+    rw (p.1, p.2) (ap (carry_to c.args.old.now c.in_ok-at.at c.args.new.now) c.in_err-bt.ensures
+    ∙ ap (carry_from c.args.old.now c.args.new.now) c.in_ok-at.ensures)
 
-pub returns-in-NoGoodMap : goal.returns-in-NoGoodMap
+pub returns : goal.returns
 unfolding carry_images
-returns-in-NoGoodMap c = ap (carry_from c.args.old.now c.args.new.now) (sym (ap found_reply c.in-NoGoodMap.is) ∙ c.find.ensures)
-
-pub returns-in-At : goal.returns-in-At
-unfolding carry_images
-returns-in-At c = c.carry_from.ensures ∙ ap (carry_from c.args.old.now c.args.new.now) (sym (ap found_reply c.in-At.is) ∙ c.find.ensures)
+returns c =
+    c.carry_at.ensures
+    ∙ ap (carry_to c.args.old.now c.in_ok-at.at c.args.new.now) c.in_ok-bt.ensures
+    ∙ ap (carry_from c.args.old.now c.args.new.now) c.in_ok-at.ensures

@@ -1,15 +1,15 @@
-use Rattle.fmap.proofs.Places.{fault-40, fault-none, fault-some}
-use Rattle.fmap.proofs.Finding.{too_short, too_long, in-range}
+use Rattle.std.proofs.Common.{sym, ◌∙◌}
+use Rattle.std.proofs.lemmas.Result.{err_from_is_err_and}
+use Rattle.fmap.proofs.Places.{fault-40, fault-looked}
 use Rattle.fmap.proofs.fault_at.Goals as goal
 
-pub returns-then-image-lt98 : goal.returns-then-image-lt98
-returns-then-image-lt98 c = fault-40 _ _ (too_short _ c.if-image-lt98.true)
+pub returns-then-is_out_of_range : goal.returns-then-is_out_of_range
+returns-then-is_out_of_range c = fault-40 _ _ (sym c.is_out_of_range.ensures ∙ c.if-is_out_of_range.true)
 
-pub returns-then-image-gt16777216 : goal.returns-then-image-gt16777216
-returns-then-image-gt16777216 c = fault-40 _ _ (too_long _ c.if-image-gt16777216.true)
-
-pub returns-then-k-eq0 : goal.returns-then-k-eq0
-returns-then-k-eq0 c = fault-none _ _ (in-range _ c.if-image-lt98.false c.if-image-gt16777216.false) _ c.map_rule-k.ensures c.if-k-eq0.true
+pub returns-in_err-judge : goal.returns-in_err-judge
+returns-in_err-judge c =
+    let p = err_from_is_err_and c.from_residual.result c.from_residual.ensures.1 in
+    rw (p.1, p.2) (fault-looked c.args.image.now c.args.at.0 (sym c.is_out_of_range.ensures ∙ c.if-is_out_of_range.false) _ c.in_err-judge.ensures)
 
 pub returns : goal.returns
-returns c = fault-some _ _ (in-range _ c.if-image-lt98.false c.if-image-gt16777216.false) _ c.map_rule-k.ensures c.if-k-eq0.false
+returns c = fault-looked c.args.image.now c.args.at.0 (sym c.is_out_of_range.ensures ∙ c.if-is_out_of_range.false) _ c.in_ok-judge.ensures

@@ -1,7 +1,4 @@
-use mathlib.Core.Path.{sym, ◌∙◌}
-use Prim.Native.Nat.{◌-◌}
-use native.Mathlib.Omega.{arith}
-use lib.ListN.{length}
+use Rattle.std.proofs.Common.{rules, arith, sym, ◌∙◌, length}
 use Rattle.fmap.specs.Find.{signed_at}
 use Rattle.fmap.proofs.Lowest.{first_step, first-skip, first-stop, first-none}
 use Rattle.fmap.proofs.Finding.{signed-short, signed-slice, unsigned}
@@ -10,11 +7,12 @@ use Rattle.fmap.proofs.next_signed.Goals as goal
 pub returns-then-is_signed : goal.returns-then-is_signed
 returns-then-is_signed c =
     let s = c.args.image.now in
-    let i = c.loop-i.i in (
-      sym (c.loop-i.invariant.1
-          ∙ first-stop (length s) i (signed_at s) (omega arith) (signed-slice s i _ _ c.is_signed.ensures c.if-is_signed.true)),
-      omega arith,
-    )
+    let i = c.loop-i.i in
+    record {
+      next = sym (c.loop-i.invariant.1
+          ∙ first-stop (length s) i (signed_at s) (omega arith) (signed-slice s i _ _ c.is_signed.ensures c.if-is_signed.true));
+      within = omega arith;
+    }
 
 pub loop-i-preserved-then-is_letter : goal.loop-i-preserved-then-is_letter
 loop-i-preserved-then-is_letter c =
@@ -38,4 +36,7 @@ pub returns : goal.returns
 returns c =
     let s = c.args.image.now in
     let i = c.loop-i.i in
-    (sym (c.loop-i.invariant.1 ∙ first-none (length s) i (signed_at s) (omega arith) (λ j a b. signed-short s j (omega arith))), omega arith)
+    record {
+      next = sym (c.loop-i.invariant.1 ∙ first-none (length s) i (signed_at s) (omega arith) (λ j a b. signed-short s j (omega arith)));
+      within = search rules;
+    }

@@ -1,24 +1,31 @@
-use mathlib.Core.List.{List}
-use mathlib.Core.Path.{sym, ap₂, ◌∙◌}
-use native.Mathlib.Omega.{arith}
-use Rattle.fmap_rules.specs.declared.Area.{Area}
-use Rattle.fmap_carry.proofs.Passed.{good-ends}
-use Rattle.fmap_carry.specs.Carry.{carry_areas}
+use Rattle.std.proofs.Common.{sym, ◌∙◌, length, ◌≡◌}
+use Rattle.std.proofs.lemmas.Result.{err_from_is_err_and}
+use Rattle.std.proofs.Math.Option.{none}
+use Rattle.octets.specs.Rows.{refusal}
+use Rattle.octets.specs.Bytes.{rest}
+use Rattle.fmap_carry.specs.Carry.{carry_rows}
+use Rattle.fmap_rules.specs.Map.{areas_of}
+use Rattle.fmap_carry.proofs.Passed.{fitting, good-ends-of, refuses, accepts}
+use Rattle.fmap_carry.proofs.Moves.{moves-lie, moved-all}
 use Rattle.fmap_carry.proofs.carry_by.Goals as goal
 
-pub slice_bounds-carry_areas-end : goal.slice_bounds-carry_areas-end
-slice_bounds-carry_areas-end c = sym c.keep_areas-n.ensures.2
+pub returns-in_err-n : goal.returns-in_err-n
+returns-in_err-n c =
+    let p = err_from_is_err_and c.from_residual.result c.from_residual.ensures.1 in
+    rw (p.1, p.2) (refuses _ _ _ _ _ (sym (rw (c.areas_at.ensures.0, c.areas_at-2.ensures.0) at c.in_err-n.ensures)))
 
-pub carry_areas-requires : goal.carry_areas-requires
-carry_areas-requires c = (
-  c.areas_at.ensures.1,
-  omega (arith, c.keep_areas-n.ensures.1, c.keep_areas-n.ensures.2),
-  good-ends _ _ _ c.requires.0 c.areas_at.ensures.0,
-  good-ends _ _ _ c.requires.1 c.keep_areas-n.ensures.0,
-)
+pub make_moves-requires : goal.make_moves-requires
+make_moves-requires c =
+    let olds = areas_of (rest c.args.at.0 c.args.old.now) in
+    let news = areas_of (rest c.args.bt.0 c.args.new.now) in
+    let free : refusal (carry_rows olds news) ≡ none = rw (c.areas_at.ensures.0, c.areas_at-2.ensures.0) at c.in_ok-n.ensures.0 in
+    rw (c.in_ok-n.ensures.2, c.areas_at.ensures.0, c.areas_at-2.ensures.0)
+    (moves-lie (length c.args.old.now) (length c.args.new.now) news olds
+    (fitting olds news free _ _ (good-ends-of _ _ c.requires.0) (good-ends-of _ _ c.requires.1)))
 
 pub returns : goal.returns
 returns c =
-    c.carry_areas.ensures
-    ∙ ap₂ (λ (olds news : List Area). carry_areas c.args.old.now
-    olds c.args.new.now news) c.areas_at.ensures.0 c.keep_areas-n.ensures.0
+    let olds = areas_of (rest c.args.at.0 c.args.old.now) in
+    let news = areas_of (rest c.args.bt.0 c.args.new.now) in
+    let free : refusal (carry_rows olds news) ≡ none = rw (c.areas_at.ensures.0, c.areas_at-2.ensures.0) at c.in_ok-n.ensures.0 in
+    accepts _ _ _ _ _ (sym free) (rw (c.in_ok-n.ensures.2, c.areas_at.ensures.0, c.areas_at-2.ensures.0) at c.make_moves.ensures ∙ moved-all c.args.old.now news olds _)

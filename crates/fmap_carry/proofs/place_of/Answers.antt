@@ -1,10 +1,12 @@
-use mathlib.Core.Path.{ap, ◌∙◌}
-use Rattle.fmap_rules.specs.declared.Area.{Area}
-use Rattle.fmap_carry.proofs.Match.{place_none}
+use Rattle.std.proofs.Common.{◌∙◌, sym}
+use Rattle.fmap_carry.proofs.Moves.{no-place, at-place}
 use Rattle.fmap_carry.proofs.place_of.Goals as goal
 
-pub returns-then-areas-k : goal.returns-then-areas-k
-returns-then-areas-k c = place_none _ _ c.if-areas-k.true
+pub bounds-areas-k : goal.bounds-areas-k
+bounds-areas-k c = (at-place c.args.areas.now c.args.name.now _ (sym c.in_ok-k.ensures)).0
+
+pub returns-in_err-k : goal.returns-in_err-k
+returns-in_err-k c = c.from_residual.ensures ∙ sym (no-place c.args.areas.now c.args.name.now (sym c.in_err-k.ensures))
 
 pub returns : goal.returns
-returns c = c.extent_of.ensures ∙ ap (λ (a : Area). a.place) c.area_at.ensures.0
+returns c = rw c.extent_of.ensures (at-place c.args.areas.now c.args.name.now c.in_ok-k.k (sym c.in_ok-k.ensures)).1

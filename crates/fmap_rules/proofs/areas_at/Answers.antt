@@ -1,6 +1,7 @@
-use native.Mathlib.Omega.{arith}
+use Rattle.std.proofs.Common.{arith, ap, ◌∙◌}
 use Rattle.octets.proofs.Parts.{rest-slice}
-use Rattle.fmap_rules.proofs.Good.{areas-are, good-fits, good-within}
+use Rattle.fmap_rules.specs.Map.{areas_of, count_of}
+use Rattle.fmap_rules.proofs.Good.{good-fits, good-within}
 use Rattle.fmap_rules.proofs.areas_at.Goals as goal
 
 pub slice_bounds-areas_part-count : goal.slice_bounds-areas_part-count
@@ -14,7 +15,6 @@ areas_part-requires c = rw rest-slice (good-fits _ _ c.requires).whole
 
 pub returns : goal.returns
 returns c = (
-  areas-are _ _ _ c.areas_part.ensures.0,
-  omega
-      (arith, c.areas_part.ensures.1, rw (← rest-slice _ _) at (good-fits _ _ c.requires).few),
+  c.areas_part.ensures.0 ∙ ap areas_of (rest-slice _ _),
+  omega (arith, c.areas_part.ensures.1, ap count_of (rest-slice c.args.at.0 c.args.image.now), (good-fits _ _ c.requires).few),
 )

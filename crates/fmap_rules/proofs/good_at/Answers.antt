@@ -1,7 +1,8 @@
-use Rattle.fmap_rules.specs.Map.{map_rows, good_map}
-use Rattle.fmap_rules.proofs.Rules.{code-good, map-no-zero}
+use Rattle.std.proofs.Common.{◌∙◌, ap}
+use Rattle.fmap_rules.specs.Map.{good_map, is_none, none_holds}
+use Rattle.fmap_rules.proofs.Rules.{ok-none}
 use Rattle.fmap_rules.proofs.good_at.Goals as goal
 
 pub returns : goal.returns
-unfolding good_map
-returns c = code-good (map_rows _ _) (map-no-zero _ _) _ c.map_rule.ensures
+unfolding good_map none_holds
+returns c = c.is_ok.ensures.value ∙ ok-none c.judge.result ∙ ap is_none c.judge.ensures

@@ -1,6 +1,9 @@
-use native.Mathlib.Omega.{arith}
-use Rattle.fmap_rules.proofs.Signature.{signed-number}
+use Rattle.std.proofs.Common.{◌∙◌, take}
+use Rattle.octets.specs.Bytes.{part}
+use Rattle.fmap_rules.specs.Map.{signed, signature}
+use Rattle.fmap_rules.proofs.Signature.{pointwise-same}
 use Rattle.fmap_rules.proofs.is_signed.Goals as goal
 
 pub returns : goal.returns
-returns c = signed-number _ _ c.requires (λ i. omega (arith, c.shared_slice_known-1.given i)) c.load.ensures
+unfolding signed part
+returns c = c.starts_with.ensures.value ∙ pointwise-same signature (take 8 c.args.m.now)
