@@ -1,21 +1,17 @@
 -- What the entries that the tables have for a word's digits add up to.
-use mathlib.Core.Path.{◌≡◌, sym, ap, ap₂, ◌∙◌, subst}
+use mathlib.Core.Path.{◌≡◌, refl, sym, ap, ap₂, ◌∙◌, subst}
 use mathlib.Core.List.{List}
 use Prim.Native.Nat.{ℕ, zero, suc, ◌+◌, ◌*◌, ◌/◌, ◌%◌, ◌^◌, ◌≤◌, ◌<◌}
-use native.Mathlib.Nat.{add_comm, zero-mul, suc-mul, mod-lt, div-lt_iff_lt-mul}
+use native.Mathlib.Nat.{add_comm, zero-mul, suc-mul, mod-lt, div-lt_iff_lt-mul, mul-add, div-div-eq-div-mul}
+use native.Mathlib.Numerals.{add-one}
 use native.Mathlib.Omega.{arith}
 use lib.Arith.{lt-one}
 use lib.Pow.{pow_pos, pow-add}
 use lib.ListN.{get_or}
-use lib.Bits.{bit_xor, xor_zero_r}
+use lib.Bits.{bit_xor, xor_comm}
 use Rattle.crc_lanes.specs.Crc.{bit_steps}
-use Rattle.crc_lanes.specs.Tables.{Digits}
+use Rattle.crc_lanes.specs.Tables.{Digits, sum_of}
 use Rattle.crc_lanes.proofs.Steps.{steps-xor, steps-split, steps-add, steps-zero}
-
--- the sum (xor) of the entries for the n low digits of x, the lowest digit in the last of n tables
-unfoldable pub sum_of : ℕ → List ℕ → ℕ → ℕ → ℕ
-sum_of b t zero x = 0
-sum_of b t (suc n) x = bit_xor (get_or t (n * 2 ^ b + x % 2 ^ b) 0) (sum_of b t n (x / 2 ^ b))
 
 steps-three : (b m p y : ℕ) → bit_steps (b + m + p) y ≡ bit_steps m (bit_steps p (bit_steps b y))
 steps-three b m p y =
@@ -23,7 +19,7 @@ steps-three b m p y =
     ap (λ (k : ℕ). bit_steps k y) e ∙ steps-add (b + p) m y ∙ ap (bit_steps m) (steps-add b p y)
 
 module _ (b m r : ℕ) (t : List ℕ) (h : Digits b r (b + m) t) where
-  sum_is : (n x : ℕ) → n ≤ r → x < 2 ^ (n * b) → sum_of b t n x ≡ bit_steps m (bit_steps (n * b) x)
+  sum_is : (n x : ℕ) → n ≤ r → x < 2 ^ (n * b) → sum_of (2 ^ b) t n x ≡ bit_steps m (bit_steps (n * b) x)
   unfolding sum_of Digits
   sum_is zero x l f =
       let z : x ≡ 0 = lt-one (subst (λ (k : ℕ). x < 2 ^ k) (zero-mul b) f) in
@@ -41,16 +37,22 @@ module _ (b m r : ℕ) (t : List ℕ) (h : Digits b r (b + m) t) where
       ∙ sym (steps-add b (n * b) x)
       ∙ ap (λ (k : ℕ). bit_steps k x) (sym e))
 
-  pub sum-steps : (n x : ℕ) → n ≤ r → x < 2 ^ (n * b) → sum_of b t n x ≡ bit_steps (n * b + m) x
+  pub sum-steps : (n x : ℕ) → n ≤ r → x < 2 ^ (n * b) → sum_of (2 ^ b) t n x ≡ bit_steps (n * b + m) x
   sum-steps n x l f = sum_is n x l f ∙ sym (steps-add (n * b) m x)
 
--- ---- the sum as the code makes it, one entry more at each step
+-- ---- the sum as the code makes it, from the highest digit: of j digits, those above the d low ones of b bits
 
-pub sum_first : (b : ℕ) (t : List ℕ) (x : ℕ) {r : ℕ} → r ≡ get_or t (0 * 2 ^ b + x % 2 ^ b) 0 → r ≡ sum_of b t 1 x
-unfolding sum_of
-sum_first b t x e = e ∙ sym (xor_zero_r _)
+module _ (b : ℕ) (t : List ℕ) (x d j : ℕ) where
+  above : x / 2 ^ (b * d) / 2 ^ b ≡ x / 2 ^ (b * (d + 1))
+  above =
+      let e : b * (d + 1) ≡ b * d + b = omega (arith, mul-add b d 1) in
+      rw (div-div-eq-div-mul, ← pow-add 2 (b * d) b, e)
 
-pub sum-on : (b : ℕ) (t : List ℕ) (n x : ℕ) {r q : ℕ} → r ≡ get_or t (n * 2 ^ b + x % 2 ^ b) 0 → q ≡ sum_of b t n (x / 2 ^ b)
-    → bit_xor r q ≡ sum_of b t (suc n) x
+  pub sum_turn : (s : ℕ) {e : ℕ} → s ≡ sum_of (2 ^ b) t j (x / 2 ^ (b * (d + 1))) → e ≡ get_or t (j * 2 ^ b + x / 2 ^ (b * d) % 2 ^ b) 0
+      → bit_xor s e ≡ sum_of (2 ^ b) t (j + 1) (x / 2 ^ (b * d))
+  unfolding sum_of
+  sum_turn s {e} p q = rw (add-one, p, q, above) (xor_comm (sum_of (2 ^ b) t j (x / 2 ^ (b * (d + 1)))) (get_or t (j * 2 ^ b + x / 2 ^ (b * d) % 2 ^ b) 0))
+
+pub sum_none : (w : ℕ) (t : List ℕ) (x : ℕ) → 0 ≡ sum_of w t 0 x
 unfolding sum_of
-sum-on b t n x e f = ap₂ bit_xor e f
+sum_none w t x = refl

@@ -3,77 +3,29 @@
 // CRC-32 over tables that the caller lends, so that a call that makes several CRCs binds the tables once. Eight bytes a step; a long input goes by
 // four lanes side by side, each of which takes every fourth word of eight bytes.
 // An inner crate: no user calls it, so its functions may have a `requires`, which each caller meets.
-ghost use Rattle.std.specs.Prelude.{◌≡◌, ◌+◌, ◌%◌, ◌≤◌, length, drop, get_or};
+ghost use Rattle.std.specs.Prelude.{◌≡◌, ◌+◌, ◌*◌, ◌^◌, ◌≤◌, length, drop};
 ghost use Rattle.std.specs.Int.Bits.{bit_xor};
 ghost use Rattle.octets.specs.Bytes.{field};
 ghost use Rattle.crc_lanes.specs.Crc.{bit_steps, crc_byte, crc_update, crc32 as crc_of};
-ghost use Rattle.crc_lanes.specs.Tables.{Near, Far};
+ghost use Rattle.crc_lanes.specs.Tables.{sum_of, Near, Far};
 
 // From this length on the four lanes are faster than one word after the other.
 const LANES_FROM: usize = 128;
 
-// The entry for the low four bits of x in the table at off.
-fn near_entry(t: &[u32; 256], off: usize, x: u64) -> u32
-    requires { off ≤ 240 }
-    ensures { result ≡ get_or t.now (off + x % 16) 0 }
+// The sum (xor) of the entries for the DIGITS low digits of x, each of BITS bits and so below RADIX; the lowest digit's table is the last. The highest
+// digits come first: they need not wait for the state, which is in the low ones.
+fn sum_of<const DIGITS: usize, const BITS: usize, const RADIX: usize>(t: &[u32], x: u64) -> u32
+    requires tables { DIGITS * RADIX ≤ length t.now }
+    requires digit { (1 ≤ BITS) × (RADIX ≡ 2 ^ BITS) }
+    requires word { BITS * DIGITS ≤ 64 }
+    ensures { result ≡ sum_of RADIX t.now DIGITS x }
 {
-    let i = (x & 0xf) as usize;
-    t[off + i]
-}
-
-// The entry for the low byte of x in the table at off.
-fn far_entry(t: &[u32; 2048], off: usize, x: u64) -> u32
-    requires { off ≤ 1792 }
-    ensures { result ≡ get_or t.now (off + x % 256) 0 }
-{
-    let i = (x & 0xff) as usize;
-    t[off + i]
-}
-
-fn near_word(t: &[u32; 256], x: u64) -> u32
-    requires { Near t.now }
-    ensures { result ≡ bit_steps 64 x }
-{
-    let x1 = x >> 4;
-    let x2 = x1 >> 4;
-    let x3 = x2 >> 4;
-    let x4 = x3 >> 4;
-    let x5 = x4 >> 4;
-    let x6 = x5 >> 4;
-    let x7 = x6 >> 4;
-    let x8 = x7 >> 4;
-    let x9 = x8 >> 4;
-    let x10 = x9 >> 4;
-    let x11 = x10 >> 4;
-    let x12 = x11 >> 4;
-    let x13 = x12 >> 4;
-    let x14 = x13 >> 4;
-    let x15 = x14 >> 4;
-    let a = near_entry(t, 16, x14) ^ near_entry(t, 0, x15);
-    let b = near_entry(t, 48, x12) ^ (near_entry(t, 32, x13) ^ a);
-    let c = near_entry(t, 80, x10) ^ (near_entry(t, 64, x11) ^ b);
-    let d = near_entry(t, 112, x8) ^ (near_entry(t, 96, x9) ^ c);
-    let e = near_entry(t, 144, x6) ^ (near_entry(t, 128, x7) ^ d);
-    let f = near_entry(t, 176, x4) ^ (near_entry(t, 160, x5) ^ e);
-    let g = near_entry(t, 208, x2) ^ (near_entry(t, 192, x3) ^ f);
-    near_entry(t, 240, x) ^ (near_entry(t, 224, x1) ^ g)
-}
-
-fn far_word(t: &[u32; 2048], x: u64) -> u32
-    requires { Far t.now }
-    ensures { result ≡ bit_steps 256 x }
-{
-    let x1 = x >> 8;
-    let x2 = x1 >> 8;
-    let x3 = x2 >> 8;
-    let x4 = x3 >> 8;
-    let x5 = x4 >> 8;
-    let x6 = x5 >> 8;
-    let x7 = x6 >> 8;
-    let a = far_entry(t, 256, x6) ^ far_entry(t, 0, x7);
-    let b = far_entry(t, 768, x4) ^ (far_entry(t, 512, x5) ^ a);
-    let c = far_entry(t, 1280, x2) ^ (far_entry(t, 1024, x3) ^ b);
-    far_entry(t, 1792, x) ^ (far_entry(t, 1536, x1) ^ c)
+    let mut sum = 0;
+    for j in 0..DIGITS {
+        let digit = (x >> (BITS * (DIGITS - 1 - j))) % RADIX as u64;
+        sum ^= t[j * RADIX + digit as usize];
+    }
+    sum
 }
 
 // The word at i is added to the state and leaves: eight bytes on.
@@ -81,7 +33,7 @@ fn near_step(t: &[u32; 256], c: u32, s: &[u8], i: usize) -> u32
     requires { Near t.now × (i + 8 ≤ length s.now) }
     ensures { result ≡ bit_steps 64 (bit_xor c (field i 8 s.now)) }
 {
-    near_word(t, c as u64 ^ octets::load::<u64, _>(s, i))
+    sum_of::<16, 4, 16>(t, c as u64 ^ octets::load::<u64, _>(s, i))
 }
 
 // The word at i is added to the lane, which goes on to its next word: 32 bytes on. Loaded as two halves, whose bytes take fewer instructions to
@@ -92,15 +44,14 @@ fn far_step(t: &[u32; 2048], c: u32, s: &[u8], i: usize) -> u32
 {
     let low: u32 = octets::load(s, i);
     let high: u32 = octets::load(s, i + 4);
-    far_word(t, c as u64 ^ (low as u64 + 4294967296 * (high as u64)))
+    sum_of::<8, 8, 256>(t, c as u64 ^ (low as u64 + 4294967296 * (high as u64)))
 }
 
 fn byte_step(t: &[u32; 256], c: u32, b: u8) -> u32
     requires { Near t.now }
     ensures { result ≡ crc_byte c b }
 {
-    let x = (c as u64 ^ b as u64) & 0xff;
-    (near_entry(t, 16, x) ^ near_entry(t, 0, x >> 4)) ^ (c >> 8)
+    sum_of::<2, 4, 16>(t, (c as u64 ^ b as u64) & 0xff) ^ (c >> 8)
 }
 
 // The bytes from a place on, one a step.

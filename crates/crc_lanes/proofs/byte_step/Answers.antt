@@ -3,7 +3,7 @@ use Prim.Native.Nat.{ℕ, ◌/◌}
 use native.Mathlib.Omega.{arith}
 use lib.Bits.{bit_xor, bit_and, mask_lt, and_mask}
 use Rattle.crc_lanes.specs.Crc.{bit_steps}
-use Rattle.crc_lanes.proofs.Digits.{sum_first, sum-on, sum-steps}
+use Rattle.crc_lanes.proofs.Digits.{sum-steps}
 use Rattle.crc_lanes.proofs.Steps.{byte_split}
 use borrow.Author.Rules.{rules}
 use Rattle.crc_lanes.proofs.byte_step.Goals as goal
@@ -14,7 +14,7 @@ returns c =
     let t = a.t.now in
     let y = bit_xor a.c a.b in
     ap (λ (x : ℕ). bit_xor x (a.c / 256))
-    (sum-on 4 t 1 _ c.near_entry.ensures (sum_first 4 t _ c.near_entry-2.ensures)
+    (c.sum_of.ensures
     ∙ sum-steps 4 0 16 t c.requires 2 (bit_and y 255) (omega arith) (mask_lt y 8)
     ∙ ap (bit_steps 8) (and_mask y 8))
     ∙ sym (byte_split a.c a.b (search rules))
