@@ -12,7 +12,7 @@ use Rattle.fmd_lex.specs.Names.{good_name, flag_of}
 use Rattle.fmd_lex.specs.declared.Flag.{Flag}
 use Rattle.fmd_lex.specs.declared.Flag.TheVariants.{Cbfs, Preserve}
 use Rattle.fmd_table.specs.declared.Section.{Section}
-use Rattle.fmd_head.specs.Heads.{set_cbfs, set_preserve, set_offset, set_size, read}
+use Rattle.fmd_head.specs.Heads.{set_cbfs, set_preserve, set_offset, set_size}
 use Rattle.fmd_head.specs.Images.{set_address, set_length}
 use Rattle.fmd_head.specs.declared.TextImage.{TextImage}
 use Rattle.fmd_grammar.specs.Grammar.{Lexeme, word, sign}

@@ -1,14 +1,10 @@
 -- Laws of numbers.
 use Rattle.std.specs.Prelude.{Option, Some, None, option_and_then, Ok, Err}
-use Prim.Native.Nat.{ℕ, suc, ◌+◌, ◌*◌, ◌≤◌, ◌<◌}
-use mathlib.Core.Path.{◌≡◌, refl}
+use Prim.Native.Nat.{ℕ, ◌*◌, ◌≤◌}
 use mathlib.Core.List.{List, [], ◌∷◌}
-use mathlib.Core.Bool.{Bool, true, false, cond}
-use native.Mathlib.Omega.{arith}
-use lib.ListN.{length, drop, get_or, drop_of_length-le}
-use lib.Seq.{drop-cons}
-use lib.Dec.{leb, eqb}
-use borrow.Author.Tests.{le-leb, lt-leb, leb-true}
+use lib.ListN.{drop}
+use lib.Dec.{leb}
+use borrow.Author.Tests.{leb-true}
 use Rattle.octets.proofs.Bools.{choice}
 use Rattle.text_words.specs.Numerals.{Begun, numeral_of}
 use Rattle.fmd_lex.specs.Numbers.{unit_of, capped, scaled, scaled_after, number_in}

@@ -1,6 +1,6 @@
 -- Where the tokens of a text stand, and what the bytes of a word are.
 use mathlib.Core.Path.{◌≡◌}
-use mathlib.Core.Bool.{Bool, true, false, false≢true}
+use mathlib.Core.Bool.{Bool, true, false}
 use mathlib.Core.List.{List, [], ◌∷◌}
 use Prim.Native.Nat.{ℕ, suc, ◌+◌, ◌-◌, ◌≤◌, ◌<◌}
 use native.Mathlib.Omega.{arith}
@@ -8,7 +8,7 @@ use lib.Dec.{ltb, eqb}
 use lib.ListN.{length, drop, get_or, take, length-drop}
 use lib.Seq.{take-nil}
 use borrow.Author.Tests.{ltb-true}
-use Rattle.octets.specs.Tests.{◌or◌, all}
+use Rattle.octets.specs.Tests.{all}
 use Rattle.octets.specs.Bytes.{part}
 use Rattle.octets.proofs.Bools.{and_i, choice}
 use Rattle.text_words.specs.Classes.{is_blank}

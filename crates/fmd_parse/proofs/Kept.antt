@@ -23,7 +23,7 @@ use Rattle.fmd_lex.proofs.Numbers.{NumberFits, number_fits}
 use Rattle.fmd_lex.proofs.Tokens.{earlier}
 use Rattle.fmd_lex.proofs.Places.{token-within, word_bytes}
 use Rattle.fmd_head.specs.Refusals.{number_of as refusal_number}
-use Rattle.fmd_head.specs.Heads.{next, is_kind, counted, amount_at, onward, named_at, marked, mark_at, last_at, other_at, flags_at, with_offset, ReadPart, read}
+use Rattle.fmd_head.specs.Heads.{next, is_kind, counted, amount_at, onward, named_at, marked, mark_at, last_at, other_at, flags_at, with_offset, ReadPart}
 use Rattle.fmd_head.specs.Heads.{offset_at, with_size, size_at, head_at}
 use Rattle.fmd_parse.specs.Trees.{Named}
 use Rattle.fmd_parse.specs.Claims.{FaultNumber}

@@ -7,7 +7,7 @@ use mathlib.Core.List.{List, [], ◌∷◌, ◌++◌}
 use Prim.Native.Nat.{ℕ, zero, suc, ◌+◌, ◌*◌, ◌-◌, ◌≤◌, ◌<◌}
 use native.Mathlib.Omega.{arith}
 use lib.ListN.{length}
-use Rattle.fmd_lex.specs.Tokens.{token_at, kind_number}
+use Rattle.fmd_lex.specs.Tokens.{token_at}
 use Rattle.fmd_lex.specs.Invariants.{Within}
 use Rattle.fmd_lex.specs.declared.Token.{Token}
 use Rattle.fmd_lex.proofs.Tokens.{earlier}
@@ -16,7 +16,7 @@ use Rattle.fmd_table.specs.Invariants.{IsParent, Linked}
 use Rattle.fmd_table.specs.declared.Section.{Section}
 use Rattle.fmd_table.proofs.Table.{length-sections, no-sections}
 use Rattle.fmd_table.specs.declared.SectionRow.{SectionRow}
-use Rattle.fmd_head.specs.Heads.{is_kind, head_at, ReadPart, read, refused_at}
+use Rattle.fmd_head.specs.Heads.{is_kind, head_at, ReadPart, read}
 use Rattle.fmd_parse.specs.Layouts.{Parsed, section_from, list_from}
 use Rattle.fmd_parse.specs.Invariants.{step_of, StepIn, SectionRead, ListRead}
 use Rattle.fmd_head.specs.declared.TextFault.{TextFault}

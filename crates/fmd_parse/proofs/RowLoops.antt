@@ -1,5 +1,4 @@
 -- Laws of the rows' loops over the places of a section list.
-use Rattle.fmd_head.specs.Heads.{read}
 use Rattle.std.specs.Prelude.{is_some, Option, Some, None}
 use mathlib.Core.Path.{◌≡◌, refl, sym, ap, ◌∙◌}
 use mathlib.Core.Bool.{Bool, true, false}
@@ -9,12 +8,12 @@ use Prim.Native.Nat.{ℕ, zero, suc, ◌+◌, ◌-◌, ◌≤◌, ◌<◌}
 use native.Mathlib.Nat.{add-zero, sub-zero}
 use native.Mathlib.Numerals.{add-one}
 use native.Mathlib.Omega.{arith}
-use lib.Dec.{eqb, ltb}
+use lib.Dec.{eqb}
 use lib.ListN.{length, get_or, take, drop, drop_of_length-le}
 use lib.Seq.{drop-cons, get_or-take, length-take-le}
-use borrow.Author.Tests.{eq-eqb, ne_eqb, eqb-true, eqb-false, ltb-true, ltb-false}
+use borrow.Author.Tests.{eq-eqb, ne_eqb, eqb-true, eqb-false}
 use Rattle.octets.specs.Tests.{any}
-use Rattle.octets.specs.Bytes.{part, same}
+use Rattle.octets.specs.Bytes.{same}
 use Rattle.octets.proofs.Bools.{choice, bool_cases}
 use Rattle.octets.proofs.Tests.{any-make, any_false, any-on, any-stop, any-done}
 use Rattle.fmd_parse.specs.Trees.{blank_section, Tree}
@@ -184,11 +183,6 @@ module _ (n : ℕ) (rows : List SectionRow) where
   -- where all names lie in the text, that of row k does
   pub name-inside : (s : List ℕ) → Inside s (sections_in n rows) → (k : ℕ) {h : Section} → h ≡ section_at rows k → k < n → h.place + h.length ≤ length s
   name-inside s i k q b = rw (q, sym (item k b)) (i k (omega (arith, length-sections n rows)))
-
--- the bytes from p up to p + n
-pub slice : (p n : ℕ) (s : List ℕ) → take (p + n - p) (drop p s) ≡ part p n s
-unfolding part
-slice p n s = let e : p + n - p ≡ n = omega arith in rw e
 
 -- the names of a list that was read from a text lie in it
 pub inside : {s : List ℕ} {l : List Section} → Tree s l → Inside s l

@@ -17,7 +17,7 @@ use Rattle.fmd_lex.specs.Tokens.{end_kind, word_kind, token_at, token_bytes, kin
 use Rattle.fmd_lex.specs.Names.{good_name}
 use Rattle.fmd_lex.specs.declared.Token.{Token}
 use Rattle.fmd_head.specs.Refusals.{number_of}
-use Rattle.fmd_head.specs.Heads.{onward, next, is_kind, amount_at, head_at, ReadPart, refused_at}
+use Rattle.fmd_head.specs.Heads.{onward, next, is_kind, amount_at, head_at, ReadPart}
 use Rattle.fmd_head.specs.Images.{title_at, with_address, address_at, with_length, length_at, open_at, image_at}
 use Rattle.fmd_parse.specs.Layouts.{Parsed, fault, parsed, after_head, after_section, section_from, list_from, after_image, after_list, ended_by, layout_of}
 use Rattle.fmd_parse.specs.Trees.{Named, blank_section, Under, Standing, Tree, AddressFits, Imaged}

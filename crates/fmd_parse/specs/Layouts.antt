@@ -5,7 +5,7 @@ use Rattle.fmd_lex.specs.Tokens.{end_kind, token_at}
 use Rattle.fmd_lex.specs.declared.Token.{Token}
 use Rattle.fmd_table.specs.Table.{sections_in}
 use Rattle.fmd_head.specs.Refusals.{number_of}
-use Rattle.fmd_head.specs.Heads.{ReadPart, next, is_kind, head_at, read}
+use Rattle.fmd_head.specs.Heads.{ReadPart, next, is_kind, head_at}
 use Rattle.fmd_head.specs.Images.{image_at}
 use Rattle.fmd_table.specs.declared.Section.{Section}
 use Rattle.fmd_table.specs.declared.SectionRow.{SectionRow}

@@ -1,5 +1,5 @@
 -- Sections in a table of rows: as they stand in the text, and with their offsets and sizes.
-use Rattle.std.specs.Prelude.{false, List, [], ◌∷◌, ◌++◌, ℕ, zero, suc, ◌≤◌, length, get_or, Option, Some, None}
+use Rattle.std.specs.Prelude.{false, List, [], ◌∷◌, ◌++◌, ℕ, zero, suc, ◌≤◌, length, get_or, None}
 use Rattle.fmd_table.specs.declared.Section.{Section}
 use Rattle.fmd_table.specs.declared.SectionRow.{SectionRow}
 use Rattle.fmd_table.specs.declared.Placed.{Placed}

@@ -1,5 +1,4 @@
 use mathlib.Core.Path.{sym, ◌∙◌}
-use Rattle.fmd_parse.specs.Rows.{undecided}
 use Rattle.fmd_parse.proofs.RowLoops.{first_on, first-stop, first_done}
 use Rattle.fmd_parse.proofs.rows.first_undecided.Goals as goal
 

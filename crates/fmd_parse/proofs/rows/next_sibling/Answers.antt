@@ -1,4 +1,4 @@
-use mathlib.Core.Path.{sym, ap, ◌∙◌}
+use mathlib.Core.Path.{sym, ◌∙◌}
 use native.Mathlib.Omega.{arith}
 use Rattle.fmd_parse.proofs.RowLoops.{next-below, next-is, next-none}
 use Rattle.fmd_parse.proofs.rows.next_sibling.Goals as goal
