@@ -129,8 +129,8 @@ pub fn delete(head: &[u8], tail: &[u8], n: u64, shape: Shape, number: u64) -> Re
 }
 
 // 26: the name is not empty, and some used entry but the one left out has its 72 bytes.
-fn name_taken(table: &[u8], but: Option<usize>, name: &[u16]) -> bool
-    requires { (length table.now ≡ table_bytes) × (length name.now ≡ 36) }
+fn name_taken(table: &[u8], but: Option<usize>, name: &[u16; 36]) -> bool
+    requires { length table.now ≡ table_bytes }
     ensures { result ≡ name_taken (without but (entries table.now)) name.now }
 {
     let bytes = gpt_entry::name_bytes(name);
@@ -144,9 +144,9 @@ pub fn rename(
     n: u64,
     shape: Shape,
     number: u64,
-    name: &[u16],
+    name: &[u16; 36],
 ) -> Result<(), Refusal>
-    requires { (length name.now ≡ 36) × Legal shape }
+    requires { Legal shape }
     ensures { stop_of result ≡ refusal (rows_of shape n head.now tail.now (edit (rename_call number name.now))) }
 {
     delete(head, tail, n, shape, number)?;

@@ -19,25 +19,14 @@ const NAME_UNITS: usize = 36;
 
 const NAME_BYTES: usize = 72;
 
-// The name's bytes from `at` on.
-fn put_name(s: &mut [u8], at: usize, name: &[u16])
-    requires { (at + 72 ≤ length s.old) × (length name.now ≡ 36) }
-    ensures { s.new ≡ put at (name_bytes name.now) s.old }
-{
-    let mut i = 0;
-    while i < NAME_UNITS {
-        octets::store(s, at + 2 * i, name[i]);
-        i += 1;
-    }
-}
-
 // The bytes of a name, as an entry has them.
-pub fn name_bytes(name: &[u16]) -> [u8; NAME_BYTES]
-    requires { length name.now ≡ 36 }
+pub fn name_bytes(name: &[u16; NAME_UNITS]) -> [u8; NAME_BYTES]
     ensures { (result ≡ name_bytes name.now) × (length result ≡ 72) }
 {
-    let mut bytes = [0u8; NAME_BYTES];
-    put_name(&mut bytes, 0, name);
+    let mut bytes = [0; NAME_BYTES];
+    for (i, unit) in name.iter().enumerate() {
+        octets::store(&mut bytes, 2 * i, *unit);
+    }
     bytes
 }
 
@@ -46,13 +35,13 @@ pub fn added(p: NewPartition, first: Block) -> Entry
     requires { (0 < p.size) × (first.0 + p.size < 18446744073709551616) }
     ensures { (result ≡ new_entry p first.0) × (length result ≡ entry_bytes) }
 {
-    let mut e = [0u8; ENTRY];
+    let mut e = [0; ENTRY];
     octets::copy(&mut e, 0, &p.kind);
     octets::copy(&mut e, UNIQUE_AT, &p.unique);
     octets::store(&mut e, FIRST_AT, first.0);
     octets::store(&mut e, LAST_AT, first.0 + (p.size - 1));
     octets::store(&mut e, ATTRIBUTES_AT, p.attributes);
-    put_name(&mut e, NAME_AT, &p.name);
+    octets::copy(&mut e, NAME_AT, &name_bytes(&p.name));
     e
 }
 
@@ -61,23 +50,17 @@ pub fn resized(entry: &Entry, size: u64) -> Entry
     requires { (0 < size) × (first_of entry.now + size < 18446744073709551616) }
     ensures { (result ≡ put 40 (le 8 (first_of entry.now + size - 1)) entry.now) × (length result ≡ entry_bytes) }
 {
-    let mut e = [0u8; ENTRY];
-    octets::copy(&mut e, 0, entry);
-    octets::store(
-        &mut e,
-        LAST_AT,
-        octets::load::<u64, _>(entry, FIRST_AT) + (size - 1),
-    );
+    let last = octets::load::<u64, _>(entry, FIRST_AT) + (size - 1);
+    let mut e = *entry;
+    octets::store(&mut e, LAST_AT, last);
     e
 }
 
 // The entry with another name.
-pub fn renamed(entry: &Entry, name: &[u16]) -> Entry
-    requires { length name.now ≡ 36 }
+pub fn renamed(entry: &Entry, name: &[u16; NAME_UNITS]) -> Entry
     ensures { (result ≡ put 56 (name_bytes name.now) entry.now) × (length result ≡ entry_bytes) }
 {
-    let mut e = [0u8; ENTRY];
-    octets::copy(&mut e, 0, entry);
-    put_name(&mut e, NAME_AT, name);
+    let mut e = *entry;
+    octets::copy(&mut e, NAME_AT, &name_bytes(name));
     e
 }

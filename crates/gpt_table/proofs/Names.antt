@@ -1,44 +1,44 @@
--- Laws of a name read unit by unit: `before` is the unit before those that are left.
+-- A name read unit by unit: behind the units up to the first zero one, a nonzero one.
 use mathlib.Core.Path.{◌≡◌, refl, sym, ap, ◌∙◌}
 use mathlib.Core.Logic.{◌⊎◌, inl, inr}
-use mathlib.Core.Bool.{Bool, true, false, cond}
-use mathlib.Core.List.{List, ◌∷◌}
-use Prim.Native.Nat.{ℕ, ◌+◌, ◌≤◌, ◌<◌}
-use native.Mathlib.Numerals.{add-one}
+use mathlib.Core.Bool.{Bool, true, false, not}
+use mathlib.Core.List.{List, [], ◌∷◌}
+use Prim.Native.Nat.{ℕ}
+use native.Mathlib.Numerals.{one-add}
 use lib.Dec.{eqb}
-use lib.ListN.{length, get_or, drop, drop_of_length-le}
-use lib.Seq.{drop-cons}
-use borrow.Author.Tests.{eq-eqb, ne_eqb}
-use Rattle.octets.specs.Tests.{◌and◌}
+use lib.ListN.{drop}
+use borrow.Author.Tests.{eqb-true, eq-eqb}
+use Rattle.std.specs.List.{list_any, prefix_len}
+use Rattle.octets.specs.Tests.{◌and◌, ◌or◌, any}
+use Rattle.octets.specs.Bytes.{is_zero}
+use Rattle.octets.proofs.Bools.{bool_cases, eq-from}
+use Rattle.octets.proofs.Chains.{any_list}
 use Rattle.gpt_model.specs.Calls.{bad_name}
 
-module _ (before u : ℕ) (us : List ℕ) where
-  bad-here : before ≡ 0 → (u ≡ 0 → ⊥) → bad_name (before ∷ u ∷ us) ≡ true
-  unfolding ◌and◌
-  bad-here p q = rw (eq-eqb before 0 p, ne_eqb 0 u (λ e. q (sym e)))
+abbrev pub nonzero : ℕ → Bool
+nonzero u = not (eqb u 0)
 
-  bad-zeros : before ≡ 0 → u ≡ 0 → bad_name (before ∷ u ∷ us) ≡ bad_name (u ∷ us)
-  unfolding ◌and◌
-  bad-zeros p q = rw (eq-eqb before 0 p, eq-eqb 0 u (sym q), eq-eqb u 0 q)
+turned : (u : ℕ) → eqb 0 u ≡ eqb u 0
+turned u = eq-from _ _ (λ h. eq-eqb u 0 (sym (eqb-true 0 u h))) (λ h. eq-eqb 0 u (sym (eqb-true u 0 h)))
 
-  bad-later : (before ≡ 0 → ⊥) → bad_name (before ∷ u ∷ us) ≡ bad_name (u ∷ us)
-  bad-later p = rw (ne_eqb before 0 p)
+some_nonzero : (us : List ℕ) → any nonzero us ≡ not (is_zero us)
+unfolding ◌and◌ ◌or◌
+some_nonzero [] = refl
+some_nonzero (u ∷ us) = go (bool_cases (eqb u 0)) (some_nonzero us)
+  where
+    go : (eqb u 0 ≡ true) ⊎ (eqb u 0 ≡ false) → any nonzero us ≡ not (is_zero us) → any nonzero (u ∷ us) ≡ not (is_zero (u ∷ us))
+    go (inl q) ih = rw (turned, q) ih
+    go (inr q) ih = rw (turned, q)
 
-module _ (name : List ℕ) (before i : ℕ) where
-  module _ (h : i < length name) where
-    units : bad_name (before ∷ drop i name) ≡ bad_name (before ∷ get_or name i 0 ∷ drop (i + 1) name)
-    units = rw (add-one, drop-cons name i 0 h)
+behind : (us : List ℕ) → any nonzero (drop (prefix_len nonzero us) us) ≡ bad_name us
+unfolding ◌or◌
+behind [] = refl
+behind (u ∷ us) = go (bool_cases (eqb u 0)) (behind us)
+  where
+    go : (eqb u 0 ≡ true) ⊎ (eqb u 0 ≡ false) → any nonzero (drop (prefix_len nonzero us) us) ≡ bad_name us
+        → any nonzero (drop (prefix_len nonzero (u ∷ us)) (u ∷ us)) ≡ bad_name (u ∷ us)
+    go (inl q) ih = rw q (ap (λ (b : Bool). not b or any nonzero us) q ∙ some_nonzero us)
+    go (inr q) ih = rw (q, one-add) ih
 
-    pub name-stop : before ≡ 0 → (get_or name i 0 ≡ 0 → ⊥) → bad_name (before ∷ drop i name) ≡ true
-    name-stop p q = units ∙ bad-here before (get_or name i 0) (drop (i + 1) name) p q
-
-    pub name-on : ((before ≡ 0) × (get_or name i 0 ≡ 0)) ⊎ (before ≡ 0 → ⊥) → bad_name (before ∷ drop i name) ≡ bad_name (get_or name i 0 ∷ drop (i + 1) name)
-    name-on (inl p) = units ∙ bad-zeros before (get_or name i 0) (drop (i + 1) name) p.0 p.1
-    name-on (inr p) = units ∙ bad-later before (get_or name i 0) (drop (i + 1) name) p
-
-  pub name_done : length name ≤ i → bad_name (before ∷ drop i name) ≡ false
-  name_done h = ap (λ (l : List ℕ). bad_name (before ∷ l)) (drop_of_length-le name {i = i} h) ∙ alone (eqb before 0)
-    where
-      alone : (t : Bool) → cond t false false ≡ false
-      alone true = refl
-      alone false = refl
+pub bad_name_is : (us : List ℕ) → list_any nonzero (drop (prefix_len nonzero us) us) ≡ bad_name us
+bad_name_is us = any_list nonzero (drop (prefix_len nonzero us) us) ∙ behind us

@@ -67,22 +67,11 @@ pub fn carried(t: &Table, but: Option<usize>, at: usize, bytes: &[u8]) -> bool
         && octets::same(&e[at..at + bytes.len()], bytes))
 }
 
-// A nonzero unit stands after a zero one. `before` is the unit before unit i; the name's first unit has a nonzero one before it.
+// A nonzero unit stands after a zero one.
 pub fn bad_name(name: &[u16]) -> bool
     ensures { result ≡ bad_name name.now }
 {
-    let mut before: u16 = 1;
-    let mut i = 0;
-    while i < name.len() {
-        if before == 0 {
-            if name[i] != 0 {
-                return true;
-            }
-        }
-        before = name[i];
-        i += 1;
-    }
-    false
+    name.iter().skip_while(|u| **u != 0).any(|u| *u != 0)
 }
 
 // What is read of a used entry.

@@ -30,11 +30,6 @@ bounds-as_table-i c =
     let k = rename-slot a.disk.shape a.disk.n a.head.now a.tail.now a.slot a.name.now c.requires in
     omega arith
 
-pub renamed-new-requires : goal.renamed-new-requires
-renamed-new-requires c =
-    let a = c.args in
-    (rename-slot a.disk.shape a.disk.n a.head.now a.tail.now a.slot a.name.now c.requires).2
-
 pub put_both-requires : goal.put_both-requires
 put_both-requires c =
     let a = c.args in

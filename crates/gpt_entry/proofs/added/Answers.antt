@@ -13,14 +13,9 @@ copy-requires-2 c =
     let long : length c.args.p.unique ≡ 16 = search rules in
     omega arith
 
-pub put_name-requires : goal.put_name-requires
-put_name-requires c =
-    let long : length c.args.p.name ≡ 36 = search rules in
-    (search rules, long)
-
 pub returns : goal.returns
 returns c =
     let a = c.args in
     six-writes a.p a.first.0 _ _ _ _ _ _ c.requires.0 c.copy.ensures c.copy-2.ensures
     c.store.ensures c.store-2.ensures c.store-3.ensures
-    c.put_name.ensures
+    (rw c.name_bytes.ensures.0 at c.copy-3.ensures)

@@ -1,26 +1,15 @@
-use mathlib.Core.Logic.{inl, inr}
-use mathlib.Core.Path.{refl, sym, ◌∙◌}
-use native.Mathlib.Omega.{arith}
-use Rattle.gpt_table.proofs.Names.{name-stop, name-on, name_done}
+use Rattle.std.proofs.Common.{◌∙◌, rules}
+use borrow.Author.Tests.{tests}
+use Rattle.std.proofs.lemmas.Iterator.{YieldsList-from_slice}
+use Rattle.std.proofs.lemmas.Iterator.Adapters.{YieldsList-from_skip_while}
+use Rattle.std.proofs.lemmas.Iterator.Search.{any_from_yields_List}
+use Rattle.gpt_table.proofs.Names.{nonzero, bad_name_is}
 use Rattle.gpt_table.proofs.bad_name.Goals as goal
-use Rattle.gpt_table.proofs.bad_name.Goals.{then-before-eq0+else-name-i-ne0, else-before-eq0}
-
-pub loop-i-init : goal.loop-i-init
-loop-i-init c = (omega arith, refl)
-
-pub returns-then-name-i-ne0 : goal.returns-then-name-i-ne0
-returns-then-name-i-ne0 c = let l = c.loop-i in
-    sym (sym l.invariant.1 ∙ name-stop c.args.name.now l.before l.i (omega arith) c.if-before-eq0.true c.if-name-i-ne0.true)
-
-pub loop-i-preserved : goal.loop-i-preserved
-loop-i-preserved c = let l = c.loop-i in (
-  omega arith,
-  sym
-      (name-on c.args.name.now l.before l.i (omega arith)
-      (elim c.if-before-eq0.branch
-      [ then-before-eq0+else-name-i-ne0 w ↦ inl (w.if-before-eq0.true, w.if-name-i-ne0.false) | else-before-eq0 w ↦ inr w.if-before-eq0.false ]))
-      ∙ l.invariant.1,
-)
 
 pub returns : goal.returns
-returns c = let l = c.loop-i in sym (sym l.invariant.1 ∙ name_done c.args.name.now l.before l.i (omega arith))
+returns c =
+    let skipped = c.skip_while.ensures in
+    let found = any_from_yields_List nonzero _ _ c.any.result c.any.ensures.ran
+    (YieldsList-from_skip_while _ _ _ nonzero _ (λ x b q k. search (rules, tests)) (YieldsList-from_slice c.args.name.now cc) skipped.closure skipped.done_skipping)
+    (λ x b q k. search (rules, tests)) in
+    found ∙ bad_name_is c.args.name.now
