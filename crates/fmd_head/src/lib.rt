@@ -25,7 +25,7 @@ pub enum Refusal {
     NoMapSection,
 }
 
-// The number of a refusal.
+// The number of a refusal. (A function and no From: docs/TRACE.md, W15, names it.)
 pub fn number(r: Refusal) -> u32
     ensures { result ≡ number_of r }
 {

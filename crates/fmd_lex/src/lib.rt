@@ -44,6 +44,7 @@ impl Token {
     }
 }
 
+// The flags of a section.
 #[derive(Clone, Copy)]
 pub enum Flag {
     Cbfs,
@@ -52,6 +53,7 @@ pub enum Flag {
 
 // ---- bytes
 
+// One of @ { } ( ).
 fn is_sign(b: u8) -> bool
     ensures { result ≡ is_sign b }
 {

@@ -1,5 +1,6 @@
 // The rows of the whole section list that the text alone decides: 54, 56 and 57, each by the index of the first section at fault.
 // The list is the first n rows of a lent table.
+// Loops, and not `(0..n).find(..)` or `any`: from what std says of a search over a range the proof of `found_from` did not close.
 ghost use Rattle.std.specs.Prelude.{◌≡◌, ◌+◌, ◌-◌, ◌≤◌, ◌<◌, length, drop};
 ghost use Rattle.octets.specs.Bytes.{same as same_bytes};
 ghost use Rattle.fmd_table.specs.Table.{section_at, sections_in, HasRows};
