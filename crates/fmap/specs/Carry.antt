@@ -12,14 +12,14 @@ use Rattle.fmap.specs.declared.CarryRefusal.{CarryRefusal}
 use Rattle.fmap.specs.declared.CarryRefusal.TheVariants.{Map, Areas}
 
 -- (W15) the number of each refusal
-abbrev pub refusal_number : CarryRefusal → ℕ
-refusal_number (Map e) = number_of e
-refusal_number (Areas e) = conflict_number e
+abbrev pub refused_number : CarryRefusal → ℕ
+refused_number (Map e) = number_of e
+refused_number (Areas e) = conflict_number e
 
 -- (W15) the number of each answer; a carry that is accepted answers only that
 abbrev pub carried_number : Result (Unit {0}) CarryRefusal → Option ℕ
 carried_number (Ok _) = none
-carried_number (Err e) = some (refusal_number e)
+carried_number (Err e) = some (refused_number e)
 
 -- (W15) the number of what stands at a position
 abbrev pub standing_number : Result (Unit {0}) NoMap → Option ℕ

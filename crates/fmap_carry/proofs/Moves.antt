@@ -21,7 +21,7 @@ use Rattle.fmap_rules.specs.Map.{area_of, blank_area, named, fmap_name, end_of}
 use Rattle.fmap_carry.specs.declared.Move.{Move}
 use Rattle.fmap_carry.specs.Carry.{preserved, with_name, missing, other_size, clear_by, clear, on_map, carry_rows, carry_area, carried}
 use Rattle.fmap_carry.specs.Invariants.{Fit, Fitting}
-use Rattle.fmap_carry.specs.Moves.{place_in, move_of, moves_of, resized, apart, covers, move_rows, moved, lies}
+use Rattle.fmap_carry.specs.Moves.{place_in, move_of, moves_of, resized, moves_apart, covers, move_rows, moved, lies}
 
 -- ---- a place by a name
 
@@ -82,14 +82,14 @@ module _ (news : List Area) where
   all-skip r e [] = refl
   all-skip r e (a ∷ olds) = and_i _ _ (e a) (all-skip r e olds)
 
-  clear-moves : (olds : List Area) → pairs (clear news) olds ≡ pairs apart (moves_of news olds)
-  unfolding moves_of clear clear_by apart ◌and◌ ◌or◌
+  clear-moves : (olds : List Area) → pairs (clear news) olds ≡ pairs moves_apart (moves_of news olds)
+  unfolding moves_of clear clear_by moves_apart ◌and◌ ◌or◌
   clear-moves [] = refl
   clear-moves (a ∷ olds) = go (bool_cases (preserved a)) (clear-moves olds)
     where
-      go : (preserved a ≡ true) ⊎ (preserved a ≡ false) → pairs (clear news) olds ≡ pairs apart (moves_of news olds)
-          → pairs (clear news) (a ∷ olds) ≡ pairs apart (moves_of news (a ∷ olds))
-      go (inl h) ih = rw (all-moves (clear news a) (apart (move_of news a)) (λ b. rw h) olds, h, ih)
+      go : (preserved a ≡ true) ⊎ (preserved a ≡ false) → pairs (clear news) olds ≡ pairs moves_apart (moves_of news olds)
+          → pairs (clear news) (a ∷ olds) ≡ pairs moves_apart (moves_of news (a ∷ olds))
+      go (inl h) ih = rw (all-moves (clear news a) (moves_apart (move_of news a)) (λ b. rw h) olds, h, ih)
       go (inr h) ih = rw (all-skip (clear news a) (λ b. rw h) olds, h, ih)
 
   -- the rows of a carry, where no area is missing

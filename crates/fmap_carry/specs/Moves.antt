@@ -24,15 +24,15 @@ moves_of news (a ∷ olds) = cond (preserved a) (move_of news a ∷ moves_of new
 unfoldable pub resized : Move → Bool
 resized m = not (eqb m.from.size m.to.size)
 
-unfoldable pub apart : Move → Move → Bool
-apart m n = disjoint m.from n.from and disjoint m.to n.to
+unfoldable pub moves_apart : Move → Move → Bool
+moves_apart m n = disjoint m.from n.from and disjoint m.to n.to
 
 unfoldable pub covers : Extent → Move → Bool
 covers map m = not (disjoint m.to map)
 
 -- the rows of a carry behind that of a missing area
 abbrev pub move_rows : Extent → List Move → List Row
-move_rows map moves = row (any resized moves) 61 ∷ row (not (pairs apart moves)) 62 ∷ row (any (covers map) moves) 63 ∷ []
+move_rows map moves = row (any resized moves) 61 ∷ row (not (pairs moves_apart moves)) 62 ∷ row (any (covers map) moves) 63 ∷ []
 
 -- the image after the moves
 unfoldable pub moved : List ℕ → List Move → List ℕ → List ℕ

@@ -9,7 +9,7 @@ ghost use Rattle.octets.specs.Rows.{refusal};
 ghost use Rattle.octets.specs.Bytes.{part, rest, put};
 ghost use Rattle.fmap_rules.specs.Map.{area_of, areas_of, fmap_name, end_of, good_map};
 ghost use Rattle.fmap_carry.specs.Carry.{preserved, missing, carry_rows, number_of, judged_number, carry_areas};
-ghost use Rattle.fmap_carry.specs.Moves.{place_in, moves_of, resized, apart, covers, move_rows, moved, lies};
+ghost use Rattle.fmap_carry.specs.Moves.{place_in, moves_of, resized, moves_apart, covers, move_rows, moved, lies};
 
 use fmap_rules::{AreaBytes, Extent, FMAP_NAME, ImagePosition};
 
@@ -73,7 +73,7 @@ fn some_resized(moves: &[Move]) -> bool
 }
 
 fn all_apart(moves: &[Move]) -> bool
-    ensures { result ≡ pairs apart moves.now }
+    ensures { result ≡ pairs moves_apart moves.now }
 {
     octets::pairs(moves, |m, n| {
         m.from.is_disjoint(n.from) && m.to.is_disjoint(n.to)

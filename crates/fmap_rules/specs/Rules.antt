@@ -5,24 +5,24 @@ use Rattle.fmap_rules.specs.declared.MapRule.{MapRule}
 use Rattle.fmap_rules.specs.declared.MapRule.TheVariants.{Signature, HeaderEnd, Major, Minor, ImageSize, NoArea, TooManyAreas, MapEnd, Name}
 use Rattle.fmap_rules.specs.declared.MapRule.TheVariants.{AreaSize, AreaEnd, AreaName, MapArea, SameName, Crossing}
 
-abbrev pub number_of : MapRule → ℕ
-number_of Signature = 1
-number_of HeaderEnd = 2
-number_of Major = 3
-number_of Minor = 4
-number_of ImageSize = 5
-number_of NoArea = 6
-number_of TooManyAreas = 7
-number_of MapEnd = 8
-number_of Name = 9
-number_of AreaSize = 10
-number_of AreaEnd = 11
-number_of AreaName = 12
-number_of MapArea = 13
-number_of SameName = 14
-number_of Crossing = 15
+abbrev pub rule_number : MapRule → ℕ
+rule_number Signature = 1
+rule_number HeaderEnd = 2
+rule_number Major = 3
+rule_number Minor = 4
+rule_number ImageSize = 5
+rule_number NoArea = 6
+rule_number TooManyAreas = 7
+rule_number MapEnd = 8
+rule_number Name = 9
+rule_number AreaSize = 10
+rule_number AreaEnd = 11
+rule_number AreaName = 12
+rule_number MapArea = 13
+rule_number SameName = 14
+rule_number Crossing = 15
 
 -- the number of the rule that is broken, if one is
 abbrev pub broken : Result (Unit {0}) MapRule → Option ℕ
 broken (Ok _) = none
-broken (Err r) = some (number_of r)
+broken (Err r) = some (rule_number r)

@@ -9,7 +9,7 @@ ghost use Rattle.octets.specs.Rows.{refusal};
 ghost use Rattle.fmap_rules.specs.Map.{signed, name_length, legal_name, area_of, areas_in, areas_of, named, end_of, disjoint, inside};
 ghost use Rattle.fmap_rules.specs.Map.{disjoint_or_nested, map_size, count_of, holds_map, header_rows, area_rows, map_rows, good_map};
 ghost use Rattle.fmap_rules.specs.Map.{empty, ends_past, misnamed, other_name, good_places};
-ghost use Rattle.fmap_rules.specs.Rules.{number_of, broken};
+ghost use Rattle.fmap_rules.specs.Rules.{rule_number, broken};
 
 // A byte's position in a flash image.
 #[derive(Clone, Copy, PartialEq, Eq, Default)]
@@ -58,7 +58,7 @@ pub enum MapRule {
 
 impl MapRule {
     pub fn number(self) -> u32
-        ensures { result ≡ number_of self }
+        ensures { result ≡ rule_number self }
     {
         self as u32
     }
