@@ -5,6 +5,7 @@ use Prim.Native.Nat.{ℕ, ◌+◌, ◌≤◌, ◌<◌}
 use native.Mathlib.Numerals.{add-one}
 use lib.ListN.{length, get_or, drop, drop_of_length-le}
 use lib.Seq.{drop-cons}
+use Rattle.std.specs.List.{fold}
 use lib.Bits.{bit_xor}
 use Rattle.crc_lanes.specs.Crc.{crc_byte, crc_update, crc32}
 
@@ -32,3 +33,9 @@ update-on c s i h = rw (add-one, drop-cons s i 0)
 pub update-done : (c : ℕ) (s : List ℕ) (i : ℕ) → length s ≤ i → crc_update c (drop i s) ≡ c
 unfolding crc_update
 update-done c s i h = rw (drop_of_length-le s h)
+
+-- all bytes, one after the other
+pub update-fold : (s : List ℕ) (c : ℕ) → fold crc_byte c s ≡ crc_update c s
+unfolding crc_update
+update-fold [] c = refl
+update-fold (b ∷ s) c = update-fold s (crc_byte c b)

@@ -1,10 +1,13 @@
 -- Several bytes at once: their number, the lowest byte first, is added to the state, and all their bits leave.
-use mathlib.Core.Path.{◌≡◌, sym, ap, ◌∙◌, subst}
+use mathlib.Core.Path.{◌≡◌, refl, sym, ap, ◌∙◌, subst}
 use mathlib.Core.List.{List, [], ◌∷◌}
 use Prim.Native.Nat.{ℕ, zero, suc, ◌+◌, ◌*◌, ◌^◌, ◌≤◌, ◌<◌, suc-le-suc}
-use native.Mathlib.Nat.{zero-lt-suc}
+use native.Mathlib.Nat.{zero-lt-suc, suc-mul}
 use native.Mathlib.Omega.{arith}
-use lib.ListN.{length, get_or, drop}
+use lib.ListN.{length, get_or, take, drop, length-drop, take-append-drop}
+use lib.Seq.{length-take-le, get_or-take, get_or-drop, drop-drop}
+use Rattle.std.specs.List.{fold}
+use Rattle.std.specs.Simd.{first_chunks}
 use lib.Bits.{bit_xor, xor_shifted, xor_comm, xor_zero_r}
 use Rattle.octets.specs.Bytes.{unle, part, rest, field}
 use Rattle.octets.proofs.Parts.{length_part, get_d_part, part-on}
@@ -51,3 +54,21 @@ word_on k c s i h b =
         ap (λ (n : ℕ). bit_steps (8 * n) (bit_xor c (field i k s))) (sym long)
         ∙ at_once (part i k s) c (λ j l.
         subst (λ (x : ℕ). x < 256) (sym (get_d_part s i k j (subst (λ (n : ℕ). j < n) long l))) (b (i + j)))
+
+-- the first k words, and the rest decides
+pub words_on : (k c : ℕ) (s : List ℕ) → k * 8 ≤ length s → ((j : ℕ) → get_or s j 0 < 256)
+    → crc_update (fold (λ (x : ℕ) (w : List ℕ). bit_steps 64 (bit_xor x (unle w))) c (first_chunks 8 k s)) (drop (k * 8) s) ≡ crc_update c s
+words_on zero c s h b = refl
+words_on (suc k) c s h b =
+    let n : 8 ≤ length s = omega (arith, suc-mul k 8) in
+    let l : length (take 8 s) ≡ 8 = length-take-le 8 s n in
+    let e : bit_steps 64 (bit_xor c (unle (take 8 s))) ≡ crc_update c (take 8 s) =
+    ap (λ (m : ℕ). bit_steps (8 * m) (bit_xor c (unle (take 8 s)))) (sym l)
+    ∙ at_once (take 8 s) c (λ j i. rw (get_or-take 8 s j 0 (omega (arith, i, l))) (b j)) in
+    let d : suc k * 8 ≡ 8 + k * 8 = omega (arith, suc-mul k 8) in
+    rw (d, ← drop-drop (k * 8) 8 s)
+    (words_on k (bit_steps 64 (bit_xor c (unle (take 8 s)))) (drop 8 s) (simp length-drop (omega (arith, suc-mul k 8)))
+    (λ j. rw (get_or-drop 8 s j 0) (b (8 + j)))
+    ∙ ap (λ (x : ℕ). crc_update x (drop 8 s)) e
+    ∙ sym (update-append c (take 8 s) (drop 8 s))
+    ∙ ap (crc_update c) (take-append-drop 8 s))

@@ -1,7 +1,10 @@
-use mathlib.Core.Path.{◌∙◌}
-use Prim.Native.Nat.{◌+◌, ◌≤◌}
+use mathlib.Core.Path.{ap, ◌∙◌}
+use Prim.Native.Nat.{ℕ, ◌+◌, ◌≤◌}
 use native.Mathlib.Omega.{arith}
-use lib.ListN.{length}
+use lib.Bits.{bit_xor}
+use lib.ListN.{length, length-drop}
+use lib.Seq.{take_all}
+use Rattle.crc_lanes.specs.Crc.{bit_steps, crc_update}
 use Rattle.crc_lanes.proofs.Lanes.{lanes4-start, lanes4-on, lanes4-end}
 use borrow.Author.Rules.{rules}
 use Rattle.crc_lanes.proofs.update_long.Goals as goal
@@ -25,11 +28,14 @@ loop-i-preserved c =
 
 pub returns : goal.returns
 returns c =
+    let s = c.args.s.now in
     let l = c.loop-i in
-    c.update_words.ensures
-    ∙ lanes4-end c.args.s.now l.i l.c0 l.c1 l.c2 l.c3
-    c.near_step-a0.ensures
-    c.near_step-a1.ensures
-    c.near_step-a2.ensures
-    c.near_step-a3.ensures
+    let word = λ (state n : ℕ). bit_steps 64 (bit_xor state n) in
+    c.update_short.ensures
+    ∙ ap (crc_update c.near_step-a3.result) (take_all _ _ (simp length-drop (omega arith)))
+    ∙ lanes4-end s l.i l.c0 l.c1 l.c2 l.c3
+    (c.near_step-a0.ensures ∙ ap (word _) c.load.ensures)
+    (c.near_step-a1.ensures ∙ ap (word _) c.load-2.ensures)
+    (c.near_step-a2.ensures ∙ ap (word _) c.load-3.ensures)
+    (c.near_step-a3.ensures ∙ ap (word _) c.load-4.ensures)
     ∙ l.invariant.1
