@@ -1,14 +1,12 @@
 -- Laws of the image after a carry: one area more, and what arrives and stays.
-use mathlib.Core.Path.{◌≡◌, refl, sym, ap, subst, ◌∙◌}
+use mathlib.Core.Path.{◌≡◌, refl, sym, ap, ◌∙◌}
 use mathlib.Core.Logic.{◌⊎◌, inl, inr}
 use mathlib.Core.Bool.{true, false, not}
 use mathlib.Core.List.{List, [], ◌∷◌}
-use Prim.Native.Nat.{ℕ, zero, suc, ◌+◌, ◌/◌, ◌≤◌, ◌<◌, suc-le-suc}
+use Prim.Native.Nat.{ℕ, zero, suc, ◌+◌, ◌≤◌, ◌<◌, suc-le-suc}
 use native.Mathlib.Nat.{not-suc-le-zero, le_of_suc-le-suc, zero-lt-suc}
-use native.Mathlib.Numerals.{add-one}
 use native.Mathlib.Omega.{arith}
-use lib.ListN.{length, get_or, take, drop, drop_of_length-le}
-use lib.Seq.{drop-cons, length-take-le}
+use lib.ListN.{length, get_or}
 use lib.Dec.{leb}
 use borrow.Author.Tests.{leb-true}
 use Rattle.octets.specs.Tests.{pairs}
@@ -19,8 +17,7 @@ use Rattle.octets.proofs.Parts.{length_part}
 use Rattle.octets.proofs.Puts.{length-put, part-put-out, part-put-same}
 use Rattle.fmap_rules.specs.declared.Extent.{Extent}
 use Rattle.fmap_rules.specs.declared.Area.{Area}
-use Rattle.fmap_rules.specs.Map.{area_of, areas_in, blank_area, end_of, disjoint}
-use Rattle.fmap_rules.proofs.Areas.{length-areas}
+use Rattle.fmap_rules.specs.Map.{blank_area, end_of, disjoint}
 use Rattle.fmap_carry.specs.Carry.{preserved, target, clear_by, clear, carry_area, carried}
 use Rattle.fmap_carry.specs.Invariants.{Fit, Fitting}
 
@@ -56,19 +53,6 @@ module _ (old : List ℕ) (news : List Area) where
       go : (preserved a ≡ true) ⊎ (preserved a ≡ false) → length (carry_area old news a image) ≡ length image
       go (inl e) = ap length (carry-kept a image e) ∙ length-put _ _ image
       go (inr e) = ap length (carry-other a image e)
-
-  -- ---- along the loop: the rest decides
-
-  pub carried-next : (olds : List Area) (i : ℕ) (image image' result : List ℕ) → i < length olds
-      → image' ≡ carry_area old news (get_or olds i blank_area) image
-      → carried old news (drop i olds) image ≡ result → carried old news (drop (i + 1) olds) image' ≡ result
-  unfolding carried
-  carried-next olds i image image' result h e f =
-      rw (e, add-one) (sym (ap (λ (l : List Area). carried old news l image) (drop-cons olds i blank_area h)) ∙ f)
-
-  pub carried-over : (olds : List Area) (i : ℕ) (image result : List ℕ) → length olds ≤ i → carried old news (drop i olds) image ≡ result → image ≡ result
-  unfolding carried
-  carried-over olds i image result h f = sym (ap (λ (l : List Area). carried old news l image) (drop_of_length-le olds {i = i} h)) ∙ f
 
   pub length-carried : (olds : List Area) (image : List ℕ) → length (carried old news olds image) ≡ length image
   unfolding carried
@@ -132,34 +116,3 @@ module _ (old : List ℕ) (news : List Area) where
         swap b (inr q) = inl q
     arrives (a ∷ olds) image l e f (suc i) h p =
         arrives olds (carry_area old news a image) (length-area a image ∙ l) (and_r _ _ e) (λ j k. f (suc j) (suc-le-suc k)) i (le_of_suc-le-suc h) p
-
--- ---- one area by its lent bytes and the place that was looked up
-
-module _ (old : List ℕ) (news : List Area) (a : Area) (p : preserved a ≡ true) (x y : Extent) (q : x ≡ a.place) (r : y ≡ target news a) where
-  pub carry-by : (image : List ℕ) → put y.start.0 (part x.start.0 x.size old) image ≡ carry_area old news a image
-  carry-by image =
-      ap (λ (u : Extent). put u.start.0 (part x.start.0 x.size old) image) r
-      ∙ ap (λ (u : Extent). put (target news a).start.0 (part u.start.0 u.size old) image) q
-      ∙ sym (carry-kept old news a image p)
-
-  pub can-copy : (m : ℕ) → Fit (length old) m news a → (end_of x ≤ length old) × (y.start.0 + x.size ≤ m)
-  can-copy m f =
-      let u = ap (λ (e : Extent). e.start.0) q in
-      let v = ap (λ (e : Extent). e.size) q in
-      let w = ap (λ (e : Extent). e.start.0) r in
-      (omega (arith, f.from), omega (arith, f.to, f.size))
-
-pub fit_at : (xs : List ℕ) (lo ln m : ℕ) (news : List Area) (i : ℕ) (b : List ℕ) → Fitting lo ln news (areas_in xs) → i < length xs / 42
-    → area_of b ≡ get_or (areas_in xs) i blank_area → m ≡ ln → preserved (area_of b) ≡ true → Fit lo m news (area_of b)
-fit_at xs lo ln m news i b f h e l p =
-    subst (λ (k : ℕ). Fit lo k news (area_of b)) (sym l)
-    (subst (λ (a : Area). Fit lo ln news a) (sym e) (f i (omega (arith, length-areas xs)) (ap preserved (sym e) ∙ p)))
-
--- bytes kept apart
-pub kept-are : (vs xs ys : List ℕ) (areas : List Area) → length vs ≤ length xs → ys ≡ put 0 vs xs → areas_in vs ≡ areas
-    → areas_in (take (length vs) ys) ≡ areas
-unfolding part
-kept-are vs xs ys areas h e f = ap (λ (l : List ℕ). areas_in (take (length vs) l)) e ∙ ap areas_in (part-put-same vs xs 0 (omega arith)) ∙ f
-
-pub kept-length : (vs xs ys : List ℕ) → length vs ≤ length xs → ys ≡ put 0 vs xs → length (take (length vs) ys) ≡ length vs
-kept-length vs xs ys h e = length-take-le (length vs) ys (omega (arith, ap length e, length-put 0 vs xs))

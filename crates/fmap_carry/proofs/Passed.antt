@@ -11,9 +11,9 @@ use Rattle.octets.specs.Rows.{refusal}
 use Rattle.octets.specs.Bytes.{rest}
 use Rattle.octets.proofs.Bools.{and-skip, not_f}
 use Rattle.octets.proofs.Tests.{all-get, all-make, any_none, find_ix-get}
-use Rattle.octets.proofs.Rows.{passes, pick_true, pick-false}
+use Rattle.octets.proofs.Rows.{passes, pick-false}
 use Rattle.fmap_rules.specs.declared.Area.{Area}
-use Rattle.fmap_rules.specs.Map.{areas_in, areas_of, blank_area, named, good_map}
+use Rattle.fmap_rules.specs.Map.{areas_of, blank_area, named, good_map}
 use Rattle.fmap_rules.proofs.Good.{good-areas, ends-in}
 use Rattle.fmap_carry.specs.Carry.{preserved, with_name, target, missing, other_size, clear, on_map, carry_rows, carried, unless_refused, carry_areas}
 use Rattle.fmap_carry.specs.Invariants.{Fitting, ends_in}
@@ -42,26 +42,11 @@ module _ (olds news : List Area) (e : refusal (carry_rows olds news) ≡ none) w
         size = size_same i h p;
       }
 
--- ---- the rows in their order
+-- ---- no row holds
 
-module _ (olds news : List Area) where
-  pub judge-60 : any (missing news) olds ≡ true → some 60 ≡ refusal (carry_rows olds news)
-  judge-60 a = sym (pick_true _ 60 _ a)
-
-  module _ (a : any (missing news) olds ≡ false) where
-    pub judge-61 : any (other_size news) olds ≡ true → some 61 ≡ refusal (carry_rows olds news)
-    judge-61 b = sym (pick-false _ 60 _ a ∙ pick_true _ 61 _ b)
-
-    module _ (b : any (other_size news) olds ≡ false) where
-      pub judge-62 : pairs (clear news) olds ≡ false → some 62 ≡ refusal (carry_rows olds news)
-      judge-62 d = sym (pick-false _ 60 _ a ∙ pick-false _ 61 _ b ∙ pick_true _ 62 _ (ap not d))
-
-      module _ (d : pairs (clear news) olds ≡ true) where
-        pub judge-63 : any (on_map news) olds ≡ true → some 63 ≡ refusal (carry_rows olds news)
-        judge-63 f = sym (pick-false _ 60 _ a ∙ pick-false _ 61 _ b ∙ pick-false _ 62 _ (ap not d) ∙ pick_true _ 63 _ f)
-
-        pub judge-free : any (on_map news) olds ≡ false → none ≡ refusal (carry_rows olds news)
-        judge-free f = sym (pick-false _ 60 _ a ∙ pick-false _ 61 _ b ∙ pick-false _ 62 _ (ap not d) ∙ pick-false _ 63 _ f)
+pub judge-free : (olds news : List Area) → any (missing news) olds ≡ false → any (other_size news) olds ≡ false → pairs (clear news) olds ≡ true
+    → any (on_map news) olds ≡ false → none ≡ refusal (carry_rows olds news)
+judge-free olds news a b d f = sym (pick-false _ 60 _ a ∙ pick-false _ 61 _ b ∙ pick-false _ 62 _ (ap not d) ∙ pick-false _ 63 _ f)
 
 -- ---- the outcome
 
@@ -82,7 +67,3 @@ unfolding ends_in
 good-ends-of image at g =
     all-make (ends_in (length image)) (areas_of (rest at image)) blank_area
     (λ i h. le-leb _ _ (ends-in (length image) at (areas_of (rest at image)) (good-areas image at g) i h))
-
-pub good-ends : (image xs : List ℕ) (at : ℕ) → good_map image at ≡ true → areas_in xs ≡ areas_of (rest at image)
-    → all (ends_in (length image)) (areas_in xs) ≡ true
-good-ends image xs at g e = ap (all (ends_in (length image))) e ∙ good-ends-of image at g
