@@ -22,9 +22,8 @@ fn position(spots: &[Placed], n: usize, k: usize, level: u32) -> ImagePosition
         return ImagePosition(0);
     }
     let q = placed_at(spots, k);
-    let o = q.offset;
     let up = position(spots, n, q.parent as usize, level - 1);
-    ImagePosition(o.0 + up.0)
+    ImagePosition(q.offset.0 + up.0)
 }
 
 // A name of the text as a map holds it.
@@ -50,8 +49,8 @@ fn area_from(text: &[u8], h: Section, q: Placed, at: ImagePosition) -> Area
             start: at,
             size: q.size,
         },
-        name: name,
-        flags: flags,
+        name,
+        flags,
     }
 }
 

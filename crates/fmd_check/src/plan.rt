@@ -3,7 +3,7 @@ ghost use Rattle.std.specs.Prelude.{[], ◌≡◌, ◌+◌, ◌-◌, ◌≤◌, 
 ghost use Rattle.fmd_table.specs.Table.{sections_in, placed_in, HasRows, HasSpots};
 ghost use Rattle.fmd_table.specs.Invariants.{Linked};
 ghost use Rattle.fmd_parse.specs.Trees.{blank_section};
-ghost use Rattle.fmd_check.specs.Plans.{sibling_end, room_of, start_of, spot_of, spot_in, spot_for, resolve_from, resolved_by};
+ghost use Rattle.fmd_check.specs.Plans.{sibling_end, room_of, start_of, fits, spot_of, spot_in, spot_for, resolve_from, resolved_by};
 
 use fmd_parse::rows::Reach;
 use fmd_table::{ParentOffset, Placed, Section, SectionRow, placed_at, put_placed, row_at};
@@ -58,12 +58,11 @@ fn start_of(o: Option<ParentOffset>, e: u64) -> u64
     }
 }
 
-// From start up to the limit, 0 where that lies below.
-fn gap(start: u64, limit: u32) -> u64
-    ensures { (result ≡ limit - start) × (result ≤ 4294967295) }
+fn fits(e: u64, start: u64, size: u64, room: u32) -> bool
+    requires { (start ≤ 8589934590) × (size ≤ 4294967295) }
+    ensures { result ≡ fits e start size room }
 {
-    let m = limit as u64;
-    if start < m { m - start } else { 0 }
+    1 <= size && e <= start && start + size <= room as u64
 }
 
 // The section at start, of size bytes, after a sibling that ends at e.
@@ -71,13 +70,7 @@ fn spot_of(h: Section, e: u64, start: u64, size: u64, room: u32) -> Result<Place
     requires { (start ≤ 8589934590) × (size ≤ 4294967295) }
     ensures { result ≡ spot_of h e start size room }
 {
-    if size < 1 {
-        return Err(Misfit::Unfit);
-    }
-    if start < e {
-        return Err(Misfit::Unfit);
-    }
-    if (room as u64) < start + size {
+    if !fits(e, start, size, room) {
         return Err(Misfit::Unfit);
     }
     Ok(Placed {
@@ -92,12 +85,11 @@ fn spot_in(h: Section, e: u64, room: u32, reach: Reach) -> Result<Placed, Misfit
     requires { e ≤ 8589934590 }
     ensures { result ≡ spot_in h e room reach }
 {
-    let o = h.offset;
-    let start = start_of(o, e);
+    let start = start_of(h.offset, e);
     match reach {
         Reach::OfSize(n) => spot_of(h, e, start, n as u64, room),
-        Reach::UpTo(o) => spot_of(h, e, start, gap(start, o.0), room),
-        Reach::ToParentEnd => spot_of(h, e, start, gap(start, room), room),
+        Reach::UpTo(o) => spot_of(h, e, start, (o.0 as u64).saturating_sub(start), room),
+        Reach::ToParentEnd => spot_of(h, e, start, (room as u64).saturating_sub(start), room),
         Reach::Undecided => Err(Misfit::NoSize),
     }
 }

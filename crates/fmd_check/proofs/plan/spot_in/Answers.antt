@@ -8,11 +8,11 @@ returns-in-OfSize c = rw (sym c.start_of-start.ensures.0, c.in-OfSize.is) c.spot
 
 pub returns-in-UpTo : goal.returns-in-UpTo
 unfolding spot_in
-returns-in-UpTo c = rw (sym c.start_of-start.ensures.0, c.in-UpTo.is, sym c.gap.ensures.0) c.spot_of-in-UpTo.ensures
+returns-in-UpTo c = rw (sym c.start_of-start.ensures.0, c.in-UpTo.is, sym c.saturating_sub.ensures) c.spot_of-in-UpTo.ensures
 
 pub returns-in-ToParentEnd : goal.returns-in-ToParentEnd
 unfolding spot_in
-returns-in-ToParentEnd c = rw (sym c.start_of-start.ensures.0, c.in-ToParentEnd.is, sym c.gap-in-ToParentEnd.ensures.0) c.spot_of-in-ToParentEnd.ensures
+returns-in-ToParentEnd c = rw (sym c.start_of-start.ensures.0, c.in-ToParentEnd.is, sym c.saturating_sub-in-ToParentEnd.ensures) c.spot_of-in-ToParentEnd.ensures
 
 pub returns-in-Undecided : goal.returns-in-Undecided
 unfolding spot_in

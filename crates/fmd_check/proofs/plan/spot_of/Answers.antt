@@ -1,20 +1,20 @@
-use borrow.Author.Tests.{le-leb, lt-leb}
-use Rattle.octets.specs.Tests.{◌and◌}
+use Rattle.octets.proofs.Bools.{and_r}
 use Rattle.fmd_check.specs.Plans.{spot_of, fits}
+use borrow.Author.Tests.{leb-true}
+use native.Mathlib.Omega.{arith}
+use Prim.Native.Nat.{◌+◌}
+use mathlib.Core.Path.{sym, ◌∙◌}
 use Rattle.fmd_check.proofs.plan.spot_of.Goals as goal
 
-pub returns-then-size-lt1 : goal.returns-then-size-lt1
-unfolding spot_of fits ◌and◌
-returns-then-size-lt1 c = rw (lt-leb _ _ c.if-size-lt1.true)
+pub returns-then-not-fits : goal.returns-then-not-fits
+unfolding spot_of
+returns-then-not-fits c = rw (sym c.fits.ensures ∙ c.if-not-fits.true)
 
-pub returns-then-start-e : goal.returns-then-start-e
-unfolding spot_of fits ◌and◌
-returns-then-start-e c = rw (le-leb _ _ c.if-size-lt1.false, lt-leb _ _ c.if-start-e.true)
-
-pub returns-then-room-start : goal.returns-then-room-start
-unfolding spot_of fits ◌and◌
-returns-then-room-start c = rw (le-leb _ _ c.if-size-lt1.false, le-leb _ _ c.if-start-e.false, lt-leb _ _ c.if-room-start.true)
+pub overflow_cast-result : goal.overflow_cast-result
+unfolding fits
+overflow_cast-result c =
+    omega (arith, leb-true (c.args.start + c.args.size) c.args.room (and_r _ _ (sym c.fits.ensures ∙ c.if-not-fits.false)))
 
 pub returns : goal.returns
-unfolding spot_of fits ◌and◌
-returns c = rw (le-leb _ _ c.if-size-lt1.false, le-leb _ _ c.if-start-e.false, le-leb _ _ c.if-room-start.false)
+unfolding spot_of
+returns c = rw (sym c.fits.ensures ∙ c.if-not-fits.false)
