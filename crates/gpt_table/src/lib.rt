@@ -1,6 +1,6 @@
 #![tactic(auto)]
 
-// The judges over the 16,384 entry bytes of a GPT table: reading entries here, their ranges put in order in `order`, the table's rules in `rules`.
+// The judges over a GPT table: reading entries here, their ranges put in order in `order`, the table's rules in `rules`.
 // An inner crate: no user calls it, so its functions may have a `requires`, which each caller meets.
 pub mod order;
 pub mod rules;
@@ -12,11 +12,13 @@ ghost use Rattle.gpt_model.specs.Table.{entry_bytes, slot_count, table_bytes, un
 ghost use Rattle.gpt_model.specs.Calls.{carries, bad_name};
 ghost use Rattle.gpt_table.specs.Invariants.{without, wanted, Whole, used, Decoded};
 
-// D1: count 128, entry size 128
+// D1: count 128
 pub const SLOTS: usize = 128;
 
+// D1: entry size 128
 pub const ENTRY: usize = 128;
 
+// The bytes of an entry, and the entries of a table.
 pub type Entry = [u8; ENTRY];
 
 pub type Table = [Entry; SLOTS];
@@ -51,7 +53,7 @@ pub fn first_unused(t: &Table) -> Option<usize>
     t.iter().position(|e| is_unused(e))
 }
 
-// Entry i, e, is used and not the one left out.
+// Entry i, e, is used and not the one left out. As every entry it has 128 bytes, which the proofs of its callers learn here.
 fn wanted(but: Option<usize>, i: usize, e: &Entry) -> bool
     ensures { (result ≡ wanted but i e.now) × Whole e.now }
 {
