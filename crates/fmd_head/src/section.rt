@@ -1,4 +1,5 @@
 // A section up to its braces. Each function is given the token that stands there.
+// (Text and token stay two parameters: each answer brings the next token, so a struct of both would be made anew at each call.)
 ghost use Rattle.std.specs.Prelude.{◌≡◌, ◌+◌, ◌≤◌, length};
 ghost use Rattle.fmd_lex.specs.Invariants.{Within};
 ghost use Rattle.fmd_head.specs.Heads.{amount_at, named_at, mark_at, last_at, other_at, flags_at, offset_at, size_at, head_at};
