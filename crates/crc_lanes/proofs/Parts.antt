@@ -1,10 +1,7 @@
 -- Laws of the CRC over parts, one after the other, and along a loop.
 use mathlib.Core.Path.{◌≡◌, refl, ap}
 use mathlib.Core.List.{List, [], ◌∷◌, ◌++◌}
-use Prim.Native.Nat.{ℕ, ◌+◌, ◌≤◌, ◌<◌}
-use native.Mathlib.Numerals.{add-one}
-use lib.ListN.{length, get_or, drop, drop_of_length-le}
-use lib.Seq.{drop-cons}
+use Prim.Native.Nat.{ℕ}
 use Rattle.std.specs.List.{fold}
 use lib.Bits.{bit_xor}
 use Rattle.crc_lanes.specs.Crc.{crc_byte, crc_update, crc32}
@@ -25,14 +22,6 @@ crc-parts x y z {a} {b} {c} p q r =
     ap (λ (n : ℕ). bit_xor n 0xFFFF_FFFF) e
 
 -- ---- along a loop: the byte at i, and the rest decides
-
-pub update-on : (c : ℕ) (s : List ℕ) (i : ℕ) → i < length s → crc_update (crc_byte c (get_or s i 0)) (drop (i + 1) s) ≡ crc_update c (drop i s)
-unfolding crc_update
-update-on c s i h = rw (add-one, drop-cons s i 0)
-
-pub update-done : (c : ℕ) (s : List ℕ) (i : ℕ) → length s ≤ i → crc_update c (drop i s) ≡ c
-unfolding crc_update
-update-done c s i h = rw (drop_of_length-le s h)
 
 -- all bytes, one after the other
 pub update-fold : (s : List ℕ) (c : ℕ) → fold crc_byte c s ≡ crc_update c s

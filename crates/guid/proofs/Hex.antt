@@ -169,9 +169,6 @@ digits-bytes (suc k) (h ∷ m ∷ ds) l e =
 
 -- ---- element by element
 
-pub digit-below : (ds : List ℕ) → all is_hex_digit ds ≡ true → (i : ℕ) → i < length ds → hex_value (get_or ds i 0) < 16
-digit-below ds e i h = ltb-true (hex_value (get_or ds i 0)) 16 (all-get is_hex_digit ds 0 e i h)
-
 pub bytes-at : (i : ℕ) (ds : List ℕ) → 2 * i + 1 < length ds
     → get_or (bytes_of ds) i 0 ≡ 16 * hex_value (get_or ds (2 * i) 0) + hex_value (get_or ds (2 * i + 1) 0)
 unfolding bytes_of

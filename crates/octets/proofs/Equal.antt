@@ -5,8 +5,7 @@ use mathlib.Core.List.{List, [], ◌∷◌, ◌++◌}
 use Prim.Native.Nat.{ℕ, zero, suc, ◌+◌, ◌≤◌, ◌<◌}
 use native.Mathlib.Omega.{arith}
 use lib.Dec.{eqb, eqb-suc-zero, eqb-zero-suc}
-use lib.ListN.{length, get_or, take, drop, length-drop, drop_of_length-le, take-append-drop}
-use lib.Seq.{drop-cons, drop-drop}
+use lib.ListN.{length, get_or}
 use borrow.Author.Tests.{eqb-true, eq-eqb}
 use Rattle.std.specs.Cmp.Lexicographic.{pointwise}
 use Rattle.std.specs.List.{fold}
@@ -14,7 +13,7 @@ use Rattle.std.specs.Int.RustNames.{bit_or}
 use Rattle.std.specs.Int.Bits.{or_zero_l}
 use Rattle.std.proofs.lemmas.Nat.{le_or_l}
 use Rattle.octets.specs.Tests.{◌and◌}
-use Rattle.octets.specs.Bytes.{unle, part, field, zeros, is_zero, same}
+use Rattle.octets.specs.Bytes.{part, field, zeros, is_zero, same}
 use Rattle.octets.proofs.Bools.{and_l, and_r, and_i}
 use Rattle.octets.proofs.Numbers.{unle-inj}
 use Rattle.octets.proofs.Parts.{length_part, get_d_part}
@@ -59,37 +58,6 @@ same-pointwise (x ∷ xs) (y ∷ ys) = elim (eqb x y) as (λ b. (b && pointwise 
   | false ↦ refl
 ]
 
--- ---- along a loop: n bytes from i on
-
-rejoin : (i n : ℕ) (xs : List ℕ) → drop i xs ≡ part i n xs ++ drop (i + n) xs
-unfolding part
-rejoin i n xs = sym (ap (λ (l : List ℕ). take n (drop i xs) ++ l) (sym (drop-drop n i xs)) ∙ take-append-drop n (drop i xs))
-
-pub same-on : (i n : ℕ) (xs ys : List ℕ) → part i n xs ≡ part i n ys → same (drop i xs) (drop i ys) ≡ same (drop (i + n) xs) (drop (i + n) ys)
-same-on i n xs ys e =
-    ap₂ same (rejoin i n xs) (rejoin i n ys ∙ ap (λ (l : List ℕ). l ++ drop (i + n) ys) (sym e))
-    ∙ same-append (part i n xs) (drop (i + n) xs) (drop (i + n) ys)
-
-pub same_stop : (i n : ℕ) (xs ys : List ℕ) → (part i n xs ≡ part i n ys → ⊥) → same (drop i xs) (drop i ys) ≡ false
-unfolding part
-same_stop i n xs ys f = same_false (drop i xs) (drop i ys) (λ e. f (ap (take n) e))
-
--- one byte
-module _ (i : ℕ) (xs ys : List ℕ) (h : i < length xs) (k : i < length ys) where
-  one : (zs : List ℕ) → i < length zs → part i 1 zs ≡ get_or zs i 0 ∷ []
-  unfolding part
-  one zs l = rw (drop-cons zs i 0)
-
-  pub same_next : get_or xs i 0 ≡ get_or ys i 0 → same (drop i xs) (drop i ys) ≡ same (drop (i + 1) xs) (drop (i + 1) ys)
-  same_next e = same-on i 1 xs ys (one xs h ∙ ap (λ (b : ℕ). b ∷ []) e ∙ sym (one ys k))
-
-  pub same-differ : (get_or xs i 0 ≡ get_or ys i 0 → ⊥) → same (drop i xs) (drop i ys) ≡ false
-  same-differ f = same_stop i 1 xs ys (λ e. f (ap (λ (l : List ℕ). get_or l 0 0) (sym (one xs h) ∙ e ∙ one ys k)))
-
-pub same-done : (i : ℕ) (xs ys : List ℕ) → length xs ≤ i → length ys ≤ i → same (drop i xs) (drop i ys) ≡ true
-unfolding same
-same-done i xs ys h k = rw (drop_of_length-le xs {i = i} h, drop_of_length-le ys {i = i} k)
-
 -- fields of one width are equal exactly where their bytes are
 module _ (i n : ℕ) (xs ys : List ℕ) (h : i + n ≤ length xs) (k : i + n ≤ length ys)
     (f : (j : ℕ) → j < length xs → get_or xs j 0 < 256) (g : (j : ℕ) → j < length ys → get_or ys j 0 < 256) where
@@ -101,9 +69,6 @@ module _ (i n : ℕ) (xs ys : List ℕ) (h : i + n ≤ length xs) (k : i + n ≤
       (λ j l. rw (get_d_part xs i n j (omega (arith, l, a))) (f (i + j) (omega (arith, l, a))))
       (λ j l. rw (get_d_part ys i n j (omega (arith, l, b))) (g (i + j) (omega (arith, l, b))))
       e
-
-pub field-differ : (i n : ℕ) (xs ys : List ℕ) (x y : ℕ) → x ≡ field i n xs → y ≡ field i n ys → (x ≡ y → ⊥) → part i n xs ≡ part i n ys → ⊥
-field-differ i n xs ys x y p q f e = f (p ∙ ap unle e ∙ sym q)
 
 -- ---- the zero test
 
@@ -133,29 +98,3 @@ pub zero-zeros : (k : ℕ) → is_zero (zeros k) ≡ true
 unfolding zeros ◌and◌
 zero-zeros zero = refl
 zero-zeros (suc k) = zero-zeros k
-
-unle-zero : (n : ℕ) (ys : List ℕ) → n ≤ length ys → unle (take n ys) ≡ 0 → is_zero ys ≡ is_zero (drop n ys)
-unfolding unle ◌and◌
-unle-zero zero ys h e = refl
-unle-zero (suc n) [] h e = absurd (omega arith)
-unle-zero (suc n) (y ∷ ys) h e =
-    let z : 0 ≡ y = omega arith in
-    rw (eq-eqb 0 y z) (unle-zero n ys (omega arith) (omega arith))
-
-unle-nonzero : (n : ℕ) (ys : List ℕ) → (unle (take n ys) ≡ 0 → ⊥) → is_zero ys ≡ false
-unfolding unle ◌and◌
-unle-nonzero zero ys f = absurd (f refl)
-unle-nonzero (suc n) [] f = absurd (f refl)
-unle-nonzero (suc n) (y ∷ ys) f = go (eqb 0 y) refl (unle-nonzero n ys)
-  where
-    go : (t : Bool) → eqb 0 y ≡ t → ((unle (take n ys) ≡ 0 → ⊥) → is_zero ys ≡ false) → is_zero (y ∷ ys) ≡ false
-    go true e k = rw e (k (λ q. f (let z : 0 ≡ y = eqb-true 0 y e in omega (arith, q))))
-    go false e k = rw e
-
-pub zero-on : (i n : ℕ) (xs : List ℕ) → i + n ≤ length xs → field i n xs ≡ 0 → is_zero (drop i xs) ≡ is_zero (drop (i + n) xs)
-unfolding part
-zero-on i n xs h e = unle-zero n (drop i xs) (simp length-drop (omega arith)) e ∙ ap is_zero (drop-drop n i xs)
-
-pub zero-stop : (i n : ℕ) (xs : List ℕ) → (field i n xs ≡ 0 → ⊥) → is_zero (drop i xs) ≡ false
-unfolding part
-zero-stop i n xs f = unle-nonzero n (drop i xs) f

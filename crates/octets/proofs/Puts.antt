@@ -6,8 +6,7 @@ use Prim.Native.Nat.{ℕ, suc, ◌+◌, ◌-◌, ◌/◌, ◌%◌, ◌^◌, ◌�
 use native.Mathlib.Nat.{add-zero, add-suc, suc-add}
 use native.Mathlib.Omega.{arith}
 use lib.ListN.{length, get_or, set, take, drop, drop_of_length-le, take-append-drop}
-use lib.Seq.{sets, length-sets, sets-eq, take-set-le, take-set-lt, drop-set-lt, drop-set-add, drop-drop, set_comm, set-set, get_or-set_other, take-add}
-use lib.Seq.{take-length, length-take-le}
+use lib.Seq.{sets, length-sets, sets-eq, take-set-le, take-set-lt, drop-set-lt, drop-set-add, drop-drop, set_comm, set-set, get_or-set_other}
 use Rattle.octets.specs.Bytes.{le, part, put}
 use Rattle.octets.proofs.Numbers.{length-le, le-add, le-mod}
 use Rattle.octets.proofs.Parts.{length_part}
@@ -32,16 +31,6 @@ put-snoc us xs v at = sym (put-put us (v ∷ []) xs at)
 -- a run written right after a run: what straight-line code that fills a record leaves, step by step
 pub then : (xs us ys vs zs : List ℕ) (at k : ℕ) → ys ≡ put at us xs → zs ≡ put k vs ys → at + length us ≡ k → zs ≡ put at (us ++ vs) xs
 then xs us ys vs zs at k p q e = q ∙ rw (p, ← e) (put-put us vs xs at)
-
--- a list whose first h are written, as the part from 0 to h, and then its others
-pub put-halves : (vs xs ys zs : List ℕ) (at h : ℕ) → h ≤ length vs → ys ≡ put at (take (h - 0) vs) xs
-    → zs ≡ put (at + h) (take (length vs - h) (drop h vs)) ys → zs ≡ put at vs xs
-put-halves vs xs ys zs at h g p q =
-    let z : h - 0 ≡ h = omega arith in
-    let l = length-take-le h vs g in
-    let e : h + (length vs - h) ≡ length vs = omega arith in
-    then xs (take h vs) ys (take (length vs - h) (drop h vs)) zs at (at + h) (rw z at p) q (omega arith)
-    ∙ ap (λ (l : List ℕ). put at l xs) (sym (take-add h (length vs - h) vs) ∙ rw e (take-length vs))
 
 -- what two stores of half the width leave is the store of the whole
 pub store-halves : (n v at : ℕ) (xs ys zs : List ℕ) → ys ≡ put at (le n (v % 256 ^ n)) xs → zs ≡ put (at + n) (le n (v / 256 ^ n)) ys
@@ -111,14 +100,6 @@ part-put-same vs xs a h =
     ap (λ (k : ℕ). part a (length vs) (put k vs xs)) z
     ∙ part-put-in vs xs a (length vs) 0 (omega arith)
     ∙ put_all vs (part a (length vs) xs) (sym (length_part xs a (length vs) h))
-
--- a list written at the start of a block, and from there, as the part from 0 to its length, into xs
-pub put-by-block : (vs block filled xs ys : List ℕ) (at : ℕ) → length vs ≤ length block → filled ≡ put 0 vs block
-    → ys ≡ put at (take (length vs - 0) filled) xs → ys ≡ put at vs xs
-unfolding part
-put-by-block vs block filled xs ys at h p q =
-    let e : length vs - 0 ≡ length vs = omega arith in
-    q ∙ rw (p, e) (ap (λ (l : List ℕ). put at l xs) (part-put-same vs block 0 (omega arith)))
 
 -- ---- what a lent part of xs comes back as
 
