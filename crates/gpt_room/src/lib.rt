@@ -22,7 +22,7 @@ pub struct Free {
     pub longest: u64,
 }
 
-// What begins at a block: partitions up to and with block Taken, or a gap up to but without block Gap.
+// What begins at a block: partitions up to and with block Taken, or a gap up to but without block Gap. Both have a block, so it is no Option.
 #[derive(Clone, Copy)]
 enum Ahead {
     Taken(Block),
@@ -87,7 +87,8 @@ impl<'a> Walk<'a> {
         }
     }
 
-    // From gap to gap, up to one that is long enough from a multiple of the alignment on.
+    // From gap to gap, up to one that is long enough from a multiple of the alignment on. It shares no loop with `tally`: a closure for each gap would
+    // change what it captures, of which a proof learns nothing.
     fn search(&self, first: Block, size: u64, alignment: u64) -> Option<Block>
         requires { (0 < size) × (0 < alignment) }
         ensures { placed result ≡ lowest_start (map blocks_of self.now.ranges.now) first.0 self.now.last.0 size alignment }
