@@ -4,3 +4,4 @@ pub mod Parts
 pub mod Words
 pub mod Digits
 pub mod Lanes
+pub mod Blocks

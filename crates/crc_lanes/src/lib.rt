@@ -40,12 +40,12 @@ fn near_step(t: &[u32; 256], c: u32, word: u64) -> u32
 
 // The word at i is added to the lane, which goes on to its next word: 32 bytes on. By halves: what the compiler makes of the whole word takes 15%
 // longer.
-fn far_step(t: &[u32; 2048], c: u32, s: &[u8], i: usize) -> u32
-    requires { Far t.now × (i + 8 ≤ length s.now) }
-    ensures { result ≡ bit_steps 256 (bit_xor c (field i 8 s.now)) }
+fn far_step(t: &[u32; 2048], c: u32, block: &[u8; 32], i: usize) -> u32
+    requires { Far t.now × (i + 8 ≤ 32) }
+    ensures { result ≡ bit_steps 256 (bit_xor c (field i 8 block.now)) }
 {
-    let low: u32 = octets::load(s, i);
-    let high: u32 = octets::load(s, i + 4);
+    let low: u32 = octets::load(block, i);
+    let high: u32 = octets::load(block, i + 4);
     sum_of::<4, 8, 256>(&t[1024..], (c ^ low) as u64) ^ sum_of::<4, 8, 256>(&t[..], high as u64)
 }
 
@@ -76,34 +76,29 @@ pub fn update_short(near: &[u32; 256], state: u32, s: &[u8]) -> u32
     update_bytes(near, c, rest)
 }
 
-// The lanes are c0 to c3; each is still to be added to its next word, at i, j, k and l. At the end they join, one word after the other.
+// The lanes are c0 to c3; each is still to be added to its next word, of the block that comes. At the last block they join, one word after the other.
 fn update_long(near: &[u32; 256], far: &[u32; 2048], state: u32, s: &[u8]) -> u32
     requires { Near near.now × Far far.now × (32 ≤ length s.now) }
     ensures { result ≡ crc_update state s.now }
 {
+    let (blocks, rest) = s.as_chunks::<32>();
+    let before = blocks.len() - 1;
     let mut c0 = state;
     let mut c1: u32 = 0;
     let mut c2: u32 = 0;
     let mut c3: u32 = 0;
-    let mut i = 0;
-    while 64 <= s.len() - i {
-        let j = i + 8;
-        let k = j + 8;
-        let l = k + 8;
-        c0 = far_step(far, c0, s, i);
-        c1 = far_step(far, c1, s, j);
-        c2 = far_step(far, c2, s, k);
-        c3 = far_step(far, c3, s, l);
-        i = l + 8;
+    for block in &blocks[..before] {
+        c0 = far_step(far, c0, block, 0);
+        c1 = far_step(far, c1, block, 8);
+        c2 = far_step(far, c2, block, 16);
+        c3 = far_step(far, c3, block, 24);
     }
-    let j = i + 8;
-    let k = j + 8;
-    let l = k + 8;
-    let a0 = near_step(near, c0, octets::load(s, i));
-    let a1 = near_step(near, a0 ^ c1, octets::load(s, j));
-    let a2 = near_step(near, a1 ^ c2, octets::load(s, k));
-    let a3 = near_step(near, a2 ^ c3, octets::load(s, l));
-    update_short(near, a3, &s[l + 8..])
+    let last = &blocks[before];
+    let a0 = near_step(near, c0, octets::load(last, 0));
+    let a1 = near_step(near, a0 ^ c1, octets::load(last, 8));
+    let a2 = near_step(near, a1 ^ c2, octets::load(last, 16));
+    let a3 = near_step(near, a2 ^ c3, octets::load(last, 24));
+    update_short(near, a3, rest)
 }
 
 pub fn update(near: &[u32; 256], far: &[u32; 2048], state: u32, s: &[u8]) -> u32

@@ -19,8 +19,8 @@ returns c =
     let k = c.args.c in
     let low = c.load-low.result in
     let high = c.load-high.result in
-    let word : low + 4294967296 * high ≡ field c.args.i 8 c.args.s.now =
-    omega (arith, c.load-low.ensures, c.load-high.ensures, field-add 4 4 c.args.i c.args.s.now) in
+    let word : low + 4294967296 * high ≡ field c.args.i 8 c.args.block.now =
+    omega (arith, c.load-low.ensures, c.load-high.ensures, field-add 4 4 c.args.i c.args.block.now) in
     let half : bit_xor k low < 2 ^ 32 = xor_lt 32 k low (omega arith) (omega arith) in
     ap₂ bit_xor
     (c.sum_of.ensures ∙ ap (λ (u : List ℕ). sum_of 256 u 4 (bit_xor k low)) (take_all 1024 (drop 1024 t) (simp length-drop (omega arith))))
