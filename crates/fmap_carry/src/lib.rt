@@ -6,8 +6,8 @@ ghost use Rattle.std.specs.Prelude.{◌≡◌, true, false, ◌+◌, ◌≤◌, 
 ghost use Rattle.std.proofs.Math.Option.{none, some};
 ghost use Rattle.octets.specs.Tests.{all, any, pairs};
 ghost use Rattle.octets.specs.Rows.{refusal};
-ghost use Rattle.octets.specs.Bytes.{part, rest, put};
-ghost use Rattle.fmap_rules.specs.Map.{area_of, areas_of, fmap_name, end_of, good_map};
+ghost use Rattle.octets.specs.Bytes.{rest};
+ghost use Rattle.fmap_rules.specs.Map.{area_of, areas_of, good_map};
 ghost use Rattle.fmap_carry.specs.Carry.{preserved, missing, carry_rows, number_of, judged_number, carry_areas};
 ghost use Rattle.fmap_carry.specs.Moves.{place_in, moves_of, resized, moves_apart, covers, move_rows, moved, lies};
 
@@ -43,7 +43,8 @@ fn place_of(areas: &[AreaBytes], name: &[u8]) -> Option<Extent>
     Some(fmap_rules::extent_of(&areas[k]))
 }
 
-// The moves of the preserved areas, in their order; answers how many.
+// The moves of the preserved areas, in their order; answers how many. No heap: they stand in a lent array. Its index is counted, since a proof
+// knows nothing of what is written through `iter_mut`.
 fn list_moves(olds: &[AreaBytes], news: &[AreaBytes], moves: &mut [Move]) -> Result<usize, Conflict>
     requires { length olds.now ≤ length moves.old }
     ensures { MatchResult result

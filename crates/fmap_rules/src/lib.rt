@@ -6,7 +6,7 @@ ghost use Rattle.std.specs.Prelude.{◌≡◌, true, ◌+◌, ◌*◌, ◌≤◌
 ghost use Rattle.octets.specs.Tests.{any, pairs};
 ghost use Rattle.octets.specs.Bytes.{rest};
 ghost use Rattle.octets.specs.Rows.{refusal};
-ghost use Rattle.fmap_rules.specs.Map.{signed, name_length, legal_name, area_of, areas_in, areas_of, named, end_of, disjoint, inside};
+ghost use Rattle.fmap_rules.specs.Map.{signed, name_length, legal_name, area_of, areas_of, named, end_of, disjoint, inside};
 ghost use Rattle.fmap_rules.specs.Map.{disjoint_or_nested, map_size, count_of, holds_map, header_rows, area_rows, map_rows, good_map};
 ghost use Rattle.fmap_rules.specs.Map.{empty, ends_past, misnamed, other_name, good_places};
 ghost use Rattle.fmap_rules.specs.Rules.{rule_number, broken};
