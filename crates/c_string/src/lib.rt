@@ -8,7 +8,6 @@ ghost use Rattle.gpt_string.specs.Answers.{build_answer};
 ghost use Rattle.c_disk.specs.Effects.{result_of, gpt_effect};
 
 use gpt_build::Refusal;
-use gpt_string::Answer;
 
 fn number(r: Refusal) -> u32
     ensures { result ≡ number_of r }
@@ -21,12 +20,12 @@ fn number(r: Refusal) -> u32
     }
 }
 
-fn answered(a: Answer) -> u32
+fn answered(a: Result<(), Refusal>) -> u32
     ensures { result ≡ result_of (build_answer a) }
 {
     match a {
-        Answer::Accepted => 0,
-        Answer::Refused(r) => number(r),
+        Ok(()) => 0,
+        Err(r) => number(r),
     }
 }
 

@@ -29,11 +29,13 @@ use Rattle.gpt_string_model.specs.declared.WantedPartition.{WantedPartition}
 use Rattle.gpt_string_model.specs.Build.{uneven, blocked, needed, as_new, standing, first_block, size_in_blocks}
 use Rattle.gpt_string_model.specs.Build.{part_rows, with_part, faulty, complete, unless_faulty}
 use Rattle.gpt_string_model.proofs.Parts.{part_room}
-use Rattle.gpt_model.specs.declared.Block.{Block}
 use Rattle.gpt_model.specs.declared.NewPartition.{NewPartition}
+use Rattle.gpt_checks.specs.declared.Refusal.{Refusal as DiskRefusal}
+use Rattle.gpt_checks.specs.Refusals.{number_of as disk_number}
+use Rattle.std.specs.Prelude.{Result, Ok, Err, IsErr, IsErrAnd}
+use Rattle.gpt_build.specs.declared.Placed.{Placed}
 use Rattle.gpt_build.specs.declared.Refusal.{Refusal}
-use Rattle.gpt_build.specs.declared.Placing.{Placing}
-use Rattle.gpt_build.specs.declared.Placing.TheVariants as place
+use Rattle.gpt_build.specs.declared.Refusal.TheVariants.{Disk}
 use Rattle.gpt_build.specs.Answers.{number_of}
 use Rattle.gpt_build.specs.Invariants.{usable_run, blocks_from, rows_from72, PartPlace, stopped, from, part_place_by, part_place_unless, part_place_of}
 
@@ -243,6 +245,11 @@ module _ (g : Shape) (n a : ℕ) (es : List ℕ) (w : WantedPartition) (final : 
       spot-from g n a es w final None (rows_from72 g n a es w final None) b x (lowest-is ∙ e)
       (lowest-stands g n a es w final b (ap (λ (y : ℕ). start (as_new a w y)) (sym is-s) ∙ ap start (sym is-p) ∙ q)) z
 
+-- what a `?` hands on of adding's refusals
+pub handed : (y : Result Placed Refusal) (r : DiskRefusal) → IsErr y → IsErrAnd y (λ z. z ≡ Disk r) → part_place_by y ≡ stopped (disk_number r)
+handed (Ok p) r v w = absurd w
+handed (Err z) r v w = ap (λ (k : Refusal). stopped (number_of k)) w
+
 -- ---- what a spot says
 
 pub spot-stopped : (o : Option ℕ) (f s k : ℕ) → stopped k ≡ part_place_unless o f s → o ≡ some k
@@ -266,12 +273,6 @@ module _ (g : Shape) (n a : ℕ) (es : List ℕ) (w : WantedPartition) (final : 
   size-bound h = let r = (part_room g n a es w final e).1.0 in omega arith
 
 -- ---- the answer of placing, and the table afterwards
-
-pub stop-spot : (x : Placing) (r : Refusal) (z : PartPlace) → x ≡ place.Stop r → part_place_by x ≡ z → stopped (number_of r) ≡ z
-stop-spot x r z e q = ap part_place_by (sym e) ∙ q
-
-pub at-spot : (x : Placing) (f : Block) (b : ℕ) (z : PartPlace) → x ≡ place.At f b → part_place_by x ≡ z → from f.0 b ≡ z
-at-spot x f b z e q = ap part_place_by (sym e) ∙ q
 
 module _ (g : Shape) (n a : ℕ) (es : List ℕ) (w : WantedPartition) (final : Bool) where
   abbrev spot : PartPlace

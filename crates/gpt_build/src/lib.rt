@@ -8,16 +8,17 @@ ghost use Rattle.octets.specs.Rows.{refusal};
 ghost use Rattle.gpt_model.specs.Table.{entry_bytes, slot_count, table_bytes};
 ghost use Rattle.gpt_model.specs.Disk.{most_blocks};
 ghost use Rattle.gpt_model.specs.Calls.{lowest_unused, new_entry};
-ghost use Rattle.gpt_places.specs.Invariants.{Legal, Fits};
-ghost use Rattle.gpt_string_model.specs.Build.{uneven as uneven_of, reaches as reaches_of, needed as needed_of, as_new};
-ghost use Rattle.gpt_string_model.specs.Build.{part_rows, with_part, complete, unless_faulty};
-ghost use Rattle.gpt_build.specs.Answers.{built_by};
-ghost use Rattle.gpt_build.specs.Invariants.{usable_run, blocks_from, rows_from72, part_place_by, part_place_of};
+ghost use Rattle.gpt_string_model.specs.Build.{uneven, reaches, needed, as_new, complete, unless_faulty};
+ghost use Rattle.gpt_build.specs.declared.Refusal.TheVariants.{Disk};
+ghost use Rattle.gpt_build.specs.Answers.{rows_of, table_with, built_by};
+ghost use Rattle.gpt_build.specs.Invariants.{run_at, usable_run, blocks_from, part_place_by, placed, placed_from72};
 
 use gpt_checks::Refusal as DiskRefusal;
-use gpt_model::{Block, NewPartition, Rule, Shape};
-use gpt_places::{Disk, ENTRY};
-use gpt_string_model::WantedPartition;
+use gpt_model::{Block, NewPartition, Rule};
+use gpt_places::ENTRY;
+pub use request::Request;
+
+mod request; // request.rt: a partition to be placed
 
 // Why a layout string is refused; specs/Answers gives each its number.
 #[derive(Clone, Copy)]
@@ -28,168 +29,159 @@ pub enum Refusal {
     Disk(DiskRefusal),
 }
 
-// No row holds, or the first that does.
+impl From<DiskRefusal> for Refusal {
+    ghost from_gives = { λ r result. result ≡ Disk r };
+
+    fn from(r: DiskRefusal) -> Refusal {
+        Refusal::Disk(r)
+    }
+}
+
+// Where a partition stands and how many blocks it takes.
 #[derive(Clone, Copy)]
-pub enum Building {
-    Pass,
-    Stop(Refusal),
+struct Placed {
+    first: Block,
+    blocks: u64,
 }
 
-// Where a partition stands and how many blocks it takes; or the first row that holds.
-#[derive(Clone, Copy)]
-enum Placing {
-    At { first: Block, blocks: u64 },
-    Stop(Refusal),
-}
-
-// 71: the start or the size is no multiple of the block size.
-fn uneven(w: WantedPartition, shape: Shape) -> bool
-    requires { Legal shape }
-    ensures { result ≡ uneven_of shape w.size w.start }
-{
-    let block = shape.block as u64;
-    // 0 is a multiple
-    let start = w.start.unwrap_or(0);
-    start % block != 0 || w.size % block != 0
-}
-
-// b7: Size 0 in the last partition reaches .. to the end of that free run
-fn reaches(w: WantedPartition, last: bool) -> bool
-    ensures { result ≡ reaches_of w last }
-{
-    last && w.size == 0
-}
-
-// The free blocks that it must find.
-fn needed(w: WantedPartition, last: bool, shape: Shape) -> u64
-    requires { Legal shape }
-    ensures { result ≡ needed_of shape w last }
-{
-    if reaches(w, last) {
-        1
-    } else {
-        w.size / shape.block as u64
+impl Request {
+    fn block_size(&self) -> u64
+        ensures { (result ≡ self.now.disk.shape.block) × (0 < result) }
+    {
+        self.disk.shape.block as u64
     }
-}
 
-// k5: The string builder goes by the present rule.
-fn as_new(w: WantedPartition, size: u64, alignment: u64) -> NewPartition
-    ensures { result ≡ as_new alignment w size }
-{
-    let kind = w.kind;
-    let unique = w.unique;
-    let name = w.name;
-    NewPartition {
-        kind,
-        unique,
-        size,
-        alignment,
-        attributes: w.attributes,
-        rule: Rule::Present,
-        name,
+    // 71: the start or the size is no multiple of the block size.
+    fn uneven(&self) -> bool
+        ensures { result ≡ uneven self.now.disk.shape self.now.wanted.size self.now.wanted.start }
+    {
+        let block = self.block_size();
+        // 0 is a multiple
+        let start = self.wanted.start.unwrap_or(0);
+        start % block != 0 || self.wanted.size % block != 0
     }
-}
 
-// The free blocks from a usable block on; none where the block is taken or not usable.
-fn usable_run(table: &[u8], n: u64, shape: Shape, b: Block) -> u64
-    requires { (length table.now ≡ table_bytes) × Fits shape n × (n ≤ most_blocks) }
-    ensures { result ≡ usable_run shape n table.now b.0 }
-{
-    if b.0 < shape.first {
-        0
-    } else {
-        let disk = Disk { shape, n };
-        gpt_room::run_at(gpt_table::as_table(table), b, disk.last_usable())
+    // b7: Size 0 in the last partition reaches .. to the end of that free run
+    fn reaches(&self) -> bool
+        ensures { result ≡ reaches self.now.wanted self.now.last }
+    {
+        self.last && self.wanted.size == 0
     }
-}
 
-// Its size in blocks from block b on.
-fn size_from(table: &[u8], n: u64, shape: Shape, w: WantedPartition, last: bool, b: Block) -> u64
-    requires { (length table.now ≡ table_bytes) × Fits shape n × (n ≤ most_blocks) }
-    ensures { result ≡ blocks_from shape n table.now w last b.0 }
-{
-    if reaches(w, last) {
-        let disk = Disk { shape, n };
-        gpt_room::run_at(gpt_table::as_table(table), b, disk.last_usable())
-    } else {
-        w.size / shape.block as u64
-    }
-}
-
-// b8: with it, the partition stands exactly there. 72, those of adding, 25.
-fn place_given(
-    table: &[u8],
-    n: u64,
-    shape: Shape,
-    alignment: u64,
-    w: WantedPartition,
-    last: bool,
-    at: u64,
-) -> Placing
-    requires { (length table.now ≡ table_bytes) × Fits shape n × (n ≤ most_blocks) }
-    ensures { part_place_by result ≡ part_place_of shape n alignment table.now w last (Some at)
-        (rows_from72 shape n alignment table.now w last (Some at)) }
-{
-    let first = Block(at / shape.block as u64);
-    let run = usable_run(table, n, shape, first);
-    if run == 0 {
-        return Placing::Stop(Refusal::StartTaken);
-    }
-    let size = needed(w, last, shape);
-    match gpt_checks::new(table, as_new(w, size, alignment)) {
-        Err(r) => Placing::Stop(Refusal::Disk(r)),
-        Ok(()) => {
-            if run < size {
-                return Placing::Stop(Refusal::Disk(DiskRefusal::NoRoom));
-            }
-            let blocks = size_from(table, n, shape, w, last, first);
-            Placing::At { first, blocks }
+    // The free blocks that it must find.
+    fn needed(&self) -> u64
+        ensures { result ≡ needed self.now.disk.shape self.now.wanted self.now.last }
+    {
+        if self.reaches() {
+            1
+        } else {
+            self.wanted.size / self.block_size()
         }
     }
-}
 
-// b8: Without start, placing is as in adding
-fn place_lowest(
-    table: &[u8],
-    n: u64,
-    shape: Shape,
-    alignment: u64,
-    w: WantedPartition,
-    last: bool,
-) -> Placing
-    requires { (length table.now ≡ table_bytes) × Fits shape n × (n ≤ most_blocks) }
-    ensures { part_place_by result ≡ part_place_of shape n alignment table.now w last None
-        (rows_from72 shape n alignment table.now w last None) }
-{
-    let size = needed(w, last, shape);
-    match gpt_checks::place(table, Disk { shape, n }, as_new(w, size, alignment)) {
-        Err(r) => Placing::Stop(Refusal::Disk(r)),
-        Ok(first) => {
-            let blocks = size_from(table, n, shape, w, last, first);
-            Placing::At { first, blocks }
+    // As adding is given it, with a size in blocks. k5: The string builder goes by the present rule.
+    fn as_new(&self, size: u64) -> NewPartition
+        ensures { result ≡ as_new self.now.alignment self.now.wanted size }
+    {
+        let kind = self.wanted.kind;
+        let unique = self.wanted.unique;
+        let name = self.wanted.name;
+        NewPartition {
+            kind,
+            unique,
+            size,
+            alignment: self.alignment,
+            attributes: self.wanted.attributes,
+            rule: Rule::Present,
+            name,
         }
     }
-}
 
-// b10: 71 .., 72 .., then those of adding from 20 on
-fn place(
-    table: &[u8],
-    n: u64,
-    shape: Shape,
-    alignment: u64,
-    w: WantedPartition,
-    last: bool,
-) -> Placing
-    requires { (length table.now ≡ table_bytes) × Fits shape n × (n ≤ most_blocks) }
-    ensures { part_place_by result ≡ part_place_of shape n alignment table.now w last w.start
-        (part_rows shape n alignment table.now w last) }
-{
-    if uneven(w, shape) {
-        return Placing::Stop(Refusal::NotWholeBlocks);
+    // The free blocks from a block on, up to the last usable one.
+    fn run_at(&self, table: &[u8], b: Block) -> u64
+        requires { length table.now ≡ table_bytes }
+        ensures { result ≡ run_at self.now.disk.shape self.now.disk.n table.now b.0 }
+    {
+        gpt_room::run_at(gpt_table::as_table(table), b, self.disk.last_usable())
     }
-    match w.start {
-        None => place_lowest(table, n, shape, alignment, w, last),
-        Some(at) => place_given(table, n, shape, alignment, w, last, at),
+
+    // The same; none where the block is taken or not usable.
+    fn usable_run(&self, table: &[u8], b: Block) -> u64
+        requires { length table.now ≡ table_bytes }
+        ensures { result ≡ usable_run self.now.disk.shape self.now.disk.n table.now b.0 }
+    {
+        if b.0 < self.disk.shape.first {
+            0
+        } else {
+            self.run_at(table, b)
+        }
+    }
+
+    // Its size in blocks from block b on.
+    fn blocks_from(&self, table: &[u8], b: Block) -> u64
+        requires { length table.now ≡ table_bytes }
+        ensures { result ≡ blocks_from self.now.disk.shape self.now.disk.n table.now self.now.wanted self.now.last b.0 }
+    {
+        if self.reaches() {
+            self.run_at(table, b)
+        } else {
+            self.wanted.size / self.block_size()
+        }
+    }
+
+    // b8: with it, the partition stands exactly there. 72, those of adding, 25.
+    fn place_given(&self, table: &[u8], at: u64) -> Result<Placed, Refusal>
+        requires { length table.now ≡ table_bytes }
+        ensures { part_place_by result ≡ placed_from72 self.now table.now (Some at) }
+    {
+        let first = Block(at / self.block_size());
+        let run = self.usable_run(table, first);
+        if run == 0 {
+            return Err(Refusal::StartTaken);
+        }
+        let size = self.needed();
+        gpt_checks::new(table, self.as_new(size))?;
+        if run < size {
+            return Err(Refusal::Disk(DiskRefusal::NoRoom));
+        }
+        let blocks = self.blocks_from(table, first);
+        Ok(Placed { first, blocks })
+    }
+
+    // b8: Without start, placing is as in adding
+    fn place_lowest(&self, table: &[u8]) -> Result<Placed, Refusal>
+        requires { length table.now ≡ table_bytes }
+        ensures { part_place_by result ≡ placed_from72 self.now table.now None }
+    {
+        let size = self.needed();
+        let first = gpt_checks::place(table, self.disk, self.as_new(size))?;
+        let blocks = self.blocks_from(table, first);
+        Ok(Placed { first, blocks })
+    }
+
+    // b10: 71 .., 72 .., then those of adding from 20 on
+    fn place(&self, table: &[u8]) -> Result<Placed, Refusal>
+        requires { length table.now ≡ table_bytes }
+        ensures { part_place_by result ≡ placed self.now table.now }
+    {
+        if self.uneven() {
+            return Err(Refusal::NotWholeBlocks);
+        }
+        match self.wanted.start {
+            Some(at) => self.place_given(table, at),
+            None => self.place_lowest(table),
+        }
+    }
+
+    // One partition more, or the first row that holds.
+    pub fn add(&self, table: &mut [u8]) -> Result<(), Refusal>
+        requires { length table.old ≡ table_bytes }
+        ensures { built_by result table.new
+            ≡ unless_faulty (refusal (rows_of self.now table.old)) (complete (table_with self.now table.old)) }
+    {
+        let place = self.place(&table[..])?;
+        put_entry(table, self.as_new(place.blocks), place.first);
+        Ok(())
     }
 }
 
@@ -202,26 +194,4 @@ fn put_entry(table: &mut [u8], p: NewPartition, first: Block)
     let i = gpt_table::first_unused(gpt_table::as_table(&table[..])).unwrap();
     let e = gpt_entry::added(p, first);
     octets::copy(table, i * ENTRY, &e);
-}
-
-// One partition more, or the first row that holds.
-pub fn add(
-    table: &mut [u8],
-    n: u64,
-    shape: Shape,
-    alignment: u64,
-    w: WantedPartition,
-    last: bool,
-) -> Building
-    requires { (length table.old ≡ table_bytes) × Fits shape n × (n ≤ most_blocks) }
-    ensures { built_by result table.new ≡ unless_faulty (refusal (part_rows shape n alignment table.old w last))
-        (complete (with_part shape n alignment table.old w last)) }
-{
-    match place(&table[..], n, shape, alignment, w, last) {
-        Placing::Stop(r) => Building::Stop(r),
-        Placing::At { first, blocks } => {
-            put_entry(table, as_new(w, blocks, alignment), first);
-            Building::Pass
-        }
-    }
 }

@@ -21,8 +21,7 @@ use Rattle.gpt_string_model.specs.Build.{part_rows, with_part, faulty, complete,
 use Rattle.gpt_string_model.proofs.Reading.{first_part, behind_first, parts-nil, parts-next, parts-behind}
 use Rattle.gpt_string_model.proofs.Asked.{layout-partitions}
 use Rattle.gpt_string_model.proofs.Builds.{build-nil, build-on, build-stop}
-use Rattle.gpt_build.specs.declared.Building.{Building}
-use Rattle.gpt_build.specs.declared.Building.TheVariants.{Pass, Stop}
+use Rattle.std.specs.Prelude.{Result, Ok, Err, IsErr, IsErrAnd}
 use Rattle.gpt_build.specs.declared.Refusal.{Refusal}
 use Rattle.gpt_build.specs.Answers.{number_of, built_by}
 
@@ -34,6 +33,11 @@ part-cases (some k) es es' e = let z : ◌≡◌ {A = ℕ} 0 1 = cc in absurd (o
 part-fault : (o : Option ℕ) (es : List ℕ) (k : ℕ) → faulty k ≡ unless_faulty o (complete es) → o ≡ some k
 part-fault none es k e = let z : ◌≡◌ {A = ℕ} 0 1 = cc in absurd (omega arith)
 part-fault (some j) es k e = let q : j ≡ k = cc in ap some q
+
+-- what a `?` hands on
+pub handed : {A : Type 0} (y : Result A Refusal) (r : Refusal) → IsErr y → IsErrAnd y (λ z. z ≡ r) → (es : List ℕ) → built_by y es ≡ faulty (number_of r)
+handed (Ok b) r v w es = absurd w
+handed (Err z) r v w es = ap (λ (k : Refusal). faulty (number_of k)) w
 
 -- what is read of a partition
 module _ (part : List ℕ) (r : Found WantedPartition) (a : r ≡ cond (is_partition part) (Some (wanted_of part)) None) (e : is_partition part ≡ true) where
@@ -105,15 +109,15 @@ module _ (g : Shape) (n a : ℕ) (text es₀ : List ℕ) where
         rows_are : (o : Option ℕ) → rows ≡ o → refusal (part_rows g n a es w (is_nil ws)) ≡ o
         rows_are o q = ap (λ (b : Bool). refusal (part_rows g n a es w b)) (sym last_is) ∙ q
 
-        module _ (r : Building) (es' : List ℕ) (q : built_by r es' ≡ unless_faulty rows (complete (with_part g n a es w last))) where
-          pub filling-stop : (k : Refusal) → r ≡ Stop k → faulty (number_of k) ≡ build g n a es₀ (wanted_in text)
+        module _ {A : Type 0} (r : Result A Refusal) (es' : List ℕ) (q : built_by r es' ≡ unless_faulty rows (complete (with_part g n a es w last))) where
+          pub filling-stop : (k : Refusal) → r ≡ Err k → faulty (number_of k) ≡ build g n a es₀ (wanted_in text)
           filling-stop k z =
-              let o = part-fault rows _ (number_of k) (ap (λ (x : Building). built_by x es') (sym z) ∙ q) in
+              let o = part-fault rows _ (number_of k) (ap (λ (x : Result A Refusal). built_by x es') (sym z) ∙ q) in
               sym (build-stop g n a es w ws (number_of k) (rows_are (some (number_of k)) o)) ∙ now-build
 
-          pub filling-on : r ≡ Pass → length es' ≡ 16384 → Filling es' behind
-          filling-on z len =
-              let o = part-cases rows (with_part g n a es w last) es' (ap (λ (x : Building). built_by x es') (sym z) ∙ q) in
+          pub filling-on : (u : A) → r ≡ Ok u → length es' ≡ 16384 → Filling es' behind
+          filling-on u z len =
+              let o = part-cases rows (with_part g n a es w last) es' (ap (λ (x : Result A Refusal). built_by x es') (sym z) ∙ q) in
               record {
                 len = len;
                 parts = next-all;

@@ -3,7 +3,7 @@ use mathlib.Core.Path.{◌≡◌, refl, sym, ap, ap₂, ◌∙◌}
 use mathlib.Core.Bool.{Bool, true, false, not, cond}
 use mathlib.Core.Logic.{◌⊎◌, inl, inr}
 use Rattle.octets.proofs.Bools.{bool_cases}
-use Rattle.std.specs.Prelude.{Option as Found, None, Some}
+use Rattle.std.specs.Prelude.{Option as Found, None, Some, ok_or}
 use mathlib.Core.List.{List, [], ◌∷◌}
 use mathlib.Core.Option.{Option, none, some}
 use Prim.Native.Nat.{ℕ}
@@ -17,8 +17,8 @@ use Rattle.gpt_string_model.specs.Text.{is_layout, disk_guid_of, wanted_in}
 use Rattle.gpt_string_model.specs.Build.{Built, faulty, complete, build}
 use Rattle.gpt_string_model.specs.Calls.{written_disk, string_rows, table_in, build_string}
 use Rattle.gpt_string_model.proofs.After.{string-is}
-use Rattle.gpt_build.specs.declared.Building.{Building}
-use Rattle.gpt_build.specs.declared.Building.TheVariants.{Pass, Stop}
+use Rattle.std.specs.Prelude.{Result, Ok, Err, IsErr, IsErrAnd}
+use Rattle.gpt_string.specs.Answers.{build_answer}
 use Rattle.gpt_build.specs.declared.Refusal.{Refusal}
 use Rattle.gpt_build.specs.Answers.{number_of, built_by}
 
@@ -32,6 +32,22 @@ guid-zero guid d z p q r = ap is_zero (sym p) ∙ sym q ∙ r
 
 pub guid-some : (guid d : List ℕ) (z : Bool) → guid ≡ d → z ≡ is_zero guid → z ≡ false → is_zero d ≡ false
 guid-some guid d z p q r = ap is_zero (sym p) ∙ sym q ∙ r
+
+-- what a `?` hands on
+pub handed : {A : Type 0} (y : Result A Refusal) (r : Refusal) → IsErr y → IsErrAnd y (λ z. z ≡ r) → (h t : List ℕ)
+    → outcome (build_answer y) h t ≡ outcome (refused (number_of r)) h t
+handed (Ok b) r v w h t = absurd w
+handed (Err z) r v w h t = ap (λ (k : Refusal). outcome (refused (number_of k)) h t) w
+
+-- what `ok_or` answers
+module _ {A E : Type 0} (e : E) where
+  pub or-some : (o : Found A) (r : Result A E) → r ≡ ok_or o e → (x : A) → r ≡ Ok x → o ≡ Some x
+  or-some None r p x q = cc
+  or-some (Some y) r p x q = cc
+
+  pub or-none : (o : Found A) (r : Result A E) → r ≡ ok_or o e → (z : E) → r ≡ Err z → (o ≡ None) × (z ≡ e)
+  or-none None r p z q = (refl, cc)
+  or-none (Some y) r p z q = cc
 
 -- whether the text is a layout string, by the disk GUID that was read
 module _ (text : List ℕ) (r : Found (List ℕ)) (e : r ≡ cond (is_layout text) (Some (disk_guid_of text)) None) where
@@ -75,16 +91,16 @@ module _ (g : Shape) (n a : ℕ) (text h t : List ℕ) where
             ∙ ap₂ (λ (o : Option ℕ) (x : Built). unless_refused o h t (written_disk g n (disk_guid_of text) h t x))
             (later ∙ pick-false _ 70 _ (ap not l) ∙ pick-false _ 3 _ z) q)
 
-        module _ (table : List ℕ) (is : table ≡ zeros 16384) (r : Building) (es : List ℕ) (q : built_by r es ≡ build g n a table (wanted_in text)) where
+        module _ (table : List ℕ) (is : table ≡ zeros 16384) {A : Type 0} (r : Result A Refusal) (es : List ℕ) (q : built_by r es ≡ build g n a table (wanted_in text)) where
           table_is : table_in g n a text h t ≡ built_by r es
           table_is = ap (λ (x : List ℕ). build g n a x (wanted_in text)) (sym is) ∙ sym q
 
-          pub refused-part : (k : Refusal) → r ≡ Stop k → outcome (refused (number_of k)) h t ≡ build_string g n a text h t
-          refused-part k p = by-table (faulty (number_of k)) (table_is ∙ ap (λ (x : Building). built_by x es) p)
+          pub refused-part : (k : Refusal) → r ≡ Err k → outcome (refused (number_of k)) h t ≡ build_string g n a text h t
+          refused-part k p = by-table (faulty (number_of k)) (table_is ∙ ap (λ (x : Result A Refusal). built_by x es) p)
 
-          pub written_all : r ≡ Pass → (guid : List ℕ) → guid ≡ disk_guid_of text → (h' t' : List ℕ) → h' ≡ fresh_head g n guid es
+          pub written_all : (u : A) → r ≡ Ok u → (guid : List ℕ) → guid ≡ disk_guid_of text → (h' t' : List ℕ) → h' ≡ fresh_head g n guid es
               → t' ≡ fresh_tail g n guid es
               → outcome (accepted []) h' t' ≡ build_string g n a text h t
-          written_all p guid d h' t' x y =
+          written_all u p guid d h' t' x y =
               ap₂ (outcome (accepted [])) (x ∙ ap (λ (v : List ℕ). fresh_head g n v es) d) (y ∙ ap (λ (v : List ℕ). fresh_tail g n v es) d)
-              ∙ by-table (complete es) (table_is ∙ ap (λ (x : Building). built_by x es) p)
+              ∙ by-table (complete es) (table_is ∙ ap (λ (x : Result A Refusal). built_by x es) p)

@@ -8,29 +8,23 @@ ghost use Rattle.octets.specs.Rows.{refusal};
 ghost use Rattle.gpt_model.specs.Table.{table_bytes};
 ghost use Rattle.gpt_model.specs.Disk.{most_blocks};
 ghost use Rattle.gpt_model.specs.Calls.{outcome, lent_rows};
-ghost use Rattle.gpt_places.specs.Invariants.{Legal, Fits};
+ghost use Rattle.gpt_places.specs.Invariants.{Legal};
 ghost use Rattle.gpt_string_model.specs.Text.{is_layout, wanted_in};
 ghost use Rattle.gpt_string_model.specs.Build.{build as build_table};
 ghost use Rattle.gpt_string_model.specs.Calls.{build_string, build_by};
 ghost use Rattle.gpt_build.specs.Answers.{built_by};
 ghost use Rattle.gpt_string.specs.Answers.{build_answer};
 
-use gpt_build::{Building, Refusal};
+use gpt_build::{Refusal, Request};
 use gpt_checks::Refusal as DiskRefusal;
 use gpt_model::Shape;
 use gpt_places::{Disk, Side, TABLE};
 use gpt_string_values::cut;
 
-#[derive(Clone, Copy)]
-pub enum Answer {
-    Accepted,
-    Refused(Refusal),
-}
-
 // The partitions of the text on the table, one after the other, up to the first that is refused.
-fn fill(table: &mut [u8], n: u64, shape: Shape, alignment: u64, text: &[u8]) -> Building
-    requires { (length table.old ≡ table_bytes) × Fits shape n × (n ≤ most_blocks) × (is_layout text.now ≡ true) }
-    ensures { built_by result table.new ≡ build_table shape n alignment table.old (wanted_in text.now) }
+fn fill(table: &mut [u8], disk: Disk, alignment: u64, text: &[u8]) -> Result<(), Refusal>
+    requires { (length table.old ≡ table_bytes) × (disk.n ≤ most_blocks) × (is_layout text.now ≡ true) }
+    ensures { built_by result table.new ≡ build_table disk.shape disk.n alignment table.old (wanted_in text.now) }
 {
     let (_, partitions) = cut(text, b';');
     let mut rest = partitions;
@@ -38,47 +32,39 @@ fn fill(table: &mut [u8], n: u64, shape: Shape, alignment: u64, text: &[u8]) -> 
         let (part, behind) = cut(rest, b';');
         let wanted = gpt_string_text::partition(part).unwrap();
         let last = behind.is_empty();
-        match gpt_build::add(table, n, shape, alignment, wanted, last) {
-            Building::Stop(r) => {
-                return Building::Stop(r);
-            }
-            Building::Pass => {
-                rest = behind;
-            }
-        }
+        let request = Request {
+            disk,
+            alignment,
+            wanted,
+            last,
+        };
+        request.add(table)?;
+        rest = behind;
     }
-    Building::Pass
+    Ok(())
 }
 
 // Head and tail with the table that the text makes, where the rows of lengths and N do not hold.
 fn write(
     head: &mut [u8],
     tail: &mut [u8],
-    n: u64,
-    shape: Shape,
+    disk: Disk,
     alignment: u64,
     text: &[u8],
-) -> Answer
-    requires { Legal shape × (refusal (lent_rows shape n head.old tail.old true) ≡ none) }
+) -> Result<(), Refusal>
+    requires { refusal (lent_rows disk.shape disk.n head.old tail.old true) ≡ none }
     ensures { outcome (build_answer result) head.new tail.new
-        ≡ build_string shape n alignment text.now head.old tail.old }
+        ≡ build_string disk.shape disk.n alignment text.now head.old tail.old }
 {
-    let Some(guid) = gpt_string_text::disk_of(text) else {
-        return Answer::Refused(Refusal::StringForm);
-    };
+    let guid = gpt_string_text::disk_of(text).ok_or(Refusal::StringForm)?;
     if octets::is_zero(&guid) {
-        return Answer::Refused(Refusal::Disk(DiskRefusal::NoDiskGuid));
+        return Err(Refusal::Disk(DiskRefusal::NoDiskGuid));
     }
-    let mut table = [0u8; TABLE];
-    match fill(&mut table, n, shape, alignment, text) {
-        Building::Stop(r) => Answer::Refused(r),
-        Building::Pass => {
-            let disk = Disk { shape, n };
-            gpt_copies::writing::built(head, Side::Primary, disk, &guid, &table);
-            gpt_copies::writing::built(tail, Side::Backup, disk, &guid, &table);
-            Answer::Accepted
-        }
-    }
+    let mut table = [0; TABLE];
+    fill(&mut table, disk, alignment, text)?;
+    gpt_copies::writing::built(head, Side::Primary, disk, &guid, &table);
+    gpt_copies::writing::built(tail, Side::Backup, disk, &guid, &table);
+    Ok(())
 }
 
 // On a disk of a shape.
@@ -89,15 +75,13 @@ fn build_on(
     shape: Shape,
     alignment: u64,
     text: &[u8],
-) -> Answer
+) -> Result<(), Refusal>
     requires { Legal shape }
     ensures { outcome (build_answer result) head.new tail.new
         ≡ build_string shape n alignment text.now head.old tail.old }
 {
-    match gpt_checks::lent(&head[..], &tail[..], n, shape) {
-        Err(r) => Answer::Refused(Refusal::Disk(r)),
-        Ok(()) => write(head, tail, n, shape, alignment, text),
-    }
+    gpt_checks::lent(&head[..], &tail[..], n, shape)?;
+    write(head, tail, Disk { shape, n }, alignment, text)
 }
 
 // Makes head and tail of the layout string `text`. Without a start, a partition begins at the lowest multiple of the alignment with room enough.
@@ -108,12 +92,10 @@ pub fn build(
     block: u64,
     alignment: u64,
     text: &[u8],
-) -> Answer
+) -> Result<(), Refusal>
     ensures { outcome (build_answer result) head.new tail.new
         ≡ build_by block n alignment text.now head.old tail.old }
 {
-    match gpt_places::shape_of(block) {
-        Some(shape) => build_on(head, tail, n, shape, alignment, text),
-        None => Answer::Refused(Refusal::Disk(DiskRefusal::BlockSize)),
-    }
+    let shape = gpt_places::shape_of(block).ok_or(DiskRefusal::BlockSize)?;
+    build_on(head, tail, n, shape, alignment, text)
 }

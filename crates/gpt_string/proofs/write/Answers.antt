@@ -1,56 +1,61 @@
-use Rattle.gpt_string.proofs.Written.{empty-table, guid-zero, guid-some, refused-form, refused-guid, refused-part, written_all, laid-by, unlaid-by}
-use Rattle.gpt_checks.proofs.Judged.{lent-facts}
+use mathlib.Core.Path.{ap, ◌∙◌}
 use borrow.Author.Rules.{rules}
+use Rattle.gpt_model.specs.Calls.{outcome, refused}
+use Rattle.gpt_build.specs.declared.Refusal.{Refusal}
+use Rattle.gpt_build.specs.Answers.{number_of}
+use Rattle.gpt_checks.proofs.Judged.{lent-facts}
+use Rattle.gpt_string.proofs.Written.{handed, or-some, or-none, laid-by, unlaid-by, empty-table, guid-zero, guid-some, refused-form, refused-guid}
+use Rattle.gpt_string.proofs.Written.{refused-part, written_all}
 use Rattle.gpt_string.proofs.write.Goals as goal
+
+pub returns-in_err-guid : goal.returns-in_err-guid
+returns-in_err-guid c =
+    let a = c.args in
+    let w = c.from_residual.ensures in
+    let o = or-none _ _ _ c.ok_or.ensures.value _ c.in_err-guid.was in
+    handed _ _ w.0 w.1 _ _
+    ∙ ap (λ (r : Refusal). outcome (refused (number_of r)) a.head.now a.tail.now) o.1
+    ∙ refused-form a.disk.shape a.disk.n a.alignment a.text.now a.head.now a.tail.now c.requires (unlaid-by _ _ c.disk_of.ensures o.0)
 
 pub returns-then-is_zero : goal.returns-then-is_zero
 returns-then-is_zero c =
     let a = c.args in
-    let l = laid-by _ _ c.disk_of.ensures _ c.in-Some.is in
-    refused-guid a.shape a.n a.alignment a.text.now a.head.now a.tail.now c.requires.1 l.0
+    let l = laid-by _ _ c.disk_of.ensures _ (or-some _ _ _ c.ok_or.ensures.value _ c.in_ok-guid.was) in
+    refused-guid a.disk.shape a.disk.n a.alignment a.text.now a.head.now a.tail.now c.requires l.0
     (guid-zero _ _ _ l.1 c.is_zero.ensures c.if-is_zero.true)
 
 pub fill-requires : goal.fill-requires
 fill-requires c =
     let a = c.args in
-    let f = lent-facts a.shape a.n a.head.now a.tail.now c.requires.1 in
-    (search rules, record { legal = c.requires.0; least = f.least }, f.most, (laid-by _ _ c.disk_of.ensures _ c.in-Some.is).0)
-
-pub invariant_of-disk : goal.invariant_of-disk
-invariant_of-disk c =
-    let a = c.args in
-    let f = lent-facts a.shape a.n a.head.now a.tail.now c.requires.1 in
-    record { fits = record { legal = c.requires.0; least = f.least } }
+    let f = lent-facts a.disk.shape a.disk.n a.head.now a.tail.now c.requires in
+    (search rules, f.most, (laid-by _ _ c.disk_of.ensures _ (or-some _ _ _ c.ok_or.ensures.value _ c.in_ok-guid.was)).0)
 
 pub built-requires : goal.built-requires
 built-requires c =
     let a = c.args in
-    let f = lent-facts a.shape a.n a.head.now a.tail.now c.requires.1 in
+    let f = lent-facts a.disk.shape a.disk.n a.head.now a.tail.now c.requires in
     (f.head, λ _. f.most, search rules)
 
-pub built-requires-in-Pass : goal.built-requires-in-Pass
-built-requires-in-Pass c =
+pub built-requires-2 : goal.built-requires-2
+built-requires-2 c =
     let a = c.args in
-    let f = lent-facts a.shape a.n a.head.now a.tail.now c.requires.1 in
+    let f = lent-facts a.disk.shape a.disk.n a.head.now a.tail.now c.requires in
     (f.tail, λ _. f.most, search rules)
 
-pub returns-in-Stop : goal.returns-in-Stop
-returns-in-Stop c =
+pub returns-in_err-fill : goal.returns-in_err-fill
+returns-in_err-fill c =
     let a = c.args in
-    let l = laid-by _ _ c.disk_of.ensures _ c.in-Some.is in
+    let w = c.from_residual-in_err-fill.ensures in
+    let l = laid-by _ _ c.disk_of.ensures _ (or-some _ _ _ c.ok_or.ensures.value _ c.in_ok-guid.was) in
     let some_guid = guid-some _ _ _ l.1 c.is_zero.ensures c.if-is_zero.false in
-    refused-part a.shape a.n a.alignment a.text.now a.head.now a.tail.now c.requires.1 l.0 some_guid
-    _ (empty-table _) _ _ c.fill.ensures _ c.in-Stop.is
+    handed _ _ w.0 w.1 _ _
+    ∙ refused-part a.disk.shape a.disk.n a.alignment a.text.now a.head.now a.tail.now c.requires l.0 some_guid
+    _ (empty-table _) _ _ c.fill.ensures _ c.in_err-fill.was
 
-pub returns-in-Pass : goal.returns-in-Pass
-returns-in-Pass c =
+pub returns : goal.returns
+returns c =
     let a = c.args in
-    let l = laid-by _ _ c.disk_of.ensures _ c.in-Some.is in
+    let l = laid-by _ _ c.disk_of.ensures _ (or-some _ _ _ c.ok_or.ensures.value _ c.in_ok-guid.was) in
     let some_guid = guid-some _ _ _ l.1 c.is_zero.ensures c.if-is_zero.false in
-    written_all a.shape a.n a.alignment a.text.now a.head.now a.tail.now c.requires.1 l.0 some_guid
-    _ (empty-table _) _ _ c.fill.ensures c.in-Pass.is _ l.1 _ _ c.built.ensures c.built-in-Pass.ensures
-
-pub returns-in_default : goal.returns-in_default
-returns-in_default c =
-    let a = c.args in
-    refused-form a.shape a.n a.alignment a.text.now a.head.now a.tail.now c.requires.1 (unlaid-by _ _ c.disk_of.ensures c.in_default.is)
+    written_all a.disk.shape a.disk.n a.alignment a.text.now a.head.now a.tail.now c.requires l.0 some_guid
+    _ (empty-table _) _ _ c.fill.ensures _ c.in_ok-fill.was _ l.1 _ _ c.built.ensures c.built-2.ensures

@@ -1,9 +1,0 @@
-use mathlib.Core.Path.{sym, ◌∙◌}
-use Rattle.gpt_build.proofs.Places.{cond_yes, cond_no}
-use Rattle.gpt_build.proofs.needed.Goals as goal
-
-pub returns-then-reaches : goal.returns-then-reaches
-returns-then-reaches c = cond_yes _ _ _ (sym c.reaches.ensures ∙ c.if-reaches.true)
-
-pub returns-else-reaches : goal.returns-else-reaches
-returns-else-reaches c = cond_no _ _ _ (sym c.reaches.ensures ∙ c.if-reaches.false)
