@@ -296,15 +296,11 @@ module _ (g : Shape) (n a : ℕ) (es : List ℕ) (w : WantedPartition) (final : 
         ∙ ap₂ (λ (x y : ℕ). put_chunk 128 (lowest_unused es) (new_entry (as_new a w x) y) es) at.2 at.1)
         ∙ sym (ap (λ (o : Option ℕ). unless_faulty o (complete (with_part g n a es w final))) at.0)
 
-    pub put-needs' : n ≤ 4294967296 → (lowest_unused es < 128) × (0 < p.size) × (f + p.size < 18446744073709551616)
-    put-needs' h =
+    pub put-needs : n ≤ 4294967296 → (lowest_unused es < 128) × (0 < p.size) × (f + p.size < 18446744073709551616)
+    put-needs h =
         let s = size-some g n a es w final at.0 in
         let l = size-bound g n a es w final at.0 h in
         (slot-free g n a es w final at.0, omega (arith, size_is), omega (arith, size_is, at.1))
-
-  pub put-needs : length es ≡ 16384 → n ≤ 4294967296 → (f b : ℕ) (p : NewPartition) → p ≡ as_new a w b → from f b ≡ spot
-      → (length es ≡ 16384) × (lowest_unused es < 128) × (0 < p.size) × (f + p.size < 18446744073709551616)
-  put-needs len h f b p is-p e = let v = put-needs' f b p is-p e h in (len, v.0, v.1, v.2)
 
 pub entry_at : (es : List ℕ) → length es ≡ 16384 → (i : ℕ) (e d : List ℕ) → i ≡ lowest_unused es → lowest_unused es < 128 → e ≡ d → length e ≡ 128
     → put (i * 128) e es ≡ put_chunk 128 (lowest_unused es) d es

@@ -15,7 +15,7 @@ ghost use Rattle.gpt_build.specs.Invariants.{run_at, usable_run, blocks_from, pa
 
 use gpt_checks::Refusal as DiskRefusal;
 use gpt_model::{Block, NewPartition, Rule};
-use gpt_places::ENTRY;
+use gpt_places::{ENTRY, TABLE};
 pub use request::Request;
 
 mod request; // request.rt: a partition to be placed
@@ -98,16 +98,14 @@ impl Request {
     }
 
     // The free blocks from a block on, up to the last usable one.
-    fn run_at(&self, table: &[u8], b: Block) -> u64
-        requires { length table.now ≡ table_bytes }
+    fn run_at(&self, table: &[u8; TABLE], b: Block) -> u64
         ensures { result ≡ run_at self.now.disk.shape self.now.disk.n table.now b.0 }
     {
         gpt_room::run_at(gpt_table::as_table(table), b, self.disk.last_usable())
     }
 
     // The same; none where the block is taken or not usable.
-    fn usable_run(&self, table: &[u8], b: Block) -> u64
-        requires { length table.now ≡ table_bytes }
+    fn usable_run(&self, table: &[u8; TABLE], b: Block) -> u64
         ensures { result ≡ usable_run self.now.disk.shape self.now.disk.n table.now b.0 }
     {
         if b.0 < self.disk.shape.first {
@@ -118,8 +116,7 @@ impl Request {
     }
 
     // Its size in blocks from block b on.
-    fn blocks_from(&self, table: &[u8], b: Block) -> u64
-        requires { length table.now ≡ table_bytes }
+    fn blocks_from(&self, table: &[u8; TABLE], b: Block) -> u64
         ensures { result ≡ blocks_from self.now.disk.shape self.now.disk.n table.now self.now.wanted self.now.last b.0 }
     {
         if self.reaches() {
@@ -130,8 +127,7 @@ impl Request {
     }
 
     // b8: with it, the partition stands exactly there. 72, those of adding, 25.
-    fn place_given(&self, table: &[u8], at: u64) -> Result<Placed, Refusal>
-        requires { length table.now ≡ table_bytes }
+    fn place_given(&self, table: &[u8; TABLE], at: u64) -> Result<Placed, Refusal>
         ensures { part_place_by result ≡ placed_from72 self.now table.now (Some at) }
     {
         let first = Block(at / self.block_size());
@@ -149,8 +145,7 @@ impl Request {
     }
 
     // b8: Without start, placing is as in adding
-    fn place_lowest(&self, table: &[u8]) -> Result<Placed, Refusal>
-        requires { length table.now ≡ table_bytes }
+    fn place_lowest(&self, table: &[u8; TABLE]) -> Result<Placed, Refusal>
         ensures { part_place_by result ≡ placed_from72 self.now table.now None }
     {
         let size = self.needed();
@@ -160,8 +155,7 @@ impl Request {
     }
 
     // b10: 71 .., 72 .., then those of adding from 20 on
-    fn place(&self, table: &[u8]) -> Result<Placed, Refusal>
-        requires { length table.now ≡ table_bytes }
+    fn place(&self, table: &[u8; TABLE]) -> Result<Placed, Refusal>
         ensures { part_place_by result ≡ placed self.now table.now }
     {
         if self.uneven() {
@@ -174,21 +168,19 @@ impl Request {
     }
 
     // One partition more, or the first row that holds.
-    pub fn add(&self, table: &mut [u8]) -> Result<(), Refusal>
-        requires { length table.old ≡ table_bytes }
+    pub fn add(&self, table: &mut [u8; TABLE]) -> Result<(), Refusal>
         ensures { built_by result table.new
             ≡ unless_faulty (refusal (rows_of self.now table.old)) (complete (table_with self.now table.old)) }
     {
-        let place = self.place(&table[..])?;
+        let place = self.place(table)?;
         put_entry(table, self.as_new(place.blocks), place.first);
         Ok(())
     }
 }
 
 // The entry of a partition in the lowest unused slot.
-fn put_entry(table: &mut [u8], p: NewPartition, first: Block)
-    requires { (length table.old ≡ table_bytes) × (lowest_unused table.old < slot_count) × (0 < p.size)
-        × (first.0 + p.size < 18446744073709551616) }
+fn put_entry(table: &mut [u8; TABLE], p: NewPartition, first: Block)
+    requires { (lowest_unused table.old < slot_count) × (0 < p.size) × (first.0 + p.size < 18446744073709551616) }
     ensures { table.new ≡ put_chunk entry_bytes (lowest_unused table.old) (new_entry p first.0) table.old }
 {
     let i = gpt_table::first_unused(gpt_table::as_table(&table[..])).unwrap();

@@ -53,16 +53,14 @@ module _ (part : List ℕ) (r : Found WantedPartition) (a : r ≡ cond (is_parti
 module _ (g : Shape) (n a : ℕ) (text es₀ : List ℕ) where
   -- the table es, with the partitions of the text `rest` still to come
   pub record Filling (es rest : List ℕ) : Type 0 where
-    pub len : length es ≡ 16384
     pub parts : all is_partition (parts_of rest) ≡ true
     pub left : build g n a es (map wanted_of (parts_of rest)) ≡ build g n a es₀ (wanted_in text)
 
-  pub filling-start : length es₀ ≡ 16384 → is_layout text ≡ true → (rest : List ℕ) → rest ≡ behind_first text → Filling es₀ rest
+  pub filling-start : is_layout text ≡ true → (rest : List ℕ) → rest ≡ behind_first text → Filling es₀ rest
   unfolding wanted_in
-  filling-start len t rest e =
+  filling-start t rest e =
       let r = parts-behind text ∙ ap parts_of (sym e) in
       record {
-        len = len;
         parts = subst (λ (ps : List (List ℕ)). all is_partition ps ≡ true) r (layout-partitions text t);
         left = ap (λ (ps : List (List ℕ)). build g n a es₀ (map wanted_of ps)) (sym r);
       }
@@ -115,11 +113,10 @@ module _ (g : Shape) (n a : ℕ) (text es₀ : List ℕ) where
               let o = part-fault rows _ (number_of k) (ap (λ (x : Result A Refusal). built_by x es') (sym z) ∙ q) in
               sym (build-stop g n a es w ws (number_of k) (rows_are (some (number_of k)) o)) ∙ now-build
 
-          pub filling-on : (u : A) → r ≡ Ok u → length es' ≡ 16384 → Filling es' behind
-          filling-on u z len =
+          pub filling-on : (u : A) → r ≡ Ok u → Filling es' behind
+          filling-on u z =
               let o = part-cases rows (with_part g n a es w last) es' (ap (λ (x : Result A Refusal). built_by x es') (sym z) ∙ q) in
               record {
-                len = len;
                 parts = next-all;
                 left =
                     ap (λ (x : List ℕ). build g n a x ws) (o.1 ∙ ap (λ (b : Bool). with_part g n a es w b) last_is)

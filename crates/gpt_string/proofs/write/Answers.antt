@@ -1,5 +1,4 @@
 use mathlib.Core.Path.{ap, ◌∙◌}
-use borrow.Author.Rules.{rules}
 use Rattle.gpt_model.specs.Calls.{outcome, refused}
 use Rattle.gpt_build.specs.declared.Refusal.{Refusal}
 use Rattle.gpt_build.specs.Answers.{number_of}
@@ -28,19 +27,19 @@ pub fill-requires : goal.fill-requires
 fill-requires c =
     let a = c.args in
     let f = lent-facts a.disk.shape a.disk.n a.head.now a.tail.now c.requires in
-    (search rules, f.most, (laid-by _ _ c.disk_of.ensures _ (or-some _ _ _ c.ok_or.ensures.value _ c.in_ok-guid.was)).0)
+    (f.most, (laid-by _ _ c.disk_of.ensures _ (or-some _ _ _ c.ok_or.ensures.value _ c.in_ok-guid.was)).0)
 
 pub built-requires : goal.built-requires
 built-requires c =
     let a = c.args in
     let f = lent-facts a.disk.shape a.disk.n a.head.now a.tail.now c.requires in
-    (f.head, λ _. f.most, search rules)
+    (f.head, λ _. f.most)
 
 pub built-requires-2 : goal.built-requires-2
 built-requires-2 c =
     let a = c.args in
     let f = lent-facts a.disk.shape a.disk.n a.head.now a.tail.now c.requires in
-    (f.tail, λ _. f.most, search rules)
+    (f.tail, λ _. f.most)
 
 pub returns-in_err-fill : goal.returns-in_err-fill
 returns-in_err-fill c =
