@@ -15,8 +15,8 @@ number_of StartTaken = 72
 number_of (Disk r) = disk_number r
 
 -- the rows of a partition on the table es, and the table with it
-abbrev pub rows_of : Request → List ℕ → List Row
-rows_of r es = part_rows r.disk.shape r.disk.n r.alignment es r.wanted r.last
+abbrev pub request_rows : Request → List ℕ → List Row
+request_rows r es = part_rows r.disk.shape r.disk.n r.alignment es r.wanted r.last
 
 abbrev pub table_with : Request → List ℕ → List ℕ
 table_with r es = with_part r.disk.shape r.disk.n r.alignment es r.wanted r.last

@@ -12,7 +12,7 @@ use Rattle.gpt_string_model.specs.Build.{blocked, reaches, needed, as_new, stand
 use Rattle.gpt_build.specs.declared.Placed.{Placed}
 use Rattle.gpt_build.specs.declared.Refusal.{Refusal}
 use Rattle.gpt_build.specs.declared.request.Request.{Request}
-use Rattle.gpt_build.specs.Answers.{number_of, rows_of}
+use Rattle.gpt_build.specs.Answers.{number_of, request_rows}
 
 -- the free blocks from block b on
 abbrev pub run_at : Shape → ℕ → List ℕ → ℕ → ℕ
@@ -51,8 +51,8 @@ part_place_of g n a es w final start rows =
     part_place_unless (refusal rows) b (blocks_from g n es w final b)
 
 -- where a request stands: by all its rows, and by those from 72 on for a given start or for none
-abbrev pub placed : Request → List ℕ → PartPlace
-placed r es = part_place_of r.disk.shape r.disk.n r.alignment es r.wanted r.last r.wanted.start (rows_of r es)
+abbrev pub request_place : Request → List ℕ → PartPlace
+request_place r es = part_place_of r.disk.shape r.disk.n r.alignment es r.wanted r.last r.wanted.start (request_rows r es)
 
 abbrev pub placed_from72 : Request → List ℕ → Found ℕ → PartPlace
 placed_from72 r es start =

@@ -10,8 +10,8 @@ ghost use Rattle.gpt_model.specs.Disk.{most_blocks};
 ghost use Rattle.gpt_model.specs.Calls.{lowest_unused, new_entry};
 ghost use Rattle.gpt_string_model.specs.Build.{uneven, reaches, needed, as_new, complete, unless_faulty};
 ghost use Rattle.gpt_build.specs.declared.Refusal.TheVariants.{Disk};
-ghost use Rattle.gpt_build.specs.Answers.{rows_of, table_with, built_by};
-ghost use Rattle.gpt_build.specs.Invariants.{run_at, usable_run, blocks_from, part_place_by, placed, placed_from72};
+ghost use Rattle.gpt_build.specs.Answers.{request_rows, table_with, built_by};
+ghost use Rattle.gpt_build.specs.Invariants.{run_at, usable_run, blocks_from, part_place_by, request_place, placed_from72};
 
 use gpt_checks::Refusal as DiskRefusal;
 use gpt_model::{Block, NewPartition, Rule};
@@ -156,7 +156,7 @@ impl Request {
 
     // b10: 71 .., 72 .., then those of adding from 20 on
     fn place(&self, table: &[u8; TABLE]) -> Result<Placed, Refusal>
-        ensures { part_place_by result ≡ placed self.now table.now }
+        ensures { part_place_by result ≡ request_place self.now table.now }
     {
         if self.uneven() {
             return Err(Refusal::NotWholeBlocks);
@@ -170,7 +170,7 @@ impl Request {
     // One partition more, or the first row that holds.
     pub fn add(&self, table: &mut [u8; TABLE]) -> Result<(), Refusal>
         ensures { built_by result table.new
-            ≡ unless_faulty (refusal (rows_of self.now table.old)) (complete (table_with self.now table.old)) }
+            ≡ unless_faulty (refusal (request_rows self.now table.old)) (complete (table_with self.now table.old)) }
     {
         let place = self.place(table)?;
         put_entry(table, self.as_new(place.blocks), place.first);

@@ -28,7 +28,7 @@ pub fn keyed(f: &[u8]) -> (&[u8], &[u8])
     }
 }
 
-// b4: each once. The slot gets the value, where there is one and the slot has none yet.
+// The slot gets the value, where there is one and the slot has none yet.
 fn set_once<T: Copy>(slot: &mut Option<T>, value: Option<T>) -> Option<()>
     ensures given { is_some result ≡ (is_none slot.old && is_some value) }
     ensures set { OnSome result (slot.new ≡ value) }

@@ -1,5 +1,5 @@
 use mathlib.Core.Path.{sym, ◌∙◌}
-use Rattle.gpt_build.specs.Answers.{rows_of}
+use Rattle.gpt_build.specs.Answers.{request_rows}
 use Rattle.gpt_build.proofs.Places.{spot-stop, rows-uneven, spot-even}
 use Rattle.gpt_build.proofs.request.Request.place.Goals as goal
 
@@ -7,7 +7,7 @@ pub returns-then-uneven : goal.returns-then-uneven
 returns-then-uneven c =
     let a = c.args.self.now in
     let es = c.args.table.now in
-    spot-stop a.disk.shape a.disk.n a.alignment es a.wanted a.last a.wanted.start (rows_of a es) 71
+    spot-stop a.disk.shape a.disk.n a.alignment es a.wanted a.last a.wanted.start (request_rows a es) 71
     (rows-uneven a.disk.shape a.disk.n a.alignment es a.wanted a.last (sym c.uneven.ensures ∙ c.if-uneven.true))
 
 pub returns-in-None : goal.returns-in-None
