@@ -2,12 +2,12 @@
 
 // The judges of the disk calls: each goes through the call's rows of refusals in the rules' order, to the first that holds. They write nothing.
 // An inner crate: no user calls it, so its functions may have a `requires`, which each caller meets.
-ghost use Rattle.std.specs.Prelude.{◌≡◌, true, not, [], ◌∷◌, ◌≤◌, leb, length, set, IfOk};
+ghost use Rattle.std.specs.Prelude.{◌≡◌, true, not, [], ◌∷◌, leb, IfOk};
 ghost use Rattle.std.proofs.Math.Option.{some};
 ghost use Rattle.octets.specs.Tests.{◌and◌, ◌or◌, any};
 ghost use Rattle.octets.specs.Bytes.{is_zero};
 ghost use Rattle.octets.specs.Rows.{row, refusal};
-ghost use Rattle.gpt_model.specs.Table.{slot_count, table_bytes, unique_of, unused, entries};
+ghost use Rattle.gpt_model.specs.Table.{slot_count, unique_of, unused, entries};
 ghost use Rattle.gpt_model.specs.Ranges.{is_alignment};
 ghost use Rattle.gpt_model.specs.Disk.{last_usable, in_range, table_of};
 ghost use Rattle.gpt_model.specs.Calls.{lengths_ok, lent_rows, open_rows, format_rows, carries, name_taken, slot_rows, add_rows, start_for, table_rows, rows_of, edit};
@@ -20,7 +20,7 @@ ghost use Rattle.gpt_checks.specs.Refusals.{number_of};
 use gpt_copies::State;
 use gpt_entry::NAME_AT;
 use gpt_model::{Block, NewPartition, Shape};
-use gpt_places::{Disk, SLOTS, Side};
+use gpt_places::{Disk, SLOTS, Side, TABLE};
 use gpt_table::UNIQUE_AT;
 
 // Why a call is refused; specs/Refusals gives each its number.
@@ -81,8 +81,14 @@ pub fn lent(head: &[u8], tail: &[u8], n: u64, shape: Shape) -> Result<(), Refusa
 }
 
 // R25: format 1, 2, 3.
-pub fn format(head: &[u8], tail: &[u8], n: u64, shape: Shape, guid: &[u8]) -> Result<(), Refusal>
-    requires { (length guid.now ≡ 16) × Legal shape }
+pub fn format(
+    head: &[u8],
+    tail: &[u8],
+    n: u64,
+    shape: Shape,
+    guid: &[u8; 16],
+) -> Result<(), Refusal>
+    requires { Legal shape }
     ensures { stop_of result ≡ refusal (format_rows shape n guid.now head.now tail.now) }
 {
     lent(head, tail, n, shape)?;
@@ -108,8 +114,7 @@ fn is_slot(number: u64) -> bool
 }
 
 // 12, 13: there is a slot of that number, and it is used.
-fn slot(table: &[u8], number: u64) -> Result<(), Refusal>
-    requires { length table.now ≡ table_bytes }
+fn slot(table: &[u8; TABLE], number: u64) -> Result<(), Refusal>
     ensures { stop_of result ≡ refusal (slot_rows table.now number) }
 {
     refuse_if(!is_slot(number), Refusal::NoSuchSlot)?;
@@ -125,12 +130,11 @@ pub fn delete(head: &[u8], tail: &[u8], n: u64, shape: Shape, number: u64) -> Re
     ensures { stop_of result ≡ refusal (rows_of shape n head.now tail.now (edit (delete_call number))) }
 {
     opened(head, tail, n, shape)?;
-    slot(gpt_places::entries_in(head, Side::Primary, shape), number)
+    slot(gpt_places::table_in(head, Side::Primary, shape), number)
 }
 
 // 26: the name is not empty, and some used entry but the one left out has its 72 bytes.
-fn name_taken(table: &[u8], but: Option<usize>, name: &[u16; 36]) -> bool
-    requires { length table.now ≡ table_bytes }
+fn name_taken(table: &[u8; TABLE], but: Option<usize>, name: &[u16; 36]) -> bool
     ensures { result ≡ name_taken (without but (entries table.now)) name.now }
 {
     let bytes = gpt_entry::name_bytes(name);
@@ -151,7 +155,7 @@ pub fn rename(
 {
     delete(head, tail, n, shape, number)?;
     refuse_if(gpt_table::bad_name(name), Refusal::BadName)?;
-    let table = gpt_places::entries_in(head, Side::Primary, shape);
+    let table = gpt_places::table_in(head, Side::Primary, shape);
     let own = (number - 1) as usize;
     refuse_if(name_taken(table, Some(own), name), Refusal::NameTaken)
 }
@@ -170,7 +174,7 @@ pub fn resize(
 {
     delete(head, tail, n, shape, number)?;
     refuse_if(size == 0, Refusal::NoSize)?;
-    let table = gpt_places::entries_in(head, Side::Primary, shape);
+    let table = gpt_places::table_in(head, Side::Primary, shape);
     let disk = Disk { shape, n };
     refuse_if(
         !gpt_room::fits_at(
@@ -184,8 +188,7 @@ pub fn resize(
 }
 
 // 22: the unique GUID is zero, or some used entry has it.
-fn taken(table: &[u8], unique: &[u8]) -> bool
-    requires { (length table.now ≡ table_bytes) × (length unique.now ≡ 16) }
+fn taken(table: &[u8; TABLE], unique: &[u8; 16]) -> bool
     ensures { result ≡ (is_zero unique.now or any (carries unique_of unique.now) (entries table.now)) }
 {
     octets::is_zero(unique)
@@ -193,8 +196,7 @@ fn taken(table: &[u8], unique: &[u8]) -> bool
 }
 
 // 24.
-fn full(table: &[u8]) -> bool
-    requires { length table.now ≡ table_bytes }
+fn full(table: &[u8; TABLE]) -> bool
     ensures { result ≡ not (any unused (entries table.now)) }
 {
     gpt_table::first_unused(gpt_table::as_table(table)).is_none()
@@ -208,8 +210,7 @@ fn other_alignment(alignment: u64) -> bool
 }
 
 // 20, 27, 21, 22, 23, 26, 28, 24.
-pub fn new(table: &[u8], p: NewPartition) -> Result<(), Refusal>
-    requires { length table.now ≡ table_bytes }
+pub fn new(table: &[u8; TABLE], p: NewPartition) -> Result<(), Refusal>
     ensures { stop_of result ≡ refusal (add_rows table.now p) }
 {
     refuse_if(p.size == 0, Refusal::NoSize)?;
@@ -226,8 +227,7 @@ pub fn new(table: &[u8], p: NewPartition) -> Result<(), Refusal>
 }
 
 // The same, then 25; and where it starts.
-pub fn place(table: &[u8], disk: Disk, p: NewPartition) -> Result<Block, Refusal>
-    requires { length table.now ≡ table_bytes }
+pub fn place(table: &[u8; TABLE], disk: Disk, p: NewPartition) -> Result<Block, Refusal>
     ensures refused { stop_of result ≡ refusal (table_rows disk.shape.first (last_usable disk.shape disk.n) table.now (add_call p)) }
     ensures start { IfOk result (λ b. start_for disk.shape.first (last_usable disk.shape disk.n) table.now p ≡ some b.0) }
 {
@@ -257,7 +257,7 @@ pub fn add(
     ensures start { IfOk result (λ b. start_for shape.first (last_usable shape n) (table_of shape n head.now tail.now) p ≡ some b.0) }
 {
     opened(head, tail, n, shape)?;
-    let table = gpt_places::entries_in(head, Side::Primary, shape);
+    let table = gpt_places::table_in(head, Side::Primary, shape);
     let disk = Disk { shape, n };
     place(table, disk, p)
 }

@@ -14,8 +14,8 @@ returns-in_err-opened-clause-refused c =
     let w = c.from_residual.ensures in
     handed _ _ w.0 w.1 ∙ open-stops a.shape a.n a.head.now a.tail.now (add a.p) l _ (sym c.in_err-opened.ensures)
 
-pub entries_in-table-requires : goal.entries_in-table-requires
-entries_in-table-requires c =
+pub table_in-table-requires : goal.table_in-table-requires
+table_in-table-requires c =
     let a = c.args in
     ((open-facts a.shape a.n a.head.now a.tail.now (sym c.in_ok-opened.ensures)).head, c.requires)
 
@@ -29,10 +29,10 @@ pub returns-clause-refused : goal.returns-clause-refused
 returns-clause-refused c =
     let a = c.args in
     let l = add-lengths a.p (search rules) (search rules) (search rules) in
-    c.place.ensures.refused ∙ own-rows a.shape a.n a.head.now a.tail.now (sym c.in_ok-opened.ensures) (add a.p) l _ c.entries_in-table.ensures.0
+    c.place.ensures.refused ∙ own-rows a.shape a.n a.head.now a.tail.now (sym c.in_ok-opened.ensures) (add a.p) l _ c.table_in-table.ensures
 
 pub returns-clause-start : goal.returns-clause-start
 returns-clause-start c =
     let a = c.args in
     let o = sym c.in_ok-opened.ensures in
-    IfOk-weaker _ _ _ (λ (b : Block) q. placed-in a.shape a.n a.head.now a.tail.now o _ c.entries_in-table.ensures.0 a.p b.0 q) c.place.ensures.start
+    IfOk-weaker _ _ _ (λ (b : Block) q. placed-in a.shape a.n a.head.now a.tail.now o _ c.table_in-table.ensures a.p b.0 q) c.place.ensures.start

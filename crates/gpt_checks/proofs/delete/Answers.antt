@@ -10,12 +10,12 @@ returns-in_err-opened c =
     let w = c.from_residual.ensures in
     handed _ _ w.0 w.1 ∙ open-stops a.shape a.n a.head.now a.tail.now (delete a.number) refl _ (sym c.in_err-opened.ensures)
 
-pub entries_in-requires : goal.entries_in-requires
-entries_in-requires c =
+pub table_in-requires : goal.table_in-requires
+table_in-requires c =
     let a = c.args in
     ((open-facts a.shape a.n a.head.now a.tail.now (sym c.in_ok-opened.ensures)).head, c.requires)
 
 pub returns : goal.returns
 returns c =
     let a = c.args in
-    c.slot.ensures ∙ own-rows a.shape a.n a.head.now a.tail.now (sym c.in_ok-opened.ensures) (delete a.number) refl _ c.entries_in.ensures.0
+    c.slot.ensures ∙ own-rows a.shape a.n a.head.now a.tail.now (sym c.in_ok-opened.ensures) (delete a.number) refl _ c.table_in.ensures

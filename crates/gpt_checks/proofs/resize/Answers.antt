@@ -16,8 +16,8 @@ returns-in_err-refuse_if c =
     let next = resize-goes_on a.shape a.n a.head.now a.tail.now a.number a.size (sym c.in_ok-delete.ensures) in
     grind (arith, one_row)
 
-pub entries_in-table-requires : goal.entries_in-table-requires
-entries_in-table-requires c =
+pub table_in-table-requires : goal.table_in-table-requires
+table_in-table-requires c =
     let a = c.args in
     let o = delete-open a.shape a.n a.head.now a.tail.now a.number (sym c.in_ok-delete.ensures) in
     ((open-facts a.shape a.n a.head.now a.tail.now o).head, c.requires)
@@ -42,5 +42,5 @@ returns c =
     let a = c.args in
     let next = resize-goes_on a.shape a.n a.head.now a.tail.now a.number a.size (sym c.in_ok-delete.ensures) in
     let o = delete-open a.shape a.n a.head.now a.tail.now a.number (sym c.in_ok-delete.ensures) in
-    let table = c.entries_in-table.ensures.0 ∙ table_is a.shape a.n a.head.now a.tail.now o in
+    let table = c.table_in-table.ensures ∙ table_is a.shape a.n a.head.now a.tail.now o in
     grind (arith, one_row)
