@@ -104,7 +104,7 @@ impl Request {
         gpt_room::run_at(gpt_table::as_table(table), b, self.disk.last_usable())
     }
 
-    // The same; none where the block is taken or not usable.
+    // The same; none where the block is taken or not usable: a count, as the definition `usable_run` has it, and no Option.
     fn usable_run(&self, table: &[u8; TABLE], b: Block) -> u64
         ensures { result ≡ usable_run self.now.disk.shape self.now.disk.n table.now b.0 }
     {

@@ -21,7 +21,7 @@ pub fn partition(p: &[u8]) -> Option<WantedPartition>
     fields::all_fields(p)?.wanted()
 }
 
-// Every part is a partition. b4: a last semicolon may
+// Every part is a partition. b4: a last semicolon may. No `split`: it gives an empty part behind a last semicolon, which does not count.
 fn all_partitions(parts: &[u8]) -> bool
     ensures { result ≡ all is_partition (parts_of parts.now) }
 {

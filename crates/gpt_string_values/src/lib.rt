@@ -98,7 +98,7 @@ pub fn guid_in(v: &[u8]) -> Option<[u8; 16]>
     }
 }
 
-// The type that the value v is the GUID text or the short name of.
+// The type that the value v is the GUID text or the short name of. It stands beside `guid_in`: one function that takes the reader as a closure is longer.
 pub fn type_in(v: &[u8]) -> Option<[u8; 16]>
     ensures { result ≡ cond (is_guid_text (expand v.now)) (Some (type_named v.now)) None }
 {
