@@ -29,6 +29,7 @@ impl From<LayoutFault> for Refusal {
 }
 
 // The image that a layout text describes: its name as a map holds it, its size, its address or 0, and how many sections it has.
+// The address is no Option: the map stores 0 for none (L17, address_of), and read_text says so.
 #[derive(Clone, Copy)]
 pub struct Image {
     pub name: [u8; 32],
@@ -60,7 +61,7 @@ impl From<Area> for SectionRecord {
     }
 }
 
-// The number of what a call answers; 0 where the call is accepted.
+// The number of what a call answers; 0 where the call is accepted. No From: C is handed it for an accepted call too (ZeroIsAccepted).
 pub fn number<T>(answer: &Result<T, Refusal>) -> u32
     ensures { result ≡ code_of (number_of answer.now) }
 {

@@ -1,7 +1,7 @@
 #![tactic(auto)]
 
 // All refusals of a layout text, in their order: 50, the first fault in the text, then 54, 56, 57, 58 and 59 over the whole list; the sections as areas.
-// The sections and their places stand in two lent tables, in the first n rows.
+// The sections and their places stand in two lent tables, in the first n rows; places are written while sections are read, so no struct lends both.
 // An inner crate: no user calls it, so its functions may have a `requires`, which each caller meets.
 ghost use Rattle.std.specs.Prelude.{List, [], ◌≡◌, ℕ, ◌+◌, ◌<◌, Some};
 ghost use Rattle.fmd_head.specs.Refusals.{number_of};

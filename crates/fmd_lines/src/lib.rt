@@ -70,7 +70,7 @@ fn image_line(out: &mut [u8], at: usize, i: &Image) -> usize
     text_out::bytes(out, d, b"\n")
 }
 
-// A line for each section.
+// A line for each section. One loop over a closure for this and those of fmd_records is no plainer: a clause would have to say what each call puts.
 fn section_lines(out: &mut [u8], at: usize, sections: &[SectionRecord]) -> usize
     requires { at + 56 * length sections.now ≤ length out.old }
     ensures { (result ≤ at + 56 * length sections.now) × Puts at (flat (map section_line sections.now)) result out.old out.new }

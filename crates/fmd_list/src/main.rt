@@ -14,6 +14,7 @@ const TEXT: usize = 32769;
 fn read_all<R: Read>(input: &mut R, buf: &mut [u8]) -> io::Result<usize>
     ensures { IfOk result (λ n. IsPrefixLen n buf.new) }
 {
+    // A while: a turn ends where the system does, and no method of Read fills a lent slice as far as the input goes.
     let mut done = 0;
     while done < buf.len() {
         match input.read(&mut buf[done..])? {
