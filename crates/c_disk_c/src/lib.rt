@@ -1,6 +1,7 @@
 #![tactic(auto)]
 
 // The exports of the GPT calls for C: each calls the function of `c_disk` that has its name, and promises what that one promises.
+// One function each stays: the C interface has a name and a signature for each.
 ghost use Rattle.std.specs.Prelude.{◌≡◌, [], ◌∷◌};
 ghost use Rattle.gpt_model.specs.Sizes.{step_by, format_by};
 ghost use Rattle.gpt_model.specs.Calls.{read as read_call, free_counts, repair as repair_call, check as check_call, edit, delete as delete_call};

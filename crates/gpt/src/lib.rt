@@ -20,7 +20,7 @@ use gpt_copies::State;
 use gpt_model::{NewPartition, Rule, Shape};
 use gpt_room::Free;
 
-// The number of a refusal.
+// The number of a refusal. A match stays: W15 gives each case its number, and the edits number_other and number_length_accepted change one arm each.
 pub fn number(a: Refusal) -> u32
     ensures { result ≡ number_of a }
 {

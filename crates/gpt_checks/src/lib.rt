@@ -71,7 +71,7 @@ fn in_range(n: u64, shape: Shape) -> bool
     2 * shape.first <= n && n <= MOST_BLOCKS
 }
 
-// 1, 2.
+// 1, 2. Head, tail, N and shape stand apart up to here: a `Disk` is one that these rows have passed (rows 1 and 2 take any buffers and any N).
 pub fn lent(head: &[u8], tail: &[u8], n: u64, shape: Shape) -> Result<(), Refusal>
     requires { Legal shape }
     ensures { stop_of result ≡ refusal (lent_rows shape n head.now tail.now true) }
@@ -202,7 +202,7 @@ fn full(table: &[u8; TABLE]) -> bool
     gpt_table::first_unused(gpt_table::as_table(table)).is_none()
 }
 
-// 27.
+// 27. By `matches!` the proof does not close: nothing is known of a number in the arm for the rest.
 fn other_alignment(alignment: u64) -> bool
     ensures { result ≡ not (is_alignment alignment) }
 {
