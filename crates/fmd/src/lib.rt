@@ -61,10 +61,11 @@ impl From<Area> for SectionRecord {
     }
 }
 
-// The number of what a call answers; 0 where the call is accepted. No From: C is handed it for an accepted call too (ZeroIsAccepted).
+// The number of what a call answers; 0 where the call is accepted.
 pub fn number<T>(answer: &Result<T, Refusal>) -> u32
     ensures { result ≡ code_of (number_of answer.now) }
 {
+    // No From of a refusal: C is handed the number of an accepted call too (ZeroIsAccepted).
     match answer {
         Ok(_) => 0,
         Err(Refusal::WrongLength) => 1,
