@@ -38,8 +38,7 @@ pub fn format(
     requires { Legal shape }
     ensures { outcome (done_of result) head.new tail.new ≡ format_on shape n guid head.old tail.old }
 {
-    gpt_checks::format(&head[..], &tail[..], n, shape, &guid)?;
-    let disk = Disk { shape, n };
+    let disk = gpt_checks::format(&head[..], &tail[..], n, shape, &guid)?;
     gpt_copies::writing::fresh(head, Side::Primary, disk, &guid);
     gpt_copies::writing::fresh(tail, Side::Backup, disk, &guid);
     Ok(())
@@ -50,8 +49,8 @@ pub fn read(head: &[u8], tail: &[u8], n: u64, shape: Shape) -> Result<State, Ref
     requires { Legal shape }
     ensures { outcome (reading_of result) head.now tail.now ≡ step shape n head.now tail.now read_call }
 {
-    gpt_checks::lent(head, tail, n, shape)?;
-    gpt_copies::reading::state(head, tail, Disk { shape, n }).ok_or(Refusal::NeitherGood)
+    let disk = gpt_checks::lent(head, tail, n, shape)?;
+    gpt_copies::reading::state(head, tail, disk).ok_or(Refusal::NeitherGood)
 }
 
 // Gives a partition's slot back.
@@ -66,8 +65,8 @@ pub fn delete(
     ensures { outcome (done_of result) head.new tail.new
         ≡ step shape n head.old tail.old (edit (delete_call slot)) }
 {
-    gpt_checks::delete(&head[..], &tail[..], n, shape, slot)?;
-    gpt_edits::delete(head, tail, Disk { shape, n }, slot);
+    let disk = gpt_checks::delete(&head[..], &tail[..], n, shape, slot)?;
+    gpt_edits::delete(head, tail, disk, slot);
     Ok(())
 }
 
@@ -83,9 +82,12 @@ pub fn add(
     ensures { outcome (added_of result) head.new tail.new
         ≡ step shape n head.old tail.old (edit (add_call p)) }
 {
-    let first = gpt_checks::add(&head[..], &tail[..], n, shape, p)?;
-    let slot = gpt_edits::add(head, tail, Disk { shape, n }, p, first);
-    Ok(Added { slot, first })
+    let start = gpt_checks::add(&head[..], &tail[..], n, shape, p)?;
+    let slot = gpt_edits::add(head, tail, start.disk, p, start.first);
+    Ok(Added {
+        slot,
+        first: start.first,
+    })
 }
 
 // Sets a partition's last block, for the size asked.
@@ -101,8 +103,8 @@ pub fn resize(
     ensures { outcome (done_of result) head.new tail.new
         ≡ step shape n head.old tail.old (edit (resize_call slot size)) }
 {
-    gpt_checks::resize(&head[..], &tail[..], n, shape, slot, size)?;
-    gpt_edits::resize(head, tail, Disk { shape, n }, slot, size);
+    let disk = gpt_checks::resize(&head[..], &tail[..], n, shape, slot, size)?;
+    gpt_edits::resize(head, tail, disk, slot, size);
     Ok(())
 }
 
@@ -119,8 +121,8 @@ pub fn rename(
     ensures { outcome (done_of result) head.new tail.new
         ≡ step shape n head.old tail.old (edit (rename_call slot name)) }
 {
-    gpt_checks::rename(&head[..], &tail[..], n, shape, slot, &name)?;
-    gpt_edits::rename(head, tail, Disk { shape, n }, slot, &name);
+    let disk = gpt_checks::rename(&head[..], &tail[..], n, shape, slot, &name)?;
+    gpt_edits::rename(head, tail, disk, slot, &name);
     Ok(())
 }
 

@@ -15,6 +15,8 @@ use Rattle.octets.proofs.Bools.{and_l, and_r, and_i, and-t, and-f, and-false-l, 
 use Rattle.octets.proofs.Rows.{pick-none, pick-false}
 use Rattle.gpt_model.specs.Table.{unique_of, partition_name_of, name_bytes, unused, entries}
 use Rattle.gpt_model.specs.Calls.{carries, name_taken}
+use Rattle.gpt_model.specs.Disk.{Shape, in_range}
+use Rattle.gpt_places.specs.Invariants.{Legal, Fits}
 use Rattle.std.specs.Prelude as std
 use Rattle.std.specs.Prelude.{position}
 use Rattle.gpt_table.proofs.Entries.{some-place}
@@ -43,6 +45,13 @@ pub and_true : (a b : Bool) → a ≡ true → (a and b) ≡ b
 and_true a b e = sym (and-t e refl)
 
 pub ruleset one_row = (handed, row_passes, row_ends, and-false-l, and_true, or-il, or-ir, or-false-i)
+
+-- ---- row 2
+
+pub range-passes : (g : Shape) (n : ℕ) {b : Bool} → Legal g → b ≡ in_range g n → none ≡ pick_row (not b) 2 none → Fits g n
+range-passes g n {b} l e p =
+    let w : in_range g n ≡ true = sym e ∙ not_f _ (pick-none (not b) 2 none (sym p)).0 in
+    record { legal = l; least = leb-true _ _ (and_l _ _ w) }
 
 -- ---- rows 12, 13 of a slot
 

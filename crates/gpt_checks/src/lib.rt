@@ -14,7 +14,7 @@ ghost use Rattle.gpt_model.specs.Calls.{lengths_ok, lent_rows, open_rows, format
 ghost use Rattle.gpt_model.specs.Calls.{add as add_call, delete as delete_call, resize as resize_call, rename as rename_call};
 ghost use Rattle.gpt_table.specs.Invariants.{without};
 ghost use Rattle.gpt_places.specs.Invariants.{Legal};
-ghost use Rattle.gpt_checks.specs.Checks.{stop_of};
+ghost use Rattle.gpt_checks.specs.Checks.{stop_of, IsDisk};
 ghost use Rattle.gpt_checks.specs.Refusals.{number_of};
 
 use gpt_copies::State;
@@ -45,6 +45,13 @@ pub enum Refusal {
     NoRoom,
 }
 
+// What an add that no row refuses goes by: the disk, and the first block of the new partition.
+#[derive(Clone, Copy)]
+pub struct Start {
+    pub disk: Disk,
+    pub first: Block,
+}
+
 // Q2: N, its block count, is 68 to 4,294,967,296.
 const MOST_BLOCKS: u64 = 4294967296;
 
@@ -72,12 +79,14 @@ fn in_range(n: u64, shape: Shape) -> bool
 }
 
 // 1, 2. Head, tail, N and shape stand apart up to here: a `Disk` is one that these rows have passed (rows 1 and 2 take any buffers and any N).
-pub fn lent(head: &[u8], tail: &[u8], n: u64, shape: Shape) -> Result<(), Refusal>
+pub fn lent(head: &[u8], tail: &[u8], n: u64, shape: Shape) -> Result<Disk, Refusal>
     requires { Legal shape }
-    ensures { stop_of result ≡ refusal (lent_rows shape n head.now tail.now true) }
+    ensures refused { stop_of result ≡ refusal (lent_rows shape n head.now tail.now true) }
+    ensures disk { IfOk result (IsDisk shape n) }
 {
     refuse_if(!lengths_ok(head, tail, shape), Refusal::WrongLength)?;
-    refuse_if(!in_range(n, shape), Refusal::BlockCount)
+    refuse_if(!in_range(n, shape), Refusal::BlockCount)?;
+    Ok(Disk { shape, n })
 }
 
 // R25: format 1, 2, 3.
@@ -87,23 +96,26 @@ pub fn format(
     n: u64,
     shape: Shape,
     guid: &[u8; 16],
-) -> Result<(), Refusal>
+) -> Result<Disk, Refusal>
     requires { Legal shape }
-    ensures { stop_of result ≡ refusal (format_rows shape n guid.now head.now tail.now) }
+    ensures refused { stop_of result ≡ refusal (format_rows shape n guid.now head.now tail.now) }
+    ensures disk { IfOk result (IsDisk shape n) }
 {
-    lent(head, tail, n, shape)?;
-    refuse_if(octets::is_zero(guid), Refusal::NoDiskGuid)
+    let disk = lent(head, tail, n, shape)?;
+    refuse_if(octets::is_zero(guid), Refusal::NoDiskGuid)?;
+    Ok(disk)
 }
 
 // 1, 2, 10, 11: the copies are both good and the same.
-fn opened(head: &[u8], tail: &[u8], n: u64, shape: Shape) -> Result<(), Refusal>
+fn opened(head: &[u8], tail: &[u8], n: u64, shape: Shape) -> Result<Disk, Refusal>
     requires { Legal shape }
-    ensures { stop_of result ≡ refusal (open_rows shape n head.now tail.now true) }
+    ensures refused { stop_of result ≡ refusal (open_rows shape n head.now tail.now true) }
+    ensures disk { IfOk result (IsDisk shape n) }
 {
-    lent(head, tail, n, shape)?;
-    let disk = Disk { shape, n };
+    let disk = lent(head, tail, n, shape)?;
     let state = gpt_copies::reading::state(head, tail, disk).ok_or(Refusal::NeitherGood)?;
-    refuse_if(state != State::Both, Refusal::NotTheSame)
+    refuse_if(state != State::Both, Refusal::NotTheSame)?;
+    Ok(disk)
 }
 
 // The number of a slot is one of 1 to 128.
@@ -125,12 +137,14 @@ fn slot(table: &[u8; TABLE], number: u64) -> Result<(), Refusal>
 }
 
 // R28: Delete: 1, 2, 10, 11, 12, 13.
-pub fn delete(head: &[u8], tail: &[u8], n: u64, shape: Shape, number: u64) -> Result<(), Refusal>
+pub fn delete(head: &[u8], tail: &[u8], n: u64, shape: Shape, number: u64) -> Result<Disk, Refusal>
     requires { Legal shape }
-    ensures { stop_of result ≡ refusal (rows_of shape n head.now tail.now (edit (delete_call number))) }
+    ensures refused { stop_of result ≡ refusal (rows_of shape n head.now tail.now (edit (delete_call number))) }
+    ensures disk { IfOk result (IsDisk shape n) }
 {
-    opened(head, tail, n, shape)?;
-    slot(gpt_places::table_in(head, Side::Primary, shape), number)
+    let disk = opened(head, tail, n, shape)?;
+    slot(gpt_places::table_in(head, Side::Primary, shape), number)?;
+    Ok(disk)
 }
 
 // 26: the name is not empty, and some used entry but the one left out has its 72 bytes.
@@ -149,15 +163,17 @@ pub fn rename(
     shape: Shape,
     number: u64,
     name: &[u16; 36],
-) -> Result<(), Refusal>
+) -> Result<Disk, Refusal>
     requires { Legal shape }
-    ensures { stop_of result ≡ refusal (rows_of shape n head.now tail.now (edit (rename_call number name.now))) }
+    ensures refused { stop_of result ≡ refusal (rows_of shape n head.now tail.now (edit (rename_call number name.now))) }
+    ensures disk { IfOk result (IsDisk shape n) }
 {
-    delete(head, tail, n, shape, number)?;
+    let disk = delete(head, tail, n, shape, number)?;
     refuse_if(gpt_table::bad_name(name), Refusal::BadName)?;
     let table = gpt_places::table_in(head, Side::Primary, shape);
     let own = (number - 1) as usize;
-    refuse_if(name_taken(table, Some(own), name), Refusal::NameTaken)
+    refuse_if(name_taken(table, Some(own), name), Refusal::NameTaken)?;
+    Ok(disk)
 }
 
 // R30: Resize as delete, then 20, 25. The room is asked before a last block is formed, so no size is too large.
@@ -168,14 +184,14 @@ pub fn resize(
     shape: Shape,
     number: u64,
     size: u64,
-) -> Result<(), Refusal>
+) -> Result<Disk, Refusal>
     requires { Legal shape }
-    ensures { stop_of result ≡ refusal (rows_of shape n head.now tail.now (edit (resize_call number size))) }
+    ensures refused { stop_of result ≡ refusal (rows_of shape n head.now tail.now (edit (resize_call number size))) }
+    ensures disk { IfOk result (IsDisk shape n) }
 {
-    delete(head, tail, n, shape, number)?;
+    let disk = delete(head, tail, n, shape, number)?;
     refuse_if(size == 0, Refusal::NoSize)?;
     let table = gpt_places::table_in(head, Side::Primary, shape);
-    let disk = Disk { shape, n };
     refuse_if(
         !gpt_room::fits_at(
             gpt_table::as_table(table),
@@ -184,7 +200,8 @@ pub fn resize(
             size,
         ),
         Refusal::NoRoom,
-    )
+    )?;
+    Ok(disk)
 }
 
 // 22: the unique GUID is zero, or some used entry has it.
@@ -251,13 +268,14 @@ pub fn add(
     n: u64,
     shape: Shape,
     p: NewPartition,
-) -> Result<Block, Refusal>
+) -> Result<Start, Refusal>
     requires { Legal shape }
     ensures refused { stop_of result ≡ refusal (rows_of shape n head.now tail.now (edit (add_call p))) }
-    ensures start { IfOk result (λ b. start_for shape.first (last_usable shape n) (table_of shape n head.now tail.now) p ≡ some b.0) }
+    ensures disk { IfOk result (λ s. IsDisk shape n s.disk) }
+    ensures start { IfOk result (λ s. start_for shape.first (last_usable shape n) (table_of shape n head.now tail.now) p ≡ some s.first.0) }
 {
-    opened(head, tail, n, shape)?;
+    let disk = opened(head, tail, n, shape)?;
     let table = gpt_places::table_in(head, Side::Primary, shape);
-    let disk = Disk { shape, n };
-    place(table, disk, p)
+    let first = place(table, disk, p)?;
+    Ok(Start { disk, first })
 }

@@ -80,8 +80,8 @@ fn build_on(
     ensures { outcome (build_answer result) head.new tail.new
         ≡ build_string shape n alignment text.now head.old tail.old }
 {
-    gpt_checks::lent(&head[..], &tail[..], n, shape)?;
-    write(head, tail, Disk { shape, n }, alignment, text)
+    let disk = gpt_checks::lent(&head[..], &tail[..], n, shape)?;
+    write(head, tail, disk, alignment, text)
 }
 
 // Makes head and tail of the layout string `text`. Without a start, a partition begins at the lowest multiple of the alignment with room enough.

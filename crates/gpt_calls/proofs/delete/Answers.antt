@@ -1,17 +1,22 @@
-use mathlib.Core.Path.{sym}
-use Rattle.gpt_model.specs.Calls.{edit, delete}
-use Rattle.gpt_checks.proofs.Judged.{edit-facts}
+use mathlib.Core.Path.{sym, ap₂, ◌∙◌}
+use Prim.Native.Nat.{ℕ}
+use Rattle.gpt_model.specs.Disk.{Shape}
+use Rattle.gpt_model.specs.Calls.{edit, delete, step}
 use Rattle.gpt_calls.proofs.Refusals.{stops}
-use borrow.Author.Rules.{rules}
 use Rattle.gpt_calls.proofs.delete.Goals as goal
 
-pub returns-in_err-delete : goal.returns-in_err-delete
-returns-in_err-delete c =
+pub returns-in_err-disk : goal.returns-in_err-disk
+returns-in_err-disk c =
     let a = c.args in
-    stops a.shape a.n a.head.now a.tail.now _ (edit (delete a.slot)) _ _ c.from_residual.ensures c.in_err-delete.ensures
+    stops a.shape a.n a.head.now a.tail.now _ (edit (delete a.slot)) _ _ c.from_residual.ensures c.in_err-disk.ensures.refused
 
-pub invariant_of-delete : goal.invariant_of-delete
-invariant_of-delete c =
+pub delete-requires-2 : goal.delete-requires-2
+delete-requires-2 c =
+    let is = c.in_ok-disk.ensures.disk in
+    rw (is.0, is.1) (sym c.in_ok-disk.ensures.refused)
+
+pub returns : goal.returns
+returns c =
     let a = c.args in
-    let f = edit-facts a.shape a.n a.head.now a.tail.now (delete a.slot) (sym c.in_ok-delete.ensures) in
-    record { fits = record { legal = search rules; least = f.least } }
+    let is = c.in_ok-disk.ensures.disk in
+    c.delete-2.ensures ∙ ap₂ (λ (g : Shape) (n : ℕ). step g n a.head.now a.tail.now (edit (delete a.slot))) is.0 is.1

@@ -1,17 +1,22 @@
-use mathlib.Core.Path.{sym}
-use Rattle.gpt_model.specs.Calls.{edit, rename}
-use Rattle.gpt_checks.proofs.Judged.{edit-facts}
+use mathlib.Core.Path.{sym, ap₂, ◌∙◌}
+use Prim.Native.Nat.{ℕ}
+use Rattle.gpt_model.specs.Disk.{Shape}
+use Rattle.gpt_model.specs.Calls.{edit, rename, step}
 use Rattle.gpt_calls.proofs.Refusals.{stops}
-use borrow.Author.Rules.{rules}
 use Rattle.gpt_calls.proofs.rename.Goals as goal
 
-pub returns-in_err-rename : goal.returns-in_err-rename
-returns-in_err-rename c =
+pub returns-in_err-disk : goal.returns-in_err-disk
+returns-in_err-disk c =
     let a = c.args in
-    stops a.shape a.n a.head.now a.tail.now _ (edit (rename a.slot a.name)) _ _ c.from_residual.ensures c.in_err-rename.ensures
+    stops a.shape a.n a.head.now a.tail.now _ (edit (rename a.slot a.name)) _ _ c.from_residual.ensures c.in_err-disk.ensures.refused
 
-pub invariant_of-rename : goal.invariant_of-rename
-invariant_of-rename c =
+pub rename-requires-2 : goal.rename-requires-2
+rename-requires-2 c =
+    let is = c.in_ok-disk.ensures.disk in
+    rw (is.0, is.1) (sym c.in_ok-disk.ensures.refused)
+
+pub returns : goal.returns
+returns c =
     let a = c.args in
-    let f = edit-facts a.shape a.n a.head.now a.tail.now (rename a.slot a.name) (sym c.in_ok-rename.ensures) in
-    record { fits = record { legal = search rules; least = f.least } }
+    let is = c.in_ok-disk.ensures.disk in
+    c.rename-2.ensures ∙ ap₂ (λ (g : Shape) (n : ℕ). step g n a.head.now a.tail.now (edit (rename a.slot a.name))) is.0 is.1

@@ -1,17 +1,22 @@
-use mathlib.Core.Path.{sym}
-use Rattle.gpt_model.specs.Calls.{edit, resize}
-use Rattle.gpt_checks.proofs.Judged.{edit-facts}
+use mathlib.Core.Path.{sym, ap₂, ◌∙◌}
+use Prim.Native.Nat.{ℕ}
+use Rattle.gpt_model.specs.Disk.{Shape}
+use Rattle.gpt_model.specs.Calls.{edit, resize, step}
 use Rattle.gpt_calls.proofs.Refusals.{stops}
-use borrow.Author.Rules.{rules}
 use Rattle.gpt_calls.proofs.resize.Goals as goal
 
-pub returns-in_err-resize : goal.returns-in_err-resize
-returns-in_err-resize c =
+pub returns-in_err-disk : goal.returns-in_err-disk
+returns-in_err-disk c =
     let a = c.args in
-    stops a.shape a.n a.head.now a.tail.now _ (edit (resize a.slot a.size)) _ _ c.from_residual.ensures c.in_err-resize.ensures
+    stops a.shape a.n a.head.now a.tail.now _ (edit (resize a.slot a.size)) _ _ c.from_residual.ensures c.in_err-disk.ensures.refused
 
-pub invariant_of-resize : goal.invariant_of-resize
-invariant_of-resize c =
+pub resize-requires-2 : goal.resize-requires-2
+resize-requires-2 c =
+    let is = c.in_ok-disk.ensures.disk in
+    rw (is.0, is.1) (sym c.in_ok-disk.ensures.refused)
+
+pub returns : goal.returns
+returns c =
     let a = c.args in
-    let f = edit-facts a.shape a.n a.head.now a.tail.now (resize a.slot a.size) (sym c.in_ok-resize.ensures) in
-    record { fits = record { legal = search rules; least = f.least } }
+    let is = c.in_ok-disk.ensures.disk in
+    c.resize-2.ensures ∙ ap₂ (λ (g : Shape) (n : ℕ). step g n a.head.now a.tail.now (edit (resize a.slot a.size))) is.0 is.1

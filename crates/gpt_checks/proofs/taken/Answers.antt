@@ -1,4 +1,3 @@
-use borrow.Author.Rules.{rules}
 use mathlib.Core.Path.{sym, ◌∙◌}
 use Rattle.octets.proofs.Bools.{or-t, or-f}
 use Rattle.gpt_checks.proofs.Rows.{unique-is}
@@ -10,4 +9,4 @@ returns-then-is_zero c = c.if-is_zero.true ∙ or-t _ (sym c.is_zero.ensures ∙
 pub returns-else-is_zero : goal.returns-else-is_zero
 returns-else-is_zero c =
     let a = c.args in
-    or-f (sym c.is_zero.ensures ∙ c.if-is_zero.false) (unique-is a.table.now a.unique.now _ _ (search rules) c.as_table.ensures c.carried.ensures)
+    or-f (sym c.is_zero.ensures ∙ c.if-is_zero.false) (unique-is a.table.now a.unique.now _ _ c.told-unique c.as_table.ensures c.carried.ensures)
