@@ -3,6 +3,7 @@
 // The shape of a disk by its block size, and where header and table of each copy lie in head and tail on a disk of a shape; in `header` the header writer
 // and the header's judge. Everything is in the words of gpt_model.
 // An inner crate: no user calls it, so its functions may have a `requires`, which each caller meets.
+// `Legal shape` stays a `requires`: theorems range over `Shape`; a type with a model over it did not prove, as a field of `Disk` passed by value.
 mod disk;
 pub mod header;
 
