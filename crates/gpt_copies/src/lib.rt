@@ -2,7 +2,7 @@
 
 // The two copies of header and table on a disk: what reading finds, and the writers of a copy. Everything is in the words of gpt_model.
 // An inner crate: no user calls it, so its functions may have a `requires`, which each caller meets.
-// That head and tail are as long as the disk's shape says stays a `requires`: C lends slices of any length, and the length is a number of the shape, no array's.
+// That head and tail are as long as the shape says stays a `requires`: C lends slices of any length, and no array type has a shape's length.
 pub mod reading;
 pub mod writing;
 
