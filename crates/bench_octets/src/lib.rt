@@ -1,7 +1,7 @@
 #![tactic(auto)]
 
 // The byte functions of `octets`, exported for the benchmark alone: each guards what its callee requires, and answers 0 where that fails.
-// No user calls it.
+// No user calls it. For C a truth is a number.
 fn number(b: bool) -> u32 {
     if b { 1 } else { 0 }
 }

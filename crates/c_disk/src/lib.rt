@@ -87,7 +87,7 @@ fn place(
     Ok(())
 }
 
-// The rule of a number.
+// The rule of a number, as C names it.
 fn rule_of(rule: u64) -> Rule
     ensures { result ≡ rule_numbered rule }
 {

@@ -60,7 +60,7 @@ pub extern "C" fn usi_fmap_fault(image: &[u8], position: u64, rule: &mut u64) ->
     }
 }
 
-// Writes the area that was found.
+// Writes the area that was found. A slice of 42 bytes: the length is judged by the export, whose line an edit changes (fmap_area_other_length).
 fn area_found(found: Result<Option<Area>, NoMap>, area: &mut [u8]) -> u32
     requires { length area.old ≡ 42 }
     ensures { record { result = result; buffer = area.new } ≡ looked_effect area.old (looked found) }

@@ -9,6 +9,7 @@ ghost use Rattle.c_disk.specs.Effects.{result_of, gpt_effect};
 
 use gpt_build::Refusal;
 
+// For C a refusal is its number.
 fn number(r: Refusal) -> u32
     ensures { result ≡ number_of r }
 {

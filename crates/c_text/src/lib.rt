@@ -16,6 +16,7 @@ pub extern "C" fn usi_crc32(bytes: &[u8]) -> u32
     crc32::crc32(bytes)
 }
 
+// For C a number: 0 where the call is accepted, else its refusal's.
 fn code(answer: Result<(), Refusal>) -> u32
     ensures { result ≡ code_of (number_of answer) }
 {

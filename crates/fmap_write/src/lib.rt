@@ -8,7 +8,7 @@ ghost use Rattle.fmap_rules.specs.Written.{area_bytes, map_bytes};
 
 use fmap_rules::Area;
 
-// An area's 42 bytes.
+// An area's 42 bytes, at a place of the slice, as `octets::copy` and `octets::store` take it.
 pub fn put_area(to: &mut [u8], at: usize, a: Area)
     requires { at + 42 ≤ length to.old }
     ensures { (to.new ≡ put at (area_bytes a) to.old) × (length (area_bytes a) ≡ 42) }

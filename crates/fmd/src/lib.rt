@@ -95,7 +95,7 @@ fn need_length(length: usize, needed: usize) -> Result<(), Refusal>
     Ok(())
 }
 
-// Reads a layout text.
+// Reads a layout text. The tables' three lines stand in each call: a helper over a closure has to hold tables, captures and result, and is no plainer.
 pub fn read(text: &[u8]) -> Result<Image, Refusal>
     ensures { reading result ≡ read_text text.now }
 {

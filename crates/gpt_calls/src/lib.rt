@@ -156,7 +156,7 @@ fn side_used(state: State) -> Side
     }
 }
 
-// The 16,384 entry bytes of that copy, inside the head or the tail.
+// The 16,384 entry bytes of that copy, inside the head or the tail: a slice, since std's `as_array` does not tell where its part lies (D11).
 fn used_table<'a>(head: &'a [u8], tail: &'a [u8], shape: Shape, state: State) -> &'a [u8]
     requires { (lengths_ok shape head.now tail.now ≡ true) × Legal shape }
     ensures part { handed result.now result.ref_ptr ≡ entries_of shape head.now tail.now head.entry.ref_ptr tail.entry.ref_ptr (Ok state) }

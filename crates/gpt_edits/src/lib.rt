@@ -22,6 +22,7 @@ pub fn delete(head: &mut [u8], tail: &mut [u8], disk: Disk, slot: u64)
     gpt_copies::writing::put_both(head, tail, disk, (slot - 1) as usize, &none);
 }
 
+// It shares no function with `resize`: the contract of a closure for the entry is longer than the four lines.
 pub fn rename(head: &mut [u8], tail: &mut [u8], disk: Disk, slot: u64, name: &[u16; 36])
     requires { refusal (rows_of disk.shape disk.n head.old tail.old (edit (rename_call slot name.now))) ≡ none }
     ensures { outcome (accepted []) head.new tail.new

@@ -55,7 +55,7 @@ impl Fields {
         }
     }
 
-    // One field more. b4: fields come in any order, each once
+    // One field more. b4: fields come in any order, each once. (A `match` on the key's bytes is not proved: its arms know nothing of the text.)
     fn take(&mut self, field: &[u8]) -> Option<()>
         ensures { Takes field.now self.old result self.new }
     {

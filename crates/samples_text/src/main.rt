@@ -59,6 +59,7 @@ fn print_read(rt: &impl Print, answer: Result<(), Refusal>, guid: &[u8]) -> io::
     print_out::bytes(rt, b"\n")
 }
 
+// It shares no function with `type_line`: the reader as a parameter needs a contract of its own.
 fn guid_line(rt: &impl Print, text: &[u8]) -> io::Result<()> {
     print_out::bytes(rt, b"guid ")?;
     print_out::bytes(rt, text)?;
