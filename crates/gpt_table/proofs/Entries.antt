@@ -163,3 +163,9 @@ module _ (s : List ℕ → Bool) where
   pub some-passes : (but : Option ℕ) (es : List (List ℕ)) → list_any (tried but) (enumerate_from 0 es) ≡ any passes (without but es)
   some-passes None es = some-of None 0 es (λ k h. refl)
   some-passes (Some k) es = some-at k 0 es k (omega arith)
+
+-- ---- what the trace names
+
+-- a table has an unused entry exactly where the lowest one stands below 128
+pub some-unused : (t : List ℕ) → any unused (entries t) ≡ ltb (find_ix unused (entries t)) 128
+some-unused t = some-found unused (entries t) ∙ ap (ltb (find_ix unused (entries t))) (length-entries t)
