@@ -7,15 +7,15 @@ use Prim.Native.Nat.{ℕ, ◌≤◌, ◌<◌}
 use native.Mathlib.Omega.{arith}
 use lib.Dec.{leb, eqb}
 use lib.ListN.{length}
-use borrow.Author.Tests.{eqb-false, leb-true}
+use borrow.Author.Tests.{eq-eqb, ne_eqb, eqb-false, leb-true}
 use Rattle.octets.specs.Tests.{◌and◌, any}
 use Rattle.octets.specs.Bytes.{part, is_zero}
-use Rattle.octets.specs.Rows.{pick_row}
+use Rattle.octets.specs.Rows.{pick_row, refusal}
 use Rattle.octets.proofs.Bools.{and_l, and_r, and_i, and-t, and-f, and-false-l, some-none, or-il, or-ir, or-false-i, not_f, bool_cases}
-use Rattle.octets.proofs.Rows.{pick-none, pick-false}
+use Rattle.octets.proofs.Rows.{pick-none, pick_true, pick-false}
 use Rattle.gpt_model.specs.Table.{unique_of, partition_name_of, name_bytes, unused, entries}
-use Rattle.gpt_model.specs.Calls.{carries, name_taken}
-use Rattle.gpt_model.specs.Disk.{Shape, in_range}
+use Rattle.gpt_model.specs.Calls.{lent_rows, carries, name_taken}
+use Rattle.gpt_model.specs.Disk.{Shape, primary, backup, lent_bytes, in_range}
 use Rattle.gpt_places.specs.Invariants.{Legal, Fits}
 use Rattle.std.specs.Prelude as std
 use Rattle.std.specs.Prelude.{position}
@@ -92,3 +92,14 @@ module _ (ds : List (List ℕ)) (name x : List ℕ) (e : x ≡ name_bytes name) 
   name_is l z b q =
       and-t (ap not (sym (ap is_zero e) ∙ z))
       (q ∙ ap (λ (k : ℕ). any (carries (part 56 k) x) ds) l ∙ ap (λ (y : List ℕ). any (carries partition_name_of y) ds) e)
+
+-- ---- what the trace names: row 1 of the lent buffers
+
+module _ (g : Shape) (n : ℕ) (h t : List ℕ) where
+  pub head-wrong : (length h ≡ lent_bytes g primary → ⊥) → some 1 ≡ refusal (lent_rows g n h t true)
+  unfolding ◌and◌
+  head-wrong f = sym (pick_true _ 1 _ (rw (ne_eqb (length h) (lent_bytes g primary) f)))
+
+  pub tail-wrong : length h ≡ lent_bytes g primary → (length t ≡ lent_bytes g backup → ⊥) → some 1 ≡ refusal (lent_rows g n h t true)
+  unfolding ◌and◌
+  tail-wrong e f = sym (pick_true _ 1 _ (rw (eq-eqb (length h) (lent_bytes g primary) e, ne_eqb (length t) (lent_bytes g backup) f)))

@@ -11,12 +11,13 @@ use lib.ListN.{set}
 use Rattle.octets.specs.Tests.{◌and◌}
 use Rattle.gpt_model.specs.Ranges.{block_in, in_none, MultipleOf, all_from, lowest_from, room_at, lowest_start, count_from, free_count, run_from}
 use Rattle.gpt_model.specs.Ranges.{longest as longest_of, longest_free}
-use Rattle.gpt_model.specs.Table.{BlockRange, no_blocks, range_of}
+use Rattle.gpt_model.specs.Table.{BlockRange, no_blocks, range_of, entries, ranges_of}
 use Rattle.gpt_model.proofs.Entries.{map-set}
 use Rattle.gpt_model.proofs.Multiples.{Up, up_is}
 use Rattle.gpt_model.proofs.Walk.{Low, low-start, low-over, low-gap, low-found, low-none, Counted, Longest, counted_start, longest-start, counted-over}
 use Rattle.gpt_model.proofs.Walk.{longest-over, counted-gap, longest-step, counted-end, longest-end}
-use Rattle.gpt_table.specs.Invariants.{blocks_of, InOrder}
+use Rattle.gpt_table.specs.Invariants.{blocks_of, without, InOrder}
+use Rattle.std.specs.Prelude.{None}
 use Rattle.gpt_table.specs.declared.order.Range.{Range}
 use Rattle.gpt_table.proofs.Used.{lies-used, slot-nil}
 use Rattle.gpt_table.proofs.Good.{some_in_order}
@@ -122,3 +123,8 @@ pub tallied-full : {s : List BlockRange} {first last n m a x : ℕ} → Tallied 
     → record { blocks = n; longest = m } ≡ free_of s first last
 tallied-full {s} {first} {last} {n} {m} {a} {x} k al h w =
     tallied-end (tallied-over k (le_refl last) (record { from = al; taken = λ c p q. w.taken c p (omega arith) })) (omega arith)
+
+-- ---- what the trace names: with no slot left out, the blocks free are those in no range of the table
+
+pub free_all : (t : List ℕ) {rs : List Range} → InOrder (without None (entries t)) rs → in_none (map blocks_of rs) ≡ in_none (ranges_of t)
+free_all t w = free-ranges (entries t) w
