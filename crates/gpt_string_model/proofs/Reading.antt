@@ -266,3 +266,28 @@ module _ (f : List ℕ) (gs : List (List ℕ)) where
 pub fields-are : (fs : List (List ℕ)) → are_fields fs ≡ (are_once fs and are_complete fs)
 unfolding are_fields
 fields-are fs = refl
+
+-- ---- the parts from the place i of a text on; e is the place of the next byte c, or the text's length
+
+behind : (i e : ℕ) (text : List ℕ) → i ≤ e → drop (suc (e - i)) (drop i text) ≡ drop (e + 1) text
+behind i e text h = drop-drop (suc (e - i)) i text ∙ at (i + suc (e - i)) (e + 1) (omega arith)
+  where
+    at : (j k : ℕ) → j ≡ k → drop j text ≡ drop k text
+    at j k q = ap (λ (n : ℕ). drop n text) q
+
+whole : (i e : ℕ) (text : List ℕ) → e ≡ length text → drop i text ≡ take (e - i) (drop i text)
+whole i e text q = sym (take_all (e - i) (drop i text) (omega (arith, length-drop i text)))
+
+module _ (c : ℕ) (text : List ℕ) (i e : ℕ) (p : e ≡ i + next_in c (drop i text)) where
+  pub parts_last : i < length text → e ≡ length text → closed (split c (drop i text)) ≡ take (e - i) (drop i text) ∷ []
+  parts_last h q =
+      closed-last c (drop i text) (omega (arith, length-drop i text)) (omega (arith, length-drop i text))
+      ∙ ap (λ (r : List ℕ). r ∷ []) (whole i e text q)
+
+  pub parts-on : e < length text → closed (split c (drop i text)) ≡ take (e - i) (drop i text) ∷ closed (split c (drop (e + 1) text))
+  parts-on l =
+      closed_on c (drop i text) (e - i) (omega arith) (omega (arith, length-drop i text))
+      ∙ ap (λ (r : List ℕ). take (e - i) (drop i text) ∷ closed (split c r)) (behind i e text (omega arith))
+
+pub parts-end : (c : ℕ) (text : List ℕ) (i : ℕ) → length text ≤ i → closed (split c (drop i text)) ≡ []
+parts-end c text i h = ap (λ (r : List ℕ). closed (split c r)) (drop_of_length-le text {i = i} h) ∙ closed-nil c

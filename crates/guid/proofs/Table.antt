@@ -3,8 +3,9 @@ use mathlib.Core.Path.{◌≡◌, refl, ap}
 use mathlib.Core.Bool.{true, false, false≢true}
 use mathlib.Core.List.{List, [], ◌∷◌, map}
 use mathlib.Core.Logic.{◌⊎◌, inl, inr}
-use Prim.Native.Nat.{ℕ}
-use lib.ListN.{get_or}
+use Prim.Native.Nat.{ℕ, zero, suc, ◌<◌}
+use native.Mathlib.Nat.{not-suc-le-zero, le_of_suc-le-suc}
+use lib.ListN.{length, get_or}
 use Rattle.std.specs.Prelude.{Option, Some, None, MatchOption}
 use Rattle.std.specs.Option.{option_map}
 use Rattle.std.specs.List.{find}
@@ -20,10 +21,10 @@ use Rattle.guid.specs.Table.{entry_agrees, entries_agree, table_agrees}
 use Rattle.guid.specs.declared.ShortType.{ShortType}
 
 -- what the test of one entry says
-record Entry (c : ShortType) (s : ShortName) : Type 0 where
-  name : c.name.now ≡ s.name
-  text : is_guid_text s.text ≡ true
-  guid : c.guid ≡ stored_of s.text
+pub record Entry (c : ShortType) (s : ShortName) : Type 0 where
+  pub name : c.name.now ≡ s.name
+  pub text : is_guid_text s.text ≡ true
+  pub guid : c.guid ≡ stored_of s.text
 
 entry : (c : ShortType) (s : ShortName) → entry_agrees c s ≡ true → Entry c s
 entry c s e = record { name = same_true _ _ (and_l _ _ e); text = and_l _ _ (and_r _ _ e); guid = same_true _ _ (and_r _ _ (and_r _ _ e)) }
@@ -91,3 +92,23 @@ module _ (t : List ℕ) where
           (λ x. Some x ≡ then_some (is_guid_text (taken short_names)) (stored_of (taken short_names)))
       go None w = w
       go (Some s) w = rw (w.0, w.1)
+
+-- ---- the rule at each entry
+
+entries : (cs : List ShortType) (ss : List ShortName) (c : ShortType) (s : ShortName) → entries_agree cs ss ≡ true
+    → (i : ℕ) → i < length ss → Entry (get_or cs i c) (get_or ss i s)
+entries cs [] c s e i h = absurd (not-suc-le-zero h)
+entries [] (y ∷ ss) c s e i h = absurd (false≢true e)
+entries (x ∷ cs) (y ∷ ss) c s e zero h = entry x y (and_l _ _ e)
+entries (x ∷ cs) (y ∷ ss) c s e (suc i) h = entries cs ss c s (and_r _ _ e) i (le_of_suc-le-suc h)
+
+-- what stands past the end of the table, and of the list
+abbrev pub no_type : ShortType
+no_type = record { name = record { ref_ptr = (0, 0); now = [] }; guid = [] }
+
+abbrev pub no_name : ShortName
+no_name = record { name = []; text = [] }
+
+pub entry_at : (cs : List ShortType) → table_agrees cs ≡ true → (i : ℕ) → i < 5 → Entry (get_or cs i no_type) (get_or short_names i no_name)
+unfolding table_agrees
+entry_at cs e i h = entries cs short_names no_type no_name e i h
