@@ -1,11 +1,7 @@
 #![tactic(auto)]
 
 // The byte functions of `octets`, exported for the benchmark alone: each guards what its callee requires, and answers 0 where that fails.
-// No user calls it. For C a truth is a number.
-fn number(b: bool) -> u32 {
-    if b { 1 } else { 0 }
-}
-
+// No user calls it.
 #[unsafe(no_mangle)]
 pub extern "C" fn usi_bench_load64(s: &[u8], at: u64) -> u64 {
     let i = at as usize;
@@ -33,12 +29,12 @@ pub extern "C" fn usi_bench_store64(s: &mut [u8], at: u64, v: u64) -> u32 {
 
 #[unsafe(no_mangle)]
 pub extern "C" fn usi_bench_is_zero(s: &[u8]) -> u32 {
-    number(octets::is_zero(s))
+    u32::from(octets::is_zero(s))
 }
 
 #[unsafe(no_mangle)]
 pub extern "C" fn usi_bench_same(a: &[u8], b: &[u8]) -> u32 {
-    number(octets::same(a, b))
+    u32::from(octets::same(a, b))
 }
 
 #[unsafe(no_mangle)]

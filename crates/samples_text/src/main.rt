@@ -49,33 +49,35 @@ fn more_crc_samples(rt: &impl Print) -> io::Result<()> {
     )
 }
 
-// The stored bytes, or the refusal.
-fn print_read(rt: &impl Print, answer: Result<(), Refusal>, guid: &[u8]) -> io::Result<()> {
+// A text that was read: the stored bytes, or the refusal.
+fn read_line(
+    rt: &impl Print,
+    word: &[u8],
+    text: &[u8],
+    answer: Result<(), Refusal>,
+    stored: &[u8],
+) -> io::Result<()> {
+    print_out::bytes(rt, word)?;
+    print_out::bytes(rt, text)?;
+    print_out::bytes(rt, b" ")?;
     match answer {
-        Ok(()) => print_out::hex(rt, guid)?,
+        Ok(()) => print_out::hex(rt, stored)?,
         Err(Refusal::WrongLength) => print_out::bytes(rt, b"refused 1")?,
         Err(Refusal::NotGuidText) => print_out::bytes(rt, b"refused 30")?,
     }
     print_out::bytes(rt, b"\n")
 }
 
-// It shares no function with `type_line`: the reader as a parameter needs a contract of its own.
 fn guid_line(rt: &impl Print, text: &[u8]) -> io::Result<()> {
-    print_out::bytes(rt, b"guid ")?;
-    print_out::bytes(rt, text)?;
-    print_out::bytes(rt, b" ")?;
     let mut stored = [0u8; 16];
     let answer = guid::read(text, &mut stored);
-    print_read(rt, answer, &stored)
+    read_line(rt, b"guid ", text, answer, &stored)
 }
 
 fn type_line(rt: &impl Print, text: &[u8]) -> io::Result<()> {
-    print_out::bytes(rt, b"type ")?;
-    print_out::bytes(rt, text)?;
-    print_out::bytes(rt, b" ")?;
     let mut stored = [0u8; 16];
     let answer = guid::read_type(text, &mut stored);
-    print_read(rt, answer, &stored)
+    read_line(rt, b"type ", text, answer, &stored)
 }
 
 fn text_line(rt: &impl Print, stored: &[u8]) -> io::Result<()> {
