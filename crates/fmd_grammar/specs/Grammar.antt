@@ -63,7 +63,8 @@ mutual
   -- L2: A section: name, optional flags .., optional @offset .., optional size, optional braces.
   -- `good_name` of fmd_lex says which words are names (L6). A section says itself and, after it, the sections in its braces.
   pub data SectionTree (most deepest : ℕ) : ℕ → ℕ → ℕ → List Lexeme → List Section → Type 0 where
-    section : {level parent before place : ℕ} {name : List ℕ} {fs os zs bs : List Lexeme} {c p : Bool} {o : Option ParentOffset} {z : Option ℕ} {l : List Section}
+    section : {level parent before place : ℕ} {name : List ℕ} {fs os zs bs : List Lexeme} {c p : Bool}
+        {o : Option ParentOffset} {z : Option ℕ} {l : List Section}
         → good_name name ≡ true → before < most → level ≤ deepest → OptionalFlags fs c p → OptionalOffset os o → OptionalSize zs z
         → OptionalBraces most deepest (level + 1) before (before + 1) bs l
         → SectionTree most deepest level parent before (word place name ∷ (fs ++ (os ++ (zs ++ bs))))
