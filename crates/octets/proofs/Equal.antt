@@ -2,17 +2,20 @@
 use mathlib.Core.Path.{◌≡◌, refl, sym, ap, ap₂, ◌∙◌}
 use mathlib.Core.Bool.{Bool, true, false, ◌&&◌, false≢true}
 use mathlib.Core.List.{List, [], ◌∷◌, ◌++◌}
-use Prim.Native.Nat.{ℕ, zero, suc, ◌+◌, ◌≤◌, ◌<◌}
+use Prim.Native.Nat.{ℕ, zero, suc, ◌+◌, ◌*◌, ◌≤◌, ◌<◌}
+use native.Mathlib.Nat.{suc-mul, zero-mul}
 use native.Mathlib.Omega.{arith}
 use lib.Dec.{eqb, eqb-suc-zero, eqb-zero-suc}
-use lib.ListN.{length, get_or}
+use lib.ListN.{length, get_or, take, drop, take-append-drop}
+use lib.Seq.{drop-drop}
 use borrow.Author.Tests.{eqb-true, eq-eqb}
 use Rattle.std.specs.Cmp.Lexicographic.{pointwise}
 use Rattle.std.specs.List.{fold}
+use Rattle.std.specs.Simd.{first_chunks}
 use Rattle.std.specs.Int.RustNames.{bit_or}
 use Rattle.std.specs.Int.Bits.{or_zero_l}
 use Rattle.std.proofs.lemmas.Nat.{le_or_l}
-use Rattle.octets.specs.Tests.{◌and◌}
+use Rattle.octets.specs.Tests.{◌and◌, all}
 use Rattle.octets.specs.Bytes.{part, field, zeros, is_zero, same}
 use Rattle.octets.proofs.Bools.{and_l, and_r, and_i}
 use Rattle.octets.proofs.Numbers.{unle-inj}
@@ -98,3 +101,20 @@ pub zero-zeros : (k : ℕ) → is_zero (zeros k) ≡ true
 unfolding zeros ◌and◌
 zero-zeros zero = refl
 zero-zeros (suc k) = zero-zeros k
+
+zero_append : (xs ys : List ℕ) → is_zero (xs ++ ys) ≡ (is_zero xs and is_zero ys)
+unfolding ◌and◌
+zero_append [] ys = refl
+zero_append (x ∷ xs) ys = ap (λ (b : Bool). eqb 0 x and b) (zero_append xs ys) ∙ sym (and_assoc (eqb 0 x) (is_zero xs) (is_zero ys))
+
+-- over blocks, and what is left behind them
+pub zero_blocks : (w k : ℕ) (s : List ℕ) → (all is_zero (first_chunks w k s) and is_zero (drop (k * w) s)) ≡ is_zero s
+unfolding ◌and◌
+zero_blocks w zero s = rw (zero-mul w) refl
+zero_blocks w (suc k) s =
+    let d : suc k * w ≡ w + k * w = omega (arith, suc-mul k w) in
+    rw (d, ← drop-drop (k * w) w s)
+    (and_assoc (is_zero (take w s)) _ _
+    ∙ ap (λ (b : Bool). is_zero (take w s) and b) (zero_blocks w k (drop w s))
+    ∙ sym (zero_append (take w s) (drop w s))
+    ∙ ap is_zero (take-append-drop w s))
