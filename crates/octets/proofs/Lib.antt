@@ -7,6 +7,7 @@ pub mod LowFirst
 pub mod Parts
 pub mod Puts
 pub mod Equal
+pub mod Blocks
 pub mod Chunks
 pub mod Filled
 pub mod Chains
