@@ -91,13 +91,13 @@ fn clear_header(b: &mut [u8], side: Side, shape: Shape)
     octets::fill(&mut b[at..end], 0);
 }
 
-// The table and its header in one copy, every other byte as it was.
-fn put_table(b: &mut [u8], side: Side, disk: Disk, guid: &[u8; 16], table: &[u8; TABLE])
-    requires { length b.old ≡ lent_bytes disk.shape (side_of side) }
+// The table, whose CRC is given, and its header in one copy, every other byte as it was.
+fn put_table(b: &mut [u8], side: Side, disk: Disk, guid: &[u8; 16], table: &[u8; TABLE], crc: u32)
+    requires { (length b.old ≡ lent_bytes disk.shape (side_of side)) × (crc ≡ crc_of table.now) }
     ensures { b.new ≡ with_table disk.shape disk.n (side_of side) guid.now table.now b.old }
 {
     octets::copy(b, gpt_places::entries_at(side, disk.shape), table);
-    put_header(b, side, disk, guid, crc32::crc32(table));
+    put_header(b, side, disk, guid, crc);
 }
 
 // D24: the other copy's 33 blocks from the good one, header tail zero.
@@ -106,7 +106,7 @@ pub fn put_copy(b: &mut [u8], side: Side, disk: Disk, guid: &[u8; 16], table: &[
     ensures { b.new ≡ with_copy disk.shape disk.n (side_of side) guid.now table.now b.old }
 {
     clear_header(b, side, disk.shape);
-    put_table(b, side, disk, guid, table);
+    put_table(b, side, disk, guid, table, crc32::crc32(table));
 }
 
 // Block 0, which only the head has. D13: at 446 the record 00, 00 02 00, EE, FF FF FF, 1, N−1 (last two 32-bit), and 55 AA at 510.
@@ -137,13 +137,41 @@ pub fn fresh(b: &mut [u8], side: Side, disk: Disk, guid: &[u8; 16])
     put_header(b, side, disk, guid, crc);
 }
 
-// b1: should become a formatted head and tail. With that table
-pub fn built(b: &mut [u8], side: Side, disk: Disk, guid: &[u8; 16], table: &[u8; TABLE])
-    requires { (length b.old ≡ lent_bytes disk.shape (side_of side)) × (side_of side ≡ primary → disk.n ≤ most_blocks) }
+// b1: should become a formatted head and tail. With that table, whose CRC is given
+fn put_built(b: &mut [u8], side: Side, disk: Disk, guid: &[u8; 16], table: &[u8; TABLE], crc: u32)
+    requires { (length b.old ≡ lent_bytes disk.shape (side_of side)) × (side_of side ≡ primary → disk.n ≤ most_blocks)
+        × (crc ≡ crc_of table.now) }
     ensures { b.new ≡ lent (side_of side) (fresh_head disk.shape disk.n guid.now table.now)
         (fresh_tail disk.shape disk.n guid.now table.now) }
 {
     octets::fill(b, 0);
     put_block0(b, side, disk);
-    put_table(b, side, disk, guid, table);
+    put_table(b, side, disk, guid, table, crc);
+}
+
+// One of the two, with that table
+pub fn built(b: &mut [u8], side: Side, disk: Disk, guid: &[u8; 16], table: &[u8; TABLE])
+    requires { (length b.old ≡ lent_bytes disk.shape (side_of side)) × (side_of side ≡ primary → disk.n ≤ most_blocks) }
+    ensures { b.new ≡ lent (side_of side) (fresh_head disk.shape disk.n guid.now table.now)
+        (fresh_tail disk.shape disk.n guid.now table.now) }
+{
+    put_built(b, side, disk, guid, table, crc32::crc32(table));
+}
+
+// Both, with that table: one CRC serves both.
+pub fn built_both(
+    head: &mut [u8],
+    tail: &mut [u8],
+    disk: Disk,
+    guid: &[u8; 16],
+    table: &[u8; TABLE],
+)
+    requires { (length head.old ≡ lent_bytes disk.shape primary) × (length tail.old ≡ lent_bytes disk.shape backup)
+        × (disk.n ≤ most_blocks) }
+    ensures { (head.new ≡ fresh_head disk.shape disk.n guid.now table.now)
+        × (tail.new ≡ fresh_tail disk.shape disk.n guid.now table.now) }
+{
+    let crc = crc32::crc32(table);
+    put_built(head, Side::Primary, disk, guid, table, crc);
+    put_built(tail, Side::Backup, disk, guid, table, crc);
 }

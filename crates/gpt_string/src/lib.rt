@@ -18,7 +18,7 @@ ghost use Rattle.gpt_string.specs.Answers.{build_answer};
 use gpt_build::{Refusal, Request};
 use gpt_checks::Refusal as DiskRefusal;
 use gpt_model::Shape;
-use gpt_places::{Disk, Side, TABLE};
+use gpt_places::{Disk, TABLE};
 use gpt_string_values::cut;
 
 // The partitions of the text on the table, one after the other, up to the first that is refused. No `split`: each must know whether another follows.
@@ -62,8 +62,7 @@ fn write(
     }
     let mut table = [0; TABLE];
     fill(&mut table, disk, alignment, text)?;
-    gpt_copies::writing::built(head, Side::Primary, disk, &guid, &table);
-    gpt_copies::writing::built(tail, Side::Backup, disk, &guid, &table);
+    gpt_copies::writing::built_both(head, tail, disk, &guid, &table);
     Ok(())
 }
 

@@ -56,14 +56,14 @@ pub fn byte_count(v: &[u8]) -> Option<u64>
 // ---- names
 
 // b5: a name has 1 to 36 bytes of 21 to 7E hex without comma or semicolon. (A field holds neither.)
-fn is_name(v: &[u8]) -> bool
+pub fn is_name(v: &[u8]) -> bool
     ensures { result ≡ is_partition_name v.now }
 {
     text_words::is_sized(v, 36) && v.iter().all(|b| text_words::is_graphic(*b))
 }
 
 // A name as 36 units, one for each byte, then zeros.
-fn name_units(v: &[u8]) -> [u16; 36]
+pub fn name_units(v: &[u8]) -> [u16; 36]
     requires { length v.now ≤ 36 }
     ensures { result ≡ name_units v.now }
 {

@@ -29,17 +29,11 @@ fill-requires c =
     let f = lent-facts a.disk.shape a.disk.n a.head.now a.tail.now c.requires in
     (f.most, (laid-by _ _ c.disk_of.ensures _ (or-some _ _ _ c.ok_or.ensures.value _ c.in_ok-guid.was)).0)
 
-pub built-requires : goal.built-requires
-built-requires c =
+pub built_both-requires : goal.built_both-requires
+built_both-requires c =
     let a = c.args in
     let f = lent-facts a.disk.shape a.disk.n a.head.now a.tail.now c.requires in
-    (f.head, λ _. f.most)
-
-pub built-requires-2 : goal.built-requires-2
-built-requires-2 c =
-    let a = c.args in
-    let f = lent-facts a.disk.shape a.disk.n a.head.now a.tail.now c.requires in
-    (f.tail, λ _. f.most)
+    (f.head, f.tail, f.most)
 
 pub returns-in_err-fill : goal.returns-in_err-fill
 returns-in_err-fill c =
@@ -57,4 +51,4 @@ returns c =
     let l = laid-by _ _ c.disk_of.ensures _ (or-some _ _ _ c.ok_or.ensures.value _ c.in_ok-guid.was) in
     let some_guid = guid-some _ _ _ l.1 c.is_zero.ensures c.if-is_zero.false in
     written_all a.disk.shape a.disk.n a.alignment a.text.now a.head.now a.tail.now c.requires l.0 some_guid
-    _ (empty-table _) _ _ c.fill.ensures _ c.in_ok-fill.was _ l.1 _ _ c.built.ensures c.built-2.ensures
+    _ (empty-table _) _ _ c.fill.ensures _ c.in_ok-fill.was _ l.1 _ _ c.built_both.ensures.0 c.built_both.ensures.1

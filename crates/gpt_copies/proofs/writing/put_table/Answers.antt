@@ -9,5 +9,5 @@ copy-requires c = omega (arith, entries-end c.args.disk.shape c.args.disk.fits.l
 
 pub returns : goal.returns
 returns c =
-    with-table c.args.disk.shape c.args.disk.fits.legal (side_of c.args.side) c.args.b.now c.requires c.args.disk.n c.args.guid.now c.args.table.now _ _ _
-    c.entries_at.ensures c.copy.ensures (c.put_header.ensures _ c.crc32.ensures)
+    with-table c.args.disk.shape c.args.disk.fits.legal (side_of c.args.side) c.args.b.now c.requires.0 c.args.disk.n c.args.guid.now c.args.table.now _ _ _
+    c.entries_at.ensures c.copy.ensures (c.put_header.ensures _ c.requires.1)

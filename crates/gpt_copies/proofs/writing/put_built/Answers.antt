@@ -1,7 +1,7 @@
 use mathlib.Core.Path.{◌∙◌}
 use Rattle.gpt_places.specs.Sides.{side_of}
 use Rattle.gpt_copies.proofs.Writes.{filled, built}
-use Rattle.gpt_copies.proofs.writing.built.Goals as goal
+use Rattle.gpt_copies.proofs.writing.put_built.Goals as goal
 
 pub returns : goal.returns
 returns c =
