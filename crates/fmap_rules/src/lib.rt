@@ -11,6 +11,8 @@ ghost use Rattle.fmap_rules.specs.Map.{disjoint_or_nested, map_size, count_of, h
 ghost use Rattle.fmap_rules.specs.Map.{empty, ends_past, misnamed, other_name, good_places};
 ghost use Rattle.fmap_rules.specs.Rules.{rule_number, broken};
 
+use octets::Stored;
+
 // A byte's position in a flash image.
 #[derive(Clone, Copy, PartialEq, Eq, Default)]
 pub struct ImagePosition(pub u32);
@@ -220,11 +222,14 @@ fn areas_part(m: &[u8]) -> &[AreaBytes]
     areas
 }
 
-// The bytes begin with the signature.
+// The bytes begin with the signature, "__FMAP__": as one number. `starts_with` takes 1.4 times as long where many bytes are letters of it.
 pub fn is_signed(m: &[u8]) -> bool
     ensures { result ≡ signed m.now }
 {
-    m.starts_with(b"__FMAP__")
+    match m.first_chunk() {
+        Some(first) => u64::from_bytes(first) == 0x5f5f50414d465f5f,
+        None => false,
+    }
 }
 
 // The first rule that the header breaks. The fields that are compared with a number come before the name.

@@ -22,6 +22,14 @@ module _ (s : List ℕ) (i : ℕ) where
   unfolding word_from
   word_in h e = rw (drop-cons s i 0 h, e, add-one)
 
+  pub word_out : i < length s → is_word (get_or s i 0) ≡ false → i ≡ word_from (drop i s) i
+  unfolding word_from
+  word_out h e = rw (drop-cons s i 0 h, e)
+
+  pub word-stop : length s ≤ i → i ≡ word_from (drop i s) i
+  unfolding word_from
+  word-stop h = rw (drop_of_length-le s {i = i} h)
+
   pub skip-lf : i < length s → get_or s i 0 ≡ 10 → skip_from false (drop (i + 1) s) (i + 1) ≡ skip_from true (drop i s) i
   unfolding skip_from
   skip-lf h e = rw (drop-cons s i 0 h, e, add-one)
@@ -46,19 +54,6 @@ module _ (s : List ℕ) (i : ℕ) where
   unfolding skip_from
   skip-end true h = rw (drop_of_length-le s {i = i} h)
   skip-end false h = rw (drop_of_length-le s {i = i} h)
-
--- a word ends behind the bytes of a word that stand in front
-word-prefix : (xs : List ℕ) (at : ℕ) → at + prefix_len is_word xs ≡ word_from xs at
-unfolding word_from
-word-prefix [] at = omega arith
-word-prefix (x ∷ xs) at = by_byte (is_word x) (word-prefix xs (suc at))
-  where
-    by_byte : (b : Bool) → suc at + prefix_len is_word xs ≡ word_from xs (suc at) → at + cond b (1 + prefix_len is_word xs) 0 ≡ cond b (word_from xs (suc at)) at
-    by_byte true e = omega arith
-    by_byte false e = omega arith
-
-pub word-ends : (xs : List ℕ) (at : ℕ) → at + length (take_while is_word xs) ≡ word_from xs at
-word-ends xs at = rw (length-prefix_len is_word xs) (word-prefix xs at)
 
 -- what lies at or after a place lies at or after an earlier one
 pub earlier : {n a b : ℕ} {t : Token} → Within n a t → b ≤ a → Within n b t

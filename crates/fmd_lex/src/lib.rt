@@ -4,7 +4,7 @@
 // An inner crate: no user calls it, so its functions may have a `requires`, which each caller meets.
 ghost use Rattle.std.specs.Prelude.{false, ◌≡◌, ◌≤◌, ◌<◌, eqb, length, drop, get_or, take_while};
 ghost use Rattle.text_words.specs.Classes.{is_digit};
-ghost use Rattle.fmd_lex.specs.Chars.{is_sign, is_word};
+ghost use Rattle.fmd_lex.specs.Chars.{is_word};
 ghost use Rattle.fmd_lex.specs.Tokens.{kind_number, sign_kind, skip_from, word_from, token_at, token_bytes};
 ghost use Rattle.fmd_lex.specs.Invariants.{Within};
 ghost use Rattle.fmd_lex.specs.Numbers.{number_in};
@@ -53,17 +53,20 @@ pub enum Flag {
 
 // ---- bytes
 
-// One of @ { } ( ).
-fn is_sign(b: u8) -> bool
-    ensures { result ≡ is_sign b }
-{
-    matches!(b, b'@' | b'{' | b'}' | b'(' | b')')
-}
-
+// 21 to 7E hex, but for the signs and #.
 fn is_word(b: u8) -> bool
     ensures { result ≡ is_word b }
 {
-    is_graphic(b) && !is_sign(b) && b != b'#'
+    // An arm for each: in one arm they are compared one after the other, which takes half as long again.
+    match b {
+        b'#' => false,
+        b'@' => false,
+        b'{' => false,
+        b'}' => false,
+        b'(' => false,
+        b')' => false,
+        _ => is_graphic(b),
+    }
 }
 
 // The kind of a token of one byte: a sign's, or that of a byte that begins no token.
@@ -105,20 +108,18 @@ fn skip(text: &[u8], at: usize) -> usize
     text.len()
 }
 
-// How many bytes of a word stand in front.
-fn word_len(rest: &[u8]) -> usize
-    ensures { result ≡ length (take_while is_word rest.now) }
-{
-    rest.iter().take_while(|b| is_word(**b)).count()
-}
-
 // The place after the bytes of a word.
 fn word_end(text: &[u8], at: usize) -> usize
     requires { at ≤ length text.now }
     ensures value { result ≡ word_from (drop at text.now) at }
     ensures within { (at ≤ result) × (result ≤ length text.now) }
 {
-    at + word_len(&text[at..])
+    for i in at..text.len() {
+        if !is_word(text[i]) {
+            return i;
+        }
+    }
+    text.len()
 }
 
 // The first token at or after the place at.
