@@ -1,6 +1,6 @@
 -- The moves of the preserved areas: what holds of them holds of the areas, and what they write is what a carry writes.
-use Rattle.std.proofs.Common.{◌≡◌, ◌⊎◌, ℕ, suc, ◌+◌, ◌-◌, ◌≤◌, ◌<◌, Bool, true, false, not, cond, List, [], ◌∷◌, ◌++◌, Some, None, Option, map, position, unwrap_or}
-use Rattle.std.proofs.Common.{length, get_or, drop, take, set, refl, sym, ap, ◌∙◌, inl, inr, arith, append-nil, append_assoc}
+use Rattle.std.proofs.Common.{◌≡◌, ◌⊎◌, ℕ, suc, ◌+◌, ◌-◌, ◌≤◌, ◌<◌, Bool, true, false, not, cond, eqb, List, [], ◌∷◌, ◌++◌, Some, None, Option, map}
+use Rattle.std.proofs.Common.{position, unwrap_or, length, get_or, drop, take, set, refl, sym, ap, ◌∙◌, inl, inr, arith, append-nil, append_assoc}
 use lib.ListN.{length-map}
 use lib.ListN.{drop_of_length-le, get_or-eq_default}
 use lib.Seq.{drop-cons, take-suc-set}
@@ -11,7 +11,7 @@ use borrow.Author.Tests.{le-leb, leb-true, ltb-false}
 use Rattle.octets.specs.Tests.{◌and◌, ◌or◌, all, any, pairs, find_ix}
 use Rattle.octets.specs.Rows.{refusal}
 use Rattle.octets.specs.Bytes.{part, put}
-use Rattle.octets.proofs.Bools.{bool_cases, and_i, and_l, and_r}
+use Rattle.octets.proofs.Bools.{bool_cases, and_i, and_l, and_r, and-f}
 use Rattle.octets.proofs.Rows.{pick-false}
 use Rattle.octets.proofs.Tests.{find_ix-get, get_d_map, all-get, any-on, any-stop, any-done}
 use Rattle.octets.proofs.Chains.{position_any, place_any}
@@ -19,8 +19,9 @@ use Rattle.fmap_rules.specs.declared.Extent.{Extent}
 use Rattle.fmap_rules.specs.declared.Area.{Area}
 use Rattle.fmap_rules.specs.Map.{area_of, blank_area, named, fmap_name, end_of}
 use Rattle.fmap_carry.specs.declared.Move.{Move}
-use Rattle.fmap_carry.specs.Carry.{preserved, with_name, missing, other_size, clear_by, clear, on_map, carry_rows, carry_area, carried}
+use Rattle.fmap_carry.specs.Carry.{preserved, with_name, target, missing, other_size, clear_by, clear, on_map, carry_rows, carry_area, carried}
 use Rattle.fmap_carry.specs.Invariants.{Fit, Fitting}
+use Rattle.fmap_carry.proofs.Match.{find-count, numbers, matched, missing-by, other-size-by, on-map-by, clear_at}
 use Rattle.fmap_carry.specs.Moves.{place_in, move_of, moves_of, resized, moves_apart, covers, move_rows, moved, lies}
 
 -- ---- a place by a name
@@ -57,48 +58,61 @@ module _ (areas : List (List ℕ)) (n : List ℕ) where
 -- ---- tests
 
 module _ (news : List Area) where
-  any-moves : (p : Area → Bool) (q : Move → Bool) → ((a : Area) → p a ≡ (preserved a and q (move_of news a)))
-      → (olds : List Area) → any p olds ≡ any q (moves_of news olds)
-  unfolding moves_of ◌and◌ ◌or◌
-  any-moves p q e [] = refl
-  any-moves p q e (a ∷ olds) = go (bool_cases (preserved a)) (any-moves p q e olds)
+  any-moves : (p : Area → Bool) (q : Move → Bool) → ((a : Area) → preserved a ≡ true → q (move_of news a) ≡ p a)
+      → ((a : Area) → preserved a ≡ false → p a ≡ false) → (olds : List Area) → any p olds ≡ any q (moves_of news olds)
+  unfolding moves_of ◌or◌
+  any-moves p q e f [] = refl
+  any-moves p q e f (a ∷ olds) = go (bool_cases (preserved a)) (any-moves p q e f olds)
     where
       go : (preserved a ≡ true) ⊎ (preserved a ≡ false) → any p olds ≡ any q (moves_of news olds) → any p (a ∷ olds) ≡ any q (moves_of news (a ∷ olds))
-      go (inl h) ih = rw (e a, h, ih)
-      go (inr h) ih = rw (e a, h, ih)
+      go (inl h) ih = rw (h, e a h, ih)
+      go (inr h) ih = rw (h, f a h, ih)
 
   -- one area against the later ones
-  all-moves : (r : Area → Bool) (q : Move → Bool) → ((b : Area) → r b ≡ (not (preserved b) or q (move_of news b)))
-      → (olds : List Area) → all r olds ≡ all q (moves_of news olds)
+  all-moves : (r : Area → Bool) (q : Move → Bool) (olds : List Area)
+      → ((j : ℕ) → j < length olds
+      → r (get_or olds j blank_area) ≡ (not (preserved (get_or olds j blank_area)) or q (move_of news (get_or olds j blank_area))))
+      → all r olds ≡ all q (moves_of news olds)
   unfolding moves_of ◌and◌ ◌or◌
-  all-moves r q e [] = refl
-  all-moves r q e (a ∷ olds) = go (bool_cases (preserved a)) (all-moves r q e olds)
+  all-moves r q [] e = refl
+  all-moves r q (a ∷ olds) e = go (bool_cases (preserved a)) (e 0 (zero-lt-suc _)) (all-moves r q olds (λ j h. e (suc j) (suc-le-suc h)))
     where
-      go : (preserved a ≡ true) ⊎ (preserved a ≡ false) → all r olds ≡ all q (moves_of news olds) → all r (a ∷ olds) ≡ all q (moves_of news (a ∷ olds))
-      go (inl h) ih = rw (e a, h, ih)
-      go (inr h) ih = rw (e a, h, ih)
+      go : (preserved a ≡ true) ⊎ (preserved a ≡ false) → r a ≡ (not (preserved a) or q (move_of news a)) → all r olds ≡ all q (moves_of news olds)
+          → all r (a ∷ olds) ≡ all q (moves_of news (a ∷ olds))
+      go (inl h) f ih = rw (f, h, ih)
+      go (inr h) f ih = rw (f, h, ih)
 
   all-skip : (r : Area → Bool) → ((b : Area) → r b ≡ true) → (olds : List Area) → all r olds ≡ true
   all-skip r e [] = refl
   all-skip r e (a ∷ olds) = and_i _ _ (e a) (all-skip r e olds)
 
   clear-moves : (olds : List Area) → pairs (clear news) olds ≡ pairs moves_apart (moves_of news olds)
-  unfolding moves_of clear clear_by moves_apart ◌and◌ ◌or◌
+  unfolding moves_of clear clear_by moves_apart with_name ◌and◌ ◌or◌
   clear-moves [] = refl
   clear-moves (a ∷ olds) = go (bool_cases (preserved a)) (clear-moves olds)
     where
+      later : (j : ℕ) → j < length olds
+          → clear news a (get_or olds j blank_area) ≡ clear_by a (target news a) (get_or olds j blank_area) (target news (get_or olds j blank_area))
+      later j h =
+          clear_at (a ∷ olds) news (numbers news (a ∷ olds)) (matched news (a ∷ olds)) _ refl 0 (suc j) (zero-lt-suc _) (suc-le-suc h) a _ _ _ refl refl refl
+          (ap (λ (k : ℕ). (get_or news k blank_area).place) (sym (get_d_map (λ (b : Area). find_ix (named b.name) news) olds j 0 blank_area h)))
+
       go : (preserved a ≡ true) ⊎ (preserved a ≡ false) → pairs (clear news) olds ≡ pairs moves_apart (moves_of news olds)
           → pairs (clear news) (a ∷ olds) ≡ pairs moves_apart (moves_of news (a ∷ olds))
-      go (inl h) ih = rw (all-moves (clear news a) (moves_apart (move_of news a)) (λ b. rw h) olds, h, ih)
+      go (inl h) ih = rw (all-moves (clear news a) (moves_apart (move_of news a)) olds (λ j k. later j k ∙ rw h), h, ih)
       go (inr h) ih = rw (all-skip (clear news a) (λ b. rw h) olds, h, ih)
 
   -- the rows of a carry, where no area is missing
   pub rows-moves : (map : Extent) (olds : List Area) → map ≡ (with_name news fmap_name).place → any (missing news) olds ≡ false
       → refusal (carry_rows olds news) ≡ refusal (move_rows map (moves_of news olds))
-  unfolding other_size on_map resized covers
+  unfolding other_size on_map resized covers with_name
   rows-moves map olds e h =
       pick-false _ 60 _ h
-      ∙ rw (any-moves (other_size news) resized (λ a. refl) olds, clear-moves olds, any-moves (on_map news) (covers map) (λ a. rw e) olds)
+      ∙ rw (
+        any-moves (other_size news) resized (λ a p. other-size-by news a p _ refl _ _ refl refl) (λ a p. sym (and-f _ p)) olds,
+        clear-moves olds,
+        any-moves (on_map news) (covers map) (λ a p. on-map-by news a p _ refl _ _ refl e refl) (λ a p. sym (and-f _ p)) olds,
+      )
 
 -- ---- what is written
 
@@ -165,17 +179,19 @@ pub record Listing (news olds : List Area) (i n : ℕ) (moves : List Move) : Typ
 pub listing-none : (news olds : List Area) (moves : List Move) → Listing news olds 0 0 moves
 listing-none news olds moves = record { few = omega arith; present = refl; listed = refl }
 
-pub place-none : (news : List Area) (n : List ℕ) → place_in news n ≡ None → any (named n) news ≡ false
+-- by the number of the area with a name, and the count of all
+pub place-none : (news : List Area) (n : List ℕ) → place_in news n ≡ None → eqb (find_ix (named n) news) (length news) ≡ true
 unfolding place_in
-place-none news n e = go (any (named n) news) e
+place-none news n e = find-count (named n) news blank_area ∙ ap not (go (any (named n) news) e)
   where
     go : (t : Bool) → cond t (Some (with_name news n).place) None ≡ None → t ≡ false
     go true q = cc
     go false q = refl
 
-pub place-some : (news : List Area) (n : List ℕ) (x : Extent) → place_in news n ≡ Some x → (any (named n) news ≡ true) × (x ≡ (with_name news n).place)
+pub place-some : (news : List Area) (n : List ℕ) (x : Extent) → place_in news n ≡ Some x
+    → (eqb (find_ix (named n) news) (length news) ≡ false) × (x ≡ (with_name news n).place)
 unfolding place_in
-place-some news n x e = go (any (named n) news) e
+place-some news n x e = let w = go (any (named n) news) e in (find-count (named n) news blank_area ∙ ap not w.0, w.1)
   where
     go : (t : Bool) → cond t (Some (with_name news n).place) None ≡ Some x → (t ≡ true) × (x ≡ (with_name news n).place)
     go true q = (refl, (cc))
@@ -202,7 +218,7 @@ module _ {news olds : List Area} {i n : ℕ} {moves : List Move} (w : Listing ne
 
     pub listing-more : (x : Extent) → preserved a ≡ true → place_in news a.name ≡ Some x → n < length moves
         → Listing news olds (i + 1) (n + 1) (set moves n (record { from = a.place; to = x }))
-    unfolding missing moves_of ◌and◌
+    unfolding moves_of ◌and◌
     listing-more x p f l =
         let q : preserved (get_or olds i blank_area) ≡ true = ap preserved (sym e) ∙ p in
         let t = place-some news a.name x f in
@@ -213,7 +229,7 @@ module _ {news olds : List Area} {i n : ℕ} {moves : List Move} (w : Listing ne
         let set_ : take (n + 1) (set moves n v) ≡ take n moves ++ v ∷ [] = rw add-one (take-suc-set moves n v l) in
         record {
           few = omega (arith, w.few);
-          present = sym (any-on (missing news) olds blank_area i h (rw (← e, p, t.0))) ∙ w.present;
+          present = sym (any-on (missing news) olds blank_area i h (rw (← e) (sym (missing-by news a p _ refl _ refl) ∙ t.0))) ∙ w.present;
           listed =
               ap (λ (k : List Move). k ++ moves_of news (drop (i + 1) olds)) set_
               ∙ append_assoc (take n moves) (v ∷ []) (moves_of news (drop (i + 1) olds))
@@ -222,8 +238,9 @@ module _ {news olds : List Area} {i n : ℕ} {moves : List Move} (w : Listing ne
         }
 
     pub listing-fails : preserved a ≡ true → place_in news a.name ≡ None → any (missing news) olds ≡ true
-    unfolding missing ◌and◌
-    listing-fails p f = sym w.present ∙ any-stop (missing news) olds blank_area i h (rw (← e, p, place-none news a.name f))
+    listing-fails p f =
+        sym w.present
+        ∙ any-stop (missing news) olds blank_area i h (rw (← e) (sym (missing-by news a p _ refl _ refl) ∙ place-none news a.name f))
 
 -- where there is no area of a name, its place is the blank one
 pub place-or : (news : List Area) (n : List ℕ) → unwrap_or (place_in news n) blank_area.place ≡ (with_name news n).place
