@@ -2,7 +2,7 @@
 
 // The GPT calls for C. Each contract is one equation with `format_by` or `step_by` of gpt_model, for the result, both buffers and the number answers
 // afterwards.
-ghost use Rattle.std.specs.Prelude.{◌≡◌, [], ◌∷◌};
+ghost use Rattle.std.specs.Prelude.{◌≡◌, ◌≢◌, [], ◌∷◌, Ok, Some};
 ghost use Rattle.gpt_model.specs.Sizes.{shape_of, step_by, format_by};
 ghost use Rattle.gpt_model.specs.Calls.{read as read_call, free_counts, repair as repair_call, check as check_call, edit, delete as delete_call};
 ghost use Rattle.gpt_model.specs.Calls.{resize as resize_call, rename as rename_call, add as add_call, new_partition};
@@ -56,7 +56,9 @@ fn added(a: Result<Added, Refusal>, slot: &mut u64, first: &mut u64) -> Result<(
     Ok(())
 }
 
+// No check answers slot 0 (offending_of).
 fn offending(a: Result<Option<u64>, Refusal>, slot: &mut u64) -> Result<(), Refusal>
+    requires { a ≢ Ok (Some 0) }
     ensures code { result_of (done_of result) ≡ result_of (offending_of a) }
     ensures values { (slot.new ∷ []) ≡ values_of (slot.old ∷ []) (offending_of a) }
 {

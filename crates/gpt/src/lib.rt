@@ -4,7 +4,7 @@
 // and says N, the number of blocks, and the bytes of a block.
 // Every call takes any buffers and any numbers; its contract is one equation with `format_by` or `step_by` of gpt_model, for its answer and both buffers.
 // A call asks for the shape of its block size first, then gpt_calls on a disk of that shape.
-ghost use Rattle.std.specs.Prelude.{◌≡◌, ◌≢◌, Some, ok_or, IfOk};
+ghost use Rattle.std.specs.Prelude.{◌≡◌, ok_or, IfOk};
 ghost use Rattle.gpt_model.specs.Calls.{outcome, read as read_call, free_counts, repair as repair_call, check as check_call, edit};
 ghost use Rattle.gpt_model.specs.Calls.{add as add_call, delete as delete_call, resize as resize_call, rename as rename_call};
 ghost use Rattle.gpt_model.specs.Sizes.{shape_of, step_by, format_by};
@@ -180,9 +180,8 @@ pub fn check(
     block: u64,
     rule: Rule,
 ) -> Result<Option<u64>, Refusal>
-    ensures answer { outcome (offending_of result) head.now tail.now
+    ensures { outcome (offending_of result) head.now tail.now
         ≡ step_by block n head.now tail.now (check_call rule) }
-    ensures from_1 { IfOk result (λ slot. slot ≢ Some 0) }
 {
     gpt_calls::check(head, tail, n, shape_of(block)?, rule)
 }

@@ -1,5 +1,5 @@
 -- The first used slot that offends, by its place among a table's entries.
-use Rattle.std.proofs.Common.{◌≡◌, ◌∙◌, sym, ap, ℕ, suc, ◌+◌, Bool, cond, List, Option, Some, None, is_some, unwrap_or, option_map, position, add-one, refl, arith}
+use Rattle.std.proofs.Common.{◌≡◌, ◌∙◌, sym, ap, ℕ, suc, ◌+◌, Bool, cond, List, Option, Some, None, is_some, unwrap_or, option_map, position, add-one, refl}
 use Rattle.octets.specs.Tests.{any, find_ix}
 use Rattle.gpt_model.specs.Table.{entries}
 use Rattle.gpt_model.specs.Attributes.{used_offends, first_offending}
@@ -20,8 +20,3 @@ module _ (rule : Rule) where
       → unwrap_or o 0 ≡ first_offending rule es
   unfolding first_offending
   first-is es e q = rw (q, e) (placed (entries es) _ refl)
-
--- slots are counted from 1
-pub slot_from_1 : (o r : Option ℕ) → r ≡ option_map (λ i. i + 1) o → r ≡ Some 0 → ⊥
-slot_from_1 None r e q = cc
-slot_from_1 (Some i) r e q = grind (arith, e, q)

@@ -4,11 +4,12 @@ use mathlib.Core.Logic.{◌≢◌, ◌⊎◌, inl, inr}
 use mathlib.Core.Bool.{Bool, true, false, cond}
 use mathlib.Core.List.{List, [], ◌∷◌}
 use mathlib.Core.Option.{Option, none, some}
-use Prim.Native.Nat.{ℕ}
+use Prim.Native.Nat.{ℕ, ◌+◌}
 use native.Mathlib.Omega.{arith}
 use lib.ListN.{length}
 use borrow.Author.Tests.{eq-eqb, ne_eqb, eqb-true}
-use Rattle.std.specs.Prelude.{Option as Found, None, Some, Result, Ok, Err, ok_or}
+use Rattle.std.specs.Prelude.{Option as Found, None, Some, Result, Ok, Err, ok_or, option_map, unwrap_or}
+use native.Mathlib.Numerals.{add-one}
 use Rattle.octets.proofs.Bools.{and_i, and_l, and_r, bool_cases}
 use Rattle.octets.specs.Bytes.{zeros}
 use Rattle.octets.specs.Rows.{Row, refusal}
@@ -29,7 +30,7 @@ use Rattle.gpt_checks.proofs.Judged.{Lent, lent-facts}
 use Rattle.gpt_checks.specs.Refusals.{number_of}
 use Rattle.gpt_checks.specs.declared.Refusal.{Refusal}
 use Rattle.gpt_checks.specs.declared.Refusal.TheVariants.{NeitherGood}
-use Rattle.gpt_calls.specs.Answers.{reading_of, Handed, handed, nothing, entries_from, entries_of, entries_on, handed_if, handed_on}
+use Rattle.gpt_calls.specs.Answers.{reading_of, slot_or_0, Handed, handed, nothing, entries_from, entries_of, entries_on, handed_if, handed_on}
 
 good_number : (s : State) → state_number (Some s) ≢ 0
 good_number Both z = omega (arith, z)
@@ -119,6 +120,11 @@ module _ (g : Shape) (n : ℕ) (h t : List ℕ) where
       pub first-is : (rule : Rule) (k : ℕ) → k ≡ first_offending rule tb → outcome (accepted (k ∷ [])) h t ≡ step g n h t (check rule)
       first-is rule k q =
           ap (λ (x : ℕ). outcome (accepted (x ∷ [])) h t) (q ∙ ap (first_offending rule) table) ∙ sym (step-accepted g n h t (check rule) both.0)
+
+-- a slot counted from 1 is none or stands for itself
+pub slot_told : (p : Found ℕ) {o : Found ℕ} → o ≡ option_map (λ i. i + 1) p → slot_or_0 o ≡ unwrap_or o 0 ∷ []
+slot_told None e = rw e
+slot_told (Some i) e = rw (e, add-one i)
 
 -- ---- the part by what reading answered
 

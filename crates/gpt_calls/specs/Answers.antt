@@ -1,6 +1,6 @@
 -- W15: When an answer is an enum, a definition states this paper's number and values for each enum case. Definitions only.
 use Rattle.std.specs.Prelude as std
-use Rattle.std.specs.Prelude.{cond, List, [], ◌∷◌, ℕ, Result, Ok, Err, Some, unwrap_or}
+use Rattle.std.specs.Prelude.{cond, List, [], ◌∷◌, ℕ, zero, suc, Result, Ok, Err, Some, None}
 use Rattle.std.proofs.Math.Option.{Option, none, some}
 use Rattle.octets.specs.Rows.{refusal}
 use Rattle.gpt_model.specs.Disk.{Shape, Side, lent, used_side, entries_in, state, table_of}
@@ -35,9 +35,14 @@ added_of r = answer_of (λ a. a.slot ∷ a.first.0 ∷ []) r
 abbrev pub counted_of : Result Free Refusal → Answer
 counted_of r = answer_of (λ f. f.blocks ∷ f.longest ∷ []) r
 
--- k3: the check answers the first used slot that offends, or 0
+-- k3: the check answers the first used slot that offends, or 0. Slots are counted from 1, so 0 stands for none alone, and `Some 0` for no answer
+abbrev pub slot_or_0 : std.Option ℕ → List ℕ
+slot_or_0 None = 0 ∷ []
+slot_or_0 (Some zero) = []
+slot_or_0 (Some (suc k)) = suc k ∷ []
+
 abbrev pub offending_of : Result (std.Option ℕ) Refusal → Answer
-offending_of r = answer_of (λ slot. unwrap_or slot 0 ∷ []) r
+offending_of r = answer_of slot_or_0 r
 
 -- (W9) the part of head or tail that reading hands back: its bytes, and where it begins
 pub record Handed : Type 0 where

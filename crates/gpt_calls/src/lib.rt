@@ -3,7 +3,7 @@
 // The GPT calls on a disk of a shape: each asks its judge of gpt_checks first, and writes after, by gpt_edits or gpt_copies.
 // Its contract is one equation with `format` or `step` of gpt_model for its answer and both buffers afterwards.
 // An inner crate: no user calls it, so its functions have a `requires`, that the shape is legal, which gpt meets by the block size.
-ghost use Rattle.std.specs.Prelude.{◌≡◌, ◌≢◌, true, length, Ok, Some, IfOk};
+ghost use Rattle.std.specs.Prelude.{◌≡◌, true, length, Ok, Some};
 ghost use Rattle.gpt_model.specs.Table.{table_bytes};
 ghost use Rattle.gpt_model.specs.Disk.{used_side};
 ghost use Rattle.gpt_model.specs.Calls.{outcome, lengths_ok, step, format as format_on, read as read_call, free_counts, repair as repair_call};
@@ -207,8 +207,7 @@ pub fn check(
     rule: Rule,
 ) -> Result<Option<u64>, Refusal>
     requires { Legal shape }
-    ensures answer { outcome (offending_of result) head.now tail.now ≡ step shape n head.now tail.now (check_call rule) }
-    ensures from_1 { IfOk result (λ slot. slot ≢ Some 0) }
+    ensures { outcome (offending_of result) head.now tail.now ≡ step shape n head.now tail.now (check_call rule) }
 {
     let state = read(head, tail, n, shape)?;
     let table = gpt_table::as_table(used_table(head, tail, shape, state));

@@ -3,7 +3,13 @@ use Rattle.gpt_model.specs.declared.Rule.{Rule}
 use Rattle.gpt_model.specs.Calls.{check}
 use Rattle.gpt_model.specs.Sizes.{step_by}
 use Rattle.c_disk.proofs.Effects.{gpt-tells}
+use Rattle.c_disk.proofs.Slots.{no_slot_0}
 use Rattle.c_disk.proofs.usi_gpt_check.Goals as goal
+
+pub offending-requires : goal.offending-requires
+offending-requires c =
+    let a = c.args in
+    no_slot_0 a.block a.n a.head.now a.tail.now _ _ c.check.ensures
 
 pub returns : goal.returns
 returns c =
