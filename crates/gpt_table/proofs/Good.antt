@@ -276,3 +276,12 @@ module _ (first last : ℕ) (t : List (List ℕ)) where
 pub good_is : (first last : ℕ) (bytes : List ℕ) (t : List (List ℕ)) → t ≡ entries bytes → good_entries first last t ≡ good_table first last bytes
 unfolding good_entries good_table
 good_is first last bytes t e = ap (λ (es : List (List ℕ)). all (entry_ok first last) es and pairs pair_ok es) e
+
+-- a table whose entries keep their rules and whose unique GUIDs differ is good where its ranges, put in order, share no block
+pub good-in_order : (first last : ℕ) (bytes : List ℕ) {t : List (List ℕ)} {rs : List Range} → t ≡ entries bytes → all (entry_ok first last) t ≡ true
+    → InOrder t rs → pairs differ (used t) ≡ true → pairs apart (map blocks_of rs) ≡ good_table first last bytes
+good-in_order first last bytes {t} {rs} e ok w h =
+    sym (pairs-permuted apart apart-both _ _ (IsPermutation-map blocks_of (map range_in (used t)) rs w.same))
+    ∙ ap (pairs apart) (blocks-in (used t) (each-used t))
+    ∙ good-ranges first last t ok h
+    ∙ good_is first last bytes t e
