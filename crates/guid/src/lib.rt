@@ -1,7 +1,7 @@
 #![tactic(auto)]
 
 // GUID text: reading it into 16 stored bytes, writing it, and the short names of types.
-ghost use Rattle.std.specs.Prelude.{◌≡◌, true, ◌<◌, List, ℕ};
+ghost use Rattle.std.specs.Prelude.{◌≡◌, true, ◌<◌, List, ℕ, length};
 ghost use Rattle.std.specs.Option.{option_map};
 ghost use Rattle.std.specs.List.{find};
 ghost use Rattle.octets.specs.Bytes.{same};
@@ -177,12 +177,10 @@ fn type_of(text: &[u8]) -> Option<[u8; 16]>
 
 // Puts the bytes that a text was read as into guid.
 fn put(stored: Option<[u8; 16]>, guid: &mut [u8]) -> Result<(), Refusal>
+    requires { length guid.old ≡ 16 }
     ensures { (text : List ℕ) → stored ≡ then_some (is_guid_text text) (stored_of text)
         → record { number = number_of result; buffer = guid.new } ≡ read_of text guid.old }
 {
-    if guid.len() != 16 {
-        return Err(Refusal::WrongLength);
-    }
     let stored = stored.ok_or(Refusal::NotGuidText)?;
     guid.copy_from_slice(&stored);
     Ok(())
@@ -192,6 +190,9 @@ fn put(stored: Option<[u8; 16]>, guid: &mut [u8]) -> Result<(), Refusal>
 pub fn read(text: &[u8], guid: &mut [u8]) -> Result<(), Refusal>
     ensures { record { number = number_of result; buffer = guid.new } ≡ read_of text.now guid.old }
 {
+    if guid.len() != 16 {
+        return Err(Refusal::WrongLength);
+    }
     put(stored_of(text), guid)
 }
 
@@ -199,6 +200,9 @@ pub fn read(text: &[u8], guid: &mut [u8]) -> Result<(), Refusal>
 pub fn read_type(text: &[u8], guid: &mut [u8]) -> Result<(), Refusal>
     ensures { record { number = number_of result; buffer = guid.new } ≡ read_type_of text.now guid.old }
 {
+    if guid.len() != 16 {
+        return Err(Refusal::WrongLength);
+    }
     put(type_of(text), guid)
 }
 

@@ -1,0 +1,5 @@
+use Rattle.guid.proofs.Calls.{read_length}
+use Rattle.guid.proofs.read.Goals as goal
+
+pub returns-then-guid-ne16 : goal.returns-then-guid-ne16
+returns-then-guid-ne16 c = read_length c.args.text.now c.args.guid.now c.if-guid-ne16.true
