@@ -158,20 +158,20 @@ pub fn built(b: &mut [u8], side: Side, disk: Disk, guid: &[u8; 16], table: &[u8;
     put_built(b, side, disk, guid, table, crc32::crc32(table));
 }
 
-// Both, with that table: one CRC serves both.
+// Both, with that table, whose CRC serves both. It is given, so that its computation lies no deeper in the stack than the table does.
 pub fn built_both(
     head: &mut [u8],
     tail: &mut [u8],
     disk: Disk,
     guid: &[u8; 16],
     table: &[u8; TABLE],
+    crc: u32,
 )
     requires { (length head.old ≡ lent_bytes disk.shape primary) × (length tail.old ≡ lent_bytes disk.shape backup)
-        × (disk.n ≤ most_blocks) }
+        × (disk.n ≤ most_blocks) × (crc ≡ crc_of table.now) }
     ensures { (head.new ≡ fresh_head disk.shape disk.n guid.now table.now)
         × (tail.new ≡ fresh_tail disk.shape disk.n guid.now table.now) }
 {
-    let crc = crc32::crc32(table);
     put_built(head, Side::Primary, disk, guid, table, crc);
     put_built(tail, Side::Backup, disk, guid, table, crc);
 }

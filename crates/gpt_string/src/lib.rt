@@ -62,7 +62,8 @@ fn write(
     }
     let mut table = [0; TABLE];
     fill(&mut table, disk, alignment, text)?;
-    gpt_copies::writing::built_both(head, tail, disk, &guid, &table);
+    let crc = crc32::crc32(&table);
+    gpt_copies::writing::built_both(head, tail, disk, &guid, &table, crc);
     Ok(())
 }
 

@@ -33,7 +33,7 @@ pub built_both-requires : goal.built_both-requires
 built_both-requires c =
     let a = c.args in
     let f = lent-facts a.disk.shape a.disk.n a.head.now a.tail.now c.requires in
-    (f.head, f.tail, f.most)
+    (f.head, f.tail, f.most, c.crc32-crc.ensures)
 
 pub returns-in_err-fill : goal.returns-in_err-fill
 returns-in_err-fill c =
