@@ -22,6 +22,8 @@ use gpt_places::{Disk, TABLE};
 use gpt_string_values::cut;
 
 // The partitions of the text on the table, one after the other, up to the first that is refused. No `split`: each must know whether another follows.
+// Not inlined: what it needs of the stack is free again where the CRCs are computed.
+#[inline(never)]
 fn fill(table: &mut [u8; TABLE], disk: Disk, alignment: u64, text: &[u8]) -> Result<(), Refusal>
     requires { (disk.n ≤ most_blocks) × (is_layout text.now ≡ true) }
     ensures { built_by result table.new ≡ build_table disk.shape disk.n alignment table.old (wanted_in text.now) }
