@@ -7,9 +7,7 @@ use Rattle.c_disk.proofs.Slots.{no_slot_0}
 use Rattle.c_disk.proofs.usi_gpt_check.Goals as goal
 
 pub offending-requires : goal.offending-requires
-offending-requires c =
-    let a = c.args in
-    no_slot_0 a.block a.n a.head.now a.tail.now _ _ c.check.ensures
+offending-requires c = no_slot_0 _ _ _ _ _ _ c.check.ensures
 
 pub returns : goal.returns
 returns c =
