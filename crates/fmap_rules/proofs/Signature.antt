@@ -1,10 +1,8 @@
 -- The signature: where it can stand, and its bytes as one number.
 use mathlib.Core.Path.{◌≡◌, refl, sym, ap, ◌∙◌}
-use mathlib.Core.Bool.{Bool, true, false, ◌&&◌}
-use mathlib.Core.List.{List, [], ◌∷◌}
+use mathlib.Core.Bool.{Bool, true, false}
+use mathlib.Core.List.{List}
 use Prim.Native.Nat.{ℕ, ◌+◌, ◌≤◌, ◌<◌}
-use Rattle.std.proofs.lemmas.Bool.Decides.{nat_tests}
-use lib.Pointwise.{pointwise}
 use native.Mathlib.Nat.{add-zero}
 use native.Mathlib.Omega.{arith}
 use lib.Dec.{eqb, ltb}
@@ -46,18 +44,3 @@ module _ (m : List ℕ) (r : ℕ) (h : 8 ≤ length m) (f : (j : ℕ) → get_or
           unle-inj (part 0 8 m) signature l (λ j k. rw (get_d_part m 0 8 j (omega (arith, k, l))) (f (0 + j))) letters (sym e ∙ eqb-true _ _ w ∙ sym number) in
           sym (ap (λ (l : List ℕ). same l signature) q ∙ same_refl signature)
       go false w = sym (same_false _ _ (λ q. eqb-false _ _ w (e ∙ ap unle q ∙ number)))
-
--- `==` of two areas' names, the sides turned
-eqb-turned : (x y : ℕ) → eqb x y ≡ eqb y x
-eqb-turned x y = grind (arith, nat_tests)
-
-pub pointwise-same : (xs ys : List ℕ) → pointwise eqb xs ys ≡ same ys xs
-unfolding same ◌and◌
-pointwise-same [] [] = refl
-pointwise-same [] (y ∷ ys) = refl
-pointwise-same (x ∷ xs) [] = refl
-pointwise-same (x ∷ xs) (y ∷ ys) = rw (eqb-turned x y) (go (eqb y x) (pointwise-same xs ys))
-  where
-    go : (t : Bool) → pointwise eqb xs ys ≡ same ys xs → (t && pointwise eqb xs ys) ≡ (t and same ys xs)
-    go true e = e
-    go false e = refl

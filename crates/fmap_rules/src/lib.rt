@@ -162,7 +162,7 @@ fn some_holder(areas: &[AreaBytes], at: ImagePosition) -> bool
 fn names_differ(areas: &[AreaBytes]) -> bool
     ensures { result ≡ pairs other_name (map area_of areas.now) }
 {
-    octets::pairs(areas, |a, b| name_of(b) != name_of(a))
+    octets::pairs(areas, |a, b| !octets::same(name_of(a), name_of(b)))
 }
 
 fn none_cross(areas: &[AreaBytes]) -> bool
